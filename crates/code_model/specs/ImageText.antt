@@ -1,0 +1,63 @@
+-- The text of an image.
+use Rattle.std.specs.Prelude.{ℕ, ◌+◌, ◌-◌, ◌/◌, List, [], ◌∷◌, ◌++◌, codes, drop, length, Option, Some, None}
+use Rattle.std.specs.List.{concat, flat_map}
+use Rattle.std.specs.Int.{w64, to_be_bytes}
+use Rattle.std.specs.Fmt.{decimal}
+use Rattle.hex.specs.Hex.{encode_lower}
+use Rattle.code_model.specs.declared.image.Image.{Image}
+use Rattle.code_model.specs.declared.image.Mark.{Mark}
+use Rattle.code_model.specs.declared.image.Place.{Place}
+use Rattle.code_model.specs.declared.image.Word.{Word}
+
+-- image BITS COUNT, and temps T
+abbrev pub head_text : Image → List ℕ
+head_text image =
+    concat (codes "image " ∷ decimal image.bits ∷ codes " " ∷ decimal (length image.words)
+    ∷ codes "\ntemps " ∷ decimal image.temps ∷ codes "\n" ∷ [])
+
+-- place NAME ADDRESS LENGTH
+abbrev pub place_line : Place → List ℕ
+place_line place = concat (codes "place " ∷ place.name ∷ codes " " ∷ decimal place.address ∷ codes " " ∷ decimal place.len ∷ codes "\n" ∷ [])
+
+-- tree NUMBER COST
+abbrev pub cost_line : ℕ × ℕ → List ℕ
+cost_line cost = concat (codes "tree " ∷ decimal cost.0 ∷ codes " " ∷ decimal cost.1 ∷ codes "\n" ∷ [])
+
+-- mark ADDRESS NUMBER, and mark ADDRESS end
+abbrev pub label_text : Option ℕ → List ℕ
+label_text (Some tree) = decimal tree
+label_text None = codes "end"
+
+abbrev pub mark_line : Mark → List ℕ
+mark_line mark = concat (codes "mark " ∷ decimal mark.address ∷ codes " " ∷ label_text mark.label ∷ codes "\n" ∷ [])
+
+-- how many bytes so many bits fill
+abbrev pub bytes_of : ℕ → ℕ
+bytes_of bits = (bits + 7) / 8
+
+-- the last bytes of a word in hexadecimal digits, the highest first
+abbrev pub hex_of : ℕ → ℕ → List ℕ
+hex_of bytes word = encode_lower (drop (8 - bytes) (to_be_bytes w64 word))
+
+-- the wanted patterns with commas between, and - where there is none
+abbrev pub after_comma : ℕ → List ℕ
+after_comma n = codes "," ++ decimal n
+
+abbrev pub numbers_text : List ℕ → List ℕ
+numbers_text [] = codes "-"
+numbers_text (n ∷ ns) = decimal n ++ flat_map after_comma ns
+
+-- word ADDRESS HEX LIST, where a word has so many bytes
+abbrev pub word_line : ℕ → ℕ → Word → List ℕ
+word_line bytes address word =
+    concat (codes "word " ∷ decimal address ∷ codes " " ∷ hex_of bytes word.word ∷ codes " " ∷ numbers_text word.patterns ∷ codes "\n" ∷ [])
+
+-- the lines of words from an address on
+abbrev pub word_lines : ℕ → ℕ → List Word → List ℕ
+word_lines bytes address [] = []
+word_lines bytes address (word ∷ words) = word_line bytes address word ++ word_lines bytes (address + 1) words
+
+abbrev pub image_text : Image → List ℕ
+image_text image =
+    concat (head_text image ∷ flat_map place_line image.places ∷ flat_map cost_line image.costs ∷ flat_map mark_line image.marks
+    ∷ word_lines (bytes_of image.bits) 0 image.words ∷ codes "done\n" ∷ [])

@@ -1,0 +1,55 @@
+-- What a netlist that is clocked on an image's words shows at the marked addresses.
+use Rattle.std.specs.Prelude.{ℕ, zero, suc, List, [], ◌∷◌, ◌+◌, ◌≡◌, Option, Some, None}
+use Rattle.net_model.specs.declared.hardware.Netlist.{Netlist}
+use Rattle.net_model.specs.declared.states.State.{State}
+use Rattle.net_model.specs.Widths.{IsState}
+use Rattle.net_model.specs.Clock.{clock, counter_in, Outcome, Next, Clash}
+use Rattle.src_model.specs.declared.checkpoint.Checkpoint.{Checkpoint}
+use Rattle.src_model.specs.declared.checkpoint.Checkpoint.TheVariants.{At, End}
+use Rattle.src_model.specs.Ways.{Passed}
+use Rattle.code_model.specs.declared.image.Image.{Image}
+use Rattle.code_model.specs.Places.{words_of, label_at, cells_at}
+
+-- the label of the address at which the program counter stands
+abbrev pub label_in : Netlist → Image → State → Option Checkpoint
+label_in netlist image s = label_at image.marks (counter_in netlist s)
+
+-- the store that the places hold
+abbrev pub store_in : Image → State → List ℕ
+store_in image s = cells_at image.places s.cells
+
+-- a state that fits the netlist, with the program counter at this address; a start state has it at 0
+pub record IsAt (netlist : Netlist) (address : ℕ) (s : State) : Type 0 where
+  pub state : IsState netlist s
+  pub counter : counter_in netlist s ≡ address
+
+-- a checkpoint with the cycle at which it is seen
+pub record Entry : Type 0 where
+  pub cycle : ℕ
+  pub passed : Passed
+
+-- a trace: what is seen, or that a clock before the end mark clashes
+pub data Traced : Type 0 where
+  Shows : List Entry → Traced
+  Clashes : Traced
+
+abbrev pub before : Entry → Traced → Traced
+before entry (Shows entries) = Shows (entry ∷ entries)
+before entry Clashes = Clashes
+
+-- what is seen at a state with this label and this store, and then later: nothing past the end mark
+abbrev pub seen : Option Checkpoint → ℕ → List ℕ → Traced → Traced
+seen None cycle cells later = later
+seen (Some (At tree)) cycle cells later = before (record { cycle = cycle; passed = record { label = At tree; cells = cells } }) later
+seen (Some End) cycle cells later = Shows (record { cycle = cycle; passed = record { label = End; cells = cells } } ∷ [])
+
+abbrev pub after : (State → Traced) → Outcome → Traced
+after later (Next t) = later t
+after later (Clash bus) = Clashes
+
+-- what is seen at this state, of this cycle, and at the states after so many clocks
+abbrev pub mtrace : Netlist → Image → State → ℕ → ℕ → Traced
+mtrace netlist image s cycle zero = seen (label_in netlist image s) cycle (store_in image s) (Shows [])
+mtrace netlist image s cycle (suc n) =
+    seen (label_in netlist image s) cycle (store_in image s)
+    (after (λ (t : State). mtrace netlist image t (cycle + 1) n) (clock netlist (words_of image) s))

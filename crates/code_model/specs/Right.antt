@@ -1,0 +1,59 @@
+-- When an image is right code: its layout, its marks and its trace.
+use Rattle.std.specs.Prelude.{ℕ, List, [], ◌∷◌, ◌+◌, ◌*◌, ◌≡◌, ◌≤◌, length, take, Some, None}
+use Rattle.net_model.specs.declared.hardware.Netlist.{Netlist}
+use Rattle.net_model.specs.declared.states.State.{State}
+use Rattle.net_model.specs.Nets.{memory_size}
+use Rattle.net_model.specs.Clock.{run, Reached}
+use Rattle.src_model.specs.declared.checkpoint.Checkpoint.TheVariants.{End}
+use Rattle.src_model.specs.Ways.{Passed}
+use Rattle.code_model.specs.declared.image.Image.{Image}
+use Rattle.code_model.specs.Places.{words_of, places_from, Apart}
+use Rattle.code_model.specs.Machine.{Entry, Shows, mtrace, label_in, store_in, IsAt}
+
+-- ---- layout
+
+-- the temporary cells from address 0, then the variables in order of declaration; all lie in the memory, and none in another
+pub record IsLaidOut (netlist : Netlist) (cells : ℕ) (vars : List (List ℕ × ℕ)) (image : Image) : Type 0 where
+  pub temps : image.temps ≡ cells
+  pub places : image.places ≡ places_from image.temps vars
+  pub apart : Apart image.temps image.places (memory_size netlist.storages)
+
+-- ---- marks
+
+-- of a program without tests: the last word has the one mark, that of the end
+pub record IsEndMarked (image : Image) : Type 0 where
+  pub last : ℕ
+  pub words : length (words_of image) ≡ last + 1
+  pub marks : image.marks ≡ record { address = last; label = None } ∷ []
+
+-- ---- trace
+
+-- the checkpoints without their cycles
+abbrev pub passed_of : List Entry → List Passed
+passed_of [] = []
+passed_of (entry ∷ entries) = entry.passed ∷ passed_of entries
+
+-- the first entry comes by the deadline, and each later one at most so many cycles after the one before
+abbrev pub IsPaced : ℕ → ℕ → List Entry → Type 0
+IsPaced clocks deadline [] = Unit {0}
+IsPaced clocks deadline (entry ∷ entries) = (entry.cycle ≤ deadline) × IsPaced clocks (entry.cycle + clocks) entries
+
+-- from this state the machine shows the source's first m checkpoints, each within one image length of the last, and nothing clashes
+pub record ShowsSource (netlist : Netlist) (image : Image) (trace : List ℕ → ℕ → List Passed) (s : State) (m : ℕ) : Type 0 where
+  pub entries : List Entry
+  pub traced : mtrace netlist image s 0 (m * length (words_of image)) ≡ Shows entries
+  pub passed : take m (passed_of entries) ≡ trace (store_in image s) m
+  pub paced : IsPaced (length (words_of image)) (length (words_of image)) entries
+
+-- so many clocks from this state don't clash and leave the store
+pub record Stays (netlist : Netlist) (image : Image) (s : State) (n : ℕ) : Type 0 where
+  pub last : State
+  pub runs : run netlist (words_of image) s n ≡ Reached last
+  pub same : store_in image last ≡ store_in image s
+
+-- the image's trace is that of a source, whose first m checkpoints from a store are given: from every start state, for every m, and
+-- from each state at the end mark on nothing changes
+pub record TracesRight (netlist : Netlist) (image : Image) (trace : List ℕ → ℕ → List Passed) : Type 0 where
+  pub shows : (s : State) → IsAt netlist 0 s → (m : ℕ) → ShowsSource netlist image trace s m
+  pub stays : (s t : State) → IsAt netlist 0 s → (k : ℕ) → run netlist (words_of image) s k ≡ Reached t →
+      label_in netlist image t ≡ Some End → (n : ℕ) → Stays netlist image t n

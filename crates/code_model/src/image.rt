@@ -1,0 +1,37 @@
+//! Compiled code: its words, where the variables stand, and which addresses are marked.
+
+use rec_bits::{Items, Name};
+
+/// The cells of a variable: `len` of them from `address` on.
+#[derive(Debug, Drop)]
+pub struct Place {
+    pub name: Name,
+    pub address: u32,
+    pub len: u32,
+}
+
+/// A marked address: the first word of the code of the test with this tree's number, or of the end, where there is no number.
+#[derive(Clone, Copy, Debug, PartialEq, Eq)]
+pub struct Mark {
+    pub address: u32,
+    pub label: Option<u32>,
+}
+
+/// An instruction word, with the numbers of the patterns that are wanted of it, ascending.
+#[derive(Debug, Drop)]
+pub struct Word {
+    pub word: u64,
+    pub patterns: Items<u32>,
+}
+
+/// An image: the bits of a word, the number of temporary cells, the variables' places in order of declaration, the cost of each tree
+/// with its number, the marks by address, and the words from address 0 on.
+#[derive(Debug, Drop)]
+pub struct Image {
+    pub bits: u8,
+    pub temps: u32,
+    pub places: Items<Place>,
+    pub costs: Items<(u32, u32)>,
+    pub marks: Items<Mark>,
+    pub words: Items<Word>,
+}

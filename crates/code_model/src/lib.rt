@@ -1,0 +1,8 @@
+//! Images of code, and in `specs/` what a netlist that is clocked on one shows and when it is right.
+#![tactic(auto)]
+
+mod image;
+mod laws;
+
+pub use image::{Image, Mark, Place, Word};
+pub use laws::law_of_straight;

@@ -1,0 +1,7 @@
+pub mod Encoded
+pub mod Fields
+pub mod FirstLemmas
+pub mod Moves
+pub mod ProgramLemmas
+pub mod Sound
+pub mod Worked

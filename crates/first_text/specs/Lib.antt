@@ -1,0 +1,5 @@
+pub mod Words
+pub mod Plain
+pub mod Form
+pub mod First
+pub mod Reader

@@ -1,0 +1,6 @@
+//! The texts of images.
+#![tactic(auto)]
+
+mod writing;
+
+pub use writing::write;

@@ -1,0 +1,12 @@
+pub mod Nets
+pub mod Terms
+pub mod Value
+pub mod Widths
+pub mod Clock
+pub mod Symbolic
+pub mod Meaning
+pub mod Transfers
+pub mod Control
+pub mod Texts
+pub mod Patterns
+pub mod Worked

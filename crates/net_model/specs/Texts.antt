@@ -1,0 +1,72 @@
+-- How expressions and transfers are written: without spaces, with the names of the netlist.
+use Rattle.std.specs.Prelude.{ℕ, List, [], ◌∷◌, codes, Option, Some, None, slice_get}
+use Rattle.std.specs.List.{concat}
+use Rattle.std.specs.Fmt.{decimal}
+use Rattle.rec_bits.specs.declared.operator.Op1.{Op1}
+use Rattle.rec_bits.specs.declared.operator.Op1.TheVariants.{Not, Neg}
+use Rattle.rec_bits.specs.declared.operator.Op2.{Op2}
+use Rattle.rec_bits.specs.declared.operator.Op2.TheVariants.{Add, Sub, Mul, And, Or, Xor, Shl, Shr, Sar, Eq, Ltu, Lts}
+use Rattle.net_model.specs.declared.hardware.Netlist.{Netlist}
+use Rattle.net_model.specs.declared.hardware.Code.{Code}
+use Rattle.net_model.specs.declared.hardware.Storage.{Storage}
+use Rattle.net_model.specs.declared.hardware.Storage.TheVariants.{Register, Memory}
+use Rattle.net_model.specs.Terms.{Term, word, reg, const, read, un, bin, slice, cat, zext, sext, select, Move, keep, write, write_at}
+use Rattle.net_model.specs.Nets.{memory_id}
+
+abbrev pub storage_name : Option Storage → List ℕ
+storage_name None = []
+storage_name (Some (Register name width input when)) = name
+storage_name (Some (Memory name width size addr_width value addr when)) = name
+
+-- the name of the storage of this number, of the data memory, and of the instruction word
+abbrev pub name_at : Netlist → ℕ → List ℕ
+name_at netlist id = storage_name (slice_get netlist.storages id)
+
+abbrev pub memory_name : Netlist → List ℕ
+memory_name netlist = name_at netlist (memory_id netlist.storages)
+
+abbrev pub first_name : List Code → List ℕ
+first_name [] = []
+first_name (code ∷ codes) = code.name
+
+abbrev pub op1_text : Op1 → List ℕ
+op1_text Not = codes "not"
+op1_text Neg = codes "neg"
+
+abbrev pub op2_text : Op2 → List ℕ
+op2_text Add = codes "add"
+op2_text Sub = codes "sub"
+op2_text Mul = codes "mul"
+op2_text And = codes "and"
+op2_text Or = codes "or"
+op2_text Xor = codes "xor"
+op2_text Shl = codes "shl"
+op2_text Shr = codes "shr"
+op2_text Sar = codes "sar"
+op2_text Eq = codes "eq"
+op2_text Ltu = codes "ltu"
+op2_text Lts = codes "lts"
+
+-- an expression
+abbrev pub term_text : Netlist → Term → List ℕ
+term_text netlist (word w) = first_name netlist.codes
+term_text netlist (reg r w) = name_at netlist r
+term_text netlist (const w v) = concat (decimal v ∷ codes "#" ∷ decimal w ∷ [])
+term_text netlist (read a w) = concat (codes "read(" ∷ memory_name netlist ∷ codes "," ∷ term_text netlist a ∷ codes ")" ∷ [])
+term_text netlist (un op a) = concat (op1_text op ∷ codes "(" ∷ term_text netlist a ∷ codes ")" ∷ [])
+term_text netlist (bin op a b) =
+    concat (op2_text op ∷ codes "(" ∷ term_text netlist a ∷ codes "," ∷ term_text netlist b ∷ codes ")" ∷ [])
+term_text netlist (slice a hi lo) =
+    concat (codes "slice(" ∷ term_text netlist a ∷ codes "," ∷ decimal hi ∷ codes "," ∷ decimal lo ∷ codes ")" ∷ [])
+term_text netlist (cat a b) = concat (codes "cat(" ∷ term_text netlist a ∷ codes "," ∷ term_text netlist b ∷ codes ")" ∷ [])
+term_text netlist (zext a w) = concat (codes "zext(" ∷ term_text netlist a ∷ codes "," ∷ decimal w ∷ codes ")" ∷ [])
+term_text netlist (sext a w) = concat (codes "sext(" ∷ term_text netlist a ∷ codes "," ∷ decimal w ∷ codes ")" ∷ [])
+term_text netlist (select c a b) =
+    concat (codes "select(" ∷ term_text netlist c ∷ codes "," ∷ term_text netlist a ∷ codes "," ∷ term_text netlist b ∷ codes ")" ∷ [])
+
+-- a transfer of the storage of this number
+abbrev pub move_text : Netlist → ℕ → Move → List ℕ
+move_text netlist id keep = []
+move_text netlist id (write e) = concat (name_at netlist id ∷ codes " := " ∷ term_text netlist e ∷ [])
+move_text netlist id (write_at a e) =
+    concat (name_at netlist id ∷ codes "[" ∷ term_text netlist a ∷ codes "] := " ∷ term_text netlist e ∷ [])

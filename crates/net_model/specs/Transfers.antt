@@ -1,0 +1,81 @@
+-- What each storage does under one instruction word.
+use Rattle.std.specs.Prelude.{ℕ, ◌==◌, ◌≡◌, ◌⊎◌, if◌then◌else◌, List, Option, Some, None, slice_get, slice_index, slice_set, Bool, true, false}
+use Rattle.net_model.specs.declared.hardware.Netlist.{Netlist}
+use Rattle.net_model.specs.declared.hardware.Storage.{Storage}
+use Rattle.net_model.specs.declared.hardware.Storage.TheVariants.{Register, Memory}
+use Rattle.net_model.specs.declared.states.State.{State}
+use Rattle.net_model.specs.Terms.{Term, reg, Move, keep, write, write_at, next_of, swapped_next_of}
+use Rattle.net_model.specs.Nets.{IsRegister, memory_id, counter_of, counter_width}
+use Rattle.net_model.specs.Value.{value_of}
+use Rattle.net_model.specs.Widths.{IsState, WordFits}
+use Rattle.net_model.specs.Clock.{clock, clash_in, Next}
+use Rattle.net_model.specs.Symbolic.{blank, sym_of}
+use Rattle.net_model.specs.Meaning.{mean}
+
+-- ---- words without clash
+
+-- a word of the code under which no bus clashes; enables are static, so they are read in the blank state
+pub record IsClean (netlist : Netlist) (i : ℕ) : Type 0 where
+  pub fits : WordFits netlist i
+  pub clean : clash_in (value_of netlist blank i) netlist.nets ≡ None
+
+-- ---- transfers
+
+-- whether a `when` is on, where u gives the values of static nets
+abbrev pub is_on : (ℕ → ℕ) → Option ℕ → Bool
+is_on u None = true
+is_on u (Some when) = u when == 1
+
+-- whether an expression is a register as it stands
+abbrev pub same_reg : Term → ℕ → Bool
+same_reg (reg r w) id = r == id
+same_reg _ id = false
+
+-- a storage whose `when` is 0 keeps, and so does a register that would take its own value
+abbrev pub storage_move : (ℕ → Term) → (ℕ → ℕ) → ℕ → Storage → Move
+storage_move t u id (Register name width input when) =
+    if is_on u when then (if same_reg (t input) id then keep else write (t input)) else keep
+storage_move t u id (Memory name width size addr_width value addr when) =
+    if is_on u when then write_at (t addr) (t value) else keep
+
+abbrev pub transfer_of : Netlist → ℕ → ℕ → Option Storage → Move
+transfer_of netlist i id None = keep
+transfer_of netlist i id (Some storage) = storage_move (sym_of netlist i) (value_of netlist blank i) id storage
+
+-- what the storage of this number does under the word i
+abbrev pub move_at : Netlist → ℕ → ℕ → Move
+move_at netlist i id = transfer_of netlist i id (slice_get netlist.storages id)
+
+-- what the program counter does, and the data memory
+abbrev pub counter_move : Netlist → ℕ → Move
+counter_move netlist i = move_at netlist i (counter_of netlist.codes)
+
+abbrev pub memory_move : Netlist → ℕ → Move
+memory_move netlist i = move_at netlist i (memory_id netlist.storages)
+
+-- the word steps: the program counter becomes itself plus 1
+pub record Steps (netlist : Netlist) (i : ℕ) : Type 0 where
+  pub step : (counter_move netlist i ≡ write (next_of (counter_of netlist.codes) (counter_width netlist)))
+      ⊎ (counter_move netlist i ≡ write (swapped_next_of (counter_of netlist.codes) (counter_width netlist)))
+
+-- ---- what transfers do
+
+-- what a register holds after a transfer
+abbrev pub reg_moved : Move → State → ℕ → ℕ → ℕ
+reg_moved keep s i id = slice_index s.regs id
+reg_moved (write e) s i id = mean e s i
+reg_moved (write_at a e) s i id = slice_index s.regs id
+
+-- what the memory holds after a transfer
+abbrev pub cells_moved : Move → State → ℕ → List ℕ
+cells_moved keep s i = s.cells
+cells_moved (write e) s i = s.cells
+cells_moved (write_at a e) s i = slice_set s.cells (mean a s i) (mean e s i)
+
+-- the next state is what the transfers of the word say
+pub record Moved (netlist : Netlist) (words : List ℕ) (i : ℕ) (s : State) : Type 0 where
+  pub next : State
+  pub clocked : clock netlist words s ≡ Next next
+  pub state : IsState netlist next
+  pub regs : (id : ℕ) → IsRegister (slice_get netlist.storages id) → slice_index next.regs id ≡ reg_moved (move_at netlist i id) s i id
+  pub cells : next.cells ≡ cells_moved (memory_move netlist i) s i

@@ -1,0 +1,119 @@
+//! A netlist: nets, storages and codes.
+
+ghost use Rattle.std.specs.Prelude.{◌≡◌, option_copied, slice_get};
+ghost use Rattle.net_model.specs.Nets.{width_of};
+
+use rec_bits::{Items, Name, Op1, Op2};
+
+/// What gives a net its value. Nets, storages and codes are named by their numbers.
+#[derive(Debug, Drop)]
+pub enum Gate {
+    /// The instruction word of a code.
+    Word(u32),
+    /// A register's state.
+    Reg(u32),
+    /// The memory's cell at an address, and 0 past its size.
+    Read {
+        memory: u32,
+        addr: u32,
+    },
+    /// A constant.
+    Const(u64),
+    /// The value of another net.
+    Wire(u32),
+    /// An operator of one operand.
+    Un(Op1, u32),
+    /// An operator of two operands.
+    Bin(Op2, u32, u32),
+    /// The bits of a net from `hi` down to `lo`.
+    Slice {
+        of: u32,
+        hi: u8,
+        lo: u8,
+    },
+    /// The first net above the second.
+    Cat(u32, u32),
+    /// Zeros above a net.
+    Zext(u32),
+    /// Copies of the top bit above a net.
+    Sext(u32),
+    /// The net of the row with the selector's number, or that of the rest.
+    Case {
+        sel: u32,
+        rows: Items<(u64, u32)>,
+        rest: Option<u32>,
+    },
+    /// The value of the one driver that is enabled, or 0; pairs of a value and its enable.
+    Bus(Items<(u32, u32)>),
+}
+
+/// A net: its width of 1 to 64 bits, the offset of its item's name in the text, and its gate.
+#[derive(Debug, Drop)]
+pub struct Net {
+    pub width: u8,
+    pub name_at: u64,
+    pub gate: Gate,
+}
+
+/// A register or a memory. What feeds it is named by the numbers of nets; without a `when` it takes its input at each clock.
+#[derive(Debug, Drop)]
+pub enum Storage {
+    Register {
+        name: Name,
+        width: u8,
+        input: u32,
+        when: Option<u32>,
+    },
+    Memory {
+        name: Name,
+        width: u8,
+        size: u32,
+        addr_width: u8,
+        value: u32,
+        addr: u32,
+        when: Option<u32>,
+    },
+}
+
+/// An instruction memory: the bits of a word, how many words there may be, and the storage that counts through them.
+#[derive(Debug, Drop)]
+pub struct Code {
+    pub name: Name,
+    pub bits: u8,
+    pub words: u32,
+    pub counter: u32,
+}
+
+/// A netlist. A net, a storage or a code is named by its place.
+#[derive(Debug, Drop)]
+pub struct Netlist {
+    pub nets: Items<Net>,
+    pub storages: Items<Storage>,
+    pub codes: Items<Code>,
+}
+
+impl Netlist {
+    /// The net of this number, or None past the last.
+    pub fn net(&self, id: u32) -> Option<&Net>
+        ensures { option_copied result ≡ slice_get self.now.nets id }
+    {
+        self.nets.get(id as usize)
+    }
+
+    /// The storage of this number, or None past the last.
+    pub fn storage(&self, id: u32) -> Option<&Storage>
+        ensures { option_copied result ≡ slice_get self.now.storages id }
+    {
+        self.storages.get(id as usize)
+    }
+
+    /// The width of the net of this number, or None past the last.
+    pub fn width(&self, id: u32) -> Option<u8>
+        ensures { result ≡ width_of self.now id }
+    {
+        match self.net(id) {
+            Some(net) => Some(net.width),
+            None => None,
+        }
+    }
+}

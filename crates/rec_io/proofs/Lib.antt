@@ -1,0 +1,4 @@
+pub mod CauseLemmas
+mod Examples
+pub mod ShelfLemmas
+pub mod WrittenLemmas

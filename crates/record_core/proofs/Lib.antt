@@ -1,0 +1,7 @@
+mod AnswerLemmas
+mod CompileLemmas
+mod FetchLemmas
+mod ImageLemmas
+mod StageLemmas
+mod UniqueLemmas
+mod WordLemmas

@@ -1,0 +1,77 @@
+-- At most one status applies, and what follows.
+use Rattle.std.proofs.Common.{◌≡◌, ℕ, ◌⊎◌, List, Some, None, IsSome, sym, ◌∙◌, inl, inr, rules}
+use Rattle.std.specs.declared.option.Option.{Option}
+use Rattle.first_path.specs.First.{IsFirstImage}
+use Rattle.rec_io.specs.Causes.{Rose}
+use Rattle.rec_io.specs.Files.{Files}
+use Rattle.rec_io.specs.Shelf.{ShelfState}
+use Rattle.rec_io.specs.Sink.{SinkState}
+use Rattle.record_core.proofs.StageLemmas.{AtMostOne, By-unique, Then-unique}
+use Rattle.record_core.specs.Answers.{Answers, FilesAnswer, CompileAnswers, FormAnswers, IsReadFault, IsTooLong, IsNoNet, IsNoProgram, IsFile, Gives, IsExact, IsAccepted}
+use Rattle.record_core.specs.Lines.{due_line}
+use Rattle.record_core.specs.Words.{Form, Compile, form_of, names_of}
+use Rattle.record_core.specs.declared.status.Status.{Status}
+use Rattle.record_core.specs.declared.status.Status.TheVariants.{Done, Usage, ReadFault, TooLong, Memory, Later}
+
+one_read : (names : List (List ℕ)) (before now : ShelfState) (x y : ℕ) → IsReadFault names before now x → IsReadFault names before now y → x ≡ y
+one_read names before now x y p q = let a = p.place in let b = q.place in cc
+
+one_long : (names : List (List ℕ)) (before now : ShelfState) (x y : ℕ × ℕ) → IsTooLong names before now x → IsTooLong names before now y → x ≡ y
+one_long names before now (a, b) (c, d) p q = let p0 = p.place in let p1 = p.bound in let q0 = q.place in let q1 = q.bound in cc
+
+one_net : (net : List ℕ) (x y : ℕ) → IsNoNet net x → IsNoNet net y → x ≡ y
+one_net net x y p q = p.0 ∙ sym q.0
+
+one_program : (net src : List ℕ) (x y : ℕ) → IsNoProgram net src x → IsNoProgram net src y → x ≡ y
+one_program net src x y p q = p.0 ∙ sym q.0
+
+done_only : (net src : List ℕ) → AtMostOne (λ status text. (status ≡ Done) × IsFirstImage net src text)
+done_only net src s t a b p q = p.0 ∙ sym q.0
+
+CompileAnswers-unique : (line : Status → List ℕ) (net src : List ℕ) → AtMostOne (CompileAnswers line net src)
+CompileAnswers-unique line net src =
+    Then-unique line _ _ (By-unique Later _ (one_net net)) (
+    Then-unique line _ _ (By-unique Later _ (one_program net src)) (done_only net src))
+
+-- the bytes of a file that is told
+one_file : (files : Option Files) (name a b : List ℕ) → IsSome files → IsFile files name a → IsFile files name b → a ≡ b
+one_file None name a b told p q = absurd (search rules)
+one_file (Some all) name a b told p q = let x = p.same in let y = q.same in cc
+
+FormAnswers-unique : (line : Status → List ℕ) (files : Option Files) (form : Form) → IsSome files → AtMostOne (FormAnswers line files form)
+FormAnswers-unique line files (Compile n m) told s t a b (net, src, p, q, x) (net', src', p', q', y) =
+    let e : net' ≡ net = one_file files n net' net told p' p in
+    let f : src' ≡ src = one_file files m src' src told q' q in
+    CompileAnswers-unique line net src s t a b x (rw (e, f) at y)
+
+usage_only : (line : List ℕ) → AtMostOne (λ status text. (status ≡ Usage) × (text ≡ line))
+usage_only line s t a b p q = p.0 ∙ sym q.0
+
+FilesAnswer-unique : (line : Status → List ℕ) (form : Option Form) (before now : ShelfState) → IsSome before.files → AtMostOne (FilesAnswer line form before now)
+FilesAnswer-unique line None before now told = usage_only (line Usage)
+FilesAnswer-unique line (Some form) before now told =
+    Then-unique line _ _ (By-unique ReadFault _ (one_read (names_of form) before now)) (
+    Then-unique line _ _ (By-unique (λ (p : ℕ × ℕ). TooLong p.0 p.1) _ (one_long (names_of form) before now)) (
+    FormAnswers-unique line before.files form told))
+
+-- where the files are told, one status applies
+pub Answers-unique : (words : List (List ℕ)) (before now : ShelfState) → IsSome before.files → AtMostOne (Answers words before now)
+Answers-unique words before now told = FilesAnswer-unique (due_line words) (form_of words) before now told
+
+pub exact_of : (words : List (List ℕ)) (before now : ShelfState) (old new : SinkState) (result : Status) → Gives words before now old new result → IsSome before.files → IsExact words before now result
+exact_of words before now old new result gives told status text applies = elim gives.put [
+  | inl whole ↦ elim gives.answer [
+    | inl memory ↦ inr (inl (whole.0 ∙ memory.0))
+    | inr due ↦ inl (whole.0 ∙ Answers-unique words before now told gives.due status gives.text text due applies)
+  ]
+  | inr part ↦ inr (inr part.0)
+]
+
+pub complete_of : (words : List (List ℕ)) (before now : ShelfState) (old new : SinkState) (result : Status) → Gives words before now old new result → IsAccepted words before now → (Rose old.faults new.faults → ⊥) → (result ≡ Done) ⊎ (result ≡ Memory)
+complete_of words before now old new result gives accepted calm = elim gives.put [
+  | inl whole ↦ elim gives.answer [
+    | inl memory ↦ inr (whole.0 ∙ memory.0)
+    | inr due ↦ inl (whole.0 ∙ accepted gives.due gives.text due)
+  ]
+  | inr part ↦ absurd (calm part.1)
+]

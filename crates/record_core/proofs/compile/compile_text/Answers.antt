@@ -1,0 +1,12 @@
+use Rattle.std.proofs.Common.{inr}
+use Rattle.record_core.proofs.CompileLemmas.{answers_done, answers_no_net, answers_no_program}
+use Rattle.record_core.proofs.compile.compile_text.Goals as goal
+
+pub returns-in-Ok-clause-ok : goal.returns-in-Ok-clause-ok
+returns-in-Ok-clause-ok c = λ line. answers_done line c.args.net.now c.args.src.now c.in-Ok.text.items c.in-Ok.ensures.taken c.in-Ok.ensures.right
+
+pub returns-in-Err-NotPlain-clause-refused : goal.returns-in-Err-NotPlain-clause-refused
+returns-in-Err-NotPlain-clause-refused c = λ line. inr (answers_no_net line c.args.net.now c.args.src.now (rw c.in-Err-NotPlain.field-0-is at c.in-Err-NotPlain.ensures.refused))
+
+pub returns-in-Err-NotFirst-clause-refused : goal.returns-in-Err-NotFirst-clause-refused
+returns-in-Err-NotFirst-clause-refused c = λ line. inr (answers_no_program line c.args.net.now c.args.src.now (rw c.in-Err-NotFirst.field-0-is at c.in-Err-NotFirst.ensures.refused))

@@ -1,0 +1,125 @@
+-- What the call answers: the first refusal that applies, or `Done`.
+use Rattle.std.specs.Prelude.{◌≡◌, ℕ, ◌+◌, ◌<◌, ◌≤◌, ◌⊎◌, true, false, List, [], ◌∷◌, ◌++◌, length, take, Some, None, IfSome, IsSomeAnd, cond, ⊤}
+use Rattle.std.specs.declared.option.Option.{Option}
+use Rattle.std.specs.Str.{bytes_eq}
+use Rattle.first_path.specs.First.{IsPlainText, IsFirstText, IsFirstImage}
+use Rattle.rec_io.specs.Causes.{Rose}
+use Rattle.rec_io.specs.Files.{Files, file_of}
+use Rattle.rec_io.specs.Shelf.{ShelfState}
+use Rattle.rec_io.specs.Sink.{SinkState}
+use Rattle.rec_io.specs.Written.{Takes, TakesPrefix}
+use Rattle.record_core.specs.Lines.{due_line}
+use Rattle.record_core.specs.Stages.{By, Then}
+use Rattle.record_core.specs.Words.{Form, Compile, form_of, names_of}
+use Rattle.record_core.specs.declared.status.Status.{Status}
+use Rattle.record_core.specs.declared.status.Status.TheVariants.{Done, Usage, ReadFault, TooLong, WriteFault, Memory, Later}
+
+-- the most bytes of a file
+abbrev pub file_limit : ℕ
+file_limit = 1048576
+
+-- the first place from k on at which this name stands
+abbrev pub place_from : ℕ → List (List ℕ) → List ℕ → Option ℕ
+place_from k [] name = None
+place_from k (first ∷ names) name = cond (bytes_eq first name) (Some k) (place_from (k + 1) names name)
+
+-- the bytes of this file, where the files are told
+pub record IsFile (files : Option Files) (name bytes : List ℕ) : Type 0 where
+  pub short : length bytes ≤ file_limit
+  pub same : IfSome files (λ all. file_of all name ≡ Some bytes)
+
+-- the same for several files
+abbrev pub AreFiles : Option Files → List (List ℕ) → List (List ℕ) → Type 0
+AreFiles files [] [] = ⊤
+AreFiles files (name ∷ names) (bytes ∷ rest) = IsFile files name bytes × AreFiles files names rest
+AreFiles files _ _ = ⊥
+
+-- the first files of these names are there and short enough
+abbrev pub HasFirst : Option Files → List (List ℕ) → ℕ → Type 0
+HasFirst files names count = (contents : List (List ℕ)) × AreFiles files (take count names) contents
+
+-- the last fetch failed, it asked for the file at this place, and the count of faults rose
+pub record IsReadFault (names : List (List ℕ)) (before now : ShelfState) (file : ℕ) : Type 0 where
+  pub rose : Rose before.faults now.faults
+  pub failed : now.failed ≡ true
+  pub place : place_from 0 names now.last ≡ Some file
+  pub earlier : HasFirst before.files names file
+
+-- the last fetch asked for the file at this place, did not fail and got more than the limit
+pub record IsTooLong (names : List (List ℕ)) (before now : ShelfState) (at : ℕ × ℕ) : Type 0 where
+  pub bound : at.1 ≡ file_limit
+  pub above : at.1 < now.taken
+  pub ended : now.failed ≡ false
+  pub place : place_from 0 names now.last ≡ Some at.0
+  pub earlier : HasFirst before.files names at.0
+  pub longer : IfSome before.files (λ all. IsSomeAnd (file_of all now.last) (λ bytes. at.1 < length bytes))
+
+-- the first file is no plain netlist text
+abbrev pub IsNoNet : List ℕ → ℕ → Type 0
+IsNoNet net file = (file ≡ 0) × (IsPlainText net → ⊥)
+
+-- the first file is one, and the second is no first program for it
+abbrev pub IsNoProgram : List ℕ → List ℕ → ℕ → Type 0
+IsNoProgram net src file = (file ≡ 1) × IsPlainText net × (IsFirstText net src → ⊥)
+
+-- what `compile` answers for these two texts
+abbrev pub CompileAnswers : (Status → List ℕ) → List ℕ → List ℕ → Status → List ℕ → Type 0
+CompileAnswers line net src =
+    Then line (By Later (IsNoNet net)) (
+    Then line (By Later (IsNoProgram net src)) (
+    λ status text. (status ≡ Done) × IsFirstImage net src text))
+
+-- what a form answers once its files are there
+abbrev pub FormAnswers : (Status → List ℕ) → Option Files → Form → Status → List ℕ → Type 0
+FormAnswers line files (Compile net_name src_name) status text =
+    (net : List ℕ) × (src : List ℕ) × IsFile files net_name net × IsFile files src_name src × CompileAnswers line net src status text
+
+-- what the words answer by their form
+abbrev pub FilesAnswer : (Status → List ℕ) → Option Form → ShelfState → ShelfState → Status → List ℕ → Type 0
+FilesAnswer line None before now status text = (status ≡ Usage) × (text ≡ line Usage)
+FilesAnswer line (Some form) before now status text =
+    Then line (By ReadFault (IsReadFault (names_of form) before now)) (
+    Then line (By (λ (p : ℕ × ℕ). TooLong p.0 p.1) (IsTooLong (names_of form) before now)) (
+    FormAnswers line before.files form)) status text
+
+-- what the call answers: the first refusal that applies and its line, or `Done` and the text; all but want of memory and faults of the sink
+abbrev pub Answers : List (List ℕ) → ShelfState → ShelfState → Status → List ℕ → Type 0
+Answers words before now status text = FilesAnswer (due_line words) (form_of words) before now status text
+
+-- that, or want of memory
+abbrev pub MayAnswer : List (List ℕ) → ShelfState → ShelfState → Status → List ℕ → Type 0
+MayAnswer words before now status text = ((status ≡ Memory) × (text ≡ due_line words Memory)) ⊎ Answers words before now status text
+
+-- the sink took the whole text of the status, or it failed within the text and took a prefix
+abbrev pub Puts : SinkState → SinkState → List ℕ → Status → Status → Type 0
+Puts before now text status result =
+    ((result ≡ status) × Takes before.written now.written text)
+    ⊎ ((result ≡ WriteFault) × Rose before.faults now.faults × TakesPrefix before.written now.written text)
+
+-- the answer that is due, what the sink took of its text, and the status that is returned
+pub record Gives (words : List (List ℕ)) (before now : ShelfState) (old new : SinkState) (result : Status) : Type 0 where
+  pub due : Status
+  pub text : List ℕ
+  pub answer : MayAnswer words before now due text
+  pub put : Puts old new text due result
+
+-- where an answer applies, nothing else is returned but want of memory or a fault of the sink
+abbrev pub IsExact : List (List ℕ) → ShelfState → ShelfState → Status → Type 0
+IsExact words before now result = (status : Status) (text : List ℕ) → Answers words before now status text → (result ≡ status) ⊎ (result ≡ Memory) ⊎ (result ≡ WriteFault)
+
+-- no refusal applies
+abbrev pub IsAccepted : List (List ℕ) → ShelfState → ShelfState → Type 0
+IsAccepted words before now = (status : Status) (text : List ℕ) → Answers words before now status text → status ≡ Done
+
+-- the bytes that were taken are an image of the two files
+pub record HasImage (words : List (List ℕ)) (files : Files) (old new : List ℕ) : Type 0 where
+  pub net_name : List ℕ
+  pub src_name : List ℕ
+  pub net : List ℕ
+  pub src : List ℕ
+  pub out : List ℕ
+  pub form : form_of words ≡ Some (Compile net_name src_name)
+  pub net_file : file_of files net_name ≡ Some net
+  pub src_file : file_of files src_name ≡ Some src
+  pub taken : new ≡ old ++ out
+  pub right : IsFirstImage net src out

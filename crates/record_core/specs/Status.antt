@@ -1,0 +1,28 @@
+-- The exit status of each answer.
+use Rattle.std.specs.Prelude.{ℕ}
+use Rattle.record_core.specs.declared.status.Status.{Status}
+use Rattle.record_core.specs.declared.status.Status.TheVariants.{Done, Usage, ReadFault, TooLong, WriteFault, NetText, Net, SrcText, Src, NoStep, NoJump, NoCover, DataFull, NoReach, ImageFull, Memory, ImageText, MemText, Clash, Later, NoWord}
+
+-- the exit status of the program
+abbrev pub code_of : Status → ℕ
+code_of Done = 0
+code_of Usage = 2
+code_of (ReadFault file) = 3
+code_of (TooLong file limit) = 3
+code_of WriteFault = 4
+code_of (NetText at) = 5
+code_of (Net fault) = 6
+code_of (SrcText at) = 7
+code_of (Src fault) = 8
+code_of NoStep = 9
+code_of NoJump = 9
+code_of (NoCover tree) = 9
+code_of (DataFull need have) = 10
+code_of (NoReach bound reach) = 10
+code_of (ImageFull len size bound) = 10
+code_of Memory = 11
+code_of (ImageText at) = 12
+code_of (MemText at) = 12
+code_of (Clash cycle bus) = 13
+code_of (Later file) = 14
+code_of (NoWord number) = 15

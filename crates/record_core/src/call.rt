@@ -1,0 +1,104 @@
+//! The call of the program.
+ghost use Rattle.std.specs.Prelude.{◌≡◌, ◌⊎◌, ◌≤◌, IfOk, IfErr, IfSome, IsSome};
+ghost use Rattle.rec_io.specs.Causes.{Rose};
+ghost use Rattle.record_core.specs.Answers.{Answers, Puts, Gives, IsExact, IsAccepted, HasImage};
+ghost use Rattle.record_core.specs.Lines.{due_line};
+ghost use Rattle.record_core.specs.Words.{texts_of, IsCommand};
+ghost use Rattle.record_core.specs.declared.words.Command.{Command};
+ghost use Rattle.record_core.specs.declared.status.Status.{Status};
+
+use crate::Status;
+use crate::compile::compile_text;
+use crate::fetch::fetch_all;
+use crate::line::fault_line;
+use crate::words::{Command, command_of};
+use rec_io::{Shelf, Sink, put_all};
+use std::alloc::Global;
+
+const MEMORY_LINE: &[u8] = b"error memory\n";
+
+// The image text of the files that the words name, or the first refusal that applies.
+fn compile_files<F: Shelf>(
+    alloc: Global,
+    words: &[String],
+    shelf: &mut F,
+) -> Result<Vec<u8>, Status>
+    requires { IsCommand (texts_of words.now) Command.Compile }
+    ensures later { (F.state shelf.old).faults ≤ (F.state shelf.new).faults }
+    ensures same { (F.state shelf.new).files ≡ (F.state shelf.old).files }
+    ensures ok { IfOk result (λ text. Answers (texts_of words.now) (F.state shelf.old) (F.state shelf.new) Status.Done text.items) }
+    ensures refused { IfErr result (λ status. (status ≡ Status.Memory) ⊎ Answers (texts_of words.now) (F.state shelf.old) (F.state shelf.new) status (due_line (texts_of words.now) status)) }
+{
+    let got = fetch_all(alloc, &words[1..], shelf)?;
+    compile_text(alloc, &got[0], &got[1])
+}
+
+// The text, or the first refusal that applies.
+fn decide<F: Shelf>(alloc: Global, words: &[String], shelf: &mut F) -> Result<Vec<u8>, Status>
+    ensures later { (F.state shelf.old).faults ≤ (F.state shelf.new).faults }
+    ensures same { (F.state shelf.new).files ≡ (F.state shelf.old).files }
+    ensures ok { IfOk result (λ text. Answers (texts_of words.now) (F.state shelf.old) (F.state shelf.new) Status.Done text.items) }
+    ensures refused { IfErr result (λ status. (status ≡ Status.Memory) ⊎ Answers (texts_of words.now) (F.state shelf.old) (F.state shelf.new) status (due_line (texts_of words.now) status)) }
+{
+    match command_of(words) {
+        Some(Command::Compile) => compile_files(alloc, words, shelf),
+        None => Err(Status::Usage),
+    }
+}
+
+// Puts the text of this status.
+fn put_text<S: Sink>(out: &mut S, text: &[u8], status: Status) -> Status
+    ensures later { (S.state out.old).faults ≤ (S.state out.new).faults }
+    ensures puts { Puts (S.state out.old) (S.state out.new) text.now status result }
+{
+    match put_all(out, text) {
+        Ok(()) => status,
+        Err(_) => Status::WriteFault,
+    }
+}
+
+// Decides, and puts the text that is due.
+fn answer<F: Shelf, S: Sink>(alloc: Global, words: &[String], shelf: &mut F, out: &mut S) -> Status
+    ensures shelf_later { (F.state shelf.old).faults ≤ (F.state shelf.new).faults }
+    ensures shelf_same { (F.state shelf.new).files ≡ (F.state shelf.old).files }
+    ensures sink_later { (S.state out.old).faults ≤ (S.state out.new).faults }
+    ensures gives { Gives (texts_of words.now) (F.state shelf.old) (F.state shelf.new) (S.state out.old) (S.state out.new) result }
+{
+    match decide(alloc, words, shelf) {
+        Ok(text) => put_text(out, &text, Status::Done),
+        Err(status) => match fault_line(alloc, words, "", status) {
+            Ok(line) => put_text(out, line.as_bytes(), status),
+            Err(_) => put_text(out, MEMORY_LINE, Status::Memory),
+        },
+    }
+}
+
+/// What the words ask for, over the files of this shelf, into this output.
+///
+/// The words are those after the program's name. `compile NET SRC` is the one form so far; NET and SRC are names
+/// of files. On `Done` the output took the whole image text. On `WriteFault` it took a prefix of the text that was
+/// due, and on every other status the line of the fault. Want of memory may be answered anywhere.
+pub fn record_call<F: Shelf, S: Sink>(
+    alloc: Global,
+    words: &Vec<String>,
+    shelf: &mut F,
+    out: &mut S,
+) -> Status
+    ensures shelf_later { (F.state shelf.old).faults ≤ (F.state shelf.new).faults }
+    ensures shelf_same { (F.state shelf.new).files ≡ (F.state shelf.old).files }
+    ensures sink_later { (S.state out.old).faults ≤ (S.state out.new).faults }
+
+    // What is due is the first refusal that applies, with its line, or `Done` and the text, or want of memory.
+    ensures gives { Gives (texts_of words.now.items) (F.state shelf.old) (F.state shelf.new) (S.state out.old) (S.state out.new) result }
+
+    // Where the files are told, nothing else is answered than what applies.
+    ensures exactly { IsSome (F.state shelf.old).files → IsExact (texts_of words.now.items) (F.state shelf.old) (F.state shelf.new) result }
+
+    // Where no refusal applies and the output did not fail, the call succeeds.
+    ensures complete { IsAccepted (texts_of words.now.items) (F.state shelf.old) (F.state shelf.new) → ¬ Rose (S.state out.old).faults (S.state out.new).faults → (result ≡ Status.Done) ⊎ (result ≡ Status.Memory) }
+
+    // The main promise of `compile`.
+    ensures image { result ≡ Status.Done → IfSome (F.state shelf.old).files (λ files. IfSome (S.state out.old).written (λ old. IfSome (S.state out.new).written (HasImage (texts_of words.now.items) files old))) }
+{
+    answer(alloc, words, shelf, out)
+}

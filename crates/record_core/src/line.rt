@@ -1,0 +1,157 @@
+//! The lines of the faults.
+ghost use Rattle.std.specs.Prelude.{◌≡◌, ◌+◌, ◌<◌, IfOk, length, string_bytes};
+ghost use Rattle.record_core.specs.Lines.{line_of, name_at};
+ghost use Rattle.record_core.specs.NetLines.{net_line, net_rule_text, net_kind_text, role_text};
+ghost use Rattle.record_core.specs.SrcLines.{src_line, src_kind_text};
+ghost use Rattle.record_core.specs.Words.{texts_of};
+
+use crate::Status;
+use net_model::{NetFault, NetKind, Role};
+use src_model::{SrcFault, SrcKind};
+use std::alloc::{AllocError, Global};
+
+// The word that names this file.
+fn file_name(words: &[String], file: u8) -> &str
+    ensures { result.now ≡ name_at (texts_of words.now) file }
+{
+    match words.get(file as usize + 1) {
+        Some(word) => word.as_str(),
+        None => "",
+    }
+}
+
+fn role_name(role: Role) -> &'static str
+    ensures { result.now ≡ role_text role }
+{
+    match role {
+        Role::Code => "code",
+        Role::Memory => "memory",
+        Role::Pc => "pc",
+        Role::Size => "size",
+        Role::Addr => "addr",
+    }
+}
+
+fn net_kind_name(kind: NetKind) -> &'static str
+    ensures { result.now ≡ net_kind_text kind }
+{
+    match kind {
+        NetKind::Nets => "nets",
+        NetKind::Registers => "registers",
+        NetKind::Cells => "cells",
+        NetKind::Words => "words",
+    }
+}
+
+fn src_kind_name(kind: SrcKind) -> &'static str
+    ensures { result.now ≡ src_kind_text kind }
+{
+    match kind {
+        SrcKind::Length => "length",
+        SrcKind::Statements => "statements",
+        SrcKind::Nodes => "nodes",
+    }
+}
+
+// The number and the name of the rule.
+fn net_rule_name(fault: NetFault) -> &'static str
+    ensures { result.now ≡ net_rule_text fault }
+{
+    match fault {
+        NetFault::Duplicate(_) => "N1 Duplicate",
+        NetFault::Unknown(_) => "N2 Unknown",
+        NetFault::Width(_) => "N3 Width",
+        NetFault::Driver(_) => "N4 Driver",
+        NetFault::Cycle(_) => "N5 Cycle",
+        NetFault::Role(_) => "N6 Role",
+        NetFault::Enable(_) => "N7 Enable",
+        NetFault::ControlOp(_) => "N8 ControlOp",
+        NetFault::WideSelect(_) => "N9 WideSelect",
+        NetFault::AlwaysClash => "N10 AlwaysClash",
+        NetFault::Limit { .. } => "N11 Limit",
+        NetFault::PatternLarge(_) => "N12 PatternLarge",
+        NetFault::TooMany(_) => "N13 TooMany",
+    }
+}
+
+// `name` is the one at the rule's offset.
+fn net_fault_line(alloc: Global, name: &str, fault: NetFault) -> Result<String, AllocError>
+    ensures { IfOk result (λ line. string_bytes line ≡ net_line name.now fault) }
+{
+    match fault {
+        NetFault::Role(role) => {
+            let role = role_name(role);
+            format!(in alloc; "error net N6 Role {role}\n")
+        }
+        NetFault::AlwaysClash => String::from_str(alloc, "error net N10 AlwaysClash\n"),
+        NetFault::Limit { kind, count, bound } => {
+            let kind = net_kind_name(kind);
+            format!(in alloc; "error net N11 Limit {kind} {count} {bound}\n")
+        }
+        _ => {
+            let rule = net_rule_name(fault);
+            format!(in alloc; "error net {rule} {name}\n")
+        }
+    }
+}
+
+fn src_fault_line(alloc: Global, fault: SrcFault) -> Result<String, AllocError>
+    ensures { IfOk result (λ line. string_bytes line ≡ src_line fault) }
+{
+    match fault {
+        SrcFault::Duplicate(at) => format!(in alloc; "error source S1 Duplicate {at}\n"),
+        SrcFault::Unknown(at) => format!(in alloc; "error source S2 Unknown {at}\n"),
+        SrcFault::Width(at) => format!(in alloc; "error source S3 Width {at}\n"),
+        SrcFault::Index(at) => format!(in alloc; "error source S4 Index {at}\n"),
+        SrcFault::Counter(at) => format!(in alloc; "error source S5 Counter {at}\n"),
+        SrcFault::Limit { kind, count, bound } => {
+            let kind = src_kind_name(kind);
+            format!(in alloc; "error source S6 Limit {kind} {count} {bound}\n")
+        }
+    }
+}
+
+/// The line of the fault, with its LF. `Done` and `WriteFault` have none, which is the empty text.
+///
+/// `name` is the item's or the bus's that the status is about, for those that are about one.
+pub fn fault_line(
+    alloc: Global,
+    words: &[String],
+    name: &str,
+    status: Status,
+) -> Result<String, AllocError>
+    ensures { IfOk result (λ line. string_bytes line ≡ line_of (texts_of words.now) name.now status) }
+{
+    match status {
+        Status::Done | Status::WriteFault => Ok(String::new(alloc)),
+        Status::Usage => String::from_str(alloc, "error usage\n"),
+        Status::ReadFault { file } => {
+            let file = file_name(words, file);
+            format!(in alloc; "error read {file}\n")
+        }
+        Status::TooLong { file, limit } => {
+            let file = file_name(words, file);
+            format!(in alloc; "error too long {file} {limit}\n")
+        }
+        Status::NetText(at) => format!(in alloc; "error net text {at}\n"),
+        Status::Net(fault) => net_fault_line(alloc, name, fault),
+        Status::SrcText(at) => format!(in alloc; "error source text {at}\n"),
+        Status::Src(fault) => src_fault_line(alloc, fault),
+        Status::NoStep => String::from_str(alloc, "error no step\n"),
+        Status::NoJump => String::from_str(alloc, "error no jump\n"),
+        Status::NoCover(tree) => format!(in alloc; "error no cover {tree}\n"),
+        Status::DataFull { need, have } => format!(in alloc; "error data full {need} {have}\n"),
+        Status::NoReach { bound, reach } => {
+            format!(in alloc; "error no reach {bound} {reach}\n")
+        }
+        Status::ImageFull { len, size, bound } => {
+            format!(in alloc; "error image full {len} {size} {bound}\n")
+        }
+        Status::Memory => String::from_str(alloc, "error memory\n"),
+        Status::ImageText(at) => format!(in alloc; "error image text {at}\n"),
+        Status::MemText(at) => format!(in alloc; "error memory text {at}\n"),
+        Status::Clash { cycle, .. } => format!(in alloc; "error clash {cycle} {name}\n"),
+        Status::Later(file) => format!(in alloc; "error later {file}\n"),
+        Status::NoWord(number) => format!(in alloc; "error no word {number}\n"),
+    }
+}

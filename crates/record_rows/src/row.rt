@@ -1,0 +1,118 @@
+//! One row: a call, what it is made over, and what it answers.
+
+use anyhow::{Context, Result, bail};
+use rec_io::{MemShelf, MemSink};
+use record_core::record_call;
+use std::alloc::{AllocError, Global};
+
+// What a sink has room for where the row doesn't say.
+const ROOM: usize = 65_536;
+
+/// A call over memory.
+#[derive(Drop)]
+pub struct Row {
+    name: String,
+    words: Vec<String>,
+    files: Vec<(String, Vec<u8>)>,
+    fetch_fails: Vec<u64>,
+    put_fails: Vec<u64>,
+    step: usize,
+    room: usize,
+}
+
+impl Row {
+    /// A call without words and files.
+    pub fn new(alloc: Global) -> Row {
+        Row {
+            name: String::new(alloc),
+            words: Vec::new(alloc),
+            files: Vec::new(alloc),
+            fetch_fails: Vec::new(alloc),
+            put_fails: Vec::new(alloc),
+            step: ROOM,
+            room: ROOM,
+        }
+    }
+
+    // More bytes of the last file.
+    fn add(&mut self, bytes: &[u8]) -> Result<()> {
+        let Some(file) = self.files.last_mut() else {
+            bail!("no file to add to");
+        };
+        file.1.extend_from_slice(bytes)?;
+        Ok(())
+    }
+
+    fn fill(&mut self, alloc: Global, count: usize) -> Result<()> {
+        let spaces = vec![in alloc; b' '; count]?;
+        self.add(spaces.as_slice())
+    }
+
+    /// Takes one line of the row.
+    pub fn take(&mut self, alloc: Global, line: &str) -> Result<()> {
+        let Some((key, rest)) = line.split_once(" ") else {
+            bail!("no line of a row: {line}");
+        };
+        match key {
+            "row" => self.name = String::from_str(alloc, rest)?,
+            "word" => self.words.push(String::from_str(alloc, rest)?)?,
+            "file" => self
+                .files
+                .push((String::from_str(alloc, rest)?, Vec::new(alloc)))?,
+            "|" => {
+                self.add(rest.as_bytes())?;
+                self.add(b"\n")?;
+            }
+            "+" => self.add(rest.as_bytes())?,
+            "fill" => self.fill(alloc, number(rest)? as usize)?,
+            "step" => self.step = number(rest)? as usize,
+            "room" => self.room = number(rest)? as usize,
+            "fail" => self.fail(rest)?,
+            _ => bail!("no line of a row: {line}"),
+        }
+        Ok(())
+    }
+
+    fn fail(&mut self, what: &str) -> Result<()> {
+        match what.split_once(" ") {
+            Some(("fetch", count)) => self.fetch_fails.push(number(count)?)?,
+            Some(("put", count)) => self.put_fails.push(number(count)?)?,
+            _ => bail!("nothing can fail so: {what}"),
+        }
+        Ok(())
+    }
+
+    /// Makes the call. The text has the row's name, what the sink took, and the status.
+    pub fn call(self, alloc: Global) -> Result<String> {
+        let Row {
+            name,
+            words,
+            files,
+            fetch_fails,
+            put_fails,
+            step,
+            room,
+        } = self;
+        let mut shelf = MemShelf::new(files, fetch_fails);
+        let mut sink = MemSink::new(alloc, step.max(1), room, put_fails).map_err(|_| AllocError)?;
+        let status = record_call(alloc, &words, &mut shelf, &mut sink);
+        told(alloc, &name, sink.bytes(), status.code())
+    }
+}
+
+// The lines that tell of a call; what the sink took ends with a mark where it doesn't end with a line's end.
+fn told(alloc: Global, name: &str, bytes: &[u8], code: u8) -> Result<String> {
+    let taken = String::from_utf8_lossy(alloc, bytes)?;
+    let end = if bytes.is_empty() || bytes.ends_with(b"\n") {
+        ""
+    } else {
+        "$\n"
+    };
+    let text = taken.as_str();
+    Ok(format!(in alloc; "row {name}\n{text}{end}status {code}\n\n")?)
+}
+
+fn number(text: &str) -> Result<u64> {
+    text.parse::<u64>()
+        .context(format_args!("a number: {text}"))
+}
