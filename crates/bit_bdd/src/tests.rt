@@ -1,4 +1,4 @@
-// One book of three bits, on which each call answers.
+// A book of three bits, on which each call answers, and two of many bits.
 
 ghost use Rattle.std.specs.Prelude.{◌≡◌, ◌<◌, ◌≤◌, length, IfOk};
 ghost use Rattle.bit_bdd.specs.Diagrams.{Extends};
@@ -77,4 +77,60 @@ fn three_bits(rt: HostRuntime) -> Result<(), NoMemory> {
     assert_reached(&rt, alloc, &mut book, a)?;
     assert_fixed(&rt, alloc, &mut book, a)?;
     assert_parted(&rt, alloc, &mut book, a)
+}
+
+// The words in which this bit has this value.
+fn literal(alloc: Global, book: &mut Book, bit: u8, value: bool) -> Result<SetId, NoMemory>
+    requires { bit < book.old.bits }
+    ensures bits { book.new.bits ≡ book.old.bits }
+    ensures grows { length book.old.nodes ≤ length book.new.nodes }
+    ensures within { IfOk result (λ id. id < length book.new.nodes) }
+{
+    let one = book.bit(alloc, bit)?;
+    if value { Ok(one) } else { book.not(alloc, one) }
+}
+
+// The words whose low 40 bits are this number.
+fn low_bits_equal(alloc: Global, book: &mut Book, number: u64) -> Result<SetId, NoMemory>
+    requires { 40 ≤ book.old.bits }
+    ensures bits { book.new.bits ≡ book.old.bits }
+    ensures within { IfOk result (λ id. id < length book.new.nodes) }
+{
+    let mut set = literal(alloc, book, 0, number & 1 == 1)?;
+    for bit in 1..40u8 {
+        let wanted = literal(alloc, book, bit, (number >> bit) & 1 == 1)?;
+        set = book.and(alloc, set, wanted)?;
+    }
+    Ok(set)
+}
+
+#[test]
+fn an_equality_of_many_bits(rt: HostRuntime) -> Result<(), NoMemory> {
+    let alloc = rt.alloc();
+    let mut book = Book::new(alloc, 48)?;
+    let set = low_bits_equal(alloc, &mut book, 0xab_cdef_0123)?;
+    assert_eq!(rt; book.least(set), Some(0xab_cdef_0123));
+    for bit in 0..48u8 {
+        assert_eq!(rt;
+            book.holds(set, 0xab_cdef_0123 ^ (1 << bit)),
+            bit >= 40,
+            "at {bit}"
+        );
+    }
+    // one path: a node for each bit asked, and no other but those of single bits and of the equalities before
+    assert!(rt; book.size() <= 2 + 3 * 40);
+    Ok(())
+}
+
+#[test]
+fn both_ends_of_a_word(rt: HostRuntime) -> Result<(), NoMemory> {
+    let alloc = rt.alloc();
+    let mut book = Book::new(alloc, 64)?;
+    let high = book.bit(alloc, 63)?;
+    let low = book.bit(alloc, 0)?;
+    let both = book.and(alloc, high, low)?;
+    assert_eq!(rt; book.least(both), Some(0x8000_0000_0000_0001));
+    assert!(rt; book.holds(both, u64::MAX));
+    assert!(rt; !book.holds(both, u64::MAX - 1));
+    Ok(())
 }

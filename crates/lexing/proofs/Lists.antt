@@ -1,0 +1,7 @@
+-- Lists and tests.
+use Rattle.std.proofs.Common.{◌≡◌, List, [], ◌∷◌, ◌||◌, Bool, map, refl, ap}
+use Rattle.std.specs.List.{list_any}
+
+pub list_any_map : {X Y : Type 0} (p : Y → Bool) (f : X → Y) (xs : List X) → list_any p (map f xs) ≡ list_any (λ x. p (f x)) xs
+list_any_map p f [] = refl
+list_any_map p f (x ∷ xs) = ap (λ t. p (f x) || t) (list_any_map p f xs)

@@ -1,0 +1,6 @@
+pub mod Bytes
+pub mod Numbers
+pub mod Table
+pub mod Tokens
+pub mod Laws
+pub mod Worked

@@ -1,0 +1,14 @@
+//! Texts as lists of tokens, for any language of names, numbers and signs.
+#![tactic(auto)]
+
+mod bytes;
+mod language;
+mod number;
+mod piece;
+mod scan;
+mod token;
+
+pub use language::Language;
+pub use number::number_of;
+pub use scan::tokens;
+pub use token::{Kind, Token};
