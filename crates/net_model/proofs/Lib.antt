@@ -4,3 +4,6 @@ pub mod Fits
 pub mod Meanings
 pub mod NextStates
 pub mod WorkedTexts
+pub mod Orders
+pub mod KeptRules
+pub mod WorkedRules

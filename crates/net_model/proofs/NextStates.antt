@@ -9,6 +9,13 @@ use Rattle.net_model.specs.Nets.{width_at, memory_width, storage_bits}
 use Rattle.net_model.specs.Widths.{StorageFits, ValuesFit}
 use Rattle.net_model.specs.Clock.{next_cells, next_reg, next_regs, is_enabled}
 
+pub set_fits : (cells : List ℕ) (i x n : ℕ) → ((a : ℕ) → slice_index cells a < n) → x < n → (a : ℕ) → slice_index (slice_set cells i x) a < n
+set_fits [] i x n h k a = h a
+set_fits (c ∷ cs) zero x n h k zero = k
+set_fits (c ∷ cs) zero x n h k (suc a) = h (suc a)
+set_fits (c ∷ cs) (suc i) x n h k zero = h 0
+set_fits (c ∷ cs) (suc i) x n h k (suc a) = set_fits cs i x n (λ b. h (suc b)) k a
+
 module _ (netlist : Netlist) (v : ℕ → ℕ) (fit : ValuesFit netlist v) where
   at_width : (m width : ℕ) → width_at netlist m ≡ width → v m < 2 ^ width
   at_width m width e = subst (λ w. v m < 2 ^ w) e (fit.fits m)
@@ -31,13 +38,6 @@ module _ (netlist : Netlist) (v : ℕ → ℕ) (fit : ValuesFit netlist v) where
   length-next_regs [] regs = refl
   length-next_regs (storage ∷ storages) [] = refl
   length-next_regs (storage ∷ storages) (old ∷ olds) = ap suc (length-next_regs storages olds)
-
-  set_fits : (cells : List ℕ) (i x n : ℕ) → ((a : ℕ) → slice_index cells a < n) → x < n → (a : ℕ) → slice_index (slice_set cells i x) a < n
-  set_fits [] i x n h k a = h a
-  set_fits (c ∷ cs) zero x n h k zero = k
-  set_fits (c ∷ cs) zero x n h k (suc a) = h (suc a)
-  set_fits (c ∷ cs) (suc i) x n h k zero = h 0
-  set_fits (c ∷ cs) (suc i) x n h k (suc a) = set_fits cs i x n (λ b. h (suc b)) k a
 
   pub cells_fit : (storages : List Storage) (cells : List ℕ) → AllByRecursion (StorageFits netlist) storages → ((a : ℕ) → slice_index cells a < 2 ^ memory_width storages) → (a : ℕ) → slice_index (next_cells v storages cells) a < 2 ^ memory_width storages
   cells_fit [] cells t h a = h a

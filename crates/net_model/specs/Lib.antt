@@ -10,3 +10,7 @@ pub mod Control
 pub mod Texts
 pub mod Patterns
 pub mod Worked
+pub mod Written
+pub mod Grammar
+pub mod Order
+pub mod CheckedRules

@@ -179,7 +179,7 @@ a16_value = refl
 
 -- ---- nets that depend on themselves still have a value: 0 behind as many gates as there are nets
 
-abbrev ring : Netlist
+abbrev pub ring : Netlist
 ring = record { nets = net 1 (Un Not 1) ∷ net 1 (Wire 0) ∷ []; storages = []; codes = [] }
 
 pub ring_value : value_of ring blank 0 0 ≡ 1

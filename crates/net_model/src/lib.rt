@@ -1,14 +1,20 @@
 //! Netlists of registers, memories, buses and operators: their types, and in `specs/` what they mean.
 #![tactic(auto)]
 
+mod checked;
 mod expression;
 mod fault;
 mod hardware;
 mod laws;
 mod states;
+mod units;
+mod words;
 
+pub use checked::Checked;
 pub use expression::{Expr, Transfer};
 pub use fault::{NetFault, NetKind, Role};
 pub use hardware::{Code, Gate, Net, Netlist, Storage};
 pub use laws::{law_of_transfers, law_of_values};
 pub use states::State;
+pub use units::{Ident, NetExpr, Port, Unit, Units};
+pub use words::{ItemWord, Lexed, Operator, Symbol, Word};

@@ -1,0 +1,125 @@
+-- A clock, from the values of all nets.
+use Rattle.std.proofs.Common.{◌≡◌, ℕ, ◌^◌, ◌<◌, ◌≤◌, List, [], ◌∷◌, Option, Some, None, length, sym, ◌∙◌, ap, arith, subst, refl, Bool, true, false, slice_get, slice_index, slice_set, zero, suc, replicate, IsTrue, ◌↔◌}
+use Rattle.std.specs.List.{AllByRecursion}
+use Rattle.std.proofs.lemmas.Nat.{pow_pos}
+use Rattle.std.proofs.lemmas.List.{length-set}
+use Rattle.net_model.specs.declared.hardware.Netlist.{Netlist}
+use Rattle.net_model.specs.declared.hardware.Storage.{Storage}
+use Rattle.net_model.specs.declared.hardware.Storage.TheVariants.{Register, Memory}
+use Rattle.net_model.specs.declared.states.State.{State}
+use Rattle.net_model.specs.Nets.{width_at, code_bits, memory_width, memory_size}
+use Rattle.net_model.specs.Value.{value_of}
+use Rattle.net_model.specs.Widths.{IsTyped, IsState, WordFits, ValuesFit}
+use Rattle.net_model.specs.Clock.{clash_in, clock, next_cells, next_regs, outcome_of, next_state, word_at, Next, Clash}
+use Rattle.net_model.specs.CheckedRules.{HasFewCells, StorageKeeps, KeepsRules}
+use Rattle.net_model.proofs.Effects.{next_is_state}
+use Rattle.net_model.proofs.NextStates.{set_fits}
+use Rattle.cycle_sim.specs.declared.edge.Port.{Port}
+use Rattle.cycle_sim.specs.Clocks.{cell_in, written_cell}
+use Rattle.cycle_sim.specs.Ports.{port_of, cells_by, cell_by, port_width, HasPortWidth}
+
+-- ---- the port is the memory's
+
+port_cells : (v : ℕ → ℕ) (storages : List Storage) (cells : List ℕ) → cells_by v (port_of storages) cells ≡ next_cells v storages cells
+port_cells v [] cells = refl
+port_cells v (Register name width input when ∷ storages) cells = port_cells v storages cells
+port_cells v (Memory name width size addr_width value addr when ∷ storages) cells = refl
+
+port_cell : (v : ℕ → ℕ) (storages : List Storage) (size : ℕ) → cell_by v (port_of storages) size ≡ cell_in v storages size
+port_cell v [] size = refl
+port_cell v (Register name width input when ∷ storages) size = port_cell v storages size
+port_cell v (Memory name width _ addr_width value addr when ∷ storages) size = refl
+
+pub port_width_is : (storages : List Storage) → port_width (port_of storages) ≡ memory_width storages
+port_width_is [] = refl
+port_width_is (Register name width input when ∷ storages) = port_width_is storages
+port_width_is (Memory name width size addr_width value addr when ∷ storages) = refl
+
+pub has_port_width : (netlist : Netlist) (storages : List Storage) → AllByRecursion (StorageKeeps netlist) storages → HasPortWidth (port_of storages)
+has_port_width netlist [] h = tt
+has_port_width netlist (Register name width input when ∷ storages) h = has_port_width netlist storages h.1
+has_port_width netlist (Memory name width size addr_width value addr when ∷ storages) h = h.0.0
+
+-- ---- sizes
+
+memory_small : (storages : List Storage) → AllByRecursion HasFewCells storages → memory_size storages ≤ 65536
+memory_small [] h = omega arith
+memory_small (Register name width input when ∷ storages) h = memory_small storages h.1
+memory_small (Memory name width size addr_width value addr when ∷ storages) h = h.0
+
+pub few_cells : (netlist : Netlist) (order : List ℕ) (s : State) → KeepsRules netlist order → IsState netlist s → length s.cells < 2 ^ 32
+few_cells netlist order s k h = omega (arith, memory_small netlist.storages k.formed.limits.cells, h.cells)
+
+-- ---- words
+
+zero_fits : (netlist : Netlist) → WordFits netlist 0
+zero_fits netlist = record { fits = λ code h. pow_pos (code_bits (slice_get netlist.codes code)) }
+
+-- each word fits, and so does the 0 past them
+pub words_fit_at : (netlist : Netlist) (words : List ℕ) → AllByRecursion (WordFits netlist) words → (k : ℕ) → WordFits netlist (slice_index words k)
+words_fit_at netlist [] h k = zero_fits netlist
+words_fit_at netlist (word ∷ words) h zero = h.0
+words_fit_at netlist (word ∷ words) h (suc k) = words_fit_at netlist words h.1 k
+
+-- ---- the room
+
+zeros_at : (n k : ℕ) → slice_index (replicate n 0) k ≡ 0
+zeros_at zero k = refl
+zeros_at (suc n) zero = refl
+zeros_at (suc n) (suc k) = zeros_at n k
+
+pub zeros_fit : (netlist : Netlist) (n : ℕ) → ValuesFit netlist (slice_index (replicate n 0))
+zeros_fit netlist n = record { fits = λ m. rw zeros_at (pow_pos (width_at netlist m)) }
+
+-- ---- the clock
+
+module _ (netlist : Netlist) (words : List ℕ) (s : State) (v : ℕ → ℕ) (all : v ≡ value_of netlist s (word_at netlist words s)) where
+  pub clocks_clash : (bus : ℕ) → Some bus ≡ clash_in v netlist.nets → clock netlist words s ≡ Clash bus
+  clocks_clash bus e =
+      ap (outcome_of (value_of netlist s (word_at netlist words s)) netlist s)
+      (sym (subst (λ w. Some bus ≡ clash_in w netlist.nets) all e))
+
+  -- registers and cells, each clocked by itself, are the next state
+  next_is : (regs cells : List ℕ) (port : Option Port) → port ≡ port_of netlist.storages → regs ≡ next_regs v netlist.storages s.regs → cells ≡ cells_by v port s.cells → record { regs = regs; cells = cells } ≡ next_state (value_of netlist s (word_at netlist words s)) netlist s
+  next_is regs cells port p r k =
+      subst (λ w. record { regs = regs; cells = cells } ≡ next_state w netlist s) all
+      (rw (r, k, p, port_cells v netlist.storages s.cells) refl)
+
+  pub clocks_next : (regs cells : List ℕ) (port : Option Port) → port ≡ port_of netlist.storages → None ≡ clash_in v netlist.nets → regs ≡ next_regs v netlist.storages s.regs → cells ≡ cells_by v port s.cells → clock netlist words s ≡ Next (record { regs = regs; cells = cells })
+  clocks_next regs cells port p e r k =
+      rw (next_is regs cells port p r k)
+      (ap (outcome_of (value_of netlist s (word_at netlist words s)) netlist s)
+      (sym (subst (λ w. None ≡ clash_in w netlist.nets) all e)))
+
+  pub cell_written : (written : Option ℕ) (port : Option Port) → port ≡ port_of netlist.storages → written ≡ cell_by v port (length s.cells) → written ≡ written_cell netlist words s
+  cell_written written port p e =
+      subst (λ w. written ≡ cell_in w netlist.storages (length s.cells)) all
+      (rw (e, p) (port_cell v netlist.storages (length s.cells)))
+
+  -- the next state fits
+  pub next_fits : (regs cells : List ℕ) (port : Option Port) → port ≡ port_of netlist.storages → regs ≡ next_regs v netlist.storages s.regs → cells ≡ cells_by v port s.cells → IsTyped netlist → AllByRecursion (WordFits netlist) words → IsState netlist s → IsState netlist (record { regs = regs; cells = cells })
+  next_fits regs cells port p r k typed w h =
+      subst (λ (u : State). IsState netlist u) (sym (next_is regs cells port p r k))
+      (next_is_state netlist s (word_at netlist words s) typed h (words_fit_at netlist words w _))
+
+-- ---- one cell is set
+
+pub set_is_state : (netlist : Netlist) (s : State) (address value : ℕ) → IsState netlist s → value < 2 ^ memory_width netlist.storages → IsState netlist (record s { cells = slice_set s.cells address value })
+set_is_state netlist s address value h k = record {
+  regs = h.regs;
+  cells = length-set s.cells address value ∙ h.cells;
+  fits = record {
+    regs = h.fits.regs;
+    cells = set_fits s.cells address value (2 ^ memory_width netlist.storages) h.fits.cells k;
+  };
+}
+
+-- a value that a cell of the port takes is one that a cell of the memory takes
+pub told_of : (storages : List Storage) (port : Option Port) (value : ℕ) (r : Bool) → port ≡ port_of storages → (IsTrue r ↔ (value < 2 ^ port_width port)) → IsTrue r ↔ (value < 2 ^ memory_width storages)
+told_of storages port value r p e = rw (sym (ap port_width p ∙ port_width_is storages)) e
+
+pub refused : (r : Bool) (P Q : Type 0) → (IsTrue r ↔ Q) → r ≡ false → IsTrue false ↔ (P × Q)
+refused r P Q e f = (λ h. cc h, λ pq. sym f ∙ e.1 pq.1)
+
+pub taken : (r : Bool) (P Q : Type 0) → P → (IsTrue r ↔ Q) → r ≡ true → IsTrue true ↔ (P × Q)
+taken r P Q p e f = (λ h. (p, e.0 f), λ pq. refl)

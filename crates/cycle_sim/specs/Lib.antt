@@ -1,0 +1,4 @@
+pub mod Shown
+pub mod Ports
+pub mod Clocks
+pub mod Running

@@ -1,0 +1,125 @@
+// A clock edge, from the values of all nets: whether a bus clashes, and what the storages become.
+
+ghost use Rattle.std.specs.Prelude.{◌≡◌, ◌<◌, ◌^◌, length, slice_index};
+ghost use Rattle.net_model.specs.Clock.{clash_in, enabled_count, gate_clashes, is_enabled, next_reg, next_regs};
+ghost use Rattle.cycle_sim.specs.Ports.{cell_by, cells_by, port_of};
+
+use crate::evaluate::value_at;
+use net_model::{Gate, Net, Storage};
+use rec_bits::Items;
+
+// How many drivers of a bus may be enabled.
+const ENABLED_AT_MOST: usize = 1;
+
+// How a clock writes the data memory: the width of its cells and the nets of the value, of the address and of the enable.
+#[derive(Clone, Copy)]
+pub(crate) struct Port {
+    pub width: u8,
+    pub value: u32,
+    pub addr: u32,
+    pub when: Option<u32>,
+}
+
+// How the data memory is written.
+pub(crate) fn find_port(storages: &[Storage]) -> Option<Port>
+    ensures { result ≡ port_of storages.now }
+{
+    for storage in storages {
+        if let Storage::Memory {
+            width,
+            value,
+            addr,
+            when,
+            ..
+        } = storage
+        {
+            return Some(Port {
+                width: *width,
+                value: *value,
+                addr: *addr,
+                when: *when,
+            });
+        }
+    }
+    None
+}
+
+// The first bus that clashes.
+pub(crate) fn find_clash(values: &[u64], nets: &[Net]) -> Option<usize>
+    ensures { result ≡ clash_in (slice_index values.now) nets.now }
+{
+    nets.iter().position(|net| clashes(values, &net.gate))
+}
+
+fn clashes(values: &[u64], gate: &Gate) -> bool
+    ensures { result ≡ gate_clashes (slice_index values.now) gate.now }
+{
+    match gate {
+        Gate::Bus(drivers) => count_enabled(values, drivers.as_slice()) > ENABLED_AT_MOST,
+        _ => false,
+    }
+}
+
+fn count_enabled(values: &[u64], drivers: &[(u32, u32)]) -> usize
+    ensures { result ≡ enabled_count (slice_index values.now) drivers.now }
+{
+    let mut count = 0;
+    for driver in drivers {
+        if value_at(values, driver.1) == 1 {
+            count += 1;
+        }
+    }
+    count
+}
+
+fn enables(values: &[u64], when: Option<u32>) -> bool
+    ensures { result ≡ is_enabled (slice_index values.now) when }
+{
+    match when {
+        Some(id) => value_at(values, id) == 1,
+        None => true,
+    }
+}
+
+// What a storage's entry becomes.
+fn next_value(values: &[u64], storage: &Storage, old: u64) -> u64
+    ensures { result ≡ next_reg (slice_index values.now) storage.now old }
+{
+    match storage {
+        Storage::Register { input, when, .. } => {
+            if enables(values, *when) {
+                value_at(values, *input)
+            } else {
+                old
+            }
+        }
+        Storage::Memory { .. } => old,
+    }
+}
+
+// Clocks all registers.
+pub(crate) fn clock_registers(values: &[u64], storages: &[Storage], regs: &mut Items<u64>)
+    requires { length regs.old ≡ length storages.now }
+    ensures { regs.new ≡ next_regs (slice_index values.now) storages.now regs.old }
+{
+    for (i, storage) in storages.iter().enumerate() {
+        let old = regs.as_slice()[i];
+        regs.set(i, next_value(values, storage, old));
+    }
+}
+
+// Clocks the data memory, and tells the cell that is written.
+pub(crate) fn clock_cells(values: &[u64], port: Option<Port>, cells: &mut Items<u64>) -> Option<u32>
+    requires { length cells.old < 2 ^ 32 }
+    ensures cells { cells.new ≡ cells_by (slice_index values.now) port cells.old }
+    ensures written { result ≡ cell_by (slice_index values.now) port (length cells.old) }
+{
+    let port = port?;
+    let address = value_at(values, port.addr);
+    if enables(values, port.when) && address < cells.len() as u64 {
+        cells.set(address as usize, value_at(values, port.value));
+        Some(address as u32)
+    } else {
+        None
+    }
+}

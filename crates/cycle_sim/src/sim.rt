@@ -1,0 +1,172 @@
+//! The simulator of a netlist.
+
+ghost use Rattle.std.specs.Prelude.{◌≡◌, ◌<◌, ◌^◌, ◌↔◌, IsTrue, IfOk, None, length, slice_get, slice_set};
+ghost use Rattle.std.specs.List.{AllByRecursion};
+ghost use Rattle.std.specs.Bool.{OnTrue, OnFalse};
+ghost use Rattle.net_model.specs.Nets.{memory_width};
+ghost use Rattle.net_model.specs.Widths.{IsState, WordFits};
+ghost use Rattle.net_model.specs.Clock.{counter_in, word_at};
+ghost use Rattle.cycle_sim.specs.Clocks.{Clocks, register_in};
+ghost use Rattle.cycle_sim.specs.Ports.{HasPortWidth, port_width};
+
+use crate::edge::{Port, clock_cells, clock_registers, find_clash, find_port};
+use crate::evaluate::{evaluate, number_at, room_for, value_at};
+use net_model::{Checked, Netlist, State, Storage};
+use rec_bits::{Items, NoMemory, mask};
+use std::alloc::Global;
+use std::marker::Model;
+
+/// What a clock leads to.
+#[derive(Clone, Copy, Debug, PartialEq, Eq)]
+pub enum Clocked {
+    /// All storages have changed together.
+    Stepped,
+    /// Two drivers of the bus with this net's number are enabled, and nothing has changed.
+    Clash(u32),
+}
+
+/// A netlist with the words of its instruction memory, what its storages hold, and the cell that the last clock wrote.
+#[derive(Drop)]
+pub struct Sim<'a> {
+    checked: &'a Checked,
+    words: Items<u64>,
+    state: State,
+    last_write: Option<u32>,
+    port: Option<Port>,
+    // the room in which a clock evaluates the nets
+    values: Items<u64>,
+}
+
+impl<'a> Model for Sim<'a> {
+    ghost use Rattle.cycle_sim.specs.Shown.{Shown};
+    ghost use Rattle.cycle_sim.specs.Running.{IsRunning};
+
+    ghost Value = { Shown };
+
+    ghost view = { λ sim. record { netlist = sim.checked.now.netlist; words = sim.words; state = sim.state; last_write = sim.last_write } };
+
+    ghost invariant = { λ sim. IsRunning sim.checked.now.netlist sim.words sim.state sim.port sim.values };
+}
+
+impl<'a> Sim<'a> {
+    /// A simulator of the netlist on these words, past which the instruction memory holds 0, from the state `start`.
+    pub fn new(
+        alloc: Global,
+        checked: &'a Checked,
+        words: Items<u64>,
+        start: State,
+    ) -> Result<Sim<'a>, NoMemory>
+        requires words { AllByRecursion (WordFits checked.now.netlist) words }
+        requires start { IsState checked.now.netlist start }
+        ensures { IfOk result (λ sim. sim ≡ record { netlist = checked.now.netlist; words = words; state = start; last_write = None }) }
+    {
+        let netlist = checked.netlist();
+        let port = find_port(netlist.storages.as_slice());
+        let values = room_for(alloc, netlist.nets.len())?;
+        Ok(Sim {
+            checked,
+            words,
+            state: start,
+            last_write: None,
+            port,
+            values,
+        })
+    }
+
+    /// One clock edge under the word at the program counter. All storages take their next values together, from the old ones. Where
+    /// two drivers of a bus are enabled, nothing changes, and the first such bus is told.
+    pub fn clock(&mut self) -> Clocked
+        ensures netlist { self.new.netlist ≡ self.old.netlist }
+        ensures words { self.new.words ≡ self.old.words }
+        ensures clocks { Clocks self.old self.new result }
+        ensures state { IsState self.new.netlist self.new.state }
+    {
+        let netlist = self.checked.netlist();
+        let words = self.words.as_slice();
+        let word = word_of(self.checked, words, &self.state);
+        evaluate(self.checked, &self.state, word, &mut self.values);
+        let values = self.values.as_slice();
+        let nets = netlist.nets.as_slice();
+        match find_clash(values, nets) {
+            Some(bus) => {
+                self.last_write = None;
+                Clocked::Clash(bus as u32)
+            }
+            None => {
+                let storages = netlist.storages.as_slice();
+                clock_registers(values, storages, &mut self.state.regs);
+                self.last_write = clock_cells(values, self.port, &mut self.state.cells);
+                Clocked::Stepped
+            }
+        }
+    }
+
+    /// The program counter's value.
+    pub fn pc(&self) -> u64
+        ensures { result ≡ counter_in self.now.netlist self.now.state }
+    {
+        value_at(self.state.regs.as_slice(), self.checked.pc())
+    }
+
+    /// The value of the register with this storage's number, or None where there is no such register.
+    pub fn reg(&self, storage: u32) -> Option<u64>
+        ensures { result ≡ register_in self.now.netlist self.now.state storage }
+    {
+        match self.checked.netlist().storage(storage) {
+            Some(Storage::Register { .. }) => Some(value_at(self.state.regs.as_slice(), storage)),
+            _ => None,
+        }
+    }
+
+    /// The value of the data memory's cell at this address, or None where there is no such cell.
+    pub fn cell(&self, address: u32) -> Option<u64>
+        ensures { result ≡ slice_get self.now.state.cells address }
+    {
+        self.state.cells.get(address as usize).copied()
+    }
+
+    /// Puts a value into a cell and answers true; answers false, and changes nothing, where there is no such cell or the value is too
+    /// wide for it.
+    pub fn set_cell(&mut self, address: u32, value: u64) -> bool
+        ensures told { IsTrue result ↔ ((address < length self.old.state.cells) × (value < 2 ^ memory_width self.old.netlist.storages)) }
+        ensures set { OnTrue result (self.new ≡ record self.old { state = record self.old.state { cells = slice_set self.old.state.cells address value } }) }
+        ensures kept { OnFalse result (self.new ≡ self.old) }
+        ensures state { IsState self.new.netlist self.new.state }
+    {
+        let at = address as usize;
+        if at >= self.state.cells.len() {
+            return false;
+        }
+        if !is_cell_value(self.port, value) {
+            return false;
+        }
+        self.state.cells.set(at, value);
+        true
+    }
+
+    /// The cell that the last clock wrote, or None where it wrote none, where it clashed, and where there was none.
+    pub fn last_write(&self) -> Option<u32>
+        ensures { result ≡ self.now.last_write }
+    {
+        self.last_write
+    }
+}
+
+// The instruction word at the program counter.
+fn word_of(checked: &Checked, words: &[u64], state: &State) -> u64
+    ensures { result ≡ word_at checked.now.netlist words.now state.now }
+{
+    let counter = value_at(state.regs.as_slice(), checked.pc());
+    number_at(words, counter)
+}
+
+// Whether a value fits a cell of the data memory.
+fn is_cell_value(port: Option<Port>, value: u64) -> bool
+    requires { HasPortWidth port }
+    ensures { IsTrue result ↔ (value < 2 ^ port_width port) }
+{
+    match port {
+        Some(port) => value <= mask(port.width),
+        None => value == 0,
+    }
+}

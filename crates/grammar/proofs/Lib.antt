@@ -1,0 +1,6 @@
+pub mod Chains
+pub mod Limits
+pub mod Passing
+pub mod Repeats
+pub mod Steps
+pub mod Whole

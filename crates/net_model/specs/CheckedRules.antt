@@ -1,0 +1,248 @@
+-- The rules that a checked netlist keeps, each said of the netlist alone. The rules N10, N12 and N13 speak of all instruction words
+-- and are asked later.
+use Rattle.std.specs.Prelude.{ℕ, zero, suc, ◌+◌, ◌^◌, ◌<◌, ◌≤◌, ◌≡◌, ◌⊎◌, ◌++◌, ◌&&◌, nat_eq, List, [], ◌∷◌, length, map, Option, Some, None, slice_get, Bool, true, false, IsTrue}
+use Rattle.std.specs.List.{AllByRecursion, IsDistinct, list_any}
+use Rattle.std.specs.Cmp.Lexicographic.{pointwise}
+use Rattle.rec_bits.specs.declared.operator.Op1.TheVariants.{Not}
+use Rattle.rec_bits.specs.declared.operator.Op2.TheVariants.{And, Or, Xor, Eq}
+use Rattle.net_model.specs.declared.hardware.Netlist.{Netlist}
+use Rattle.net_model.specs.declared.hardware.Net.{Net}
+use Rattle.net_model.specs.declared.hardware.Code.{Code}
+use Rattle.net_model.specs.declared.hardware.Storage.{Storage}
+use Rattle.net_model.specs.declared.hardware.Storage.TheVariants.{Register, Memory}
+use Rattle.net_model.specs.declared.hardware.Gate.{Gate}
+use Rattle.net_model.specs.declared.hardware.Gate.TheVariants.{Word, Reg, Read, Const, Wire, Un, Bin, Slice, Cat, Zext, Sext, Case, Bus}
+use Rattle.net_model.specs.Nets.{width_at, gate_nets, IsRegister, counter_of, counter_width, memory_size, memory_width}
+use Rattle.net_model.specs.Widths.{GateFits, HasWidth, StorageFits}
+use Rattle.net_model.specs.Symbolic.{all_of, is_static}
+use Rattle.net_model.specs.Control.{EnablesStatic, IsStorageControlled}
+use Rattle.net_model.specs.Order.{IsOrder}
+
+-- what a checked netlist is seen as
+pub record Ordered : Type 0 where
+  pub netlist : Netlist
+  pub order : List ℕ
+
+-- ---- N1: names
+
+abbrev pub storage_name : Storage → List ℕ
+storage_name (Register name width input when) = name
+storage_name (Memory name width size addr_width value addr when) = name
+
+-- the names of all storages and codes
+abbrev pub names_of : Netlist → List (List ℕ)
+names_of netlist = map storage_name netlist.storages ++ map (λ (code : Code). code.name) netlist.codes
+
+-- no two storages or codes have one name
+abbrev pub NamesDiffer : Netlist → Type 0
+NamesDiffer netlist = IsDistinct (pointwise nat_eq) (names_of netlist)
+
+-- ---- N2 to N4: what a number stands for, widths, and the rows of a case
+
+-- 1 to 64 bits
+abbrev pub IsWidth : ℕ → Type 0
+IsWidth width = (1 ≤ width) × (width ≤ 64)
+
+-- a read is of a memory: it has the width of the cells, and its address that of the addresses
+abbrev pub ReadKeeps : Netlist → ℕ → ℕ → Option Storage → Type 0
+ReadKeeps netlist width addr None = ⊥
+ReadKeeps netlist width addr (Some (Register name own input when)) = ⊥
+ReadKeeps netlist width addr (Some (Memory name own size addr_width value at when)) = (own ≡ width) × HasWidth netlist addr addr_width
+
+-- the numbers of a case's rows
+abbrev pub row_numbers : List (ℕ × ℕ) → List ℕ
+row_numbers rows = map (λ (row : ℕ × ℕ). row.0) rows
+
+-- a case without a rest has a row for each number of so many bits
+abbrev pub IsWhole : ℕ → List (ℕ × ℕ) → Option ℕ → Type 0
+IsWhole bits rows None = (k : ℕ) → k < 2 ^ bits → IsTrue (list_any (nat_eq k) (row_numbers rows))
+IsWhole bits rows (Some rest) = Unit {0}
+
+-- each number in a gate stands for a net, a code or a storage as its place asks for, the widths fit, and a case has no number twice
+-- and a rest or every number
+abbrev pub GateKeeps : Netlist → ℕ → Gate → Type 0
+GateKeeps netlist width (Word code) = (code < length netlist.codes) × GateFits netlist width (Word code)
+GateKeeps netlist width (Reg id) = IsRegister (slice_get netlist.storages id) × GateFits netlist width (Reg id)
+GateKeeps netlist width (Read memory addr) = ReadKeeps netlist width addr (slice_get netlist.storages memory)
+GateKeeps netlist width (Case sel rows rest) =
+    GateFits netlist width (Case sel rows rest) × IsDistinct nat_eq (row_numbers rows) × IsWhole (width_at netlist sel) rows rest
+GateKeeps netlist width gate = GateFits netlist width gate
+
+abbrev pub NetKeeps : Netlist → Option Net → Type 0
+NetKeeps netlist None = Unit {0}
+NetKeeps netlist (Some net) = IsWidth net.width × GateKeeps netlist net.width net.gate
+
+-- what feeds a storage are nets of its widths
+abbrev pub StorageKeeps : Netlist → Storage → Type 0
+StorageKeeps netlist (Register name width input when) = IsWidth width × StorageFits netlist (Register name width input when)
+StorageKeeps netlist (Memory name width size addr_width value addr when) =
+    IsWidth width × IsWidth addr_width × StorageFits netlist (Memory name width size addr_width value addr when)
+
+-- a register counts through the code
+abbrev pub CodeKeeps : Netlist → Code → Type 0
+CodeKeeps netlist code = IsWidth code.bits × IsRegister (slice_get netlist.storages code.counter)
+
+-- ---- N11: limits
+
+abbrev pub register_count : List Storage → ℕ
+register_count [] = 0
+register_count (Register name width input when ∷ storages) = register_count storages + 1
+register_count (Memory name width size addr_width value addr when ∷ storages) = register_count storages
+
+abbrev pub memory_count : List Storage → ℕ
+memory_count [] = 0
+memory_count (Register name width input when ∷ storages) = memory_count storages
+memory_count (Memory name width size addr_width value addr when ∷ storages) = memory_count storages + 1
+
+-- a memory has at most 65,536 cells
+abbrev pub HasFewCells : Storage → Type 0
+HasFewCells (Register name width input when) = Unit {0}
+HasFewCells (Memory name width size addr_width value addr when) = size ≤ 65536
+
+-- at most 4,096 nets, 13 registers, 65,536 cells of a memory and 65,536 words of a code
+pub record IsWithinLimits (netlist : Netlist) : Type 0 where
+  pub nets : length netlist.nets ≤ 4096
+  pub registers : register_count netlist.storages ≤ 13
+  pub cells : AllByRecursion HasFewCells netlist.storages
+  pub words : AllByRecursion (λ (code : Code). code.words ≤ 65536) netlist.codes
+
+-- the rules N1 to N4 and N11, which a netlist keeps as it is made of a text
+pub record IsWellFormed (netlist : Netlist) : Type 0 where
+  pub names : NamesDiffer netlist
+  pub nets : (n : ℕ) → NetKeeps netlist (slice_get netlist.nets n)
+  pub storages : AllByRecursion (StorageKeeps netlist) netlist.storages
+  pub codes : AllByRecursion (CodeKeeps netlist) netlist.codes
+  pub limits : IsWithinLimits netlist
+
+-- ---- N6: what a processor has one of
+
+-- a program counter takes its input at each clock and has at most 16 bits
+abbrev pub IsCounter : Option Storage → Type 0
+IsCounter (Some (Register name width input None)) = width ≤ 16
+IsCounter _ = ⊥
+
+-- how many words the code has
+abbrev pub code_size : List Code → ℕ
+code_size [] = 0
+code_size (code ∷ codes) = code.words
+
+-- how wide the data memory's addresses are
+abbrev pub memory_addr_width : List Storage → ℕ
+memory_addr_width [] = 0
+memory_addr_width (Register name width input when ∷ storages) = memory_addr_width storages
+memory_addr_width (Memory name width size addr_width value addr when ∷ storages) = addr_width
+
+-- one code, one memory, and a program counter; no more words than the program counter reaches and no more cells than an address
+-- reaches, at least one of each; addresses that a cell can hold
+pub record HasRoles (netlist : Netlist) : Type 0 where
+  pub code : length netlist.codes ≡ 1
+  pub memory : memory_count netlist.storages ≡ 1
+  pub counter : IsCounter (slice_get netlist.storages (counter_of netlist.codes))
+  pub words : (1 ≤ code_size netlist.codes) × (code_size netlist.codes ≤ 2 ^ counter_width netlist)
+  pub cells : (1 ≤ memory_size netlist.storages) × (memory_size netlist.storages ≤ 2 ^ memory_addr_width netlist.storages)
+  pub address : memory_addr_width netlist.storages ≤ memory_width netlist.storages
+
+-- ---- N7: enables depend on the instruction word alone
+
+abbrev pub IsBusStatic : Netlist → Gate → Type 0
+IsBusStatic netlist (Bus drivers) = EnablesStatic (is_static netlist) drivers
+IsBusStatic netlist _ = Unit {0}
+
+abbrev pub IsNetStatic : Netlist → Option Net → Type 0
+IsNetStatic netlist None = Unit {0}
+IsNetStatic netlist (Some net) = IsBusStatic netlist net.gate
+
+-- each write enable and each bus enable is static
+pub record HasStaticEnables (netlist : Netlist) : Type 0 where
+  pub storages : AllByRecursion (IsStorageControlled netlist) netlist.storages
+  pub buses : (n : ℕ) → IsNetStatic netlist (slice_get netlist.nets n)
+
+-- ---- N8: how control is computed
+
+-- the instruction word, constants, wires, slice, cat, zext, sext, and, or, xor, not, eq and case
+abbrev pub is_control_gate : Gate → Bool
+is_control_gate (Word code) = true
+is_control_gate (Const c) = true
+is_control_gate (Wire a) = true
+is_control_gate (Slice of hi lo) = true
+is_control_gate (Cat a b) = true
+is_control_gate (Zext a) = true
+is_control_gate (Sext a) = true
+is_control_gate (Bin And a b) = true
+is_control_gate (Bin Or a b) = true
+is_control_gate (Bin Xor a b) = true
+is_control_gate (Bin Eq a b) = true
+is_control_gate (Un Not a) = true
+is_control_gate (Case sel rows rest) = true
+is_control_gate _ = false
+
+-- where f tells of the nets that the gate names
+abbrev pub net_control : (ℕ → Bool) → Option Net → Bool
+net_control f None = true
+net_control f (Some net) = is_control_gate net.gate && all_of f (gate_nets net.gate)
+
+abbrev pub control_within : ℕ → Netlist → ℕ → Bool
+control_within zero netlist n = true
+control_within (suc k) netlist n = net_control (control_within k netlist) (slice_get netlist.nets n)
+
+-- the net and all that it depends on have such gates alone
+abbrev pub is_control : Netlist → ℕ → Bool
+is_control netlist n = control_within (length netlist.nets) netlist n
+
+-- a static net has such gates alone
+abbrev pub UsesControlGates : Netlist → ℕ → Type 0
+UsesControlGates netlist n = IsTrue (is_static netlist n) → IsTrue (is_control netlist n)
+
+-- the nets in control places: a case's selector, a bus's enables, a storage's write enable
+abbrev pub gate_controls : Gate → List ℕ
+gate_controls (Case sel rows rest) = sel ∷ []
+gate_controls (Bus drivers) = map (λ (driver : ℕ × ℕ). driver.1) drivers
+gate_controls _ = []
+
+abbrev pub net_controls : Option Net → List ℕ
+net_controls None = []
+net_controls (Some net) = gate_controls net.gate
+
+abbrev pub when_controls : Option ℕ → List ℕ
+when_controls None = []
+when_controls (Some when) = when ∷ []
+
+abbrev pub storage_controls : Storage → List ℕ
+storage_controls (Register name width input when) = when_controls when
+storage_controls (Memory name width size addr_width value addr when) = when_controls when
+
+-- a static net in a control place uses these gates alone
+pub record HasPlainControl (netlist : Netlist) : Type 0 where
+  pub nets : (n : ℕ) → AllByRecursion (UsesControlGates netlist) (net_controls (slice_get netlist.nets n))
+  pub storages : AllByRecursion (λ storage. AllByRecursion (UsesControlGates netlist) (storage_controls storage)) netlist.storages
+
+-- ---- N9: selectors
+
+abbrev pub IsGateSelectable : Netlist → Gate → Type 0
+IsGateSelectable netlist (Case sel rows rest) = IsTrue (is_static netlist sel) ⊎ (width_at netlist sel ≡ 1)
+IsGateSelectable netlist _ = Unit {0}
+
+abbrev pub IsNetSelectable : Netlist → Option Net → Type 0
+IsNetSelectable netlist None = Unit {0}
+IsNetSelectable netlist (Some net) = IsGateSelectable netlist net.gate
+
+-- a case's selector is static or one bit wide
+pub record HasNarrowSelectors (netlist : Netlist) : Type 0 where
+  pub nets : (n : ℕ) → IsNetSelectable netlist (slice_get netlist.nets n)
+
+-- ---- all of them
+
+-- the rules N1 to N9 and N11
+pub record KeepsRules (netlist : Netlist) (order : List ℕ) : Type 0 where
+  -- N1 to N4 and N11
+  pub formed : IsWellFormed netlist
+  -- N5
+  pub ordered : IsOrder netlist order
+  -- N6
+  pub roles : HasRoles netlist
+  -- N7
+  pub enables : HasStaticEnables netlist
+  -- N8
+  pub control : HasPlainControl netlist
+  -- N9
+  pub selectors : HasNarrowSelectors netlist

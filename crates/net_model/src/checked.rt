@@ -1,0 +1,87 @@
+//! A netlist that was checked.
+
+ghost use Rattle.std.specs.Prelude.{◌≡◌, ◌<◌, ◌^◌, length};
+ghost use Rattle.net_model.specs.Nets.{counter_of, memory_id};
+ghost use Rattle.net_model.specs.CheckedRules.{KeepsRules};
+ghost use Rattle.net_model.specs.Control.{IsSound};
+
+use crate::{Netlist, Storage};
+use rec_bits::Items;
+use std::marker::Model;
+
+/// A netlist that keeps the rules N1 to N9 and N11, and an order of its nets in which each stands after those that it depends on.
+#[derive(Debug, Drop)]
+pub struct Checked {
+    netlist: Netlist,
+    order: Items<u32>,
+}
+
+impl Model for Checked {
+    ghost use Rattle.net_model.specs.CheckedRules.{KeepsRules, Ordered};
+
+    ghost Value = { Ordered };
+
+    ghost view = { λ checked. record { netlist = checked.netlist; order = checked.order } };
+
+    ghost invariant = { λ checked. KeepsRules checked.netlist checked.order };
+}
+
+impl Checked {
+    /// A netlist that keeps the rules, with an order of its nets.
+    pub fn new(netlist: Netlist, order: Items<u32>) -> Checked
+        requires { KeepsRules netlist order }
+        ensures netlist { result.netlist ≡ netlist }
+        ensures order { result.order ≡ order }
+    {
+        Checked { netlist, order }
+    }
+
+    /// The netlist.
+    pub fn netlist(&self) -> &Netlist
+        ensures value { result.now ≡ self.now.netlist }
+        ensures kept { KeepsRules self.now.netlist self.now.order }
+        ensures sound { IsSound self.now.netlist }
+    {
+        &self.netlist
+    }
+
+    /// The order of the nets.
+    pub fn order(&self) -> &Items<u32>
+        ensures value { result.now ≡ self.now.order }
+        ensures kept { KeepsRules self.now.netlist self.now.order }
+    {
+        &self.order
+    }
+
+    /// The number of the program counter's storage.
+    pub fn pc(&self) -> u32
+        ensures { result ≡ counter_of self.now.netlist.codes }
+    {
+        match self.netlist.codes.get(0) {
+            Some(code) => code.counter,
+            None => 0,
+        }
+    }
+
+    /// The number of the data memory's storage.
+    pub fn memory(&self) -> u32
+        ensures { result ≡ memory_id self.now.netlist.storages }
+    {
+        memory_place(self.netlist.storages.as_slice())
+    }
+}
+
+// The place of the first memory, and the length where there is none.
+fn memory_place(storages: &[Storage]) -> u32
+    requires { length storages.now < 2 ^ 32 }
+    ensures { result ≡ memory_id storages.now }
+{
+    let mut place = 0;
+    for storage in storages {
+        if let Storage::Memory { .. } = storage {
+            return place;
+        }
+        place += 1;
+    }
+    place
+}

@@ -1,0 +1,4 @@
+pub mod Expressions
+pub mod ItemParts
+pub mod Leaves
+pub mod Tokens

@@ -1,0 +1,18 @@
+use Rattle.std.proofs.Common.{ap}
+use Rattle.std.proofs.lemmas.Result.{err_from_is_err_and}
+use Rattle.grammar.proofs.Steps.{never_stops}
+use Rattle.grammar.proofs.Passing.{maybe_none, maybe_reads, maybe_fails}
+use Rattle.net_parser.proofs.Tokens.{not_there, begun}
+use Rattle.net_parser.specs.Steps.{expr_word}
+use Rattle.net_parser.proofs.leaf.bits.Goals as goal
+
+pub returns-in_err-bits : goal.returns-in_err-bits
+returns-in_err-bits c =
+    let p = err_from_is_err_and c.from_residual.result c.from_residual.ensures.1 in
+    rw (p.1, p.2) (let b = c.begins_with.ensures.0 c.if-begins_with.true in maybe_fails b.parts (ap expr_word b.is) (λ k st. never_stops k) c.in_err-bits.ensures)
+
+pub returns-in_ok-bits : goal.returns-in_ok-bits
+returns-in_ok-bits c = let b = c.begins_with.ensures.0 c.if-begins_with.true in maybe_reads b.parts (ap expr_word b.is) (λ k st. never_stops k) c.in_ok-bits.ensures
+
+pub returns-else-begins_with : goal.returns-else-begins_with
+returns-else-begins_with c = maybe_none begun (not_there c.begins_with.ensures c.if-begins_with.false)

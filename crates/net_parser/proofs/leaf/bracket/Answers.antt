@@ -1,0 +1,26 @@
+use Rattle.std.proofs.Common.{refl}
+use Rattle.std.proofs.lemmas.Result.{err_from_is_err_and}
+use Rattle.grammar.proofs.Steps.{return_reads}
+use Rattle.grammar.proofs.Passing.{there_return, there_bind, beyond_reads, beyond_fails, short_of, on, past, stuck}
+use Rattle.net_parser.proofs.Tokens.{there_sign, there_before, begun, ends}
+use Rattle.net_parser.specs.Steps.{colon_word}
+use Rattle.net_parser.proofs.Leaves.{there_range}
+use Rattle.net_parser.proofs.leaf.bracket.Goals as goal
+
+pub returns-in_err-rest : goal.returns-in_err-rest
+returns-in_err-rest c =
+    let p = err_from_is_err_and c.from_residual.result c.from_residual.ensures.1 in
+    rw (p.1, p.2) (stuck (λ u. there_before there_range) c.in_err-rest.ensures)
+
+pub returns-in_err-range : goal.returns-in_err-range
+returns-in_err-range c =
+    let p = err_from_is_err_and c.from_residual-in_err-range.result c.from_residual-in_err-range.ensures.1 in
+    rw (p.1, p.2) (past c.in_ok-rest.ensures (short_of (ends colon_word (λ a. begun) refl) (λ v. there_bind there_sign (λ u. there_return)) c.in_err-range.ensures))
+
+pub returns-in_err-rest-2 : goal.returns-in_err-rest-2
+returns-in_err-rest-2 c =
+    let p = err_from_is_err_and c.from_residual-in_err-rest-2.result c.from_residual-in_err-rest-2.ensures.1 in
+    rw (p.1, p.2) (past c.in_ok-rest.ensures (beyond_fails (ends colon_word (λ a. begun) refl) c.in_ok-range.ensures (stuck (λ u. there_return) c.in_err-rest-2.ensures)))
+
+pub returns : goal.returns
+returns c = on c.in_ok-rest.ensures (beyond_reads (ends colon_word (λ a. begun) refl) c.in_ok-range.ensures (on c.in_ok-rest-2.ensures return_reads))

@@ -1,0 +1,18 @@
+use Rattle.std.proofs.Common.{ap}
+use Rattle.std.proofs.lemmas.Result.{err_from_is_err_and}
+use Rattle.grammar.proofs.Steps.{never_stops}
+use Rattle.grammar.proofs.Passing.{maybe_none, maybe_reads, maybe_fails}
+use Rattle.net_parser.proofs.Tokens.{not_there, begun}
+use Rattle.net_parser.specs.Steps.{colon_word}
+use Rattle.net_parser.proofs.leaf.low_bit.Goals as goal
+
+pub returns-in_err-low : goal.returns-in_err-low
+returns-in_err-low c =
+    let p = err_from_is_err_and c.from_residual.result c.from_residual.ensures.1 in
+    rw (p.1, p.2) (let b = c.begins_with.ensures.0 c.if-begins_with.true in maybe_fails b.parts (ap colon_word b.is) (λ k st. never_stops k) c.in_err-low.ensures)
+
+pub returns-in_ok-low : goal.returns-in_ok-low
+returns-in_ok-low c = let b = c.begins_with.ensures.0 c.if-begins_with.true in maybe_reads b.parts (ap colon_word b.is) (λ k st. never_stops k) c.in_ok-low.ensures
+
+pub returns-else-begins_with : goal.returns-else-begins_with
+returns-else-begins_with c = maybe_none begun (not_there c.begins_with.ensures c.if-begins_with.false)

@@ -1,0 +1,20 @@
+use Rattle.std.proofs.Common.{refl}
+use Rattle.std.proofs.lemmas.Result.{err_from_is_err_and}
+use Rattle.grammar.proofs.Steps.{return_reads}
+use Rattle.grammar.proofs.Passing.{there_return, there_bind, beyond_reads, beyond_fails, short_of, on, stuck}
+use Rattle.net_parser.proofs.Tokens.{there_sign, begun, ends}
+use Rattle.net_parser.specs.Steps.{expr_word}
+use Rattle.net_parser.proofs.parts.equation.Goals as goal
+
+pub returns-in_err-equation : goal.returns-in_err-equation
+returns-in_err-equation c =
+    let p = err_from_is_err_and c.from_residual.result c.from_residual.ensures.1 in
+    rw (p.1, p.2) (short_of (ends expr_word (λ a. begun) refl) (λ v. there_bind there_sign (λ u. there_return)) c.in_err-equation.ensures)
+
+pub returns-in_err-rest : goal.returns-in_err-rest
+returns-in_err-rest c =
+    let p = err_from_is_err_and c.from_residual-in_err-rest.result c.from_residual-in_err-rest.ensures.1 in
+    rw (p.1, p.2) (beyond_fails (ends expr_word (λ a. begun) refl) c.in_ok-equation.ensures (stuck (λ u. there_return) c.in_err-rest.ensures))
+
+pub returns : goal.returns
+returns c = beyond_reads (ends expr_word (λ a. begun) refl) c.in_ok-equation.ensures (on c.in_ok-rest.ensures return_reads)

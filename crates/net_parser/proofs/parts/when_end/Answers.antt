@@ -1,0 +1,20 @@
+use Rattle.std.proofs.Common.{refl}
+use Rattle.std.proofs.lemmas.Result.{err_from_is_err_and}
+use Rattle.grammar.proofs.Steps.{return_reads}
+use Rattle.grammar.proofs.Passing.{there_return, there_bind, beyond_reads, beyond_fails, short_of, on, stuck}
+use Rattle.net_parser.proofs.Tokens.{there_sign, begun, ends}
+use Rattle.net_parser.specs.Steps.{when_word}
+use Rattle.net_parser.proofs.parts.when_end.Goals as goal
+
+pub returns-in_err-when : goal.returns-in_err-when
+returns-in_err-when c =
+    let p = err_from_is_err_and c.from_residual.result c.from_residual.ensures.1 in
+    rw (p.1, p.2) (short_of (ends when_word (λ a. begun) refl) (λ v. there_bind there_sign (λ u. there_return)) c.in_err-when.ensures)
+
+pub returns-in_err-rest : goal.returns-in_err-rest
+returns-in_err-rest c =
+    let p = err_from_is_err_and c.from_residual-in_err-rest.result c.from_residual-in_err-rest.ensures.1 in
+    rw (p.1, p.2) (beyond_fails (ends when_word (λ a. begun) refl) c.in_ok-when.ensures (stuck (λ u. there_return) c.in_err-rest.ensures))
+
+pub returns : goal.returns
+returns c = beyond_reads (ends when_word (λ a. begun) refl) c.in_ok-when.ensures (on c.in_ok-rest.ensures return_reads)

@@ -1,0 +1,3 @@
+pub mod Parses
+pub mod Steps
+pub mod Words

@@ -1,0 +1,187 @@
+//! Items.
+
+ghost use Rattle.std.specs.Prelude.{◌≡◌, MatchOption, map};
+ghost use Rattle.grammar.specs.Reading.{Gives, never};
+ghost use Rattle.net_model.specs.declared.words.ItemWord.TheVariants.{Bus, Code, Memory as Holds, Module, Net, Part, Register};
+ghost use Rattle.net_model.specs.Grammar.{IsItem, IsText, ItemBehind};
+ghost use Rattle.net_model.specs.Written.{entry_of};
+ghost use Rattle.net_parser.specs.Steps.{HasNoItem, OpensItem, after_items};
+
+use crate::expression::{enclosed, expr_behind};
+use crate::parts::{
+    LEVELS, braced_drivers, braced_equations, enclosed_links, enclosed_ports, sized_name, when_end,
+};
+use crate::step::{expect, front, name, name_behind, number_behind};
+use grammar::Stop;
+use net_model::{ItemWord, Lexed, Symbol, Unit, Word};
+use rec_bits::Items;
+use std::alloc::Global;
+
+/// The word of an item that the first token is, and the other tokens.
+fn item_at(ts: &[Lexed]) -> Option<(ItemWord, &[Lexed])>
+    ensures { MatchOption result (HasNoItem ts.now) (λ p. OpensItem p.0 ts.now p.1.now) }
+{
+    match front(ts) {
+        Some((t, rest)) => match t.word {
+            Word::Item(word) => Some((word, rest)),
+            _ => None,
+        },
+        None => None,
+    }
+}
+
+/// An instruction memory, behind its word.
+fn code(alloc: Global, ts: &[Lexed]) -> Result<(Unit, &[Lexed]), Stop>
+    ensures { Gives (λ x. (entry_of x.0, x.1.now)) (ItemBehind Code) never ts.now result }
+{
+    let ((name, bits), rest) = sized_name(alloc, ts)?;
+    let (size, rest) = number_behind(Symbol::Size, rest)?;
+    let (counter, rest) = name_behind(alloc, Symbol::At, rest)?;
+    let rest = expect(Symbol::Semicolon, rest)?;
+    let unit = Unit::Code {
+        name,
+        bits,
+        size,
+        counter,
+    };
+    Ok((unit, rest))
+}
+
+/// A register, behind its word.
+fn register(alloc: Global, ts: &[Lexed]) -> Result<(Unit, &[Lexed]), Stop>
+    ensures { Gives (λ x. (entry_of x.0, x.1.now)) (ItemBehind Register) never ts.now result }
+{
+    let ((name, width), rest) = sized_name(alloc, ts)?;
+    let (input, rest) = expr_behind(alloc, Symbol::In, LEVELS, rest)?;
+    let (when, rest) = when_end(alloc, rest)?;
+    let unit = Unit::Register {
+        name,
+        width,
+        input,
+        when,
+    };
+    Ok((unit, rest))
+}
+
+/// A memory, behind its word.
+fn memory(alloc: Global, ts: &[Lexed]) -> Result<(Unit, &[Lexed]), Stop>
+    ensures { Gives (λ x. (entry_of x.0, x.1.now)) (ItemBehind Holds) never ts.now result }
+{
+    let ((name, width), rest) = sized_name(alloc, ts)?;
+    let (size, rest) = number_behind(Symbol::Size, rest)?;
+    let (addr_width, rest) = number_behind(Symbol::Addr, rest)?;
+    let (value, rest) = expr_behind(alloc, Symbol::Write, LEVELS, rest)?;
+    let (addr, rest) = expr_behind(alloc, Symbol::At, LEVELS, rest)?;
+    let (when, rest) = when_end(alloc, rest)?;
+    let unit = Unit::Memory {
+        name,
+        width,
+        size,
+        addr_width,
+        value,
+        addr,
+        when,
+    };
+    Ok((unit, rest))
+}
+
+/// A net, behind its word.
+fn net(alloc: Global, ts: &[Lexed]) -> Result<(Unit, &[Lexed]), Stop>
+    ensures { Gives (λ x. (entry_of x.0, x.1.now)) (ItemBehind Net) never ts.now result }
+{
+    let ((name, width), rest) = sized_name(alloc, ts)?;
+    let (value, rest) = enclosed(alloc, Symbol::Equals, Symbol::Semicolon, LEVELS, rest)?;
+    Ok((Unit::Net { name, width, value }, rest))
+}
+
+/// A bus, behind its word.
+fn bus(alloc: Global, ts: &[Lexed]) -> Result<(Unit, &[Lexed]), Stop>
+    ensures { Gives (λ x. (entry_of x.0, x.1.now)) (ItemBehind Bus) never ts.now result }
+{
+    let ((name, width), rest) = sized_name(alloc, ts)?;
+    let (drivers, rest) = braced_drivers(alloc, rest)?;
+    Ok((
+        Unit::Bus {
+            name,
+            width,
+            drivers,
+        },
+        rest,
+    ))
+}
+
+/// A module, behind its word.
+fn module(alloc: Global, ts: &[Lexed]) -> Result<(Unit, &[Lexed]), Stop>
+    ensures { Gives (λ x. (entry_of x.0, x.1.now)) (ItemBehind Module) never ts.now result }
+{
+    let (name, rest) = name(alloc, ts)?;
+    let (ports, rest) = enclosed_ports(alloc, rest)?;
+    let (equations, rest) = braced_equations(alloc, rest)?;
+    Ok((
+        Unit::Module {
+            name,
+            ports,
+            equations,
+        },
+        rest,
+    ))
+}
+
+/// A part, behind its word.
+fn part(alloc: Global, ts: &[Lexed]) -> Result<(Unit, &[Lexed]), Stop>
+    ensures { Gives (λ x. (entry_of x.0, x.1.now)) (ItemBehind Part) never ts.now result }
+{
+    let (name, rest) = name(alloc, ts)?;
+    let (module, rest) = name_behind(alloc, Symbol::Colon, rest)?;
+    let (links, rest) = enclosed_links(alloc, rest)?;
+    let rest = expect(Symbol::Semicolon, rest)?;
+    Ok((
+        Unit::Part {
+            name,
+            module,
+            links,
+        },
+        rest,
+    ))
+}
+
+/// An item behind its word.
+fn item_behind(alloc: Global, word: ItemWord, ts: &[Lexed]) -> Result<(Unit, &[Lexed]), Stop>
+    ensures { Gives (λ x. (entry_of x.0, x.1.now)) (ItemBehind word) never ts.now result }
+{
+    match word {
+        ItemWord::Code => code(alloc, ts),
+        ItemWord::Register => register(alloc, ts),
+        ItemWord::Memory => memory(alloc, ts),
+        ItemWord::Net => net(alloc, ts),
+        ItemWord::Bus => bus(alloc, ts),
+        ItemWord::Module => module(alloc, ts),
+        ItemWord::Part => part(alloc, ts),
+    }
+}
+
+/// An item.
+fn item(alloc: Global, ts: &[Lexed]) -> Result<(Unit, &[Lexed]), Stop>
+    ensures { Gives (λ x. (entry_of x.0, x.1.now)) IsItem never ts.now result }
+{
+    let Some((word, rest)) = item_at(ts) else {
+        return Err(Stop::At(ts.len()));
+    };
+    item_behind(alloc, word, rest)
+}
+
+/// The items at the front, one at least.
+pub fn items(alloc: Global, ts: &[Lexed]) -> Result<(Items<Unit>, &[Lexed]), Stop>
+    ensures { Gives (λ x. (map entry_of x.0, x.1.now)) IsText after_items ts.now result }
+{
+    let (first, rest) = item(alloc, ts)?;
+    let mut items = Items::new(alloc);
+    items.push(first)?;
+    let mut rest = rest;
+    'others: while let Some((word, after)) = item_at(rest) {
+        let (other, next) = item_behind(alloc, word, after)?;
+        items.push(other)?;
+        rest = next;
+    }
+    Ok((items, rest))
+}

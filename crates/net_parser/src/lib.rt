@@ -1,0 +1,14 @@
+//! Netlist texts, read by their grammar.
+#![tactic(auto)]
+
+mod expression;
+mod item;
+mod leaf;
+mod parts;
+mod step;
+#[cfg(test)]
+mod tests;
+mod whole;
+mod words;
+
+pub use whole::parse;

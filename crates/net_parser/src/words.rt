@@ -1,0 +1,215 @@
+//! The words that tokens stand for.
+
+ghost use Rattle.std.specs.Prelude.{◌≡◌, IfOk};
+ghost use Rattle.lexing.specs.Tokens.{token_bytes};
+ghost use Rattle.net_parser.specs.Words.{binary_of, form_of, item_of, lexed_all, lexed_of, reserved_of, sign_of, symbol_of, unary_of, word_of};
+
+use lexing::{Kind, Token, number_of};
+use net_model::{ItemWord, Lexed, Operator, Symbol, Word};
+use rec_bits::{Items, NoMemory, Op1, Op2};
+use std::alloc::Global;
+
+/// The reserved words that begin an item.
+fn item_of(text: &[u8]) -> Option<ItemWord>
+    ensures { result ≡ item_of text.now }
+{
+    if text == b"code".as_slice() {
+        Some(ItemWord::Code)
+    } else if text == b"register".as_slice() {
+        Some(ItemWord::Register)
+    } else if text == b"memory".as_slice() {
+        Some(ItemWord::Memory)
+    } else if text == b"net".as_slice() {
+        Some(ItemWord::Net)
+    } else if text == b"bus".as_slice() {
+        Some(ItemWord::Bus)
+    } else if text == b"module".as_slice() {
+        Some(ItemWord::Module)
+    } else if text == b"part".as_slice() {
+        Some(ItemWord::Part)
+    } else {
+        None
+    }
+}
+
+/// The operators of one operand.
+fn unary_of(text: &[u8]) -> Option<Op1>
+    ensures { result ≡ unary_of text.now }
+{
+    if text == b"not".as_slice() {
+        Some(Op1::Not)
+    } else if text == b"neg".as_slice() {
+        Some(Op1::Neg)
+    } else {
+        None
+    }
+}
+
+/// The operators of two operands.
+fn binary_of(text: &[u8]) -> Option<Op2>
+    ensures { result ≡ binary_of text.now }
+{
+    if text == b"add".as_slice() {
+        Some(Op2::Add)
+    } else if text == b"sub".as_slice() {
+        Some(Op2::Sub)
+    } else if text == b"mul".as_slice() {
+        Some(Op2::Mul)
+    } else if text == b"and".as_slice() {
+        Some(Op2::And)
+    } else if text == b"or".as_slice() {
+        Some(Op2::Or)
+    } else if text == b"xor".as_slice() {
+        Some(Op2::Xor)
+    } else if text == b"shl".as_slice() {
+        Some(Op2::Shl)
+    } else if text == b"shr".as_slice() {
+        Some(Op2::Shr)
+    } else if text == b"sar".as_slice() {
+        Some(Op2::Sar)
+    } else if text == b"eq".as_slice() {
+        Some(Op2::Eq)
+    } else if text == b"ltu".as_slice() {
+        Some(Op2::Ltu)
+    } else if text == b"lts".as_slice() {
+        Some(Op2::Lts)
+    } else {
+        None
+    }
+}
+
+/// The other reserved words that begin an expression.
+fn form_of(text: &[u8]) -> Option<Operator>
+    ensures { result ≡ form_of text.now }
+{
+    if text == b"cat".as_slice() {
+        Some(Operator::Cat)
+    } else if text == b"slice".as_slice() {
+        Some(Operator::Slice)
+    } else if text == b"zext".as_slice() {
+        Some(Operator::Zext)
+    } else if text == b"sext".as_slice() {
+        Some(Operator::Sext)
+    } else if text == b"read".as_slice() {
+        Some(Operator::Read)
+    } else if text == b"case".as_slice() {
+        Some(Operator::Case)
+    } else {
+        None
+    }
+}
+
+/// The other reserved words.
+fn symbol_of(text: &[u8]) -> Option<Symbol>
+    ensures { result ≡ symbol_of text.now }
+{
+    if text == b"size".as_slice() {
+        Some(Symbol::Size)
+    } else if text == b"at".as_slice() {
+        Some(Symbol::At)
+    } else if text == b"in".as_slice() {
+        Some(Symbol::In)
+    } else if text == b"out".as_slice() {
+        Some(Symbol::Out)
+    } else if text == b"when".as_slice() {
+        Some(Symbol::When)
+    } else if text == b"addr".as_slice() {
+        Some(Symbol::Addr)
+    } else if text == b"write".as_slice() {
+        Some(Symbol::Write)
+    } else if text == b"else".as_slice() {
+        Some(Symbol::Else)
+    } else {
+        None
+    }
+}
+
+/// The signs.
+fn sign_of(text: &[u8]) -> Option<Symbol>
+    ensures { result ≡ sign_of text.now }
+{
+    if text == b":".as_slice() {
+        Some(Symbol::Colon)
+    } else if text == b";".as_slice() {
+        Some(Symbol::Semicolon)
+    } else if text == b",".as_slice() {
+        Some(Symbol::Comma)
+    } else if text == b"=".as_slice() {
+        Some(Symbol::Equals)
+    } else if text == b".".as_slice() {
+        Some(Symbol::Dot)
+    } else if text == b"#".as_slice() {
+        Some(Symbol::Hash)
+    } else if text == b"(".as_slice() {
+        Some(Symbol::LeftParen)
+    } else if text == b")".as_slice() {
+        Some(Symbol::RightParen)
+    } else if text == b"{".as_slice() {
+        Some(Symbol::LeftBrace)
+    } else if text == b"}".as_slice() {
+        Some(Symbol::RightBrace)
+    } else if text == b"[".as_slice() {
+        Some(Symbol::LeftBracket)
+    } else if text == b"]".as_slice() {
+        Some(Symbol::RightBracket)
+    } else {
+        None
+    }
+}
+
+/// The word of a reserved word's bytes.
+fn reserved_of(text: &[u8]) -> Word
+    ensures { result ≡ reserved_of text.now }
+{
+    if let Some(item) = item_of(text) {
+        return Word::Item(item);
+    }
+    if let Some(op) = unary_of(text) {
+        return Word::Operator(Operator::Unary(op));
+    }
+    if let Some(op) = binary_of(text) {
+        return Word::Operator(Operator::Binary(op));
+    }
+    if let Some(form) = form_of(text) {
+        return Word::Operator(form);
+    }
+    match symbol_of(text) {
+        Some(symbol) => Word::Symbol(symbol),
+        None => Word::Other,
+    }
+}
+
+/// The word of a sign's bytes.
+fn sign_word(text: &[u8]) -> Word
+    ensures { result ≡ word_of Kind.Sign text.now }
+{
+    match sign_of(text) {
+        Some(sign) => Word::Symbol(sign),
+        None => Word::Other,
+    }
+}
+
+/// The word of a token's bytes.
+fn word_of(alloc: Global, kind: Kind, text: &[u8]) -> Result<Word, NoMemory>
+    ensures { IfOk result (λ word. word ≡ word_of kind text.now) }
+{
+    Ok(match kind {
+        Kind::Name => Word::Name(Items::from_slice(alloc, text)?),
+        Kind::Reserved => reserved_of(text),
+        Kind::Number => Word::Number(number_of(text)),
+        Kind::Sign => sign_word(text),
+        Kind::Bad => Word::Other,
+    })
+}
+
+/// The tokens of a text, each with the word that it is.
+pub fn lexed(alloc: Global, bytes: &[u8], tokens: &[Token]) -> Result<Vec<Lexed>, NoMemory>
+    ensures { IfOk result (λ list. list.items ≡ lexed_all bytes.now tokens.now) }
+{
+    let mut list = Vec::new(alloc);
+    for token in tokens {
+        let word = word_of(alloc, token.kind, token.bytes(bytes))?;
+        list.push(Lexed { word, at: token.at })?;
+    }
+    Ok(list)
+}
