@@ -1,5 +1,3 @@
-pub mod Scans
-pub mod Forms
+mod Eaches
+mod Names
 pub mod Plains
-pub mod Programs
-pub mod Names

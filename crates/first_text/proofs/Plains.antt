@@ -1,52 +1,51 @@
--- A plain text is what is taken from its words.
-use Rattle.std.proofs.Common.{◌≡◌, ℕ, List, Option, Some, None, refl, sym, ap, ◌∙◌}
-use Rattle.std.specs.Prelude.{slice_get}
-use Rattle.std.specs.Option.{option_map}
-use Rattle.std.proofs.lemmas.Option.{slice_get-map}
-use Rattle.first_text.specs.declared.word.Language.TheVariants.{Netlist}
-use Rattle.first_text.specs.declared.word.Word.TheVariants.{Name}
-use Rattle.first_text.specs.declared.word.Lexeme.{Lexeme}
+-- Plain netlists: the rows of the register's case, and that items have the form in one way.
+use Rattle.std.proofs.Common.{◌≡◌, ◌≢◌, ℕ, ◌<◌, ◌≤◌, List, [], ◌∷◌, length, map, Option, Some, None, Bool, true, false, get_or, refl, sym, subst, arith}
+use Rattle.net_model.specs.Written.{Entry, Phrase, row_of, rows_of}
+use Rattle.first_text.specs.declared.plain.Counting.{Counting}
 use Rattle.first_text.specs.declared.plain.Plain.{Plain}
-use Rattle.first_text.specs.Words.{lexeme, lexeme_words, lexemes_of}
-use Rattle.first_text.specs.Form.{offset_in, offset_at, taken_from, candidate_of}
-use Rattle.first_text.specs.Plain.{plain_words, KeepsRules, IsPlain, IsFoundIn}
+use Rattle.first_text.specs.Plain.{rows_counting, plain_in, KeepsRules, IsPlain}
 
--- what the words of a plain text give is that text
-taken-plain_words : (p : Plain) → taken_from (plain_words p) p.code_at p.register_at p.memory_at ≡ p
-taken-plain_words p = refl
+abbrev pub Row : Type 0
+Row = List ℕ × Phrase
 
-candidate_is : (bytes : List ℕ) (p : Plain) → IsPlain bytes p → candidate_of (lexemes_of Netlist bytes) ≡ p
-candidate_is bytes p is =
-    let ls = lexemes_of Netlist bytes in
-    ap (λ ws. taken_from ws (offset_at ls 1) (offset_at ls 10) (offset_at ls 43)) is.words
-    ∙ ap (λ o. taken_from (plain_words p) (offset_in o) (offset_at ls 10) (offset_at ls 43)) is.code
-    ∙ ap (λ o. taken_from (plain_words p) p.code_at (offset_in o) (offset_at ls 43)) is.register
-    ∙ ap (λ o. taken_from (plain_words p) p.code_at p.register_at (offset_in o)) is.memory
-    ∙ taken-plain_words p
+module _ (code_name register_name : List ℕ) (width : ℕ) (bit : Option ℕ) where
+  pub few_rows : (rows : List Row) → length rows < 2 → rows_counting code_name register_name width bit (rows_of rows) ≡ None
+  few_rows [] h = refl
+  few_rows (r ∷ []) h = refl
+  few_rows (r ∷ s ∷ rows) h = absurd (omega arith)
 
--- the lexeme at a place, by its word
-stands : (ls : List Lexeme) (place : ℕ) (name : List ℕ) → slice_get (lexeme_words ls) place ≡ Some (Name name) → slice_get ls place ≡ Some (lexeme (offset_at ls place) (Name name))
-stands ls place name e = go (slice_get ls place) refl (sym (slice_get-map (λ l. l.word) ls place) ∙ e)
-  where
-    go : (o : Option Lexeme) → slice_get ls place ≡ o → option_map (λ l. l.word) o ≡ Some (Name name) → slice_get ls place ≡ Some (lexeme (offset_at ls place) (Name name))
-    go None at_o f = absurd cc
-    go (Some l) at_o f = let w : l.word ≡ Name name = cc in at_o ∙ ap (λ o. Some (lexeme (offset_in o) l.word)) (sym at_o) ∙ ap (λ v. Some (lexeme (offset_at ls place) v)) w
+  pub many_rows : (rows : List Row) → 2 < length rows → rows_counting code_name register_name width bit (rows_of rows) ≡ None
+  many_rows [] h = refl
+  many_rows (r ∷ []) h = refl
+  many_rows (r ∷ s ∷ []) h = absurd (omega arith)
+  many_rows (r ∷ s ∷ t ∷ rows) h = refl
 
-module _ (bytes : List ℕ) (ls : List Lexeme) (p : Plain) (ls_is : ls ≡ lexemes_of Netlist bytes) (p_is : p ≡ candidate_of ls) where
-  is_candidate : (q : Plain) → IsPlain bytes q → q ≡ p
-  is_candidate q is = sym (candidate_is bytes q is) ∙ ap candidate_of (sym ls_is) ∙ sym p_is
+pub two_of : {A : Type 0} (xs : List A) (a b : A) → length xs ≡ 2 → a ≡ get_or xs 0 a → b ≡ get_or xs 1 b → xs ≡ a ∷ b ∷ []
+two_of [] a b h e f = absurd (omega arith)
+two_of (x ∷ []) a b h e f = absurd (omega arith)
+two_of (x ∷ y ∷ []) a b h e f = cc
+two_of (x ∷ y ∷ z ∷ xs) a b h e f = absurd (omega arith)
 
-  place_is : (place at : ℕ) (name : List ℕ) → at ≡ offset_at ls place → slice_get (lexeme_words ls) place ≡ Some (Name name) → slice_get (lexemes_of Netlist bytes) place ≡ Some (lexeme at (Name name))
-  place_is place at name at_is e = ap (λ l. slice_get l place) (sym ls_is) ∙ stands ls place name e ∙ ap (λ n. Some (lexeme n (Name name))) (sym at_is)
+pub three_of : {A : Type 0} (xs : List A) (a b d : A) → length xs ≡ 3 → a ≡ get_or xs 0 a → b ≡ get_or xs 1 b → d ≡ get_or xs 2 d → xs ≡ a ∷ b ∷ d ∷ []
+three_of [] a b d h e f g = absurd (omega arith)
+three_of (x ∷ []) a b d h e f g = absurd (omega arith)
+three_of (x ∷ y ∷ []) a b d h e f g = absurd (omega arith)
+three_of (x ∷ y ∷ z ∷ []) a b d h e f g = cc
+three_of (x ∷ y ∷ z ∷ w ∷ xs) a b d h e f g = absurd (omega arith)
 
-  pub found : lexeme_words ls ≡ plain_words p → KeepsRules p → IsFoundIn bytes (Some p)
-  found words rules = (
-    record {
-      words = ap lexeme_words (sym ls_is) ∙ words;
-      code = place_is 1 p.code_at p.code (ap (λ q. q.code_at) p_is) (ap (λ ws. slice_get ws 1) words);
-      register = place_is 10 p.register_at p.register (ap (λ q. q.register_at) p_is) (ap (λ ws. slice_get ws 10) words);
-      memory = place_is 43 p.memory_at p.memory (ap (λ q. q.memory_at) p_is) (ap (λ ws. slice_get ws 43) words);
-      rules = rules;
-    },
-    is_candidate,
-  )
+pub not_three : (entries : List Entry) → length entries ≢ 3 → plain_in entries ≡ None
+not_three [] h = refl
+not_three (a ∷ []) h = refl
+not_three (a ∷ b ∷ []) h = refl
+not_three (a ∷ b ∷ d ∷ []) h = absurd (h refl)
+not_three (a ∷ b ∷ d ∷ e ∷ entries) h = refl
+
+-- one form alone
+pub one_plain : (entries : List Entry) (p q : Plain) → IsPlain entries p → IsPlain entries q → p ≡ q
+one_plain entries p q a b = let e = a.form in let f = b.form in cc
+
+pub none_plain : (entries : List Entry) → plain_in entries ≡ None → (p : Plain) → IsPlain entries p → ⊥
+none_plain entries e p is = let f = is.form in absurd cc
+
+pub none_kept : (entries : List Entry) (q : Plain) → plain_in entries ≡ Some q → (KeepsRules q → ⊥) → (p : Plain) → IsPlain entries p → ⊥
+none_kept entries q e broken p is = let f = is.form in let same : p ≡ q = cc in broken (subst KeepsRules same is.rules)

@@ -1,52 +1,47 @@
--- First programs: what their words are, and the rules that they keep.
-use Rattle.std.specs.Prelude.{◌≡◌, ◌≢◌, ℕ, ◌+◌, ◌^◌, ◌≤◌, ◌<◌, List, [], ◌∷◌, ◌++◌, Option, Some, None, length, All, AllPairs, Contains}
-use Rattle.first_text.specs.declared.word.Language.TheVariants.{Source}
-use Rattle.first_text.specs.declared.word.Word.{Word}
-use Rattle.first_text.specs.declared.word.Word.TheVariants.{Name, Number}
+-- First programs: the form of their declarations and statements, and the rules that they keep.
+use Rattle.std.specs.Prelude.{◌≡◌, ◌≢◌, ℕ, ◌+◌, ◌^◌, ◌≤◌, ◌<◌, List, [], ◌∷◌, Option, Some, None, length, All, AllPairs, Contains}
+use Rattle.src_model.specs.declared.program.Var.{Var}
+use Rattle.src_model.specs.Written.{Shape, num, Act, assign, Listing}
 use Rattle.first_text.specs.declared.program.Assign.{Assign}
 use Rattle.first_text.specs.declared.program.FirstProgram.{FirstProgram}
-use Rattle.first_text.specs.Words.{word, sign, words_of}
 
 -- ---- the form
 
--- , b, c
-abbrev pub more_words : List (List ℕ) → List Word → List Word
-more_words [] rest = rest
-more_words (name ∷ names) rest = sign "," ∷ Name name ∷ more_words names rest
+-- a plain variable, and its name
+abbrev pub plain_name : List ℕ → Option ℕ → Option (List ℕ)
+plain_name name None = Some name
+plain_name name (Some length) = None
 
--- the variables of one `var` line: the first, and those behind commas
-pub record VarLine : Type 0 where
-  pub first : List ℕ
-  pub more : List (List ℕ)
+abbrev pub name_in : Var → Option (List ℕ)
+name_in var = plain_name var.name var.len
 
--- var a, b, c;
-abbrev pub line_words : VarLine → List Word → List Word
-line_words line rest = word "var" ∷ Name line.first ∷ more_words line.more (sign ";" ∷ rest)
-
--- all `var` lines
-abbrev pub lines_words : List VarLine → List Word → List Word
-lines_words [] rest = rest
-lines_words (line ∷ lines) rest = line_words line (lines_words lines rest)
+abbrev pub number_for : List ℕ → Shape → Option Assign
+number_for name (num n) = Some (record { name = name; value = n })
+number_for name _ = None
 
 -- a = n;
-abbrev pub assign_words : Assign → List Word → List Word
-assign_words assign rest = Name assign.name ∷ sign "=" ∷ Number assign.value ∷ sign ";" ∷ rest
+abbrev pub assign_in : Act → Option Assign
+assign_in (assign place value) = elim place.index [ None ↦ number_for place.name value.shape | Some index ↦ None ]
+assign_in _ = None
 
--- all assignments, to the end of the text
-abbrev pub body_words : List Assign → List Word
-body_words [] = []
-body_words (assign ∷ body) = assign_words assign (body_words body)
+abbrev pub put_first : {A : Type 0} → Option A → Option (List A) → Option (List A)
+put_first (Some a) (Some rest) = Some (a ∷ rest)
+put_first _ _ = None
 
--- the variables of all lines, in their order
-abbrev pub vars_of : List VarLine → List (List ℕ)
-vars_of [] = []
-vars_of (line ∷ lines) = line.first ∷ line.more ++ vars_of lines
+-- what f finds in each of a list, where it finds something in all of them
+abbrev pub each : {A B : Type 0} → (A → Option B) → List A → Option (List B)
+each f [] = Some []
+each f (a ∷ rest) = put_first (f a) (each f rest)
 
--- The text is the program's. A program doesn't tell which variables stand in one line, so some lines will do.
-pub record Reads (bytes : List ℕ) (p : FirstProgram) : Type 0 where
-  pub lines : List VarLine
-  pub vars : vars_of lines ≡ p.vars
-  pub words : words_of Source bytes ≡ lines_words lines (body_words p.body)
+-- declarations of plain variables, and assignments of one number each
+pub record HasForm (listing : Listing) (p : FirstProgram) : Type 0 where
+  pub vars : each name_in listing.vars ≡ Some p.vars
+  pub body : each assign_in listing.body ≡ Some p.body
+
+-- what it is by its form alone
+abbrev pub IsFormFound : Listing → Option FirstProgram → Type 0
+IsFormFound listing (Some p) = HasForm listing p
+IsFormFound listing None = (p : FirstProgram) → HasForm listing p → ⊥
 
 -- ---- the rules
 
@@ -69,13 +64,14 @@ pub record KeepsProgramRules (p : FirstProgram) (width cells words : ℕ) : Type
   pub names : NamesKept p
   pub room : HasRoom p width cells words
 
--- ---- the texts
+-- ---- the programs
 
-pub record IsFirst (bytes : List ℕ) (width cells words : ℕ) (p : FirstProgram) : Type 0 where
-  pub reads : Reads bytes p
+-- the listing has the form, filled in so, and the rules hold for a machine with so many cells of `width` bits and so many words
+pub record IsFirst (listing : Listing) (width cells words : ℕ) (p : FirstProgram) : Type 0 where
+  pub form : HasForm listing p
   pub rules : KeepsProgramRules p width cells words
 
--- what is found in a text: the first program that it is, and no other; or nothing where it is none
-abbrev pub IsFirstFoundIn : List ℕ → ℕ → ℕ → ℕ → Option FirstProgram → Type 0
-IsFirstFoundIn bytes width cells words (Some p) = IsFirst bytes width cells words p × ((q : FirstProgram) → IsFirst bytes width cells words q → q ≡ p)
-IsFirstFoundIn bytes width cells words None = (p : FirstProgram) → IsFirst bytes width cells words p → ⊥
+-- what is found in a listing: the first program that it is, or nothing where it is none
+abbrev pub IsFirstFound : Listing → ℕ → ℕ → ℕ → Option FirstProgram → Type 0
+IsFirstFound listing width cells words (Some p) = IsFirst listing width cells words p
+IsFirstFound listing width cells words None = (p : FirstProgram) → IsFirst listing width cells words p → ⊥

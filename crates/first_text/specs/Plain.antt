@@ -1,58 +1,134 @@
--- Plain netlist texts: what their words are, and the rules that they keep.
-use Rattle.std.specs.Prelude.{◌≡◌, ◌≢◌, ℕ, ◌+◌, ◌^◌, ◌≤◌, ◌<◌, List, [], ◌∷◌, Option, Some, None, slice_get}
-use Rattle.first_text.specs.declared.word.Language.TheVariants.{Netlist}
-use Rattle.first_text.specs.declared.word.Word.{Word}
-use Rattle.first_text.specs.declared.word.Word.TheVariants.{Name, Number}
+-- Plain netlists: the form of their items, and the rules that they keep.
+use Rattle.std.specs.Prelude.{◌≡◌, ◌≢◌, ℕ, ◌+◌, ◌^◌, ◌≤◌, ◌<◌, ◌==◌, ◌&&◌, if◌then◌else◌, Bool, true, false, List, [], ◌∷◌, Option, Some, None}
+use Rattle.std.specs.Str.{bytes_eq}
+use Rattle.rec_bits.specs.declared.operator.Op1.TheVariants.{Not}
+use Rattle.rec_bits.specs.declared.operator.Op2.TheVariants.{Add}
+use Rattle.net_model.specs.declared.units.Ident.{Ident}
+use Rattle.net_model.specs.Written.{Entry, code, register, memory, Phrase, named, const, un, bin, case, Rows, row, no_rows, no_rest}
 use Rattle.first_text.specs.declared.plain.Field.{Field}
+use Rattle.first_text.specs.declared.plain.Counting.{Counting}
+use Rattle.first_text.specs.declared.plain.CodePart.{CodePart}
+use Rattle.first_text.specs.declared.plain.RegisterPart.{RegisterPart}
+use Rattle.first_text.specs.declared.plain.MemoryPart.{MemoryPart}
 use Rattle.first_text.specs.declared.plain.Plain.{Plain}
-use Rattle.first_text.specs.Words.{word, sign, lexeme, lexemes_of, words_of}
 
 -- ---- the form
 
--- C[hi:lo]
-abbrev pub field_words : List ℕ → Field → List Word → List Word
-field_words code field rest = Name code ∷ sign "[" ∷ Number field.hi ∷ sign ":" ∷ Number field.lo ∷ sign "]" ∷ rest
+-- C[hi:lo], and its bits
+abbrev pub field_in : List ℕ → Phrase → Option Field
+field_in code_name (named name None (Some bits)) = if bytes_eq name.name code_name then Some (record { hi = bits.0; lo = bits.1 }) else None
+field_in code_name _ = None
 
--- C[bit]
-abbrev pub bit_words : List ℕ → ℕ → List Word → List Word
-bit_words code bit rest = Name code ∷ sign "[" ∷ Number bit ∷ sign "]" ∷ rest
+abbrev pub one_bit : Option Field → Option ℕ
+one_bit None = None
+one_bit (Some field) = if field.hi == field.lo then Some field.lo else None
 
--- Each part of the form, filled in, with the words behind it:
+-- C[b], and b
+abbrev pub bit_in : List ℕ → Phrase → Option ℕ
+bit_in code_name phrase = one_bit (field_in code_name phrase)
+
+-- not(C[b]), and b
+abbrev pub off_bit_in : List ℕ → Phrase → Option ℕ
+off_bit_in code_name (un Not phrase) = bit_in code_name phrase
+off_bit_in code_name _ = None
+
+-- R
+abbrev pub is_name : List ℕ → Phrase → Bool
+is_name register_name (named name None None) = bytes_eq name.name register_name
+is_name register_name _ = false
+
+-- 1#p
+abbrev pub is_one : ℕ → Phrase → Bool
+is_one width (const value own) = value == 1 && own == width
+is_one width _ = false
+
+-- add(R, 1#p)
+abbrev pub is_step : List ℕ → ℕ → Phrase → Bool
+is_step register_name width (bin Add a b) = is_name register_name a && is_one width b
+is_step register_name width _ = false
+
+abbrev pub is_only : ℕ → List ℕ → Bool
+is_only n (m ∷ []) = m == n
+is_only n _ = false
+
+abbrev pub counting : Option ℕ → Option Field → Option Counting
+counting (Some bit) (Some target) = Some (record { jump_bit = bit; target = target })
+counting _ _ = None
+
+-- { 0: add(R, 1#p); 1: C[j:k]; } behind C[b]
+abbrev pub rows_counting : List ℕ → List ℕ → ℕ → Option ℕ → Rows → Option Counting
+rows_counting code_name register_name width bit (row zeros step (row ones jump no_rows)) =
+    if is_only 0 zeros && is_only 1 ones && is_step register_name width step then counting bit (field_in code_name jump) else None
+rows_counting code_name register_name width bit _ = None
+
+-- case C[b] { 0: add(R, 1#p); 1: C[j:k]; }, and its bits
+abbrev pub counting_in : List ℕ → List ℕ → ℕ → Phrase → Option Counting
+counting_in code_name register_name width (case selector rows no_rest) = rows_counting code_name register_name width (bit_in code_name selector) rows
+counting_in code_name register_name width _ = None
+
 -- code C : n size s at R;
-abbrev pub code_words : Plain → List Word → List Word
-code_words p rest = word "code" ∷ Name p.code ∷ sign ":" ∷ Number p.bits ∷ word "size" ∷ Number p.words ∷ word "at" ∷ Name p.register ∷ sign ";" ∷ rest
+abbrev pub code_in : Entry → Option CodePart
+code_in (code name bits words counter) = Some (record { name = name.name; at = name.at; bits = bits; words = words; counter = counter.name })
+code_in _ = None
 
--- register R : p in case C[b] {
-abbrev pub register_words : Plain → List Word → List Word
-register_words p rest = word "register" ∷ Name p.register ∷ sign ":" ∷ Number p.counter_width ∷ word "in" ∷ word "case" ∷ bit_words p.code p.jump_bit (sign "{" ∷ rest)
+abbrev pub register_part : Ident → ℕ → Option Counting → Option RegisterPart
+register_part name width None = None
+register_part name width (Some counts) = Some (record { name = name.name; at = name.at; width = width; counting = counts })
 
--- 0: add(R, 1#p);
-abbrev pub step_words : Plain → List Word → List Word
-step_words p rest = Number 0 ∷ sign ":" ∷ word "add" ∷ sign "(" ∷ Name p.register ∷ sign "," ∷ Number 1 ∷ sign "#" ∷ Number p.counter_width ∷ sign ")" ∷ sign ";" ∷ rest
+-- register R : p in case C[b] { 0: add(R, 1#p); 1: C[j:k]; };
+abbrev pub register_in : List ℕ → Entry → Option RegisterPart
+register_in code_name (register name width input None) = register_part name width (counting_in code_name name.name width input)
+register_in code_name _ = None
 
--- 1: C[j:k]; };
-abbrev pub jump_words : Plain → List Word → List Word
-jump_words p rest = Number 1 ∷ sign ":" ∷ field_words p.code p.target (sign ";" ∷ sign "}" ∷ sign ";" ∷ rest)
+abbrev pub memory_part : Ident → ℕ → ℕ → ℕ → Option Field → Option Field → Option ℕ → Option MemoryPart
+memory_part name width cells addr_width (Some value) (Some addr) (Some off_bit) = Some (record {
+  name = name.name;
+  at = name.at;
+  width = width;
+  cells = cells;
+  addr_width = addr_width;
+  value = value;
+  addr = addr;
+  off_bit = off_bit;
+})
+memory_part name width cells addr_width _ _ _ = None
 
--- memory M : w size c addr a
-abbrev pub memory_words : Plain → List Word → List Word
-memory_words p rest = word "memory" ∷ Name p.memory ∷ sign ":" ∷ Number p.width ∷ word "size" ∷ Number p.cells ∷ word "addr" ∷ Number p.addr_width ∷ rest
+-- memory M : w size c addr a write C[u:v] at C[x:y] when not(C[b]);
+abbrev pub memory_in : List ℕ → Entry → Option MemoryPart
+memory_in code_name (memory name width cells addr_width value addr (Some when)) =
+    memory_part name width cells addr_width (field_in code_name value) (field_in code_name addr) (off_bit_in code_name when)
+memory_in code_name _ = None
 
--- write C[u:v] at C[x:y]
-abbrev pub write_words : Plain → List Word → List Word
-write_words p rest = word "write" ∷ field_words p.code p.value (word "at" ∷ field_words p.code p.addr rest)
+-- the three with one register R and one bit b
+abbrev pub assembled : CodePart → Option RegisterPart → Option MemoryPart → Option Plain
+assembled c (Some r) (Some m) = if bytes_eq c.counter r.name && m.off_bit == r.counting.jump_bit then Some (record {
+  code = c.name;
+  register = r.name;
+  memory = m.name;
+  code_at = c.at;
+  register_at = r.at;
+  memory_at = m.at;
+  bits = c.bits;
+  words = c.words;
+  counter_width = r.width;
+  jump_bit = r.counting.jump_bit;
+  target = r.counting.target;
+  width = m.width;
+  cells = m.cells;
+  addr_width = m.addr_width;
+  value = m.value;
+  addr = m.addr;
+}) else None
+assembled c _ _ = None
 
--- when not(C[b]);
-abbrev pub when_words : Plain → List Word → List Word
-when_words p rest = word "when" ∷ word "not" ∷ sign "(" ∷ bit_words p.code p.jump_bit (sign ")" ∷ sign ";" ∷ rest)
+abbrev pub behind_code : Option CodePart → Entry → Entry → Option Plain
+behind_code None r m = None
+behind_code (Some c) r m = assembled c (register_in c.name r) (memory_in c.name m)
 
--- the whole form
-abbrev pub form_words : Plain → List Word → List Word
-form_words p rest = code_words p (register_words p (step_words p (jump_words p (memory_words p (write_words p (when_words p rest))))))
-
--- the words of the whole text
-abbrev pub plain_words : Plain → List Word
-plain_words p = form_words p []
+-- a code, a register and a memory of the form, as they are filled in
+abbrev pub plain_in : List Entry → Option Plain
+plain_in (c ∷ r ∷ m ∷ []) = behind_code (code_in c) r m
+plain_in _ = None
 
 -- ---- the rules
 
@@ -120,18 +196,14 @@ pub record KeepsRules (p : Plain) : Type 0 where
   pub fields : FieldsFit p
   pub apart : FieldsApart p
 
--- ---- the texts
+-- ---- the netlists
 
-pub record IsPlain (bytes : List ℕ) (p : Plain) : Type 0 where
-  -- the words are those of the form
-  pub words : words_of Netlist bytes ≡ plain_words p
-  -- where the names of the three items stand
-  pub code : slice_get (lexemes_of Netlist bytes) 1 ≡ Some (lexeme p.code_at (Name p.code))
-  pub register : slice_get (lexemes_of Netlist bytes) 10 ≡ Some (lexeme p.register_at (Name p.register))
-  pub memory : slice_get (lexemes_of Netlist bytes) 43 ≡ Some (lexeme p.memory_at (Name p.memory))
+-- the items have the form, filled in so, and the rules hold
+pub record IsPlain (entries : List Entry) (p : Plain) : Type 0 where
+  pub form : plain_in entries ≡ Some p
   pub rules : KeepsRules p
 
--- what is found in a text: the plain text that it is, and no other; or nothing where it is none
-abbrev pub IsFoundIn : List ℕ → Option Plain → Type 0
-IsFoundIn bytes (Some p) = IsPlain bytes p × ((q : Plain) → IsPlain bytes q → q ≡ p)
-IsFoundIn bytes None = (p : Plain) → IsPlain bytes p → ⊥
+-- what is found in some items: the plain netlist that they are, or nothing where they are none
+abbrev pub IsPlainFound : List Entry → Option Plain → Type 0
+IsPlainFound entries (Some p) = IsPlain entries p
+IsPlainFound entries None = (p : Plain) → IsPlain entries p → ⊥

@@ -1,20 +1,13 @@
-//! The reading of the two simple kinds of texts that are compiled so far.
+//! The two simple kinds of inputs that are compiled so far.
 //!
-//! A plain netlist text has a code, the register that counts its words and a memory, in one fixed form. A first program
-//! has declarations of variables and then assignments of numbers. Each is read with the rules that it keeps: the answer
-//! is the one value whose text the bytes are, or None where there is none.
+//! A plain netlist has a code, the register that counts its words and a memory, in one fixed form. A first program
+//! has declarations of plain variables and then assignments of numbers. Each is found with the rules that it keeps: the
+//! answer is the one that the input is, or None where it is none.
 #![tactic(auto)]
 
-mod form;
 mod plain;
 mod program;
-mod reader;
 mod rules;
-mod word;
 
-pub use plain::{Field, Plain, plain_text};
+pub use plain::{Field, Plain, plain_netlist};
 pub use program::{Assign, FirstProgram, first_program};
-pub use word::{Language, Lexeme, Word, lexemes};
-
-#[cfg(test)]
-mod tests;

@@ -1,14 +1,12 @@
-//! Plain netlist texts.
+//! Plain netlists.
 
-ghost use Rattle.std.specs.Prelude.{◌≡◌, IfOk};
-ghost use Rattle.first_text.specs.Words.{lexeme_words};
-ghost use Rattle.first_text.specs.Form.{name_at, number_at, offset_at, candidate_of};
-ghost use Rattle.first_text.specs.Plain.{IsFoundIn};
+ghost use Rattle.std.specs.Prelude.{◌≡◌, ◌≢◌, [], ◌∷◌, IfOk, MatchOption, length, map};
+ghost use Rattle.net_model.specs.Written.{entry_of, phrase_of, row_of, rows_of};
+ghost use Rattle.first_text.specs.Plain.{assembled, bit_in, code_in, counting, counting_in, field_in, is_name, is_one, is_only, is_step, memory_in, off_bit_in, plain_in, register_in, rows_counting, IsPlainFound};
 
-use crate::form::has_form;
 use crate::rules::keeps_rules;
-use crate::word::{Language, Lexeme, Word, lexemes};
-use rec_bits::{Items, Name, NoMemory};
+use net_model::{Ident, NetExpr, Unit, Units};
+use rec_bits::{Items, Name, NoMemory, Op1, Op2};
 use std::alloc::Global;
 
 /// The bits of a word from `lo` to `hi`.
@@ -18,7 +16,7 @@ pub struct Field {
     pub lo: u64,
 }
 
-/// A plain netlist text: a code, the register that counts its words, and a memory. The names stand for C, R and M,
+/// A plain netlist: a code, the register that counts its words, and a memory. The names stand for C, R and M,
 /// and the numbers for small letters, in
 /// ```text
 /// code C : n size s at R;
@@ -61,94 +59,320 @@ pub struct Plain {
     pub addr: Field,
 }
 
-fn name_at(alloc: Global, lexemes: &[Lexeme], place: usize) -> Result<Name, NoMemory>
-    ensures { IfOk result (λ name. name ≡ name_at (lexeme_words lexemes.now) place) }
+// How the register goes on: by one, or to a target where the bit is 1.
+#[derive(Clone, Copy)]
+struct Counting {
+    jump_bit: u64,
+    target: Field,
+}
+
+// The code, with the name that stands for R in it.
+#[derive(Drop)]
+struct CodePart {
+    name: Name,
+    at: u64,
+    bits: u64,
+    words: u64,
+    counter: Name,
+}
+
+// The register.
+#[derive(Drop)]
+struct RegisterPart {
+    name: Name,
+    at: u64,
+    width: u64,
+    counting: Counting,
+}
+
+// The memory, with the bit that is 0 where it is written.
+#[derive(Drop)]
+struct MemoryPart {
+    name: Name,
+    at: u64,
+    width: u64,
+    cells: u64,
+    addr_width: u64,
+    value: Field,
+    addr: Field,
+    off_bit: u64,
+}
+
+// C[hi:lo]
+fn field_of(expr: &NetExpr, code: &Name) -> Option<Field>
+    ensures { result ≡ field_in code.now (phrase_of expr.now) }
 {
-    match lexemes.get(place) {
-        Some(
-            Lexeme {
-                word: Word::Name(name),
-                ..
-            },
-        ) => Items::from_slice(alloc, name.as_slice()),
-        _ => Ok(Items::new(alloc)),
+    match expr {
+        NetExpr::Named {
+            name,
+            field: None,
+            bits: Some((hi, lo)),
+        } if name.name.as_slice() == code.as_slice() => Some(Field { hi: *hi, lo: *lo }),
+        _ => None,
     }
 }
 
-fn number_at(lexemes: &[Lexeme], place: usize) -> u64
-    ensures { result ≡ number_at (lexeme_words lexemes.now) place }
+// C[b]
+fn bit_of(expr: &NetExpr, code: &Name) -> Option<u64>
+    ensures { result ≡ bit_in code.now (phrase_of expr.now) }
 {
-    match lexemes.get(place) {
-        Some(
-            Lexeme {
-                word: Word::Number(number),
-                ..
-            },
-        ) => *number,
-        _ => 0,
+    match field_of(expr, code) {
+        Some(field) if field.hi == field.lo => Some(field.lo),
+        _ => None,
     }
 }
 
-fn offset_at(lexemes: &[Lexeme], place: usize) -> u64
-    ensures { result ≡ offset_at lexemes.now place }
+// not(C[b])
+fn off_bit_of(expr: &NetExpr, code: &Name) -> Option<u64>
+    ensures { result ≡ off_bit_in code.now (phrase_of expr.now) }
 {
-    match lexemes.get(place) {
-        Some(lexeme) => lexeme.at,
-        None => 0,
+    match expr {
+        NetExpr::Un(Op1::Not, operand) => bit_of(operand, code),
+        _ => None,
     }
 }
 
-fn field_at(lexemes: &[Lexeme], hi: usize, lo: usize) -> Field
-    ensures { result ≡ record {
-      hi = number_at (lexeme_words lexemes.now) hi;
-      lo = number_at (lexeme_words lexemes.now) lo;
-    } }
+// R
+fn is_name(expr: &NetExpr, register: &Name) -> bool
+    ensures { result ≡ is_name register.now (phrase_of expr.now) }
 {
-    Field {
-        hi: number_at(lexemes, hi),
-        lo: number_at(lexemes, lo),
+    match expr {
+        NetExpr::Named {
+            name,
+            field: None,
+            bits: None,
+        } => name.name.as_slice() == register.as_slice(),
+        _ => false,
     }
 }
 
-// The places of the names of the three items among the words of the form, counted from 0.
-const CODE: usize = 1;
-
-const REGISTER: usize = 10;
-
-const MEMORY: usize = 43;
-
-// What the text would be if it had the form: its names and numbers are at their places in the form, counted from 0.
-fn candidate(alloc: Global, lexemes: &[Lexeme]) -> Result<Plain, NoMemory>
-    ensures { IfOk result (λ plain. plain ≡ candidate_of lexemes.now) }
+// 1#p
+fn is_one(expr: &NetExpr, p: u64) -> bool
+    ensures { result ≡ is_one p (phrase_of expr.now) }
 {
-    Ok(Plain {
-        code: name_at(alloc, lexemes, CODE)?,
-        register: name_at(alloc, lexemes, REGISTER)?,
-        memory: name_at(alloc, lexemes, MEMORY)?,
-        code_at: offset_at(lexemes, CODE),
-        register_at: offset_at(lexemes, REGISTER),
-        memory_at: offset_at(lexemes, MEMORY),
-        bits: number_at(lexemes, 3),
-        words: number_at(lexemes, 5),
-        counter_width: number_at(lexemes, 12),
-        jump_bit: number_at(lexemes, 17),
-        target: field_at(lexemes, 35, 37),
-        width: number_at(lexemes, 45),
-        cells: number_at(lexemes, 47),
-        addr_width: number_at(lexemes, 49),
-        value: field_at(lexemes, 53, 55),
-        addr: field_at(lexemes, 60, 62),
+    match expr {
+        NetExpr::Const { value, width } => *value == 1 && *width == p,
+        _ => false,
+    }
+}
+
+// add(R, 1#p)
+fn is_step(expr: &NetExpr, register: &Name, p: u64) -> bool
+    ensures { result ≡ is_step register.now p (phrase_of expr.now) }
+{
+    match expr {
+        NetExpr::Bin(Op2::Add, left, right) => is_name(left, register) && is_one(right, p),
+        _ => false,
+    }
+}
+
+fn is_only(number: u64, numbers: &[u64]) -> bool
+    ensures { result ≡ is_only number numbers.now }
+{
+    matches!(numbers, [first] if *first == number)
+}
+
+fn counts(bit: Option<u64>, target: Option<Field>) -> Option<Counting>
+    ensures { result ≡ counting bit target }
+{
+    Some(Counting {
+        jump_bit: bit?,
+        target: target?,
     })
 }
 
-/// The plain netlist text that the bytes are, or None where they are none. The only error is want of memory.
-pub fn plain_text(alloc: Global, bytes: &[u8]) -> Result<Option<Plain>, NoMemory>
-    ensures { IfOk result (λ found. IsFoundIn bytes.now found) }
+// { 0: add(R, 1#p); 1: C[j:k]; } behind C[b]
+fn rows_counting(
+    rows: &[(Vec<u64>, NetExpr)],
+    code: &Name,
+    register: &Name,
+    p: u64,
+    bit: Option<u64>,
+) -> Option<Counting>
+    ensures { result ≡ rows_counting code.now register.now p bit (rows_of (map row_of rows.now)) }
 {
-    let list = lexemes(alloc, Language::Netlist, bytes)?;
-    let lexemes = list.as_slice();
-    let plain = candidate(alloc, lexemes)?;
-    if has_form(&plain, lexemes) && keeps_rules(&plain) {
+    let [(zeros, step), (ones, jump)] = rows else {
+        return None;
+    };
+    if !is_only(0, zeros) {
+        return None;
+    }
+    if !is_only(1, ones) {
+        return None;
+    }
+    if !is_step(step, register, p) {
+        return None;
+    }
+    counts(bit, field_of(jump, code))
+}
+
+// case C[b] { 0: add(R, 1#p); 1: C[j:k]; }
+fn counting_of(expr: &NetExpr, code: &Name, register: &Name, p: u64) -> Option<Counting>
+    ensures { result ≡ counting_in code.now register.now p (phrase_of expr.now) }
+{
+    let NetExpr::Case { sel, rows, rest } = expr else {
+        return None;
+    };
+    match rest {
+        None => rows_counting(rows.as_slice(), code, register, p, bit_of(sel, code)),
+        Some(_) => None,
+    }
+}
+
+fn copied(alloc: Global, name: &Ident) -> Result<Name, NoMemory>
+    ensures { IfOk result (λ copy. copy ≡ name.now.name) }
+{
+    Items::from_slice(alloc, name.name.as_slice())
+}
+
+// code C : n size s at R;
+fn code_part(alloc: Global, unit: &Unit) -> Result<Option<CodePart>, NoMemory>
+    ensures { IfOk result (λ found. found ≡ code_in (entry_of unit.now)) }
+{
+    match unit {
+        Unit::Code {
+            name,
+            bits,
+            size,
+            counter,
+        } => Ok(Some(CodePart {
+            name: copied(alloc, name)?,
+            at: name.at,
+            bits: *bits,
+            words: *size,
+            counter: copied(alloc, counter)?,
+        })),
+        _ => Ok(None),
+    }
+}
+
+// register R : p in case C[b] { 0: add(R, 1#p); 1: C[j:k]; };
+fn register_part(alloc: Global, unit: &Unit, code: &Name) -> Result<Option<RegisterPart>, NoMemory>
+    ensures { IfOk result (λ found. found ≡ register_in code.now (entry_of unit.now)) }
+{
+    let Unit::Register {
+        name,
+        width,
+        input,
+        when: None,
+    } = unit
+    else {
+        return Ok(None);
+    };
+    match counting_of(input, code, &name.name, *width) {
+        Some(counting) => Ok(Some(RegisterPart {
+            name: copied(alloc, name)?,
+            at: name.at,
+            width: *width,
+            counting,
+        })),
+        None => Ok(None),
+    }
+}
+
+// memory M : w size c addr a write C[u:v] at C[x:y] when not(C[b]);
+fn memory_part(alloc: Global, unit: &Unit, code: &Name) -> Result<Option<MemoryPart>, NoMemory>
+    ensures { IfOk result (λ found. found ≡ memory_in code.now (entry_of unit.now)) }
+{
+    let Unit::Memory {
+        name,
+        width,
+        size,
+        addr_width,
+        value,
+        addr,
+        when: Some(when),
+    } = unit
+    else {
+        return Ok(None);
+    };
+    let fields = (
+        field_of(value, code),
+        field_of(addr, code),
+        off_bit_of(when, code),
+    );
+    match fields {
+        (Some(value), Some(addr), Some(off_bit)) => Ok(Some(MemoryPart {
+            name: copied(alloc, name)?,
+            at: name.at,
+            width: *width,
+            cells: *size,
+            addr_width: *addr_width,
+            value,
+            addr,
+            off_bit,
+        })),
+        _ => Ok(None),
+    }
+}
+
+// The three with one register R and one bit b.
+fn assembled(code: CodePart, register: RegisterPart, memory: MemoryPart) -> Option<Plain>
+    ensures { result ≡ assembled code (Some register) (Some memory) }
+{
+    if code.counter.as_slice() != register.name.as_slice() {
+        return None;
+    }
+    if memory.off_bit != register.counting.jump_bit {
+        return None;
+    }
+    Some(Plain {
+        code: code.name,
+        register: register.name,
+        memory: memory.name,
+        code_at: code.at,
+        register_at: register.at,
+        memory_at: memory.at,
+        bits: code.bits,
+        words: code.words,
+        counter_width: register.width,
+        jump_bit: register.counting.jump_bit,
+        target: register.counting.target,
+        width: memory.width,
+        cells: memory.cells,
+        addr_width: memory.addr_width,
+        value: memory.value,
+        addr: memory.addr,
+    })
+}
+
+// The items, where there are three.
+fn three(units: &[Unit]) -> Option<(&Unit, &Unit, &Unit)>
+    ensures { MatchOption result (length units.now ≢ 3) (λ items. units.now ≡ items.0.now ∷ items.1.now ∷ items.2.now ∷ []) }
+{
+    match units {
+        [code, register, memory] => Some((code, register, memory)),
+        _ => None,
+    }
+}
+
+// What the items are if they have the form.
+fn formed(alloc: Global, units: &[Unit]) -> Result<Option<Plain>, NoMemory>
+    ensures { IfOk result (λ found. found ≡ plain_in (map entry_of units.now)) }
+{
+    let Some((code, register, memory)) = three(units) else {
+        return Ok(None);
+    };
+    let Some(code) = code_part(alloc, code)? else {
+        return Ok(None);
+    };
+    let Some(register) = register_part(alloc, register, &code.name)? else {
+        return Ok(None);
+    };
+    let Some(memory) = memory_part(alloc, memory, &code.name)? else {
+        return Ok(None);
+    };
+    Ok(assembled(code, register, memory))
+}
+
+/// The plain netlist that the items are, or None where they are none. The only error is want of memory.
+pub fn plain_netlist(alloc: Global, units: &Units) -> Result<Option<Plain>, NoMemory>
+    ensures { IfOk result (λ found. IsPlainFound (map entry_of units.now.items) found) }
+{
+    let Some(plain) = formed(alloc, units.items.as_slice())? else {
+        return Ok(None);
+    };
+    if keeps_rules(&plain) {
         Ok(Some(plain))
     } else {
         Ok(None)

@@ -1,12 +1,12 @@
 //! First programs.
 
-ghost use Rattle.std.specs.Prelude.{◌≡◌, ◌≢◌, ◌↔◌, ◌^◌, ◌<◌, IsTrue, IfOk, All, AllPairs, Contains};
-ghost use Rattle.first_text.specs.First.{NamesKept, HasRoom, KeepsProgramRules, IsFirstFoundIn};
+ghost use Rattle.std.specs.Prelude.{◌≡◌, ◌≢◌, ◌↔◌, ◌^◌, ◌<◌, IsTrue, IfOk, map, All, AllPairs, Contains};
+ghost use Rattle.src_model.specs.Written.{act_of, listing_of};
+ghost use Rattle.first_text.specs.First.{assign_in, each, name_in, HasRoom, IsFormFound, IsFirstFound, KeepsProgramRules, NamesKept};
 
-use crate::reader::read;
 use crate::rules::is_below_power;
-use crate::word::{Language, lexemes};
 use rec_bits::{Items, Name, NoMemory};
+use src_model::{Program, SrcNode, Stmt, Var};
 use std::alloc::Global;
 
 /// The assignment of a number to a variable.
@@ -16,7 +16,7 @@ pub struct Assign {
     pub value: u64,
 }
 
-/// A first program: declarations of variables, and then assignments of one number each, as
+/// A first program: declarations of plain variables, and then assignments of one number each, as
 /// ```text
 /// var a, b; var c;
 /// a = 3; c = 31;
@@ -27,6 +27,79 @@ pub struct FirstProgram {
     pub vars: Items<Name>,
     /// The assignments in the order of the text.
     pub body: Items<Assign>,
+}
+
+fn copied(alloc: Global, name: &Name) -> Result<Name, NoMemory>
+    ensures { IfOk result (λ copy. copy ≡ name.now) }
+{
+    Items::from_slice(alloc, name.as_slice())
+}
+
+// The name of a plain variable.
+fn plain_name(alloc: Global, var: &Var) -> Result<Option<Name>, NoMemory>
+    ensures { IfOk result (λ found. found ≡ name_in var.now) }
+{
+    match var.len {
+        None => Ok(Some(copied(alloc, &var.name)?)),
+        Some(_) => Ok(None),
+    }
+}
+
+// The variables, where all are plain.
+fn plain_names(alloc: Global, vars: &[Var]) -> Result<Option<Items<Name>>, NoMemory>
+    ensures { IfOk result (λ found. found ≡ each name_in vars.now) }
+{
+    let mut names = Items::new(alloc);
+    for var in vars {
+        let Some(name) = plain_name(alloc, var)? else {
+            return Ok(None);
+        };
+        names.push(name)?;
+    }
+    Ok(Some(names))
+}
+
+// The assignment that a statement is, of one number to a plain variable.
+fn number_assign(alloc: Global, stmt: &Stmt) -> Result<Option<Assign>, NoMemory>
+    ensures { IfOk result (λ found. found ≡ assign_in (act_of stmt.now)) }
+{
+    let Stmt::Assign { place, value } = stmt else {
+        return Ok(None);
+    };
+    match (&place.index, &value.node) {
+        (None, SrcNode::Num(number)) => Ok(Some(Assign {
+            name: copied(alloc, &place.name)?,
+            value: *number,
+        })),
+        _ => Ok(None),
+    }
+}
+
+// The assignments, where all statements are such.
+fn assigns(alloc: Global, body: &[Stmt]) -> Result<Option<Items<Assign>>, NoMemory>
+    ensures { IfOk result (λ found. found ≡ each assign_in (map act_of body.now)) }
+{
+    let mut assigns = Items::new(alloc);
+    for stmt in body {
+        let Some(assign) = number_assign(alloc, stmt)? else {
+            return Ok(None);
+        };
+        assigns.push(assign)?;
+    }
+    Ok(Some(assigns))
+}
+
+// What a program is if it has the form.
+fn formed(alloc: Global, program: &Program) -> Result<Option<FirstProgram>, NoMemory>
+    ensures { IfOk result (λ found. IsFormFound (listing_of program.now) found) }
+{
+    let Some(vars) = plain_names(alloc, program.vars.as_slice())? else {
+        return Ok(None);
+    };
+    let Some(body) = assigns(alloc, program.body.as_slice())? else {
+        return Ok(None);
+    };
+    Ok(Some(FirstProgram { vars, body }))
 }
 
 fn is_among(names: &[Name], name: &Name) -> bool
@@ -81,23 +154,22 @@ fn keeps_rules(program: &FirstProgram, width: u64, cells: u64, words: u64) -> bo
     has_room(program, width, cells, words) && names_kept(program)
 }
 
-/// The first program that the bytes are for a machine with so many cells of `width` bits and so many instruction
-/// words, or None where they are none. The only error is want of memory.
+/// The first program that a program is for a machine with so many cells of `width` bits and so many instruction
+/// words, or None where it is none. The only error is want of memory.
 pub fn first_program(
     alloc: Global,
-    bytes: &[u8],
+    program: &Program,
     width: u64,
     cells: u64,
     words: u64,
 ) -> Result<Option<FirstProgram>, NoMemory>
-    ensures { IfOk result (λ found. IsFirstFoundIn bytes.now width cells words found) }
+    ensures { IfOk result (λ found. IsFirstFound (listing_of program.now) width cells words found) }
 {
-    let list = lexemes(alloc, Language::Source, bytes)?;
-    let Some(program) = read(alloc, list.as_slice())? else {
+    let Some(first) = formed(alloc, program)? else {
         return Ok(None);
     };
-    if keeps_rules(&program, width, cells, words) {
-        Ok(Some(program))
+    if keeps_rules(&first, width, cells, words) {
+        Ok(Some(first))
     } else {
         Ok(None)
     }

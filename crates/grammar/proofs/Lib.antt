@@ -1,4 +1,5 @@
 pub mod Chains
+pub mod Faults
 pub mod Limits
 pub mod Passing
 pub mod Repeats

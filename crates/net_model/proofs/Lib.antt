@@ -1,9 +1,16 @@
 pub mod Agree
+pub mod Cases
 pub mod Effects
 pub mod Fits
 pub mod Meanings
 pub mod NextStates
 pub mod WorkedTexts
+pub mod WorkedElaborable
 pub mod Orders
 pub mod KeptRules
+pub mod KeptTexts
+pub mod AllNumbers
 pub mod WorkedRules
+pub mod Acyclic
+pub mod Offsets
+pub mod FaultLaws

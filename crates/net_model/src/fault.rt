@@ -1,5 +1,11 @@
 //! What is wrong with a netlist.
 
+ghost use Rattle.std.specs.Prelude.{◌≡◌};
+ghost use Rattle.net_model.specs.declared.fault.CheckFault.{CheckFault};
+
+use rec_bits::NoMemory;
+use std::alloc::{AllocError, AllocFailed};
+
 /// A broken rule of netlists. A number is the offset of a name in the text: of the name at fault for `Duplicate` and `Unknown`, and
 /// otherwise of the item's name.
 #[derive(Clone, Copy, Debug, PartialEq, Eq)]
@@ -53,4 +59,37 @@ pub enum NetKind {
     Registers,
     Cells,
     Words,
+}
+
+/// Why a netlist that keeps N1 to N4 and N11 was not accepted.
+#[derive(Clone, Copy, Debug, PartialEq, Eq)]
+pub enum CheckFault {
+    /// It breaks one of the rules N5 to N9.
+    Fault(NetFault),
+    /// Want of memory.
+    Memory,
+}
+
+impl From<NoMemory> for CheckFault {
+    ghost from_gives = { λ _ fault. fault ≡ CheckFault.Memory };
+
+    fn from(_cause: NoMemory) -> CheckFault {
+        CheckFault::Memory
+    }
+}
+
+impl From<AllocError> for CheckFault {
+    ghost from_gives = { λ _ fault. fault ≡ CheckFault.Memory };
+
+    fn from(_cause: AllocError) -> CheckFault {
+        CheckFault::Memory
+    }
+}
+
+impl<T: Drop> From<AllocFailed<T>> for CheckFault {
+    ghost from_gives = { λ _ fault. fault ≡ CheckFault.Memory };
+
+    fn from(_cause: AllocFailed<T>) -> CheckFault {
+        CheckFault::Memory
+    }
 }

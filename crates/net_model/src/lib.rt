@@ -12,7 +12,7 @@ mod words;
 
 pub use checked::Checked;
 pub use expression::{Expr, Transfer};
-pub use fault::{NetFault, NetKind, Role};
+pub use fault::{CheckFault, NetFault, NetKind, Role};
 pub use hardware::{Code, Gate, Net, Netlist, Storage};
 pub use laws::{law_of_transfers, law_of_values};
 pub use states::State;

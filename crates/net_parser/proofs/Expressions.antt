@@ -2,7 +2,6 @@
 use Rattle.std.proofs.Common.{◌≡◌, ℕ, zero, suc, Bool, false, List, [], ◌∷◌, ◌++◌, Option, Some, None, map, Box, refl, sym, ap, subst, ◌∙◌}
 use Rattle.std.specs.declared.vec.Vec.{Vec}
 use Rattle.std.specs.declared.alloc.Global.{Global}
-use mathlib.Core.Former.{Count}
 use Rattle.grammar.specs.Reading.{Return, Bind, ListOf, head, never, Reads, Leads}
 use Rattle.grammar.proofs.Steps.{token_reads, leads_as}
 use Rattle.grammar.proofs.Passing.{There, there_bind, there_return, there_many, Apart, maybe_apart, starts_bind, returned}
@@ -12,9 +11,9 @@ use Rattle.net_model.specs.declared.words.Word.{Word}
 use Rattle.net_model.specs.declared.words.Word.TheVariants.{Name, Number, Item, Operator as Operates, Symbol as Shows, Other}
 use Rattle.net_model.specs.declared.words.Operator.{Operator}
 use Rattle.net_model.specs.declared.words.Symbol.TheVariants.{Comma, Else}
-use Rattle.net_model.specs.declared.units.NetExpr.{NetExpr, Row_of-NetExpr-Case-1-2, end_of-NetExpr-Case-1-2, more_of-NetExpr-Case-1-2, Case, items-the_row-NetExpr-Case-1-2, items_hidden-the_row-NetExpr-Case-1-2-0}
-use Rattle.net_model.specs.declared.units.NetExpr.TheBlock.{hidden-the_row-NetExpr-Case-1-2-0}
-use Rattle.net_model.specs.Written.{Phrase, case, row, phrase_of, rows_in, row_of, rows_of, rest_of, other_of}
+use Rattle.net_model.specs.declared.units.NetExpr.{NetExpr, Case}
+use Rattle.net_model.specs.Written.{Phrase, case, phrase_of, row_of, rows_of, rest_of, other_of}
+use Rattle.net_model.proofs.Cases.{Row, phrase_Case}
 use Rattle.net_model.specs.Grammar.{Behind, ByWord, IsNumber, LeafBehind, IsLeaf, IsExpr, ExprBehind, IsOperated, NumbersBehind, IsArm, IsRow, RowsBehind, IsElse, Arms, ArmsBehind}
 use Rattle.net_parser.specs.Steps.{HasNoOperator, HasNoNumber, OpensNumber, comma_word, number_word, arms_word, after_list, after_rows, after_arms}
 use Rattle.net_parser.proofs.Tokens.{Shown, begun, there_number, there_behind, there_before, there_word, word_leads}
@@ -118,22 +117,6 @@ else_leads E no_number = leads_as
     let k = else_word E r.value.word r.value.at r.back w (λ n is. no_number.never_so r.first.token (sym e ∙ ap (λ y. head (y ++ c)) (r.parts ∙ ap (λ y. y ++ r.back) r.first.parts)) n (word_is ∙ is)) r.second in
     record { front = r.front; back = r.back; value = tt; parts = r.parts; first = record { token = r.first.token; parts = r.first.parts; is = word_is ∙ k.0 }; second = k.1 })
     (λ c st. st)
-
--- ---- what a case is seen as
-
-abbrev pub Row : Type 0
-Row = Vec ℕ Global × NetExpr
-
-rows_seen : (n : Count) (r : Row_of-NetExpr-Case-1-2 n) → rows_in r ≡ rows_of (map row_of (items-the_row-NetExpr-Case-1-2 n r))
-rows_seen n end_of-NetExpr-Case-1-2 = refl
-rows_seen n (more_of-NetExpr-Case-1-2 {n = m} numbers e others) = ap (λ rs. row numbers.items (phrase_of e) rs) (rows_seen m others)
-
-block_seen : (rows : Vec Row Global) → rows_in (hidden-the_row-NetExpr-Case-1-2-0 rows) ≡ rows_of (map row_of rows.items)
-block_seen rows = rows_seen _ (hidden-the_row-NetExpr-Case-1-2-0 rows) ∙ ap (λ rs. rows_of (map row_of rs)) (items_hidden-the_row-NetExpr-Case-1-2-0 rows)
-
-phrase_Case : (sel : Box NetExpr Global) (rows : Vec Row Global) (other : Option (Box NetExpr Global)) → phrase_of (Case sel rows other) ≡ case (phrase_of sel.value) (rows_of (map row_of rows.items)) (rest_of (other_of other))
-phrase_Case sel rows None = ap (λ rs. case (phrase_of sel.value) rs (rest_of None)) (block_seen rows)
-phrase_Case sel rows (Some b) = ap (λ rs. case (phrase_of sel.value) rs (rest_of (Some (phrase_of b.value)))) (block_seen rows)
 
 -- ---- the loops
 

@@ -1,4 +1,5 @@
 pub mod Expressions
 pub mod ItemParts
 pub mod Leaves
+pub mod TextFaults
 pub mod Tokens

@@ -1,3 +1,4 @@
 pub mod Parses
 pub mod Steps
+pub mod Texts
 pub mod Words

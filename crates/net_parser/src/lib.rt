@@ -8,7 +8,9 @@ mod parts;
 mod step;
 #[cfg(test)]
 mod tests;
+mod text;
 mod whole;
 mod words;
 
+pub use text::read;
 pub use whole::parse;

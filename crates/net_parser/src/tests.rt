@@ -1,17 +1,8 @@
-use crate::parse;
-use lexing::{Language, tokens};
+use crate::read;
 use net_model::{NetExpr, Unit, Units};
 use rec_bits::ParseFault;
 use std::alloc::{AllocError, Global};
 use std::test::Fail;
-
-const RESERVED: [&str; 35] = [
-    "code", "register", "memory", "net", "bus", "module", "part", "size", "at", "in", "out",
-    "when", "addr", "write", "case", "else", "read", "slice", "zext", "sext", "cat", "add", "sub",
-    "mul", "and", "or", "xor", "not", "neg", "shl", "shr", "sar", "eq", "ltu", "lts",
-];
-
-const SIGNS: [&str; 12] = [":", ";", ",", "=", ".", "#", "(", ")", "{", "}", "[", "]"];
 
 const PROCESSOR: &str = "
 code I : 12 size 256 at PC;
@@ -36,9 +27,7 @@ fn outcome(alloc: Global, text: &str) -> Result<Result<Units, ParseFault>, Alloc
     if text.len() >= 1000 {
         return Err(AllocError);
     }
-    let language = Language::new(&RESERVED, &SIGNS);
-    let tokens = tokens(alloc, &language, text.as_bytes()).map_err(|_| AllocError)?;
-    Ok(parse(alloc, text.as_bytes(), &tokens))
+    Ok(read(alloc, text.as_bytes()))
 }
 
 fn fault(alloc: Global, text: &str) -> Result<Option<u64>, AllocError> {

@@ -1,3 +1,4 @@
 pub mod Ends
 pub mod Fits
 pub mod Masks
+pub mod Faults

@@ -16,7 +16,7 @@ use Rattle.record_core.specs.declared.status.Status.TheVariants.{Done}
 abbrev ImageIn : List (List ℕ) → Option Files → Option (List ℕ) → Option (List ℕ) → Type 0
 ImageIn words files old new = IfSome files (λ all. IfSome old (λ before. IfSome new (HasImage words all before)))
 
-form_image : (line : Status → List ℕ) (words : List (List ℕ)) (form : Form) (files : Option Files) (old new : Option (List ℕ)) (text : List ℕ) → form_of words ≡ Some form → FormAnswers line files form Done text → Takes old new text → ImageIn words files old new
+form_image : (line : List ℕ → Status → List ℕ) (words : List (List ℕ)) (form : Form) (files : Option Files) (old new : Option (List ℕ)) (text : List ℕ) → form_of words ≡ Some form → FormAnswers line files form Done text → Takes old new text → ImageIn words files old new
 form_image line words form None old new text is answers taken = tt
 form_image line words form (Some all) None new text is answers taken = tt
 form_image line words form (Some all) (Some before) None text is answers taken = tt
@@ -30,10 +30,10 @@ form_image line words (Compile n m) (Some all) (Some before) (Some now) text is 
   net_file = p.same;
   src_file = q.same;
   taken = cc;
-  right = right_of line net src text answers;
+  right = right_of (line net) net src text answers;
 }
 
-files_image : (line : Status → List ℕ) (words : List (List ℕ)) (form : Option Form) (before now : ShelfState) (old new : Option (List ℕ)) (text : List ℕ) → form_of words ≡ form → FilesAnswer line form before now Done text → Takes old new text → ImageIn words before.files old new
+files_image : (line : List ℕ → Status → List ℕ) (words : List (List ℕ)) (form : Option Form) (before now : ShelfState) (old new : Option (List ℕ)) (text : List ℕ) → form_of words ≡ form → FilesAnswer line form before now Done text → Takes old new text → ImageIn words before.files old new
 files_image line words None before now old new text is answer taken = absurd (let e = answer.0 in cc)
 files_image line words (Some form) before now old new text is (inl (read, t)) taken = absurd (let e = read.2 in cc)
 files_image line words (Some form) before now old new text is (inr (a, inl (long, t))) taken = absurd (let e = long.2 in cc)

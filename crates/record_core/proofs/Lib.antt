@@ -5,3 +5,4 @@ mod ImageLemmas
 mod StageLemmas
 mod UniqueLemmas
 mod WordLemmas
+mod NameLemmas

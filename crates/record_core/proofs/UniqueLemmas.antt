@@ -1,6 +1,9 @@
 -- At most one status applies, and what follows.
-use Rattle.std.proofs.Common.{◌≡◌, ℕ, ◌⊎◌, List, Some, None, IsSome, sym, ◌∙◌, inl, inr, rules}
+use Rattle.std.proofs.Common.{◌≡◌, ℕ, ◌⊎◌, List, [], Some, None, IsSome, sym, ◌∙◌, inl, inr, rules}
 use Rattle.std.specs.declared.option.Option.{Option}
+use Rattle.net_parser.proofs.TextFaults.{one_net_fault}
+use Rattle.net_front.proofs.FrontLaws.{one_broken_rule}
+use Rattle.src_parser.proofs.TextFaults.{one_src_fault}
 use Rattle.first_path.specs.First.{IsFirstImage}
 use Rattle.rec_io.specs.Causes.{Rose}
 use Rattle.rec_io.specs.Files.{Files}
@@ -11,7 +14,7 @@ use Rattle.record_core.specs.Answers.{Answers, FilesAnswer, CompileAnswers, Form
 use Rattle.record_core.specs.Lines.{due_line}
 use Rattle.record_core.specs.Words.{Form, Compile, form_of, names_of}
 use Rattle.record_core.specs.declared.status.Status.{Status}
-use Rattle.record_core.specs.declared.status.Status.TheVariants.{Done, Usage, ReadFault, TooLong, Memory, Later}
+use Rattle.record_core.specs.declared.status.Status.TheVariants.{Done, Usage, ReadFault, TooLong, NetText, Net, SrcText, Memory, Later}
 
 one_read : (names : List (List ℕ)) (before now : ShelfState) (x y : ℕ) → IsReadFault names before now x → IsReadFault names before now y → x ≡ y
 one_read names before now x y p q = let a = p.place in let b = q.place in cc
@@ -30,28 +33,31 @@ done_only net src s t a b p q = p.0 ∙ sym q.0
 
 CompileAnswers-unique : (line : Status → List ℕ) (net src : List ℕ) → AtMostOne (CompileAnswers line net src)
 CompileAnswers-unique line net src =
+    Then-unique line _ _ (By-unique NetText _ (one_net_fault net)) (
+    Then-unique line _ _ (By-unique Net _ (one_broken_rule net)) (
+    Then-unique line _ _ (By-unique SrcText _ (one_src_fault src)) (
     Then-unique line _ _ (By-unique Later _ (one_net net)) (
-    Then-unique line _ _ (By-unique Later _ (one_program net src)) (done_only net src))
+    Then-unique line _ _ (By-unique Later _ (one_program net src)) (done_only net src)))))
 
 -- the bytes of a file that is told
 one_file : (files : Option Files) (name a b : List ℕ) → IsSome files → IsFile files name a → IsFile files name b → a ≡ b
 one_file None name a b told p q = absurd (search rules)
 one_file (Some all) name a b told p q = let x = p.same in let y = q.same in cc
 
-FormAnswers-unique : (line : Status → List ℕ) (files : Option Files) (form : Form) → IsSome files → AtMostOne (FormAnswers line files form)
+FormAnswers-unique : (line : List ℕ → Status → List ℕ) (files : Option Files) (form : Form) → IsSome files → AtMostOne (FormAnswers line files form)
 FormAnswers-unique line files (Compile n m) told s t a b (net, src, p, q, x) (net', src', p', q', y) =
     let e : net' ≡ net = one_file files n net' net told p' p in
     let f : src' ≡ src = one_file files m src' src told q' q in
-    CompileAnswers-unique line net src s t a b x (rw (e, f) at y)
+    CompileAnswers-unique (line net) net src s t a b x (rw (e, f) at y)
 
 usage_only : (line : List ℕ) → AtMostOne (λ status text. (status ≡ Usage) × (text ≡ line))
 usage_only line s t a b p q = p.0 ∙ sym q.0
 
-FilesAnswer-unique : (line : Status → List ℕ) (form : Option Form) (before now : ShelfState) → IsSome before.files → AtMostOne (FilesAnswer line form before now)
-FilesAnswer-unique line None before now told = usage_only (line Usage)
+FilesAnswer-unique : (line : List ℕ → Status → List ℕ) (form : Option Form) (before now : ShelfState) → IsSome before.files → AtMostOne (FilesAnswer line form before now)
+FilesAnswer-unique line None before now told = usage_only (line [] Usage)
 FilesAnswer-unique line (Some form) before now told =
-    Then-unique line _ _ (By-unique ReadFault _ (one_read (names_of form) before now)) (
-    Then-unique line _ _ (By-unique (λ (p : ℕ × ℕ). TooLong p.0 p.1) _ (one_long (names_of form) before now)) (
+    Then-unique (line []) _ _ (By-unique ReadFault _ (one_read (names_of form) before now)) (
+    Then-unique (line []) _ _ (By-unique (λ (p : ℕ × ℕ). TooLong p.0 p.1) _ (one_long (names_of form) before now)) (
     FormAnswers-unique line before.files form told))
 
 -- where the files are told, one status applies

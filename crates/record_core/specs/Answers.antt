@@ -2,6 +2,9 @@
 use Rattle.std.specs.Prelude.{◌≡◌, ℕ, ◌+◌, ◌<◌, ◌≤◌, ◌⊎◌, true, false, List, [], ◌∷◌, ◌++◌, length, take, Some, None, IfSome, IsSomeAnd, cond, ⊤}
 use Rattle.std.specs.declared.option.Option.{Option}
 use Rattle.std.specs.Str.{bytes_eq}
+use Rattle.net_parser.specs.Texts.{IsNoNetText}
+use Rattle.net_front.specs.Fronts.{BreaksRule}
+use Rattle.src_parser.specs.Texts.{IsNoSrcText}
 use Rattle.first_path.specs.First.{IsPlainText, IsFirstText, IsFirstImage}
 use Rattle.rec_io.specs.Causes.{Rose}
 use Rattle.rec_io.specs.Files.{Files, file_of}
@@ -12,7 +15,7 @@ use Rattle.record_core.specs.Lines.{due_line}
 use Rattle.record_core.specs.Stages.{By, Then}
 use Rattle.record_core.specs.Words.{Form, Compile, form_of, names_of}
 use Rattle.record_core.specs.declared.status.Status.{Status}
-use Rattle.record_core.specs.declared.status.Status.TheVariants.{Done, Usage, ReadFault, TooLong, WriteFault, Memory, Later}
+use Rattle.record_core.specs.declared.status.Status.TheVariants.{Done, Usage, ReadFault, TooLong, WriteFault, NetText, Net, SrcText, Memory, Later}
 
 -- the most bytes of a file
 abbrev pub file_limit : ℕ
@@ -54,32 +57,35 @@ pub record IsTooLong (names : List (List ℕ)) (before now : ShelfState) (at : �
   pub earlier : HasFirst before.files names at.0
   pub longer : IfSome before.files (λ all. IsSomeAnd (file_of all now.last) (λ bytes. at.1 < length bytes))
 
--- the first file is no plain netlist text
+-- the netlist is no plain one
 abbrev pub IsNoNet : List ℕ → ℕ → Type 0
 IsNoNet net file = (file ≡ 0) × (IsPlainText net → ⊥)
 
--- the first file is one, and the second is no first program for it
+-- it is one, and the program is no first program for it
 abbrev pub IsNoProgram : List ℕ → List ℕ → ℕ → Type 0
 IsNoProgram net src file = (file ≡ 1) × IsPlainText net × (IsFirstText net src → ⊥)
 
 -- what `compile` answers for these two texts
 abbrev pub CompileAnswers : (Status → List ℕ) → List ℕ → List ℕ → Status → List ℕ → Type 0
 CompileAnswers line net src =
+    Then line (By NetText (IsNoNetText net)) (
+    Then line (By Net (BreaksRule net)) (
+    Then line (By SrcText (IsNoSrcText src)) (
     Then line (By Later (IsNoNet net)) (
     Then line (By Later (IsNoProgram net src)) (
-    λ status text. (status ≡ Done) × IsFirstImage net src text))
+    λ status text. (status ≡ Done) × IsFirstImage net src text)))))
 
--- what a form answers once its files are there
-abbrev pub FormAnswers : (Status → List ℕ) → Option Files → Form → Status → List ℕ → Type 0
+-- what a form answers once its files are there; a line is of a netlist's text
+abbrev pub FormAnswers : (List ℕ → Status → List ℕ) → Option Files → Form → Status → List ℕ → Type 0
 FormAnswers line files (Compile net_name src_name) status text =
-    (net : List ℕ) × (src : List ℕ) × IsFile files net_name net × IsFile files src_name src × CompileAnswers line net src status text
+    (net : List ℕ) × (src : List ℕ) × IsFile files net_name net × IsFile files src_name src × CompileAnswers (line net) net src status text
 
 -- what the words answer by their form
-abbrev pub FilesAnswer : (Status → List ℕ) → Option Form → ShelfState → ShelfState → Status → List ℕ → Type 0
-FilesAnswer line None before now status text = (status ≡ Usage) × (text ≡ line Usage)
+abbrev pub FilesAnswer : (List ℕ → Status → List ℕ) → Option Form → ShelfState → ShelfState → Status → List ℕ → Type 0
+FilesAnswer line None before now status text = (status ≡ Usage) × (text ≡ line [] Usage)
 FilesAnswer line (Some form) before now status text =
-    Then line (By ReadFault (IsReadFault (names_of form) before now)) (
-    Then line (By (λ (p : ℕ × ℕ). TooLong p.0 p.1) (IsTooLong (names_of form) before now)) (
+    Then (line []) (By ReadFault (IsReadFault (names_of form) before now)) (
+    Then (line []) (By (λ (p : ℕ × ℕ). TooLong p.0 p.1) (IsTooLong (names_of form) before now)) (
     FormAnswers line before.files form)) status text
 
 -- what the call answers: the first refusal that applies and its line, or `Done` and the text; all but want of memory and faults of the sink
@@ -88,7 +94,7 @@ Answers words before now status text = FilesAnswer (due_line words) (form_of wor
 
 -- that, or want of memory
 abbrev pub MayAnswer : List (List ℕ) → ShelfState → ShelfState → Status → List ℕ → Type 0
-MayAnswer words before now status text = ((status ≡ Memory) × (text ≡ due_line words Memory)) ⊎ Answers words before now status text
+MayAnswer words before now status text = ((status ≡ Memory) × (text ≡ due_line words [] Memory)) ⊎ Answers words before now status text
 
 -- the sink took the whole text of the status, or it failed within the text and took a prefix
 abbrev pub Puts : SinkState → SinkState → List ℕ → Status → Status → Type 0

@@ -1,8 +1,8 @@
 -- The line of each fault.
-use Rattle.std.specs.Prelude.{ℕ, ◌+◌, List, [], ◌∷◌, codes, slice_index_or}
+use Rattle.std.specs.Prelude.{◌≡◌, ◌⊎◌, ℕ, ◌+◌, List, [], ◌∷◌, codes, slice_index_or}
 use Rattle.std.specs.Fmt.{decimal}
 use Rattle.std.specs.List.{concat}
-use Rattle.record_core.specs.NetLines.{net_line}
+use Rattle.record_core.specs.NetLines.{net_line, name_place, name_from}
 use Rattle.record_core.specs.SrcLines.{src_line}
 use Rattle.record_core.specs.declared.status.Status.{Status}
 use Rattle.record_core.specs.declared.status.Status.TheVariants.{Done, Usage, ReadFault, TooLong, WriteFault, NetText, Net, SrcText, Src, NoStep, NoJump, NoCover, DataFull, NoReach, ImageFull, Memory, ImageText, MemText, Clash, Later, NoWord}
@@ -36,6 +36,15 @@ line_of words name (Clash cycle bus) = concat (codes "error clash " ∷ decimal 
 line_of words name (Later file) = concat (codes "error later " ∷ decimal file ∷ codes "\n" ∷ [])
 line_of words name (NoWord number) = concat (codes "error no word " ∷ decimal number ∷ codes "\n" ∷ [])
 
--- the line that is written: no status that is about an item or a bus is answered yet, so the name is empty
-abbrev pub due_line : List (List ℕ) → Status → List ℕ
-due_line words status = line_of words [] status
+-- the name that the line of a broken rule tells, from the netlist's text
+abbrev pub fault_name : List ℕ → Status → List ℕ
+fault_name net (Net fault) = name_from net (name_place fault)
+fault_name net _ = []
+
+-- the line that is written, of these words and this netlist's text
+abbrev pub due_line : List (List ℕ) → List ℕ → Status → List ℕ
+due_line words net status = line_of words (fault_name net status) status
+
+-- of a refusal with its line: of this status, with the line that is due, or of want of memory
+abbrev pub IsRefusal : List (List ℕ) → List ℕ → Status → Status → List ℕ → Type 0
+IsRefusal words net status refused line = (refused ≡ Memory) ⊎ ((refused ≡ status) × (line ≡ due_line words net status))

@@ -1,7 +1,8 @@
 -- The lines of the rules that a netlist breaks.
-use Rattle.std.specs.Prelude.{ℕ, List, [], ◌∷◌, codes}
+use Rattle.std.specs.Prelude.{ℕ, List, [], ◌∷◌, Option, Some, None, codes, drop, take_while}
 use Rattle.std.specs.Fmt.{decimal}
 use Rattle.std.specs.List.{concat}
+use Rattle.lexing.specs.Bytes.{is_name_byte}
 use Rattle.net_model.specs.declared.fault.NetFault.{NetFault}
 use Rattle.net_model.specs.declared.fault.NetFault.TheVariants.{Duplicate, Unknown, Width, Driver, Cycle, Role as NoRole, Enable, ControlOp, WideSelect, AlwaysClash, Limit, PatternLarge, TooMany}
 use Rattle.net_model.specs.declared.fault.NetKind.{NetKind}
@@ -21,6 +22,27 @@ net_kind_text Nets = codes "nets"
 net_kind_text Registers = codes "registers"
 net_kind_text Cells = codes "cells"
 net_kind_text Words = codes "words"
+
+-- where the name stands that the rule's line tells, if it tells one
+abbrev pub name_place : NetFault → Option ℕ
+name_place (Duplicate at) = Some at
+name_place (Unknown at) = Some at
+name_place (Width at) = Some at
+name_place (Driver at) = Some at
+name_place (Cycle at) = Some at
+name_place (NoRole role) = None
+name_place (Enable at) = Some at
+name_place (ControlOp at) = Some at
+name_place (WideSelect at) = Some at
+name_place AlwaysClash = None
+name_place (Limit kind count bound) = None
+name_place (PatternLarge at) = Some at
+name_place (TooMany at) = Some at
+
+-- the name that begins there in the netlist's text
+abbrev pub name_from : List ℕ → Option ℕ → List ℕ
+name_from net None = []
+name_from net (Some at) = take_while is_name_byte (drop at net)
 
 -- the number of the rule and its name
 abbrev pub net_rule_text : NetFault → List ℕ

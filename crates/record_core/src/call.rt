@@ -1,8 +1,8 @@
 //! The call of the program.
-ghost use Rattle.std.specs.Prelude.{◌≡◌, ◌⊎◌, ◌≤◌, IfOk, IfErr, IfSome, IsSome};
+ghost use Rattle.std.specs.Prelude.{◌≡◌, ◌⊎◌, ◌≤◌, IfOk, IfErr, IfSome, IsSome, string_bytes};
 ghost use Rattle.rec_io.specs.Causes.{Rose};
 ghost use Rattle.record_core.specs.Answers.{Answers, Puts, Gives, IsExact, IsAccepted, HasImage};
-ghost use Rattle.record_core.specs.Lines.{due_line};
+ghost use Rattle.record_core.specs.Lines.{IsRefusal};
 ghost use Rattle.record_core.specs.Words.{texts_of, IsCommand};
 ghost use Rattle.record_core.specs.declared.words.Command.{Command};
 ghost use Rattle.record_core.specs.declared.status.Status.{Status};
@@ -10,39 +10,65 @@ ghost use Rattle.record_core.specs.declared.status.Status.{Status};
 use crate::Status;
 use crate::compile::compile_text;
 use crate::fetch::fetch_all;
-use crate::line::fault_line;
+use crate::line::{fault_line, fault_name};
 use crate::words::{Command, command_of};
 use rec_io::{Shelf, Sink, put_all};
 use std::alloc::Global;
 
 const MEMORY_LINE: &[u8] = b"error memory\n";
 
+// Why nothing else is written, with its line.
+#[derive(Drop)]
+struct Refusal {
+    status: Status,
+    line: String,
+}
+
+// The refusal of this status, with its line from the words and the netlist's text.
+fn refused(alloc: Global, words: &[String], net: &[u8], status: Status) -> Refusal
+    ensures { IsRefusal (texts_of words.now) net.now status result.status (string_bytes result.line) }
+{
+    match fault_line(alloc, words, fault_name(net, status), status) {
+        Ok(line) => Refusal { status, line },
+        Err(_) => Refusal {
+            status: Status::Memory,
+            line: String::new(alloc),
+        },
+    }
+}
+
 // The image text of the files that the words name, or the first refusal that applies.
 fn compile_files<F: Shelf>(
     alloc: Global,
     words: &[String],
     shelf: &mut F,
-) -> Result<Vec<u8>, Status>
+) -> Result<Vec<u8>, Refusal>
     requires { IsCommand (texts_of words.now) Command.Compile }
     ensures later { (F.state shelf.old).faults ≤ (F.state shelf.new).faults }
     ensures same { (F.state shelf.new).files ≡ (F.state shelf.old).files }
     ensures ok { IfOk result (λ text. Answers (texts_of words.now) (F.state shelf.old) (F.state shelf.new) Status.Done text.items) }
-    ensures refused { IfErr result (λ status. (status ≡ Status.Memory) ⊎ Answers (texts_of words.now) (F.state shelf.old) (F.state shelf.new) status (due_line (texts_of words.now) status)) }
+    ensures refused { IfErr result (λ refusal. (refusal.status ≡ Status.Memory) ⊎ Answers (texts_of words.now) (F.state shelf.old) (F.state shelf.new) refusal.status (string_bytes refusal.line)) }
 {
-    let got = fetch_all(alloc, &words[1..], shelf)?;
-    compile_text(alloc, &got[0], &got[1])
+    let got = match fetch_all(alloc, &words[1..], shelf) {
+        Ok(got) => got,
+        Err(status) => return Err(refused(alloc, words, &[], status)),
+    };
+    match compile_text(alloc, &got[0], &got[1]) {
+        Ok(text) => Ok(text),
+        Err(status) => Err(refused(alloc, words, &got[0], status)),
+    }
 }
 
 // The text, or the first refusal that applies.
-fn decide<F: Shelf>(alloc: Global, words: &[String], shelf: &mut F) -> Result<Vec<u8>, Status>
+fn decide<F: Shelf>(alloc: Global, words: &[String], shelf: &mut F) -> Result<Vec<u8>, Refusal>
     ensures later { (F.state shelf.old).faults ≤ (F.state shelf.new).faults }
     ensures same { (F.state shelf.new).files ≡ (F.state shelf.old).files }
     ensures ok { IfOk result (λ text. Answers (texts_of words.now) (F.state shelf.old) (F.state shelf.new) Status.Done text.items) }
-    ensures refused { IfErr result (λ status. (status ≡ Status.Memory) ⊎ Answers (texts_of words.now) (F.state shelf.old) (F.state shelf.new) status (due_line (texts_of words.now) status)) }
+    ensures refused { IfErr result (λ refusal. (refusal.status ≡ Status.Memory) ⊎ Answers (texts_of words.now) (F.state shelf.old) (F.state shelf.new) refusal.status (string_bytes refusal.line)) }
 {
     match command_of(words) {
         Some(Command::Compile) => compile_files(alloc, words, shelf),
-        None => Err(Status::Usage),
+        None => Err(refused(alloc, words, &[], Status::Usage)),
     }
 }
 
@@ -66,10 +92,10 @@ fn answer<F: Shelf, S: Sink>(alloc: Global, words: &[String], shelf: &mut F, out
 {
     match decide(alloc, words, shelf) {
         Ok(text) => put_text(out, &text, Status::Done),
-        Err(status) => match fault_line(alloc, words, "", status) {
-            Ok(line) => put_text(out, line.as_bytes(), status),
-            Err(_) => put_text(out, MEMORY_LINE, Status::Memory),
-        },
+        Err(refusal) if refusal.status == Status::Memory => {
+            put_text(out, MEMORY_LINE, Status::Memory)
+        }
+        Err(refusal) => put_text(out, refusal.line.as_bytes(), refusal.status),
     }
 }
 

@@ -18,6 +18,9 @@ pub fn compile_text(alloc: Global, net: &[u8], src: &[u8]) -> Result<Vec<u8>, St
 {
     match compile(alloc, net, src) {
         Ok(text) => Ok(text),
+        Err(FirstFault::NetText(at)) => Err(Status::NetText(at)),
+        Err(FirstFault::Net(fault)) => Err(Status::Net(fault)),
+        Err(FirstFault::SrcText(at)) => Err(Status::SrcText(at)),
         Err(FirstFault::NotPlain) => Err(Status::Later(0)),
         Err(FirstFault::NotFirst) => Err(Status::Later(1)),
         Err(FirstFault::Memory) => Err(Status::Memory),

@@ -14,12 +14,18 @@ pub use status::Status;
 #[cfg(test)]
 mod tests {
     use super::*;
+    use net_model::NetFault;
     use rec_io::{MemShelf, MemSink};
     use std::alloc::{AllocError, Global};
     use std::test::Fail;
 
     const NET: &str = "code I : 8 size 16 at PC;
 register PC : 4 in case I[7] { 0: add(PC, 1#4); 1: I[3:0]; };
+memory M : 5 size 4 addr 2 write I[4:0] at I[6:5] when not(I[7]);
+";
+
+    const TURNED: &str = "code I : 8 size 16 at PC;
+register PC : 4 in case I[7] { 1: I[3:0]; 0: add(PC, 1#4); };
 memory M : 5 size 4 addr 2 write I[4:0] at I[6:5] when not(I[7]);
 ";
 
@@ -48,6 +54,8 @@ done
             ("net", NET),
             ("two", "var a, b; a = 3; b = 31;\n"),
             ("sum", "var a; a = 1 + 2;\n"),
+            ("clock", "code I : 8 size 16 at PC; // and no more"),
+            ("turned", TURNED),
         ] {
             let bytes = Vec::from_slice(alloc, text.as_bytes())?;
             files.push((String::from_str(alloc, name)?, bytes))?;
@@ -59,6 +67,7 @@ done
     fn answers(rt: HostRuntime) -> Result<(), Fail> {
         let alloc = rt.alloc();
         let read = |file| Status::ReadFault { file };
+        let unknown = Status::Net(NetFault::Unknown(22));
         for (line, status, text) in [
             ("compile net two", Status::Done, IMAGE),
             ("", Status::Usage, "error usage\n"),
@@ -73,7 +82,14 @@ done
             ("compile gone two", read(0), "error read gone\n"),
             ("compile net gone", read(1), "error read gone\n"),
             ("compile gone gone", read(0), "error read gone\n"),
-            ("compile two net", Status::Later(0), "error later 0\n"),
+            ("compile two net", Status::NetText(0), "error net text 0\n"),
+            (
+                "compile net net",
+                Status::SrcText(5),
+                "error source text 5\n",
+            ),
+            ("compile clock two", unknown, "error net N2 Unknown PC\n"),
+            ("compile turned two", Status::Later(0), "error later 0\n"),
             ("compile net sum", Status::Later(1), "error later 1\n"),
         ] {
             let mut out = MemSink::new(alloc, 1, 200, Vec::new(alloc))?;
@@ -114,7 +130,7 @@ done
             limit: 1_048_576,
         };
         for (length, status, text) in [
-            (1_048_576, Status::Later(0), "error later 0\n"),
+            (1_048_576, Status::NetText(0), "error net text 0\n"),
             (1_048_577, long, "error too long big 1048576\n"),
         ] {
             let mut out = MemSink::new(alloc, 50, 50, Vec::new(alloc))?;

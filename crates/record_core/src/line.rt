@@ -1,7 +1,8 @@
 //! The lines of the faults.
-ghost use Rattle.std.specs.Prelude.{◌≡◌, ◌+◌, ◌<◌, IfOk, length, string_bytes};
-ghost use Rattle.record_core.specs.Lines.{line_of, name_at};
-ghost use Rattle.record_core.specs.NetLines.{net_line, net_rule_text, net_kind_text, role_text};
+ghost use Rattle.std.specs.Prelude.{◌≡◌, ◌+◌, ◌<◌, IfOk, drop, length, string_bytes, take_while};
+ghost use Rattle.lexing.specs.Bytes.{is_name_byte};
+ghost use Rattle.record_core.specs.Lines.{fault_name, line_of, name_at};
+ghost use Rattle.record_core.specs.NetLines.{name_place, net_line, net_rule_text, net_kind_text, role_text};
 ghost use Rattle.record_core.specs.SrcLines.{src_line, src_kind_text};
 ghost use Rattle.record_core.specs.Words.{texts_of};
 
@@ -50,6 +51,66 @@ fn src_kind_name(kind: SrcKind) -> &'static str
         SrcKind::Length => "length",
         SrcKind::Statements => "statements",
         SrcKind::Nodes => "nodes",
+    }
+}
+
+// Where the name stands that the rule's line tells, if it tells one.
+fn name_place(fault: NetFault) -> Option<u64>
+    ensures { result ≡ name_place fault }
+{
+    match fault {
+        NetFault::Duplicate(at)
+        | NetFault::Unknown(at)
+        | NetFault::Width(at)
+        | NetFault::Driver(at)
+        | NetFault::Cycle(at)
+        | NetFault::Enable(at)
+        | NetFault::ControlOp(at)
+        | NetFault::WideSelect(at)
+        | NetFault::PatternLarge(at)
+        | NetFault::TooMany(at) => Some(at),
+        NetFault::Role(_) | NetFault::AlwaysClash | NetFault::Limit { .. } => None,
+    }
+}
+
+fn is_name_byte(byte: u8) -> bool
+    ensures { result ≡ is_name_byte byte }
+{
+    byte.is_ascii_alphabetic() || byte == b'_' || byte.is_ascii_digit()
+}
+
+// How many letters and digits come first.
+fn name_bytes(bytes: &[u8]) -> usize
+    ensures { result ≡ length (take_while is_name_byte bytes.now) }
+{
+    bytes.iter().take_while(|byte| is_name_byte(**byte)).count()
+}
+
+// The bytes from an offset on.
+fn behind(bytes: &[u8], at: u64) -> &[u8]
+    ensures { result.now ≡ drop at bytes.now }
+{
+    if at < bytes.len() as u64 {
+        &bytes[at as usize..]
+    } else {
+        &[]
+    }
+}
+
+/// The name that the line of a broken rule tells, from the netlist's text; the empty text for any other status.
+pub fn fault_name(net: &[u8], status: Status) -> &str
+    ensures { result.now ≡ fault_name net.now status }
+{
+    let Status::Net(fault) = status else {
+        return "";
+    };
+    let Some(at) = name_place(fault) else {
+        return "";
+    };
+    let rest = behind(net, at);
+    match str::from_utf8(&rest[..name_bytes(rest)]) {
+        Ok(name) => name,
+        Err(_) => "",
     }
 }
 

@@ -43,9 +43,14 @@ impl Row {
         Ok(())
     }
 
-    fn fill(&mut self, alloc: Global, count: usize) -> Result<()> {
-        let spaces = vec![in alloc; b' '; count]?;
-        self.add(spaces.as_slice())
+    // So many bytes of the last file: spaces, or the character behind the number.
+    fn fill(&mut self, alloc: Global, what: &str) -> Result<()> {
+        let (count, byte) = match what.split_once(" ") {
+            Some((count, text)) => (count, text.as_bytes().first().copied().unwrap_or(b' ')),
+            None => (what, b' '),
+        };
+        let bytes = vec![in alloc; byte; number(count)? as usize]?;
+        self.add(bytes.as_slice())
     }
 
     /// Takes one line of the row.
@@ -64,7 +69,7 @@ impl Row {
                 self.add(b"\n")?;
             }
             "+" => self.add(rest.as_bytes())?,
-            "fill" => self.fill(alloc, number(rest)? as usize)?,
+            "fill" => self.fill(alloc, rest)?,
             "step" => self.step = number(rest)? as usize,
             "room" => self.room = number(rest)? as usize,
             "fail" => self.fail(rest)?,

@@ -1,1 +1,5 @@
 pub mod WayLemmas
+pub mod Views
+pub mod Measures
+pub mod Bounds
+pub mod Agreement

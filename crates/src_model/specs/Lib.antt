@@ -1,1 +1,10 @@
+pub mod Grammar
 pub mod Ways
+pub mod Written
+pub mod Names
+pub mod Widths
+pub mod Loops
+pub mod Indexes
+pub mod Sizes
+pub mod Rules
+pub mod WorkedRules

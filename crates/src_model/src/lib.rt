@@ -1,8 +1,17 @@
-//! What a program of the source language passes when it runs, apart from how it is written down.
+//! Programs of the source language: their types, programs that were checked, and in `specs/` how programs are written, the rules that they
+//! keep, and what they pass when they run.
 #![tactic(auto)]
 
 mod checkpoint;
 mod fault;
+mod program;
+mod sizes;
+mod typed;
+mod words;
 
 pub use checkpoint::Checkpoint;
 pub use fault::{SrcFault, SrcKind};
+pub use program::{Cmp, Program, Spot, SrcExpr, SrcNode, SrcTest, Stmt, Var};
+pub use sizes::{Sizes, block_sizes, is_literal, number_of, result_width};
+pub use typed::{SrcFault2, Typed};
+pub use words::{Call, Lexed, Symbol, Word};

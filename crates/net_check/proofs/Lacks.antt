@@ -1,0 +1,100 @@
+-- The lone memory and the lone code of a netlist.
+use Rattle.std.proofs.Common.{◌≡◌, ℕ, ◌<◌, List, [], ◌∷◌, Some, None, length, get_or, slice_get, refl, sym, ap, ◌∙◌, subst, arith, zero, suc}
+use Rattle.std.specs.List.{AllByRecursion}
+use Rattle.net_model.specs.declared.hardware.Netlist.{Netlist}
+use Rattle.net_model.specs.declared.hardware.Code.{Code}
+use Rattle.net_model.specs.declared.hardware.Storage.{Storage}
+use Rattle.net_model.specs.declared.hardware.Storage.TheVariants.{Register, Memory}
+use Rattle.net_model.specs.Nets.{counter_of, counter_width, storage_bits}
+use Rattle.net_model.specs.CheckedRules.{IsWidth, StorageKeeps, IsCounter, IsWellFormed, memory_count, code_size, memory_addr_width}
+use Rattle.net_model.specs.NetFaults.{IsReached, HasCounter, HasSizes}
+use Rattle.net_check.specs.Roles.{lone_from, IsShape}
+use Rattle.net_check.specs.declared.role.Shape.{Shape}
+
+some_met : (s t : Shape) (storages : List Storage) → lone_from (Some s) storages ≡ Some t → (memory_count storages ≡ 0) × (t ≡ s)
+some_met s t [] e = (refl, cc e)
+some_met s t (Register name width input when ∷ storages) e = some_met s t storages e
+some_met s t (Memory name width size addr_width value addr when ∷ storages) e = absurd (cc e)
+
+some_lost : (s : Shape) (storages : List Storage) → lone_from (Some s) storages ≡ None → 0 < memory_count storages
+some_lost s [] e = absurd (cc e)
+some_lost s (Register name width input when ∷ storages) e = some_lost s storages e
+some_lost s (Memory name width size addr_width value addr when ∷ storages) e = omega arith
+
+pub shape_of : (shape : Shape) (storages : List Storage) → lone_from None storages ≡ Some shape → IsShape storages shape
+shape_of shape [] e = absurd (cc e)
+shape_of shape (Register name width input when ∷ storages) e =
+    let k : IsShape storages shape = shape_of shape storages e in
+    record { one = k.one; width = k.width; size = k.size; addr_width = k.addr_width }
+shape_of shape (Memory name width size addr_width value addr when ∷ storages) e =
+    let k : (memory_count storages ≡ 0) × (shape ≡ record { width = width; size = size; addr_width = addr_width }) = some_met _ shape storages e in
+    record {
+      one = omega (arith, k.0);
+      width = sym (ap (λ (s : Shape). s.width) k.1);
+      size = sym (ap (λ (s : Shape). s.size) k.1);
+      addr_width = sym (ap (λ (s : Shape). s.addr_width) k.1);
+    }
+
+pub no_shape : (storages : List Storage) → lone_from None storages ≡ None → memory_count storages ≡ 1 → ⊥
+no_shape [] e h = omega arith
+no_shape (Register name width input when ∷ storages) e h = no_shape storages e h
+no_shape (Memory name width size addr_width value addr when ∷ storages) e h =
+    let k : 0 < memory_count storages = some_lost _ storages e in
+    absurd (omega (arith, k, h))
+
+-- a lone code
+pub counter_is : (codes : List Code) (code : Code) → length codes ≡ 1 → code ≡ get_or codes 0 code → counter_of codes ≡ code.counter
+counter_is [] code one e = absurd (omega arith)
+counter_is (x ∷ codes) code one e = sym (ap (λ (c : Code). c.counter) e)
+
+pub size_is : (codes : List Code) (code : Code) → length codes ≡ 1 → code ≡ get_or codes 0 code → code_size codes ≡ code.words
+size_is [] code one e = absurd (omega arith)
+size_is (x ∷ codes) code one e = sym (ap (λ (c : Code). c.words) e)
+
+-- widths
+pub counter_wide : (netlist : Netlist) (storages : List Storage) (id : ℕ) → AllByRecursion (StorageKeeps netlist) storages → IsCounter (slice_get storages id) → IsWidth (storage_bits (slice_get storages id))
+counter_wide netlist [] id h c = absurd c
+counter_wide netlist (Register name width input when ∷ storages) zero h c = h.0.0
+counter_wide netlist (Memory name width size addr_width value addr when ∷ storages) zero h c = absurd c
+counter_wide netlist (Register name width input when ∷ storages) (suc id) h c = counter_wide netlist storages id h.1 c
+counter_wide netlist (Memory name width size addr_width value addr when ∷ storages) (suc id) h c = counter_wide netlist storages id h.1 c
+
+pub addr_wide : (netlist : Netlist) (storages : List Storage) → AllByRecursion (StorageKeeps netlist) storages → memory_count storages ≡ 1 → IsWidth (memory_addr_width storages)
+addr_wide netlist [] h e = absurd (omega arith)
+addr_wide netlist (Register name width input when ∷ storages) h e = addr_wide netlist storages h.1 e
+addr_wide netlist (Memory name width size addr_width value addr when ∷ storages) h e = h.0.1
+
+reached_as : (a b m n : ℕ) → a ≡ b → m ≡ n → IsReached a m → IsReached b n
+reached_as a b m n e f h = subst (λ k. IsReached k n) e (subst (λ k. IsReached a k) f h)
+
+-- what is found of a netlist with one code and one memory
+module _ (netlist : Netlist) (formed : IsWellFormed netlist) (code : Code) (one : length netlist.codes ≡ 1) (is : code ≡ get_or netlist.codes 0 code) (memory : Shape) (lone : lone_from None netlist.storages ≡ Some memory) where
+  pub shape : IsShape netlist.storages memory
+  shape = shape_of memory netlist.storages lone
+
+  pub addr_bits : IsWidth memory.addr_width
+  addr_bits = subst IsWidth shape.addr_width (addr_wide netlist netlist.storages formed.storages shape.one)
+
+  named_counter : counter_of netlist.codes ≡ code.counter
+  named_counter = counter_is netlist.codes code one is
+
+  pub no_counter : (IsCounter (slice_get netlist.storages code.counter) → ⊥) → HasCounter netlist → ⊥
+  no_counter f h = f (subst (λ n. IsCounter (slice_get netlist.storages n)) named_counter h)
+
+  module _ (bits : ℕ) (counter : IsCounter (slice_get netlist.storages code.counter) × (storage_bits (slice_get netlist.storages code.counter) ≡ bits)) where
+    pub counter_there : HasCounter netlist
+    counter_there = subst (λ n. IsCounter (slice_get netlist.storages n)) (sym named_counter) counter.0
+
+    pub bits_wide : IsWidth bits
+    bits_wide = subst IsWidth counter.1 (counter_wide netlist netlist.storages code.counter formed.storages counter.0)
+
+    bits_are : counter_width netlist ≡ bits
+    bits_are = ap (λ n. storage_bits (slice_get netlist.storages n)) named_counter ∙ counter.1
+
+    pub sizes_are : HasSizes netlist → IsReached code.words bits × IsReached memory.size memory.addr_width
+    sizes_are h =
+        (reached_as _ _ _ _ (size_is netlist.codes code one is) bits_are h.0, reached_as _ _ _ _ shape.size shape.addr_width h.1)
+
+    pub sizes_of : IsReached code.words bits × IsReached memory.size memory.addr_width → HasSizes netlist
+    sizes_of h =
+        (reached_as _ _ _ _ (sym (size_is netlist.codes code one is)) (sym bits_are) h.0, reached_as _ _ _ _ (sym shape.size) (sym shape.addr_width) h.1)

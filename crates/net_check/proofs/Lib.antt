@@ -1,0 +1,14 @@
+pub mod Walks
+pub mod Steps
+pub mod Ends
+pub mod Told
+pub mod Broken
+pub mod Lacks
+pub mod Netlists
+pub mod WorkedForms
+pub mod WorkedFaults
+pub mod Marks
+pub mod Meets
+pub mod Joins
+pub mod Closes
+pub mod SearchEnds

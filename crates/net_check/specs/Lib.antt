@@ -1,0 +1,7 @@
+pub mod Graphs
+pub mod Walk
+pub mod Flags
+pub mod Control
+pub mod Roles
+pub mod Worked
+pub mod Components

@@ -1,0 +1,154 @@
+// The rules on the nets that stand in control places.
+
+ghost use Rattle.std.specs.Prelude.{◌≡◌, ◌++◌, IfOk, MatchOption, Some};
+ghost use Rattle.net_model.specs.CheckedRules.{HasRoles};
+ghost use Rattle.net_model.specs.Depends.{IsAcyclic, named_by};
+ghost use Rattle.rec_bits.specs.Faults.{least, sooner};
+ghost use Rattle.net_model.specs.NetFaults.{FaultOf, enables, failing, name_at, selectors};
+ghost use Rattle.net_model.specs.Nets.{width_at};
+ghost use Rattle.net_model.specs.Order.{IsOrder};
+ghost use Rattle.net_check.specs.Control.{HasFlags, KeepsControl, passes};
+ghost use Rattle.net_check.specs.Graphs.{named_in};
+
+use crate::flags::{Property, flags_of, is_set};
+use crate::places::{enables_of, selectors_of};
+use net_model::{NetFault, Netlist};
+use rec_bits::{Items, NoMemory};
+use std::alloc::Global;
+
+// What a selector's width has to be where the selector isn't static.
+const NARROW: u8 = 1;
+
+// A rule on a net that stands in a control place.
+#[derive(Clone, Copy)]
+pub(crate) enum Rule {
+    // N7: it is static.
+    Enable,
+    // N8: where it is static, it depends on gates alone that control may use.
+    ControlOp,
+    // N9: it is static or one bit wide.
+    WideSelect,
+}
+
+// For each net whether it is static, and whether all gates that it depends on are for control.
+#[derive(Drop)]
+pub(crate) struct Flags {
+    pub statics: Items<bool>,
+    pub controls: Items<bool>,
+}
+
+fn width_of(netlist: &Netlist, net: u32) -> u8
+    ensures { result ≡ width_at netlist.now net }
+{
+    match netlist.net(net) {
+        Some(net) => net.width,
+        None => 0,
+    }
+}
+
+// The offset of the name of the item that a net was numbered for.
+pub(crate) fn name_of(netlist: &Netlist, net: u32) -> u64
+    ensures { result ≡ name_at netlist.now net }
+{
+    match netlist.net(net) {
+        Some(net) => net.name_at,
+        None => 0,
+    }
+}
+
+fn keeps(rule: Rule, netlist: &Netlist, flags: &Flags, net: u32) -> bool
+    ensures { result ≡ passes rule netlist.now flags.now net }
+{
+    let is_static = is_set(flags.statics.as_slice(), net);
+    match rule {
+        Rule::Enable => is_static,
+        Rule::ControlOp => !is_static || is_set(flags.controls.as_slice(), net),
+        Rule::WideSelect => is_static || width_of(netlist, net) == NARROW,
+    }
+}
+
+// The lesser of an offset and one that was found before.
+fn lesser(found: Option<u64>, at: u64) -> u64
+    ensures { Some result ≡ sooner found (Some at) }
+{
+    match found {
+        Some(other) => other.min(at),
+        None => at,
+    }
+}
+
+// The lesser of two offsets, where there are any.
+fn sooner_of(found: Option<u64>, other: Option<u64>) -> Option<u64>
+    ensures { result ≡ sooner found other }
+{
+    match other {
+        Some(at) => Some(lesser(found, at)),
+        None => found,
+    }
+}
+
+// The least offset of these nets that break a rule.
+fn least_broken(rule: Rule, netlist: &Netlist, flags: &Flags, nets: &[u32]) -> Option<u64>
+    ensures { result ≡ least (failing (passes rule netlist.now flags.now) (name_at netlist.now) nets.now) }
+{
+    let mut found = None;
+    for net in nets {
+        if !keeps(rule, netlist, flags, *net) {
+            found = Some(lesser(found, name_of(netlist, *net)));
+        }
+    }
+    found
+}
+
+// The first rule that is broken, where these nets stand in the places of enables and selectors.
+fn first_broken(
+    netlist: &Netlist,
+    flags: &Flags,
+    enable_nets: &[u32],
+    selector_nets: &[u32],
+) -> Option<NetFault>
+    requires acyclic { IsAcyclic netlist.now }
+    requires roles { HasRoles netlist.now }
+    requires flags { HasFlags netlist.now flags.now }
+    requires enables { enable_nets.now ≡ enables netlist.now }
+    requires selectors { selector_nets.now ≡ selectors netlist.now }
+    ensures { MatchOption result (KeepsControl netlist.now) (FaultOf netlist.now) }
+{
+    if let Some(at) = least_broken(Rule::Enable, netlist, flags, enable_nets) {
+        return Some(NetFault::Enable(at));
+    }
+    let enable_at = least_broken(Rule::ControlOp, netlist, flags, enable_nets);
+    let selector_at = least_broken(Rule::ControlOp, netlist, flags, selector_nets);
+    if let Some(at) = sooner_of(enable_at, selector_at) {
+        return Some(NetFault::ControlOp(at));
+    }
+    match least_broken(Rule::WideSelect, netlist, flags, selector_nets) {
+        Some(at) => Some(NetFault::WideSelect(at)),
+        None => None,
+    }
+}
+
+// The first of the rules N7 to N9 that is broken.
+pub(crate) fn control_fault(
+    alloc: Global,
+    netlist: &Netlist,
+    graph: &[Items<u32>],
+    order: &[u32],
+) -> Result<Option<NetFault>, NoMemory>
+    requires roles { HasRoles netlist.now }
+    requires graph { named_in graph.now ≡ named_by netlist.now }
+    requires order { IsOrder netlist.now order.now }
+    ensures { IfOk result (λ found. MatchOption found (KeepsControl netlist.now) (FaultOf netlist.now)) }
+{
+    let statics = flags_of(alloc, Property::Static, netlist, graph, order)?;
+    let controls = flags_of(alloc, Property::Control, netlist, graph, order)?;
+    let flags = Flags { statics, controls };
+    let enable_nets = enables_of(alloc, netlist)?;
+    let selector_nets = selectors_of(alloc, netlist)?;
+    Ok(first_broken(
+        netlist,
+        &flags,
+        enable_nets.as_slice(),
+        selector_nets.as_slice(),
+    ))
+}

@@ -1,0 +1,16 @@
+//! The rules N5 to N9 of a netlist: it is accepted with an order of its nets, or refused with the first rule that it breaks.
+#![tactic(auto)]
+
+mod control;
+mod cycle;
+mod flags;
+mod graph;
+mod places;
+mod role;
+mod rules;
+mod stack;
+#[cfg(test)]
+mod tests;
+mod walk;
+
+pub use rules::check;

@@ -1,0 +1,72 @@
+// The check of a netlist.
+
+ghost use Rattle.std.specs.Prelude.{◌≡◌, ℕ, List, MatchResult, map};
+ghost use Rattle.net_model.specs.declared.fault.NetFault.{NetFault};
+ghost use Rattle.net_model.specs.CheckedRules.{IsWellFormed, KeepsRules};
+ghost use Rattle.net_model.specs.NetFaults.{Accepts, FaultOf, IsFaultOrMemory, Refuses};
+ghost use Rattle.net_model.specs.Nets.{gate_nets};
+ghost use Rattle.net_model.specs.Order.{IsOrder};
+
+use crate::control::{control_fault, name_of};
+use crate::cycle::least_on_cycle;
+use crate::graph::graph_of;
+use crate::role::lacking_role;
+use crate::walk::{Sorted, sort};
+use net_model::{CheckFault, Checked, NetFault, Netlist};
+use rec_bits::Items;
+use std::alloc::Global;
+
+// The nets in an order, or N5 with the least net that lies on a cycle.
+fn order_of(
+    alloc: Global,
+    netlist: &Netlist,
+    graph: &[Items<u32>],
+) -> Result<Items<u32>, CheckFault>
+    requires formed { IsWellFormed netlist.now }
+    requires graph { graph.now ≡ map (λ net. gate_nets net.gate) netlist.now.nets }
+    ensures { MatchResult result (IsOrder netlist.now) (Refuses netlist.now) }
+{
+    match sort(alloc, graph)? {
+        Sorted::Order(order) => Ok(order),
+        Sorted::Cycle(known) => {
+            let net = least_on_cycle(alloc, graph, known)?;
+            let fault = NetFault::Cycle(name_of(netlist, net));
+            Err(CheckFault::Fault(fault))
+        }
+    }
+}
+
+// An order of the nets of a netlist that keeps N5 to N9.
+fn checked_order(alloc: Global, netlist: &Netlist) -> Result<Items<u32>, CheckFault>
+    requires { IsWellFormed netlist.now }
+    ensures { MatchResult result (KeepsRules netlist.now) (Refuses netlist.now) }
+{
+    let graph = graph_of(alloc, netlist.nets.as_slice())?;
+    let order = order_of(alloc, netlist, graph.as_slice())?;
+    if let Some(role) = lacking_role(netlist) {
+        return Err(CheckFault::Fault(NetFault::Role(role)));
+    }
+    if let Some(fault) = control_fault(alloc, netlist, graph.as_slice(), order.as_slice())? {
+        return Err(CheckFault::Fault(fault));
+    }
+    Ok(order)
+}
+
+/// Accepts a netlist that keeps N5 to N9, with an order of its nets in which each stands behind those that it depends on. The netlist
+/// has to keep N1 to N4 and N11.
+///
+/// # Errors
+///
+/// The first of the rules N5 to N9 that is broken, in this order. N5, N7, N8 and N9 come with the offset of a name: N5 with that of
+/// the item of the least-numbered net that lies on a cycle, the others with the least one of the items of the nets that stand in a
+/// control place and break the rule. N6 comes with the first part that is lacking. The netlist is given up. `Memory` is want of
+/// memory.
+pub fn check(alloc: Global, netlist: Netlist) -> Result<Checked, CheckFault>
+    requires { IsWellFormed netlist }
+    ensures found { MatchResult result (Accepts netlist) (Refuses netlist) }
+    ensures accepted { (order : List ℕ) → KeepsRules netlist order → MatchResult result (λ _. Unit {0}) (λ cause. cause ≡ CheckFault.Memory) }
+    ensures refused { (fault : NetFault) → FaultOf netlist fault → MatchResult result (λ _. ⊥) (IsFaultOrMemory fault) }
+{
+    let order = checked_order(alloc, &netlist)?;
+    Ok(Checked::new(netlist, order))
+}

@@ -1,0 +1,15 @@
+pub mod Booleans
+pub mod Cases
+pub mod Drivers
+pub mod Emits
+pub mod Formed
+pub mod ItemNames
+pub mod Kept
+pub mod Parts
+pub mod Places
+pub mod Ports
+pub mod RowNumbers
+pub mod Rows
+pub mod Scans
+pub mod Sounds
+pub mod Standing

@@ -1,0 +1,4 @@
+pub mod Emissions
+pub mod Found
+pub mod Nodes
+pub mod Sites

@@ -1,0 +1,42 @@
+//! The netlist of a text.
+
+ghost use Rattle.std.specs.Prelude.{◌≡◌, IfOk, map};
+ghost use Rattle.net_model.specs.CheckedRules.{IsWellFormed};
+ghost use Rattle.net_model.specs.Elaborable.{IsElaborable};
+ghost use Rattle.net_model.specs.Elaborated.{netlist_of};
+ghost use Rattle.net_model.specs.Written.{entry_of};
+
+use crate::declared::Declared;
+use crate::item::emit_item;
+use crate::site::Text;
+use net_model::{Netlist, Units};
+use net_names::Names;
+use rec_bits::{Items, NoMemory};
+use std::alloc::Global;
+
+/// The nets, storages and codes of the items.
+fn emit_items(alloc: Global, text: &Text) -> Result<Netlist, NoMemory>
+    requires { IsElaborable (map entry_of text.now) }
+    ensures { IfOk result (λ netlist. netlist ≡ netlist_of (map entry_of text.now)) }
+{
+    let mut netlist = Netlist {
+        nets: Items::new(alloc),
+        storages: Items::new(alloc),
+        codes: Items::new(alloc),
+    };
+    for unit in text.declared().units() {
+        emit_item(alloc, text, &mut netlist, unit)?;
+    }
+    Ok(netlist)
+}
+
+/// The netlist that the items of a text say, where they keep the rules of names, widths, drivers and limits. `names` are the items'.
+pub fn elaborate(alloc: Global, units: &Units, names: &Names) -> Result<Netlist, NoMemory>
+    requires names { names.now ≡ units.now.items }
+    requires keeps { IsElaborable (map entry_of units.now.items) }
+    ensures exact { IfOk result (λ netlist. netlist ≡ netlist_of (map entry_of units.now.items)) }
+    ensures formed { IfOk result IsWellFormed }
+{
+    let text = Text::new(alloc, Declared::new(units, names))?;
+    emit_items(alloc, &text)
+}

@@ -1,0 +1,80 @@
+//! Netlists from bytes.
+
+ghost use Rattle.std.specs.Prelude.{◌≡◌, ◌^◌, ◌<◌, length, map, IfOk, IfErr};
+ghost use Rattle.net_model.specs.Written.{entry_of};
+ghost use Rattle.net_front.specs.Fronts.{SaysNet, IsCheckedOf, IsNetFile, IsNetRefusal, IsRuleRefusal};
+
+use net_check::check;
+use net_elab::elaborate;
+use net_model::{CheckFault, Checked, NetFault, Units};
+use net_names::Names;
+use net_rules::first_fault;
+use rec_bits::{NoMemory, ParseFault};
+use std::alloc::Global;
+
+/// Why bytes were not taken as a netlist.
+#[derive(Clone, Copy, Debug, PartialEq, Eq)]
+pub enum NetRefusal {
+    /// They are no netlist text; the offset at which that shows.
+    Text(u64),
+    /// They are one, and this is the first rule that it breaks.
+    Fault(NetFault),
+    /// Want of memory.
+    Memory,
+}
+
+impl From<NoMemory> for NetRefusal {
+    ghost from_gives = { λ _ refusal. refusal ≡ NetRefusal.Memory };
+
+    ghost use Rattle.std.specs.Prelude.{◌≡◌};
+    ghost use Rattle.net_front.specs.declared.front.NetRefusal.{NetRefusal};
+
+    fn from(_cause: NoMemory) -> NetRefusal {
+        NetRefusal::Memory
+    }
+}
+
+// The items that the bytes say.
+fn items(alloc: Global, bytes: &[u8]) -> Result<Units, NetRefusal>
+    requires { length bytes.now < 2 ^ 32 }
+    ensures found { IfOk result (λ units. SaysNet bytes.now (map entry_of units.items)) }
+    ensures refused { IfErr result (IsNetRefusal bytes.now) }
+{
+    match net_parser::read(alloc, bytes) {
+        Ok(units) => Ok(units),
+        Err(ParseFault::Text(at)) => Err(NetRefusal::Text(at)),
+        Err(ParseFault::Memory) => Err(NetRefusal::Memory),
+    }
+}
+
+// The netlist of the items, where it keeps the rules.
+fn checked(alloc: Global, units: &Units) -> Result<Checked, NetRefusal>
+    requires { length units.now.items < 2 ^ 32 }
+    ensures found { IfOk result (IsCheckedOf (map entry_of units.now.items)) }
+    ensures refused { IfErr result (IsRuleRefusal (map entry_of units.now.items)) }
+{
+    let names = Names::new(alloc, units)?;
+    if let Some(fault) = first_fault(alloc, units, &names)? {
+        return Err(NetRefusal::Fault(fault));
+    }
+    let netlist = elaborate(alloc, units, &names)?;
+    match check(alloc, netlist) {
+        Ok(checked) => Ok(checked),
+        Err(CheckFault::Fault(fault)) => Err(NetRefusal::Fault(fault)),
+        Err(CheckFault::Memory) => Err(NetRefusal::Memory),
+    }
+}
+
+/// The items of a netlist's text, which keep the rules, and their netlist. `Text` comes exactly where the bytes are no netlist text, with
+/// the offset of the first token such that those before it begin some text and with it they don't, or the length of the bytes where all of
+/// them begin one. `Fault` comes exactly where they are one that breaks a rule, with the first. `Memory` is want of memory.
+pub fn read_net(alloc: Global, bytes: &[u8]) -> Result<(Units, Checked), NetRefusal>
+    requires { length bytes.now < 2 ^ 32 }
+    ensures found { IfOk result (λ read. IsNetFile bytes.now (map entry_of read.0.items)) }
+    ensures netlist { IfOk result (λ read. IsCheckedOf (map entry_of read.0.items) read.1) }
+    ensures refused { IfErr result (IsNetRefusal bytes.now) }
+{
+    let units = items(alloc, bytes)?;
+    let checked = checked(alloc, &units)?;
+    Ok((units, checked))
+}

@@ -1,0 +1,6 @@
+//! The front of each command on a netlist: its text is read, and its items are held against the rules.
+#![tactic(auto)]
+
+mod front;
+
+pub use front::{NetRefusal, read_net};

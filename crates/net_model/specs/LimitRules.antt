@@ -1,0 +1,48 @@
+-- The limits of a netlist text, N11.
+use Rattle.std.specs.Prelude.{ℕ, ◌+◌, ◌-◌, ◌^◌, if◌then◌else◌, List, [], ◌∷◌, min, max, Option, Some, None, nat_le}
+use Rattle.net_model.specs.declared.fault.NetFault.{NetFault}
+use Rattle.net_model.specs.declared.fault.NetFault.TheVariants.{Limit}
+use Rattle.net_model.specs.declared.fault.NetKind.{NetKind}
+use Rattle.net_model.specs.declared.fault.NetKind.TheVariants.{Nets, Registers, Cells, Words}
+use Rattle.net_model.specs.Written.{Entry, code, register, memory}
+use Rattle.net_model.specs.Numbering.{count_items}
+
+-- what is counted is told up to 2 ^ 64 - 1
+abbrev pub told : ℕ → ℕ
+told n = min n (2 ^ 64 - 1)
+
+abbrev pub count_register : Entry → ℕ
+count_register (register name width input when) = 1
+count_register _ = 0
+
+abbrev pub count_registers : List Entry → ℕ
+count_registers [] = 0
+count_registers (e ∷ entries) = count_register e + count_registers entries
+
+abbrev pub cells_of : Entry → ℕ
+cells_of (memory name width size addr_width value addr when) = size
+cells_of _ = 0
+
+abbrev pub words_of : Entry → ℕ
+words_of (code name bits size counter) = size
+words_of _ = 0
+
+-- the greatest size, and 0 where there is none
+abbrev pub greatest : (Entry → ℕ) → List Entry → ℕ
+greatest size [] = 0
+greatest size (e ∷ entries) = max (size e) (greatest size entries)
+
+-- a count above its bound
+abbrev pub over : NetKind → ℕ → ℕ → Option NetFault
+over kind bound count = if nat_le count bound then None else Some (Limit kind count bound)
+
+abbrev pub or_else : Option NetFault → Option NetFault → Option NetFault
+or_else None later = later
+or_else (Some fault) later = Some fault
+
+-- N11: the nets, the registers, the cells of a memory and the words of a code, in this order
+abbrev pub limit_fault : List Entry → Option NetFault
+limit_fault text =
+    or_else (over Nets 4096 (told (count_items text text)))
+    (or_else (over Registers 13 (told (count_registers text)))
+    (or_else (over Cells 65536 (greatest cells_of text)) (over Words 65536 (greatest words_of text))))

@@ -1,0 +1,22 @@
+-- Which rule of netlist texts is broken first, and where.
+use Rattle.std.specs.Prelude.{ℕ, List, Option, Some, None}
+use Rattle.rec_bits.specs.Faults.{least}
+use Rattle.net_model.specs.declared.fault.NetFault.{NetFault}
+use Rattle.net_model.specs.declared.fault.NetFault.TheVariants.{Duplicate, Unknown, Width, Driver}
+use Rattle.net_model.specs.Written.{Entry}
+use Rattle.net_model.specs.NameRules.{duplicates, unknowns}
+use Rattle.net_model.specs.WidthRules.{misfits}
+use Rattle.net_model.specs.DriverRules.{undrivens}
+use Rattle.net_model.specs.LimitRules.{or_else, limit_fault}
+
+-- the fault of a rule that is broken, at the least of the offsets
+abbrev pub fault_at : (ℕ → NetFault) → Option ℕ → Option NetFault
+fault_at rule None = None
+fault_at rule (Some at) = Some (rule at)
+
+-- the first of the rules N1 to N4 and N11 that is broken
+abbrev pub first_fault : List Entry → Option NetFault
+first_fault text =
+    or_else (fault_at Duplicate (least (duplicates text)))
+    (or_else (fault_at Unknown (least (unknowns text)))
+    (or_else (fault_at Width (least (misfits text))) (or_else (fault_at Driver (least (undrivens text))) (limit_fault text))))

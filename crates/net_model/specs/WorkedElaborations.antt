@@ -1,0 +1,126 @@
+-- Netlists of small processors, from their items.
+use Rattle.std.specs.Prelude.{ℕ, ◌≡◌, refl, List, [], ◌∷◌, Some, None, codes, false, true}
+use Rattle.rec_bits.specs.declared.operator.Op1.TheVariants.{Not}
+use Rattle.rec_bits.specs.declared.operator.Op2.TheVariants.{Add, Sub, Eq}
+use Rattle.net_model.specs.declared.hardware.Storage.TheVariants.{Register}
+use Rattle.net_model.specs.declared.hardware.Gate.TheVariants.{Word, Reg, Const, Wire, Un, Bin}
+use Rattle.net_model.specs.declared.units.Ident.{Ident}
+use Rattle.net_model.specs.declared.units.Port.{Port}
+use Rattle.net_model.specs.Written.{Entry, code, register, memory, net, bus, module_item, part, Phrase, named, const, un, bin, zext, read, case, no_rows, row, no_rest, rest}
+use Rattle.net_model.specs.Elaborated.{netlist_of}
+use Rattle.net_model.specs.Worked.{s8, a16, b2}
+
+-- a name at the beginning of the text
+abbrev ident : List ℕ → Ident
+ident name = record { name = name; at = 0 }
+
+abbrev of : List ℕ → Phrase
+of name = named (ident name) None None
+
+-- the bits of a name
+abbrev bits : List ℕ → ℕ → ℕ → Phrase
+bits name hi lo = named (ident name) None (Some (hi, lo))
+
+abbrev bit : List ℕ → ℕ → Phrase
+bit name n = bits name n n
+
+-- an output of a part
+abbrev output : List ℕ → List ℕ → Phrase
+output name field = named (ident name) (Some (ident field)) None
+
+abbrev input_port : List ℕ → ℕ → Port
+input_port name width = record { output = false; name = ident name; width = width }
+
+abbrev output_port : List ℕ → ℕ → Port
+output_port name width = record { output = true; name = ident name; width = width }
+
+abbrev pub s8_items : List Entry
+s8_items =
+    code (ident (codes "I")) 8 16 (ident (codes "PC"))
+    ∷ register (ident (codes "PC")) 4
+    (case (bit (codes "I") 7)
+    (row (0 ∷ []) (bin Add (of (codes "PC")) (const 1 4)) (row (1 ∷ []) (bits (codes "I") 3 0) no_rows)) no_rest) None
+    ∷ memory (ident (codes "M")) 5 4 2 (bits (codes "I") 4 0) (bits (codes "I") 6 5) (Some (un Not (bit (codes "I") 7)))
+    ∷ []
+
+pub s8_elaborated : netlist_of s8_items ≡ s8
+s8_elaborated = refl
+
+abbrev pub a16_items : List Entry
+a16_items =
+    code (ident (codes "I")) 12 256 (ident (codes "PC"))
+    ∷ module_item (ident (codes "ALU"))
+    (input_port (codes "k") 2 ∷ input_port (codes "a") 16 ∷ input_port (codes "b") 16 ∷ output_port (codes "y") 16 ∷ [])
+    ((
+      ident (codes "y"),
+      case (of (codes "k"))
+          (row (1 ∷ []) (of (codes "b"))
+          (row (2 ∷ []) (bin Add (of (codes "a")) (of (codes "b")))
+          (row (3 ∷ []) (bin Sub (of (codes "a")) (of (codes "b"))) no_rows)))
+          (rest (const 0 16)),
+    )
+    ∷ [])
+    ∷ net (ident (codes "op")) 4 (bits (codes "I") 11 8)
+    ∷ net (ident (codes "f")) 8 (bits (codes "I") 7 0)
+    ∷ part (ident (codes "alu")) (ident (codes "ALU"))
+    ((ident (codes "k"), bits (codes "op") 1 0) ∷ (ident (codes "a"), of (codes "ACC"))
+    ∷ (ident (codes "b"), read (ident (codes "M")) (of (codes "f"))) ∷ [])
+    ∷ register (ident (codes "PC")) 8
+    (case (of (codes "op"))
+    (row (6 ∷ []) (of (codes "f"))
+    (row (7 ∷ [])
+    (case (bin Eq (of (codes "ACC")) (const 0 16))
+    (row (1 ∷ []) (of (codes "f")) (row (0 ∷ []) (bin Add (of (codes "PC")) (const 1 8)) no_rows)) no_rest)
+    no_rows))
+    (rest (bin Add (of (codes "PC")) (const 1 8))))
+    None
+    ∷ register (ident (codes "ACC")) 16
+    (case (of (codes "op")) (row (5 ∷ []) (zext (of (codes "f")) 16) no_rows) (rest (output (codes "alu") (codes "y"))))
+    (Some (case (of (codes "op")) (row (1 ∷ 2 ∷ 3 ∷ 5 ∷ []) (const 1 1) no_rows) (rest (const 0 1))))
+    ∷ memory (ident (codes "M")) 16 256 8 (of (codes "ACC")) (of (codes "f")) (Some (bin Eq (of (codes "op")) (const 4 4)))
+    ∷ []
+
+pub a16_elaborated : netlist_of a16_items ≡ a16
+a16_elaborated = refl
+
+abbrev pub b2_items : List Entry
+b2_items =
+    code (ident (codes "I")) 4 4 (ident (codes "PC"))
+    ∷ register (ident (codes "PC")) 2 (bin Add (of (codes "PC")) (const 1 2)) None
+    ∷ register (ident (codes "X")) 2 (of (codes "B")) None
+    ∷ bus (ident (codes "B")) 2 ((bits (codes "I") 3 2, bit (codes "I") 0) ∷ (un Not (of (codes "X")), bit (codes "I") 1) ∷ [])
+    ∷ memory (ident (codes "M")) 2 1 1 (of (codes "X")) (const 0 1) (Some (const 0 1))
+    ∷ []
+
+pub b2_elaborated : netlist_of b2_items ≡ b2
+b2_elaborated = refl
+
+-- code I : 4 size 2 at R;
+-- module M (in a : 4, out y : 1) { y = eq(a, 3#4); }
+-- part p : M (a = not(I));
+-- register R : 1 in p.y;
+abbrev at : List ℕ → ℕ → Ident
+at name offset = record { name = name; at = offset }
+
+abbrev pub part_items : List Entry
+part_items =
+    code (at (codes "I") 5) 4 2 (at (codes "R") 21)
+    ∷ module_item (at (codes "M") 31)
+    (record { output = false; name = at (codes "a") 37; width = 4 } ∷ record { output = true; name = at (codes "y") 48; width = 1 } ∷ [])
+    ((at (codes "y") 57, bin Eq (named (at (codes "a") 64) None None) (const 3 4)) ∷ [])
+    ∷ part (at (codes "p") 80) (at (codes "M") 84) ((at (codes "a") 87, un Not (named (at (codes "I") 95) None None)) ∷ [])
+    ∷ register (at (codes "R") 109) 1 (named (at (codes "p") 118) (Some (at (codes "y") 120)) None) None
+    ∷ []
+
+-- the link, the wires of the ports, and the equation, all numbered for the part
+pub part_elaborated : netlist_of part_items ≡ record {
+  nets =
+      record { width = 4; name_at = 5; gate = Word 0 }
+      ∷ record { width = 4; name_at = 80; gate = Un Not 0 } ∷ record { width = 4; name_at = 80; gate = Wire 1 }
+      ∷ record { width = 1; name_at = 80; gate = Wire 5 }
+      ∷ record { width = 4; name_at = 80; gate = Const 3 } ∷ record { width = 1; name_at = 80; gate = Bin Eq 2 4 }
+      ∷ record { width = 1; name_at = 109; gate = Reg 0 } ∷ [];
+  storages = Register (codes "R") 1 3 None ∷ [];
+  codes = record { name = codes "I"; bits = 4; words = 2; counter = 0 } ∷ [];
+}
+part_elaborated = refl

@@ -1,0 +1,73 @@
+//! The ports of a module by their names.
+
+ghost use Rattle.std.specs.Prelude.{◌≡◌, IfOk, option_copied, true, false};
+ghost use Rattle.net_model.specs.TextNames.{port_named};
+
+use crate::table::{Table, item_at};
+use net_model::Port;
+use rec_bits::{Name, NoMemory};
+use std::alloc::Global;
+use std::marker::Model;
+
+/// The ports of a module, found by their names. Contracts see it as the list of the ports.
+#[derive(Drop)]
+pub struct Ports<'a> {
+    ports: &'a [Port],
+    inputs: Table<'a>,
+    outputs: Table<'a>,
+}
+
+impl<'a> Model for Ports<'a> {
+    ghost use Rattle.std.specs.Prelude.{List, length};
+    ghost use Rattle.net_model.specs.declared.units.Port.{Port as Written};
+    ghost use Rattle.net_names.specs.Places.{HasPortPlaces};
+
+    ghost Value = { List Written };
+
+    ghost view = { λ table. table.ports.now };
+
+    ghost invariant = { λ table. HasPortPlaces table.inputs table.outputs table.ports.now (length table.ports.now) };
+}
+
+impl<'a> Ports<'a> {
+    /// The names of some ports.
+    pub fn new(alloc: Global, ports: &'a [Port]) -> Result<Ports<'a>, NoMemory>
+        ensures { IfOk result (λ table. table ≡ ports.now) }
+    {
+        let mut inputs = Table::new(alloc);
+        let mut outputs = Table::new(alloc);
+        for (i, port) in ports.iter().enumerate() {
+            if port.output {
+                outputs.enter(&port.name.name, i)?;
+            } else {
+                inputs.enter(&port.name.name, i)?;
+            }
+        }
+        Ok(Ports {
+            ports,
+            inputs,
+            outputs,
+        })
+    }
+
+    /// The ports in their order.
+    pub fn as_slice(&self) -> &'a [Port]
+        ensures { result.now ≡ self.now }
+    {
+        self.ports
+    }
+
+    /// The first input of a name, or None where there is none.
+    pub fn input(&self, name: &Name) -> Option<&'a Port>
+        ensures { option_copied result ≡ port_named false self.now name.now }
+    {
+        item_at(self.ports, self.inputs.place(name))
+    }
+
+    /// The first output of a name, or None where there is none.
+    pub fn output(&self, name: &Name) -> Option<&'a Port>
+        ensures { option_copied result ≡ port_named true self.now name.now }
+    {
+        item_at(self.ports, self.outputs.place(name))
+    }
+}

@@ -1,0 +1,66 @@
+//! A table from names to the places where they stand first.
+
+ghost use Rattle.std.specs.Prelude.{◌≡◌, OnOk, option_copied};
+ghost use Rattle.std.specs.Map.{lookup};
+ghost use Rattle.net_model.specs.TextNames.{same_name};
+ghost use Rattle.net_names.specs.Places.{Enters, item_at};
+
+use indexmap::IndexMap;
+use rec_bits::{Name, NoMemory};
+use std::alloc::Global;
+use std::marker::Model;
+
+/// Names with their places. Contracts see it as the list of the pairs.
+#[derive(Drop)]
+pub struct Table<'a> {
+    first: IndexMap<&'a [u8], usize>,
+}
+
+impl<'a> Model for Table<'a> {
+    ghost use Rattle.std.specs.Prelude.{ℕ, List};
+    ghost use Rattle.net_names.specs.Places.{pairs_of};
+
+    ghost Value = { List (List ℕ × ℕ) };
+
+    ghost view = { λ table. pairs_of table.first.entries };
+}
+
+impl<'a> Table<'a> {
+    ghost use Rattle.std.specs.Prelude.{[]};
+
+    /// The table without names.
+    pub fn new(alloc: Global) -> Table<'a>
+        ensures { result ≡ [] }
+    {
+        Table {
+            first: IndexMap::new(alloc),
+        }
+    }
+
+    /// The place of a name, if it has one.
+    pub fn place(&self, name: &Name) -> Option<usize>
+        ensures { result ≡ lookup (same_name name.now) self.now }
+    {
+        self.first.get(name.as_slice()).copied()
+    }
+
+    /// Gives a name a place, if it has none yet.
+    pub fn enter(&mut self, name: &'a Name, place: usize) -> Result<(), NoMemory>
+        ensures { OnOk result (Enters self.old self.new name.now place) }
+    {
+        if self.place(name).is_none() {
+            self.first.insert(name.as_slice(), place)?;
+        }
+        Ok(())
+    }
+}
+
+/// The item at a place, if there is a place and it is within the list.
+pub(crate) fn item_at<T>(items: &[T], place: Option<usize>) -> Option<&T>
+    ensures { option_copied result ≡ item_at items.now place }
+{
+    match place {
+        Some(place) => items.get(place),
+        None => None,
+    }
+}

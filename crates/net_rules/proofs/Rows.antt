@@ -1,0 +1,51 @@
+-- What a case is seen as, and how many nodes its parts have.
+use Rattle.std.proofs.Common.{ℕ, ◌≡◌, ◌+◌, ◌<◌, zero, suc, length, get_or, drop, List, [], ◌∷◌, map, Option, Some, None, Box, refl, sym, ap, ◌∙◌, arith}
+use Rattle.std.specs.declared.vec.Vec.{Vec}
+use Rattle.std.specs.declared.alloc.Global.{Global}
+use mathlib.Core.Former.{Count}
+use Rattle.rec_bits.proofs.Faults.{drop_item}
+use Rattle.net_model.specs.declared.units.NetExpr.{NetExpr, Row_of-NetExpr-Case-1-2, end_of-NetExpr-Case-1-2, more_of-NetExpr-Case-1-2, Case, items-the_row-NetExpr-Case-1-2, items_hidden-the_row-NetExpr-Case-1-2-0}
+use Rattle.net_model.specs.declared.units.NetExpr.TheBlock.{hidden-the_row-NetExpr-Case-1-2-0}
+use Rattle.net_model.specs.Written.{case, row, Rows, phrase_of, rows_in, row_of, rows_of, rest_of, other_of}
+use Rattle.net_rules.specs.Nodes.{nodes, nodes_rows, nodes_rest}
+
+abbrev pub Row : Type 0
+Row = Vec ℕ Global × NetExpr
+
+abbrev pub seen_rows : List Row → Rows
+seen_rows rows = rows_of (map row_of rows)
+
+rows_seen : (n : Count) (r : Row_of-NetExpr-Case-1-2 n) → rows_in r ≡ rows_of (map row_of (items-the_row-NetExpr-Case-1-2 n r))
+rows_seen n end_of-NetExpr-Case-1-2 = refl
+rows_seen n (more_of-NetExpr-Case-1-2 {n = m} numbers e others) = ap (λ rs. row numbers.items (phrase_of e) rs) (rows_seen m others)
+
+block_seen : (rows : Vec Row Global) → rows_in (hidden-the_row-NetExpr-Case-1-2-0 rows) ≡ rows_of (map row_of rows.items)
+block_seen rows = rows_seen _ (hidden-the_row-NetExpr-Case-1-2-0 rows) ∙ ap (λ rs. rows_of (map row_of rs)) (items_hidden-the_row-NetExpr-Case-1-2-0 rows)
+
+phrase_Case : (sel : Box NetExpr Global) (rows : Vec Row Global) (other : Option (Box NetExpr Global))
+    → phrase_of (Case sel rows other) ≡ case (phrase_of sel.value) (rows_of (map row_of rows.items)) (rest_of (other_of other))
+phrase_Case sel rows None = ap (λ rs. case (phrase_of sel.value) rs (rest_of None)) (block_seen rows)
+phrase_Case sel rows (Some b) = ap (λ rs. case (phrase_of sel.value) rs (rest_of (Some (phrase_of b.value)))) (block_seen rows)
+
+-- what a case is seen as, where its parts were read
+pub case_seen : (e : NetExpr) (sel : Box NetExpr Global) (rows : Vec Row Global) (other : Option (Box NetExpr Global)) (a : NetExpr) (seen : List Row)
+    → e ≡ Case sel rows other → a ≡ sel.value → seen ≡ rows.items → phrase_of e ≡ case (phrase_of a) (seen_rows seen) (rest_of (other_of other))
+case_seen e sel rows other a seen is selector read =
+    ap phrase_of is ∙ phrase_Case sel rows other
+    ∙ (λ j. case (phrase_of (sym selector j)) (seen_rows (sym read j)) (rest_of (other_of other)))
+
+-- how many nodes a case has
+pub case_nodes : (e : NetExpr) (sel : Box NetExpr Global) (rows : Vec Row Global) (other : Option (Box NetExpr Global)) (seen : List Row) → e ≡ Case sel rows other → seen ≡ rows.items
+    → nodes (phrase_of e) ≡ nodes (phrase_of sel.value) + nodes_rows (seen_rows seen) + nodes_rest (rest_of (other_of other)) + 2
+case_nodes e sel rows other seen is read = ap nodes (case_seen e sel rows other sel.value seen is refl read)
+
+-- the rest of a case's rows, at a row
+pub rows_item : (rows : List Row) (i : ℕ) (x : Row) → i < length rows → x ≡ get_or rows i x
+    → seen_rows (drop i rows) ≡ row x.0.items (phrase_of x.1) (seen_rows (drop (i + 1) rows))
+rows_item rows i x h e = ap seen_rows (drop_item rows i x h e)
+
+-- a row has fewer nodes than all of them
+pub row_nodes : (rows : List Row) (i : ℕ) (x : Row) → i < length rows → x ≡ get_or rows i x → nodes (phrase_of x.1) < nodes_rows (seen_rows rows)
+row_nodes [] i x h e = absurd (omega arith)
+row_nodes (r ∷ rs) zero x h e = omega (arith, ap (λ (y : Row). nodes (phrase_of y.1)) e)
+row_nodes (r ∷ rs) (suc i) x h e = let k : nodes (phrase_of x.1) < nodes_rows (seen_rows rs) = row_nodes rs i x (omega arith) e in omega arith

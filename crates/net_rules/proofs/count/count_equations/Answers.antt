@@ -1,0 +1,8 @@
+use Rattle.std.proofs.Common.{map, refl}
+use Rattle.net_model.specs.Numbering.{count_equations}
+use Rattle.net_model.specs.Written.{binding_of}
+use Rattle.net_rules.proofs.Counts.{counted_last}
+use Rattle.net_rules.proofs.count.count_equations.Goals as goal
+
+pub returns : goal.returns
+returns c = counted_last (count_equations (map binding_of c.args.equations.now)) c.args.ports.now _ _ _ refl c.loop-port-test.false c.loop-port.invariant

@@ -1,0 +1,10 @@
+use Rattle.std.proofs.Common.{◌≡◌, map, drop}
+use Rattle.std.specs.List.{list_all}
+use Rattle.net_model.specs.WidthRules.{driver_feeds}
+use Rattle.net_model.specs.Written.{driver_of}
+use Rattle.net_rules.specs.Scopes.{scope_of}
+use Rattle.net_rules.proofs.widths.drivers_feed.Given as goal
+
+abbrev pub invariant-loop-driver : goal.invariant-loop-driver
+invariant-loop-driver l =
+    list_all (driver_feeds (scope_of l.place) l.width) (map driver_of (drop l.driver-index l.drivers)) ≡ list_all (driver_feeds (scope_of l.place) l.width) (map driver_of l.drivers)

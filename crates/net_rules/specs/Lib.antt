@@ -1,0 +1,7 @@
+pub mod Modules
+pub mod Nodes
+pub mod Scopes
+pub mod Scans
+pub mod Widths
+pub mod Cases
+pub mod Counts

@@ -1,0 +1,93 @@
+//! N4 in expressions: cases with a number twice, or without a rest though a number is missing.
+
+ghost use Rattle.std.specs.Prelude.{◌≡◌, IfOk, map};
+ghost use Rattle.net_model.specs.DriverRules.{are_all, covers, covers_rest, covers_rows, is_covered, row_numbers};
+ghost use Rattle.net_model.specs.Written.{other_of, phrase_of, rest_of, row_of, rows_of};
+ghost use Rattle.net_rules.specs.Cases.{is_all};
+ghost use Rattle.net_rules.specs.Scopes.{scope_of};
+
+use crate::numbers::{Numbers, add_all};
+use crate::text::Place;
+use crate::widths::wide;
+use net_model::NetExpr;
+use rec_bits::NoMemory;
+use std::alloc::Global;
+
+// Whether there are as many numbers as a selector of a width has values.
+fn is_all(selector: Option<u64>, count: usize) -> bool
+    ensures { result ≡ is_all selector count }
+{
+    match selector {
+        Some(width) if width < 64 => count as u64 == 1 << width,
+        _ => false,
+    }
+}
+
+fn is_covered(
+    alloc: Global,
+    selector: Option<u64>,
+    rows: &[(Vec<u64>, NetExpr)],
+    other: &Option<Box<NetExpr>>,
+) -> Result<bool, NoMemory>
+    ensures { IfOk result (λ covered.
+        covered ≡ is_covered selector (rows_of (map row_of rows.now)) (rest_of (other_of other.now))) }
+{
+    let mut seen = Numbers::new(alloc);
+    for row in rows {
+        if !add_all(&mut seen, row.0.as_slice())? {
+            return Ok(false);
+        }
+    }
+    Ok(other.is_some() || is_all(selector, seen.len()))
+}
+
+/// Whether each case in an expression has no number twice, and a rest or every number.
+#[cycle(covers)]
+pub(crate) fn covers(alloc: Global, place: &Place, e: &NetExpr) -> Result<bool, NoMemory>
+    ensures { IfOk result (λ covered. covered ≡ covers (scope_of place.now) (phrase_of e.now)) }
+{
+    match e {
+        NetExpr::Named { .. } | NetExpr::Const { .. } => Ok(true),
+        NetExpr::Un(_, a)
+        | NetExpr::Slice(a, _, _)
+        | NetExpr::Zext(a, _)
+        | NetExpr::Sext(a, _)
+        | NetExpr::Read(_, a) => covers(alloc, place, a),
+        NetExpr::Bin(_, a, b) | NetExpr::Cat(a, b) => {
+            let first = covers(alloc, place, a)?;
+            let second = covers(alloc, place, b)?;
+            Ok(first & second)
+        }
+        NetExpr::Case { sel, rows, rest } => {
+            let selector = covers(alloc, place, sel)?;
+            let values = covers_rows(alloc, place, rows)?;
+            let other = covers_rest(alloc, place, rest)?;
+            let all = is_covered(alloc, wide(place, sel), rows, rest)?;
+            Ok(selector & values & other & all)
+        }
+    }
+}
+
+#[cycle(covers)]
+fn covers_rows(alloc: Global, place: &Place, rows: &[(Vec<u64>, NetExpr)]) -> Result<bool, NoMemory>
+    ensures { IfOk result (λ covered.
+        covered ≡ covers_rows (scope_of place.now) (rows_of (map row_of rows.now))) }
+{
+    for row in rows {
+        if !covers(alloc, place, &row.1)? {
+            return Ok(false);
+        }
+    }
+    Ok(true)
+}
+
+#[cycle(covers)]
+fn covers_rest(alloc: Global, place: &Place, other: &Option<Box<NetExpr>>) -> Result<bool, NoMemory>
+    ensures { IfOk result (λ covered.
+        covered ≡ covers_rest (scope_of place.now) (rest_of (other_of other.now))) }
+{
+    match other {
+        Some(a) => covers(alloc, place, a),
+        None => Ok(true),
+    }
+}

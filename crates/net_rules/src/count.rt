@@ -1,0 +1,219 @@
+//! How many nets there are. Counts stop at 2^64 - 1.
+
+ghost use Rattle.std.specs.Prelude.{◌≡◌, IfOk, map, option_copied, option_map};
+ghost use Rattle.net_model.specs.LimitRules.{told};
+ghost use Rattle.net_model.specs.Numbering.{count, count_drivers, count_equations, count_if, count_input, count_inputs, count_item, count_items, count_outputs, count_rest, count_rows};
+ghost use Rattle.net_model.specs.Written.{binding_of, driver_of, entry_of, other_of, phrase_of, rest_of, row_of, rows_of, when_of};
+ghost use Rattle.net_rules.specs.Counts.{count_part_of, told_module};
+
+use crate::text::Text;
+use net_model::{Ident, NetExpr, Port, Unit};
+use net_names::Bindings;
+use rec_bits::{Items, NoMemory};
+use std::alloc::Global;
+
+// ---- expressions
+
+#[cycle(count)]
+#[tactic(auto, using(crate::proofs::Counts::counts))]
+fn count(e: &NetExpr) -> u64
+    ensures { result ≡ told (count (phrase_of e.now)) }
+{
+    match e {
+        NetExpr::Named { bits, .. } => match bits {
+            Some(_) => 1,
+            None => 0,
+        },
+        NetExpr::Const { .. } => 1,
+        NetExpr::Un(_, a)
+        | NetExpr::Slice(a, _, _)
+        | NetExpr::Zext(a, _)
+        | NetExpr::Sext(a, _)
+        | NetExpr::Read(_, a) => count(a).saturating_add(1),
+        NetExpr::Bin(_, a, b) | NetExpr::Cat(a, b) => {
+            count(a).saturating_add(count(b)).saturating_add(1)
+        }
+        NetExpr::Case { sel, rows, rest } => {
+            let values = count(sel).saturating_add(count_rows(rows));
+            values.saturating_add(count_rest(rest)).saturating_add(1)
+        }
+    }
+}
+
+#[cycle(count)]
+fn count_rows(rows: &[(Vec<u64>, NetExpr)]) -> u64
+    ensures { result ≡ told (count_rows (rows_of (map row_of rows.now))) }
+{
+    let mut total: u64 = 0;
+    for row in rows {
+        total = total.saturating_add(count(&row.1));
+    }
+    total
+}
+
+#[cycle(count)]
+fn count_rest(other: &Option<Box<NetExpr>>) -> u64
+    ensures { result ≡ told (count_rest (rest_of (other_of other.now))) }
+{
+    match other {
+        Some(a) => count(a),
+        None => 0,
+    }
+}
+
+fn count_if(e: Option<&NetExpr>) -> u64
+    ensures { result ≡ told (count_if (option_map phrase_of (option_copied e.entry))) }
+{
+    match e {
+        Some(e) => count(e),
+        None => 0,
+    }
+}
+
+fn count_drivers(drivers: &[(NetExpr, NetExpr)]) -> u64
+    ensures { result ≡ told (count_drivers (map driver_of drivers.now)) }
+{
+    let mut total: u64 = 0;
+    for driver in drivers {
+        let both = count(&driver.0).saturating_add(count(&driver.1));
+        total = total.saturating_add(both);
+    }
+    total
+}
+
+// ---- parts
+
+fn count_inputs(links: &Bindings, ports: &[Port]) -> u64
+    ensures { result ≡ told (count_inputs (map binding_of links.now) ports.now) }
+{
+    let mut total: u64 = 0;
+    for port in ports {
+        if !port.output {
+            let link = count_if(links.bound(&port.name.name));
+            total = total.saturating_add(link.saturating_add(1));
+        }
+    }
+    total
+}
+
+fn count_outputs(ports: &[Port]) -> u64
+    ensures { result ≡ told (count_outputs ports.now) }
+{
+    let mut total: u64 = 0;
+    for port in ports {
+        if port.output {
+            total = total.saturating_add(1);
+        }
+    }
+    total
+}
+
+fn count_equations(equations: &Bindings, ports: &[Port]) -> u64
+    ensures { result ≡ told (count_equations (map binding_of equations.now) ports.now) }
+{
+    let mut total: u64 = 0;
+    for port in ports {
+        if port.output {
+            total = total.saturating_add(count_if(equations.bound(&port.name.name)));
+        }
+    }
+    total
+}
+
+// The nets that a part has for the outputs of its module.
+fn count_module(alloc: Global, unit: &Unit) -> Result<u64, NoMemory>
+    ensures { IfOk result (λ n. n ≡ told_module unit.now) }
+{
+    match unit {
+        Unit::Module {
+            ports,
+            equations,
+            ..
+        } => {
+            let ports = ports.as_slice();
+            let equations = Bindings::new(alloc, equations.as_slice())?;
+            Ok(count_outputs(ports).saturating_add(count_equations(&equations, ports)))
+        }
+        _ => Ok(0),
+    }
+}
+
+fn count_modules(alloc: Global, units: &[Unit]) -> Result<Items<u64>, NoMemory>
+    ensures { IfOk result (λ counts. counts ≡ map told_module units.now) }
+{
+    let mut counts = Items::new(alloc);
+    for unit in units {
+        counts.push(count_module(alloc, unit)?)?;
+    }
+    Ok(counts)
+}
+
+// ---- items
+
+fn count_part(
+    alloc: Global,
+    text: &Text,
+    modules: &Items<u64>,
+    owner: &Ident,
+    links: &[(Ident, NetExpr)],
+) -> Result<u64, NoMemory>
+    requires { modules.now ≡ map told_module text.now }
+    ensures { IfOk result (λ n. n ≡ told (count_part_of (map entry_of text.now) owner.now (map binding_of links.now))) }
+{
+    let links = Bindings::new(alloc, links)?;
+    let inputs = count_inputs(&links, text.ports_at(&owner.name));
+    match modules.get(text.place(&owner.name)) {
+        Some(outputs) => Ok(inputs.saturating_add(*outputs)),
+        None => Ok(inputs),
+    }
+}
+
+fn count_item(
+    alloc: Global,
+    text: &Text,
+    modules: &Items<u64>,
+    unit: &Unit,
+) -> Result<u64, NoMemory>
+    requires { modules.now ≡ map told_module text.now }
+    ensures { IfOk result (λ n. n ≡ told (count_item (map entry_of text.now) (entry_of unit.now))) }
+{
+    match unit {
+        Unit::Code { .. } => Ok(1),
+        Unit::Register { input, when, .. } => {
+            let when = count_if(when.as_ref());
+            Ok(count(input).saturating_add(when).saturating_add(1))
+        }
+        Unit::Memory {
+            value,
+            addr,
+            when,
+            ..
+        } => {
+            let when = count_if(when.as_ref());
+            Ok(
+                count(value)
+                    .saturating_add(count(addr))
+                    .saturating_add(when),
+            )
+        }
+        Unit::Net { value, .. } => Ok(count(value).saturating_add(1)),
+        Unit::Bus { drivers, .. } => Ok(count_drivers(drivers.as_slice()).saturating_add(1)),
+        Unit::Module { .. } => Ok(0),
+        Unit::Part { module, links, .. } => {
+            count_part(alloc, text, modules, module, links.as_slice())
+        }
+    }
+}
+
+/// How many nets the items of a text give.
+pub(crate) fn count_items(alloc: Global, text: &Text, units: &[Unit]) -> Result<u64, NoMemory>
+    requires { text.now ≡ units.now }
+    ensures { IfOk result (λ n. n ≡ told (count_items (map entry_of units.now) (map entry_of units.now))) }
+{
+    let modules = count_modules(alloc, units)?;
+    let mut total: u64 = 0;
+    for unit in units {
+        total = total.saturating_add(count_item(alloc, text, &modules, unit)?);
+    }
+    Ok(total)
+}

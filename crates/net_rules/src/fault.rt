@@ -1,0 +1,43 @@
+//! The first rule that is broken.
+
+ghost use Rattle.std.specs.Prelude.{◌≡◌, IfOk, map};
+ghost use Rattle.net_model.specs.TextRules.{first_fault};
+ghost use Rattle.net_model.specs.Written.{entry_of};
+
+use crate::drivers::first_undriven;
+use crate::duplicates::first_duplicate;
+use crate::limits::first_limit;
+use crate::text::Text;
+use crate::unknowns::first_unknown;
+use crate::widths::first_misfit;
+use net_model::{NetFault, Units};
+use net_names::Names;
+use rec_bits::NoMemory;
+use std::alloc::Global;
+
+/// The first of the rules N1, N2, N3, N4 and N11 that a text breaks, with the least offset at which it does, or None where the text keeps
+/// them all. The names are those of the text.
+pub fn first_fault(
+    alloc: Global,
+    units: &Units,
+    names: &Names,
+) -> Result<Option<NetFault>, NoMemory>
+    requires { names.now ≡ units.now.items }
+    ensures { IfOk result (λ fault. fault ≡ first_fault (map entry_of units.now.items)) }
+{
+    if let Some(at) = first_duplicate(alloc, units)? {
+        return Ok(Some(NetFault::Duplicate(at)));
+    }
+    let text = Text::new(alloc, units, names)?;
+    let items = units.items.as_slice();
+    if let Some(at) = first_unknown(&text, items) {
+        return Ok(Some(NetFault::Unknown(at)));
+    }
+    if let Some(at) = first_misfit(&text, items) {
+        return Ok(Some(NetFault::Width(at)));
+    }
+    if let Some(at) = first_undriven(alloc, &text, items)? {
+        return Ok(Some(NetFault::Driver(at)));
+    }
+    first_limit(alloc, &text, items)
+}

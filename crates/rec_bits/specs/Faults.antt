@@ -1,0 +1,23 @@
+-- Rules of a text: a rule is the list of the offsets at which it is broken, and what is named is the least of them.
+use Rattle.std.specs.Prelude.{ℕ, min, Bool, true, false, List, [], ◌∷◌, ◌++◌, Option, Some, None}
+
+-- the lesser of two offsets that may be absent
+abbrev pub sooner : Option ℕ → Option ℕ → Option ℕ
+sooner None later = later
+sooner (Some a) None = Some a
+sooner (Some a) (Some b) = Some (min a b)
+
+-- the least of a list, if there is one
+abbrev pub least : List ℕ → Option ℕ
+least [] = None
+least (x ∷ xs) = sooner (Some x) (least xs)
+
+-- the offsets that the items of a list give, one item after the other
+abbrev pub gather : {A : Type 0} → (A → List ℕ) → List A → List ℕ
+gather f [] = []
+gather f (x ∷ xs) = f x ++ gather f xs
+
+-- the offset, where the rule is broken there
+abbrev pub broken : Bool → ℕ → List ℕ
+broken true at = at ∷ []
+broken false at = []

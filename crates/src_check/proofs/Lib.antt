@@ -1,0 +1,5 @@
+pub mod Tables
+pub mod Weights
+pub mod Ranges
+pub mod Walks
+pub mod Lengths

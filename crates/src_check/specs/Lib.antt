@@ -1,0 +1,4 @@
+pub mod Tables
+pub mod Rounds
+pub mod Questions
+pub mod Refusals

@@ -1,0 +1,28 @@
+-- What the check of a program answers.
+use Rattle.std.specs.Prelude.{◌≡◌, ℕ, List, Option, Some, map}
+use Rattle.src_model.specs.declared.program.Stmt.{Stmt}
+use Rattle.src_model.specs.declared.program.Var.{Var as Declared}
+use Rattle.src_model.specs.declared.fault.SrcFault.{SrcFault}
+use Rattle.src_model.specs.declared.fault.SrcFault.TheVariants.{Unknown, Width, Index, Counter}
+use Rattle.src_model.specs.declared.typed.SrcFault2.{SrcFault2}
+use Rattle.src_model.specs.declared.typed.SrcFault2.TheVariants.{Fault, Memory}
+use Rattle.src_model.specs.Written.{Listing, act_of}
+use Rattle.src_model.specs.Rules.{or_else, fault_at, unknown_names, bad_widths, bad_indexes, bad_counters, limits}
+use Rattle.rec_bits.specs.Faults.{least}
+
+abbrev pub listing : List Declared → List Stmt → Listing
+listing vars body = record { vars = vars; body = map act_of body }
+
+-- the first fault behind S1
+abbrev pub behind_duplicates : ℕ → Listing → Option SrcFault
+behind_duplicates word l =
+    or_else (fault_at Unknown (least (unknown_names l)))
+    (or_else (fault_at Width (least (bad_widths word l)))
+    (or_else (fault_at Index (least (bad_indexes l)))
+    (or_else (fault_at Counter (least (bad_counters word l)))
+    (limits l))))
+
+-- a refusal names the first fault, or says that memory is wanting
+abbrev pub IsRefusal : Option SrcFault → SrcFault2 → Type 0
+IsRefusal found (Fault fault) = found ≡ Some fault
+IsRefusal found Memory = Unit {0}

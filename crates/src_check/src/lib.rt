@@ -1,0 +1,14 @@
+//! The rules S1 to S6 of source programs.
+#![tactic(auto)]
+
+mod indexes;
+mod least;
+mod names;
+mod rounds;
+#[cfg(test)]
+mod tests;
+mod walk;
+mod whole;
+mod widths;
+
+pub use whole::check;

@@ -1,0 +1,140 @@
+//! The check of a whole program.
+
+ghost use Rattle.std.specs.Prelude.{◌≡◌, ◌≤◌, [], None, IfOk, IfErr, map};
+ghost use Rattle.rec_bits.specs.Faults.{least, gather};
+ghost use Rattle.src_model.specs.Written.{act_of, acts_of, listing_of};
+ghost use Rattle.src_model.specs.Widths.{empty_array};
+ghost use Rattle.src_model.specs.Loops.{breaks_in};
+ghost use Rattle.src_model.specs.Sizes.{longest};
+ghost use Rattle.src_model.specs.Rules.{above, limits, bad_widths, first_fault};
+ghost use Rattle.src_check.specs.Questions.{rule_of};
+ghost use Rattle.src_check.specs.Refusals.{listing, behind_duplicates, IsRefusal};
+
+use crate::least::{broken, sooner};
+use crate::names::{Table, declare};
+use crate::rounds::Rounds;
+use crate::walk::{Question, of_block};
+use rec_bits::NoMemory;
+use src_model::{Program, SrcFault, SrcFault2, SrcKind, Stmt, Typed, Var, block_sizes};
+use std::alloc::Global;
+
+// The greatest length of an array, number of statements, and number of nodes of a tree.
+const LENGTH: u64 = 65536;
+
+const STATEMENTS: u64 = 65536;
+
+const NODES: u64 = 255;
+
+fn broken_in(question: &Question<'_>, body: &[Stmt]) -> Option<u64>
+    ensures { result ≡ least (breaks_in (rule_of question.now) [] (acts_of (map act_of body.now))) }
+{
+    of_block(question, &Rounds::Outside, body)
+}
+
+fn empty_array(var: &Var) -> Option<u64>
+    ensures { result ≡ least (empty_array var.now) }
+{
+    broken(var.len == Some(0), var.at)
+}
+
+// The least offset of an array without cells.
+fn empty_arrays(vars: &[Var]) -> Option<u64>
+    ensures { result ≡ least (gather empty_array vars.now) }
+{
+    let mut found = None;
+    for var in vars {
+        found = sooner(found, empty_array(var));
+    }
+    found
+}
+
+#[tactic(auto, using(rec_bits::proofs::Faults::least_rules))]
+fn bad_width(vars: &[Var], word: u64, body: &[Stmt]) -> Option<u64>
+    ensures { result ≡ least (bad_widths word (listing vars.now body.now)) }
+{
+    sooner(empty_arrays(vars), broken_in(&Question::Widths(word), body))
+}
+
+// The greatest length of an array.
+fn longest(vars: &[Var]) -> u64
+    ensures { result ≡ longest vars.now }
+{
+    let mut len = 0;
+    for var in vars {
+        len = var.len.unwrap_or(0).max(len);
+    }
+    len
+}
+
+fn above(kind: SrcKind, count: u64, bound: u64) -> Option<SrcFault>
+    ensures { result ≡ above kind count bound }
+{
+    if count > bound {
+        Some(SrcFault::Limit { kind, count, bound })
+    } else {
+        None
+    }
+}
+
+fn limits(vars: &[Var], word: u64, body: &[Stmt]) -> Option<SrcFault>
+    ensures { result ≡ limits (listing vars.now body.now) }
+{
+    let sizes = block_sizes(word, body);
+    if let Some(fault) = above(SrcKind::Length, longest(vars), LENGTH) {
+        return Some(fault);
+    }
+    if let Some(fault) = above(SrcKind::Statements, sizes.statements, STATEMENTS) {
+        return Some(fault);
+    }
+    above(SrcKind::Nodes, sizes.nodes, NODES)
+}
+
+// The first fault of a program whose names are declared once.
+fn behind_duplicates(table: &Table<'_>, vars: &[Var], word: u64, body: &[Stmt]) -> Option<SrcFault>
+    requires { table.now ≡ vars.now }
+    ensures { result ≡ behind_duplicates word (listing vars.now body.now) }
+{
+    if let Some(at) = broken_in(&Question::Names(table), body) {
+        return Some(SrcFault::Unknown(at));
+    }
+    if let Some(at) = bad_width(vars, word, body) {
+        return Some(SrcFault::Width(at));
+    }
+    if let Some(at) = broken_in(&Question::Indexes(table), body) {
+        return Some(SrcFault::Index(at));
+    }
+    if let Some(at) = broken_in(&Question::Counters(word), body) {
+        return Some(SrcFault::Counter(at));
+    }
+    limits(vars, word, body)
+}
+
+fn first_fault(alloc: Global, program: &Program, word: u64) -> Result<Option<SrcFault>, NoMemory>
+    ensures { IfOk result (λ found. found ≡ first_fault word (listing_of program.now)) }
+{
+    let vars = program.vars.as_slice();
+    let (table, repeated) = declare(alloc, vars)?;
+    if let Some(at) = repeated {
+        return Ok(Some(SrcFault::Duplicate(at)));
+    }
+    Ok(behind_duplicates(&table, vars, word, &program.body))
+}
+
+/// Checks a program against the rules S1 to S6, for words of `width` bits, 1 to 64.
+///
+/// A program that breaks none is given back as checked. Otherwise the first rule that is broken is answered, S1 to S5 with the least offset
+/// at which it is, and S6 with the count and its bound; a count past the greatest number of 64 bits stands there. A program that is refused is
+/// given up.
+pub fn check(alloc: Global, program: Program, width: u8) -> Result<Typed, SrcFault2>
+    requires some { 1 ≤ width }
+    requires most { width ≤ 64 }
+    ensures taken { IfOk result (λ typed. first_fault width (listing_of program) ≡ None) }
+    ensures program { IfOk result (λ typed. typed.program ≡ program) }
+    ensures width { IfOk result (λ typed. typed.width ≡ width) }
+    ensures refused { IfErr result (IsRefusal (first_fault width (listing_of program))) }
+{
+    if let Some(fault) = first_fault(alloc, &program, u64::from(width))? {
+        return Err(SrcFault2::Fault(fault));
+    }
+    Ok(Typed::new(program, width))
+}

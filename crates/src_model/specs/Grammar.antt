@@ -1,0 +1,232 @@
+-- The grammar of programs. `levels` counts the blocks, brackets, parentheses, calls and unary signs that may still be opened.
+use Rattle.std.specs.Prelude.{◌≡◌, ℕ, zero, suc, List, [], ◌∷◌, ◌++◌, Option, Some, None, ◌==◌, if◌then◌else◌}
+use Rattle.grammar.specs.Reading.{Return, Token, Bind, ◌>>=◌, Within, Maybe, Many, ListOf, Chain}
+use Rattle.rec_bits.specs.declared.operator.Op1.{Op1}
+use Rattle.rec_bits.specs.declared.operator.Op1.TheVariants.{Not, Neg}
+use Rattle.rec_bits.specs.declared.operator.Op2.{Op2}
+use Rattle.rec_bits.specs.declared.operator.Op2.TheVariants.{Add, Sub, Mul, And, Or, Xor, Shl, Shr, Sar}
+use Rattle.src_model.specs.declared.program.Cmp.{Cmp}
+use Rattle.src_model.specs.declared.program.Var.{Var as Declared}
+use Rattle.src_model.specs.declared.words.Lexed.{Lexed}
+use Rattle.src_model.specs.declared.words.Word.{Word}
+use Rattle.src_model.specs.declared.words.Word.TheVariants.{Name, Number, Operator as Operates, Compare as Compares, Call as Calls, Symbol as Shows}
+use Rattle.src_model.specs.declared.words.Call.{Call}
+use Rattle.src_model.specs.declared.words.Call.TheVariants.{Zext, Sext, Low}
+use Rattle.src_model.specs.declared.words.Symbol.{Symbol}
+use Rattle.src_model.specs.declared.words.Symbol.TheVariants.{Equals, Semicolon, Comma, Tilde, LeftParen, RightParen, LeftBrace, RightBrace, LeftBracket, RightBracket, Var, If, Else, While, For, To}
+use Rattle.src_model.specs.Written.{Shape, num, un, bin, zext, sext, low, Phrase, Place, shape_at, Test, Act, assign, choice, while, count, acts_of, other_of, Listing}
+
+-- ---- tokens
+
+-- a sign or a reserved word
+abbrev pub Sign : Symbol → List Lexed → Unit {0} → Type 0
+Sign s = Token (λ t u. t.word ≡ Shows s)
+
+-- a name and its offset
+pub record Ident : Type 0 where
+  pub name : List ℕ
+  pub at : ℕ
+
+abbrev pub ident : List ℕ → ℕ → Ident
+ident name at = record { name = name; at = at }
+
+abbrev pub IsName : List Lexed → Ident → Type 0
+IsName = Token (λ t i. t ≡ record { word = Name i.name; at = i.at })
+
+abbrev pub IsNumber : List Lexed → ℕ → Type 0
+IsNumber = Token (λ t n. t.word ≡ Number n)
+
+abbrev pub IsCmp : List Lexed → Cmp → Type 0
+IsCmp = Token (λ t cmp. t.word ≡ Compares cmp)
+
+-- what stands behind a first word tells by that word
+abbrev pub ByWord : {V : Type 0} → (Word → ℕ → List Lexed → V → Type 0) → List Lexed → V → Type 0
+ByWord B = Bind (Token (λ t u. u ≡ t)) (λ _ t. B t.word t.at)
+
+abbrev pub IsNothing : {V : Type 0} → List Lexed → V → Type 0
+IsNothing ts v = ⊥
+
+-- a sign or word, and what stands behind it
+abbrev pub Behind : {V : Type 0} → Symbol → (List Lexed → V → Type 0) → List Lexed → V → Type 0
+Behind s X = Bind (Sign s) (λ _ u. X)
+
+-- X and then a sign
+abbrev pub Before : {V : Type 0} → (List Lexed → V → Type 0) → Symbol → List Lexed → V → Type 0
+Before X s = Bind X (λ _ v. Bind (Sign s) (λ _ u. Return v))
+
+-- ---- operators
+
+-- how tightly an operator binds: the least first
+abbrev pub rank : Op2 → ℕ
+rank Mul = 1
+rank Add = 2
+rank Sub = 2
+rank Shl = 3
+rank Shr = 3
+rank Sar = 3
+rank And = 4
+rank Xor = 5
+rank Or = 6
+rank _ = 7
+
+-- the operator of a rank that a word is
+abbrev pub op_of : ℕ → Word → Option Op2
+op_of k (Operates op) = if rank op == k then Some op else None
+op_of k _ = None
+
+abbrev pub op_at : ℕ → Lexed → Option Op2
+op_at k t = op_of k t.word
+
+-- an operator with its operands begins where the left one does
+abbrev pub join : Phrase → Op2 → Phrase → Phrase
+join a op b = record { at = a.at; shape = bin op a.at a.shape b.at b.shape }
+
+-- ---- expressions: U stands for what a sign takes, E for what stands in brackets, parentheses and calls
+
+-- [ '[' Expr ']' ]
+abbrev pub IsIndex : (List Lexed → Phrase → Type 0) → List Lexed → Option Phrase → Type 0
+IsIndex E = Maybe (Behind LeftBracket (Before E RightBracket))
+
+-- the part of a place behind its name
+abbrev pub PlaceBehind : (List Lexed → Phrase → Type 0) → List ℕ → ℕ → List Lexed → Place → Type 0
+PlaceBehind E name at = do
+  index ← IsIndex E
+  Return (record { name = name; at = at; index = index })
+
+abbrev pub placed : Place → Phrase
+placed p = record { at = p.at; shape = shape_at p.name p.at p.index }
+
+-- the operand of a sign that stands at `at`
+abbrev pub Signed : (List Lexed → Phrase → Type 0) → Op1 → ℕ → List Lexed → Phrase → Type 0
+Signed U op at = do
+  a ← U
+  Return (record { at = at; shape = un op a.at a.shape })
+
+-- an expression in parentheses begins where they do
+abbrev pub Enclosed : (List Lexed → Phrase → Type 0) → ℕ → List Lexed → Phrase → Type 0
+Enclosed E at = do
+  a ← Before E RightParen
+  Return (record { at = at; shape = a.shape })
+
+abbrev pub called : Call → Phrase → ℕ → Shape
+called Zext a n = zext a.at a.shape n
+called Sext a n = sext a.at a.shape n
+called Low a n = low a.at a.shape n
+
+-- '(' Expr ',' number ')'
+abbrev pub Called : (List Lexed → Phrase → Type 0) → Call → ℕ → List Lexed → Phrase → Type 0
+Called E call at = do
+  a ← Behind LeftParen E
+  n ← Before (Behind Comma IsNumber) RightParen
+  Return (record { at = at; shape = called call a n })
+
+-- Unary and Primary, by the first word
+abbrev pub UnaryBehind : (List Lexed → Phrase → Type 0) → (List Lexed → Phrase → Type 0) → Word → ℕ → List Lexed → Phrase → Type 0
+UnaryBehind U E (Number n) at = Return (record { at = at; shape = num n })
+UnaryBehind U E (Name name) at = do
+  place ← PlaceBehind E name at
+  Return (placed place)
+UnaryBehind U E (Operates Sub) at = Signed U Neg at
+UnaryBehind U E (Shows Tilde) at = Signed U Not at
+UnaryBehind U E (Shows LeftParen) at = Enclosed E at
+UnaryBehind U E (Calls call) at = Called E call at
+UnaryBehind U E _ at = IsNothing
+
+-- chains of the operators up to a rank, over what an operand is; they group to the left
+abbrev pub Chains : ℕ → (List Lexed → Phrase → Type 0) → List Lexed → Phrase → Type 0
+Chains zero U = U
+Chains (suc k) U = Chain (Chains k U) (op_at (suc k)) join
+
+unfoldable pub IsUnary : ℕ → List Lexed → Phrase → Type 0
+IsUnary zero = ByWord (UnaryBehind IsNothing IsNothing)
+IsUnary (suc levels) = ByWord (UnaryBehind (IsUnary levels) (Chains 6 (IsUnary levels)))
+
+abbrev pub IsExpr : ℕ → List Lexed → Phrase → Type 0
+IsExpr levels = Chains 6 (IsUnary levels)
+
+-- an expression that isn't inside another one
+abbrev pub IsOuter : ℕ → List Lexed → Phrase → Type 0
+IsOuter levels = Within 1024 (IsExpr levels)
+
+-- ---- statements: B stands for a block
+
+abbrev pub IsTest : ℕ → List Lexed → Test → Type 0
+IsTest levels = do
+  left ← IsOuter levels
+  cmp ← IsCmp
+  right ← IsOuter levels
+  Return (record { cmp = cmp; left = left; right = right })
+
+-- what stands in the bracket of an assigned place, which is a level itself
+abbrev pub IsInner : ℕ → List Lexed → Phrase → Type 0
+IsInner zero = IsNothing
+IsInner (suc levels) = IsOuter levels
+
+-- [ 'else' Block ]
+abbrev pub IsElse : (List Lexed → List Act → Type 0) → List Lexed → Option (List Act) → Type 0
+IsElse B = Maybe (Behind Else B)
+
+-- a statement, by its first word
+abbrev pub ActBehind : ℕ → (List Lexed → List Act → Type 0) → Word → ℕ → List Lexed → Act → Type 0
+ActBehind levels B (Name name) at = do
+  place ← PlaceBehind (IsInner levels) name at
+  value ← Behind Equals (Before (IsOuter levels) Semicolon)
+  Return (assign place value)
+ActBehind levels B (Shows If) at = do
+  test ← IsTest levels
+  taken ← B
+  other ← IsElse B
+  Return (choice test (acts_of taken) (other_of other))
+ActBehind levels B (Shows While) at = do
+  test ← IsTest levels
+  body ← B
+  Return (while test (acts_of body))
+ActBehind levels B (Shows For) at = do
+  counter ← IsName
+  from ← Behind Equals IsNumber
+  to ← Behind To IsNumber
+  body ← B
+  Return (count counter.name counter.at from to (acts_of body))
+ActBehind levels B _ at = IsNothing
+
+-- '{' { Stmt } '}'
+unfoldable pub IsBlock : ℕ → List Lexed → List Act → Type 0
+IsBlock zero = IsNothing
+IsBlock (suc levels) = Behind LeftBrace (Before (ListOf (ByWord (ActBehind levels (IsBlock levels)))) RightBrace)
+
+abbrev pub IsAct : ℕ → List Lexed → Act → Type 0
+IsAct levels = ByWord (ActBehind levels (IsBlock levels))
+
+abbrev pub IsBody : ℕ → List Lexed → List Act → Type 0
+IsBody levels = ListOf (IsAct levels)
+
+-- ---- programs
+
+-- name [ '[' number ']' ]
+abbrev pub IsDecl : List Lexed → Declared → Type 0
+IsDecl = do
+  ident ← IsName
+  len ← Maybe (Behind LeftBracket (Before IsNumber RightBracket))
+  Return (record { name = ident.name; at = ident.at; len = len })
+
+-- { ',' Decl } behind a first one
+abbrev pub DeclsBehind : Declared → List Lexed → List Declared → Type 0
+DeclsBehind first = do
+  others ← ListOf (Behind Comma IsDecl)
+  Return (first ∷ others)
+
+-- 'var' Decl { ',' Decl } ';'
+abbrev pub IsDecls : List Lexed → List Declared → Type 0
+IsDecls = do
+  first ← Behind Var IsDecl
+  Before (DeclsBehind first) Semicolon
+
+-- the declarations of all lines, one after the other
+abbrev pub IsLines : List Lexed → List Declared → Type 0
+IsLines = Many IsDecls [] (λ line vars. line ++ vars)
+
+abbrev pub IsText : List Lexed → Listing → Type 0
+IsText = do
+  vars ← IsLines
+  body ← IsBody 64
+  Return (record { vars = vars; body = body })

@@ -1,0 +1,6 @@
+mod Declarations
+mod Expressions
+mod Rooms
+mod Statements
+pub mod TextFaults
+mod Tokens

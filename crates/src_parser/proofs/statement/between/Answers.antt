@@ -1,0 +1,25 @@
+use Rattle.std.proofs.lemmas.Result.{err_from_is_err_and}
+use Rattle.grammar.proofs.Steps.{return_reads}
+use Rattle.grammar.proofs.Passing.{there_return, there_bind, beyond_reads, beyond_fails, short_of, on, past, stuck}
+use Rattle.src_parser.specs.Steps.{may_follow}
+use Rattle.src_parser.proofs.Tokens.{begun, ends, there_sign, there_before}
+use Rattle.src_parser.proofs.Statements.{there_outer}
+use Rattle.src_parser.proofs.statement.between.Goals as goal
+
+pub returns-in_err-rest : goal.returns-in_err-rest
+returns-in_err-rest c =
+    let p = err_from_is_err_and c.from_residual.result c.from_residual.ensures.1 in
+    rw (p.1, p.2) (stuck (λ u. there_before (there_outer c.args.levels)) c.in_err-rest.ensures)
+
+pub returns-in_err-a : goal.returns-in_err-a
+returns-in_err-a c =
+    let p = err_from_is_err_and c.from_residual-in_err-a.result c.from_residual-in_err-a.ensures.1 in
+    rw (p.1, p.2) (past c.in_ok-rest.ensures (short_of (ends (may_follow 6) (λ a. begun) c.requires) (λ a. there_bind there_sign (λ u. there_return)) c.in_err-a.ensures))
+
+pub returns-in_err-rest-2 : goal.returns-in_err-rest-2
+returns-in_err-rest-2 c =
+    let p = err_from_is_err_and c.from_residual-in_err-rest-2.result c.from_residual-in_err-rest-2.ensures.1 in
+    rw (p.1, p.2) (past c.in_ok-rest.ensures (beyond_fails (ends (may_follow 6) (λ a. begun) c.requires) c.in_ok-a.ensures (stuck (λ u. there_return) c.in_err-rest-2.ensures)))
+
+pub returns : goal.returns
+returns c = on c.in_ok-rest.ensures (beyond_reads (ends (may_follow 6) (λ a. begun) c.requires) c.in_ok-a.ensures (on c.in_ok-rest-2.ensures return_reads))

@@ -1,0 +1,15 @@
+//! Programs, read by their grammar.
+#![tactic(auto)]
+
+mod declaration;
+mod expression;
+mod statement;
+mod step;
+#[cfg(test)]
+mod tests;
+mod text;
+mod whole;
+mod words;
+
+pub use text::read;
+pub use whole::parse;

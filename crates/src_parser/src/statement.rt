@@ -1,0 +1,259 @@
+//! Statements. `levels` is how many levels may still be opened.
+
+ghost use Rattle.std.specs.Prelude.{◌≡◌, ◌≤◌, ◌↔◌, IsTrue, false, map};
+ghost use Rattle.grammar.specs.Reading.{Gives, never};
+ghost use Rattle.src_model.specs.declared.words.Word.TheVariants.{Name as Named, Symbol as Shows};
+ghost use Rattle.src_parser.specs.declared.statement.Compound.TheVariants.{For as Counts, If as Chooses, While as Repeats};
+ghost use Rattle.src_model.specs.Grammar.{ActBehind, Before, Behind, IsAct, IsBlock, IsBody, IsCmp, IsElse, IsIndex, IsInner, IsNothing, IsOuter, IsTest};
+ghost use Rattle.src_model.specs.Written.{act_of, index_of, phrase_of, test_of};
+ghost use Rattle.src_parser.specs.Steps.{BeginsSo, CompoundBehind, OpensBracket, act_word, after, after_acts, after_else, compound_of, may_follow, others_of};
+
+use crate::expression::expr;
+use crate::step::{begins_with, expect, front, name, number_behind};
+use grammar::Stop;
+use rec_bits::{Items, Name};
+use src_model::{Cmp, Lexed, Spot, SrcExpr, SrcTest, Stmt, Symbol, Word};
+use std::alloc::Global;
+
+/// A word that compares.
+fn cmp(ts: &[Lexed]) -> Result<(Cmp, &[Lexed]), Stop>
+    ensures { Gives (λ x. (x.0, x.1.now)) IsCmp never ts.now result }
+{
+    let Some((t, rest)) = front(ts) else {
+        return Err(Stop::At(0));
+    };
+    match t.word {
+        Word::Compare(cmp) => Ok((cmp, rest)),
+        _ => Err(Stop::At(ts.len())),
+    }
+}
+
+/// A test.
+fn test(alloc: Global, levels: u8, ts: &[Lexed]) -> Result<(SrcTest, &[Lexed]), Stop>
+    ensures { Gives (λ x. (test_of x.0, x.1.now)) (IsTest levels) (after 6) ts.now result }
+{
+    let (left, rest) = expr(alloc, levels, ts)?;
+    let (cmp, rest) = cmp(rest)?;
+    let (right, rest) = expr(alloc, levels, rest)?;
+    Ok((SrcTest { cmp, left, right }, rest))
+}
+
+/// A symbol, an expression and a symbol.
+fn between(
+    alloc: Global,
+    first: Symbol,
+    last: Symbol,
+    levels: u8,
+    ts: &[Lexed],
+) -> Result<(SrcExpr, &[Lexed]), Stop>
+    requires { may_follow 6 (Shows last) ≡ false }
+    ensures { Gives (λ x. (phrase_of x.0, x.1.now)) (Behind first (Before (IsOuter levels) last)) never ts.now result }
+{
+    let rest = expect(first, ts)?;
+    let (a, rest) = expr(alloc, levels, rest)?;
+    let rest = expect(last, rest)?;
+    Ok((a, rest))
+}
+
+/// Whether an index stands first and a level can be opened for it.
+fn opens_bracket(levels: u8, ts: &[Lexed]) -> bool
+    ensures { IsTrue result ↔ OpensBracket levels ts.now }
+{
+    begins_with(Symbol::LeftBracket, ts) && levels > 0
+}
+
+/// The index of an assigned place, if there is one.
+fn outer_index(
+    alloc: Global,
+    levels: u8,
+    ts: &[Lexed],
+) -> Result<(Option<Box<SrcExpr>>, &[Lexed]), Stop>
+    ensures { Gives (λ x. (index_of x.0, x.1.now)) (IsIndex (IsInner levels)) (after 0) ts.now result }
+{
+    if opens_bracket(levels, ts) {
+        let (a, rest) = between(
+            alloc,
+            Symbol::LeftBracket,
+            Symbol::RightBracket,
+            levels - 1,
+            ts,
+        )?;
+        let a = Box::new(alloc, a)?;
+        Ok((Some(a), rest))
+    } else {
+        Ok((None, ts))
+    }
+}
+
+/// An assignment, behind the name.
+fn assignment<'a>(
+    alloc: Global,
+    name: &Name,
+    at: u64,
+    levels: u8,
+    ts: &'a [Lexed],
+) -> Result<(Stmt, &'a [Lexed]), Stop>
+    ensures { Gives (λ x. (act_of x.0, x.1.now)) (ActBehind levels IsNothing (Named name.now) at) after_else ts.now result }
+{
+    let (index, rest) = outer_index(alloc, levels, ts)?;
+    let (value, rest) = between(alloc, Symbol::Equals, Symbol::Semicolon, levels, rest)?;
+    let name = Items::from_slice(alloc, name.as_slice())?;
+    let place = Spot { name, at, index };
+    Ok((Stmt::Assign { place, value }, rest))
+}
+
+/// Whether the first token begins a statement.
+fn begins_act(ts: &[Lexed]) -> bool
+    ensures { IsTrue result ↔ BeginsSo act_word ts.now }
+{
+    match front(ts) {
+        Some((t, _)) => matches!(
+            &t.word,
+            Word::Name(_) | Word::Symbol(Symbol::If | Symbol::While | Symbol::For)
+        ),
+        None => false,
+    }
+}
+
+/// Statements, as many as there are.
+#[cycle(acts)]
+pub fn body(alloc: Global, levels: u8, ts: &[Lexed]) -> Result<(Vec<Stmt>, &[Lexed]), Stop>
+    ensures { Gives (λ x. (map act_of x.0.items, x.1.now)) (IsBody levels) after_acts ts.now result }
+{
+    let mut acts = Vec::new(alloc);
+    let mut rest = ts;
+    'acts: while begins_act(rest) {
+        let (next, behind) = act(alloc, levels, rest)?;
+        acts.push(next)?;
+        rest = behind;
+    }
+    Ok((acts, rest))
+}
+
+/// A block.
+#[cycle(acts)]
+fn block(alloc: Global, levels: u8, ts: &[Lexed]) -> Result<(Vec<Stmt>, &[Lexed]), Stop>
+    requires { 1 ≤ levels }
+    ensures { Gives (λ x. (map act_of x.0.items, x.1.now)) (IsBlock levels) never ts.now result }
+{
+    let rest = expect(Symbol::LeftBrace, ts)?;
+    let (body, rest) = body(alloc, levels - 1, rest)?;
+    let rest = expect(Symbol::RightBrace, rest)?;
+    Ok((body, rest))
+}
+
+/// An `else` part, if there is one.
+#[cycle(acts)]
+fn otherwise(alloc: Global, levels: u8, ts: &[Lexed]) -> Result<(Option<Vec<Stmt>>, &[Lexed]), Stop>
+    requires { 1 ≤ levels }
+    ensures { Gives (λ x. (others_of x.0, x.1.now)) (IsElse (IsBlock levels)) after_else ts.now result }
+{
+    if begins_with(Symbol::Else, ts) {
+        let rest = expect(Symbol::Else, ts)?;
+        let (other, rest) = block(alloc, levels, rest)?;
+        Ok((Some(other), rest))
+    } else {
+        Ok((None, ts))
+    }
+}
+
+/// A word behind which blocks stand.
+#[derive(Clone, Copy, Debug, PartialEq, Eq)]
+pub enum Compound {
+    If,
+    While,
+    For,
+}
+
+/// The word behind which blocks stand, if it is one.
+fn compound_of(word: &Word) -> Option<Compound>
+    ensures { result ≡ compound_of word.now }
+{
+    match word {
+        Word::Symbol(Symbol::If) => Some(Compound::If),
+        Word::Symbol(Symbol::While) => Some(Compound::While),
+        Word::Symbol(Symbol::For) => Some(Compound::For),
+        _ => None,
+    }
+}
+
+/// An `if`, behind its word.
+#[cycle(acts)]
+fn choice(alloc: Global, levels: u8, ts: &[Lexed]) -> Result<(Stmt, &[Lexed]), Stop>
+    requires { 1 ≤ levels }
+    ensures { Gives (λ x. (act_of x.0, x.1.now)) (CompoundBehind levels (IsBlock levels) Chooses) after_else ts.now result }
+{
+    let (test, rest) = test(alloc, levels, ts)?;
+    let (yes, rest) = block(alloc, levels, rest)?;
+    let (no, rest) = otherwise(alloc, levels, rest)?;
+    Ok((Stmt::If { test, yes, no }, rest))
+}
+
+/// A `while`, behind its word.
+#[cycle(acts)]
+fn repetition(alloc: Global, levels: u8, ts: &[Lexed]) -> Result<(Stmt, &[Lexed]), Stop>
+    requires { 1 ≤ levels }
+    ensures { Gives (λ x. (act_of x.0, x.1.now)) (CompoundBehind levels (IsBlock levels) Repeats) after_else ts.now result }
+{
+    let (test, rest) = test(alloc, levels, ts)?;
+    let (body, rest) = block(alloc, levels, rest)?;
+    Ok((Stmt::While { test, body }, rest))
+}
+
+/// A `for`, behind its word.
+#[cycle(acts)]
+fn counting(alloc: Global, levels: u8, ts: &[Lexed]) -> Result<(Stmt, &[Lexed]), Stop>
+    requires { 1 ≤ levels }
+    ensures { Gives (λ x. (act_of x.0, x.1.now)) (CompoundBehind levels (IsBlock levels) Counts) after_else ts.now result }
+{
+    let ((counter, at), rest) = name(alloc, ts)?;
+    let (from, rest) = number_behind(Symbol::Equals, rest)?;
+    let (to, rest) = number_behind(Symbol::To, rest)?;
+    let (body, rest) = block(alloc, levels, rest)?;
+    let act = Stmt::For {
+        counter,
+        at,
+        from,
+        to,
+        body,
+    };
+    Ok((act, rest))
+}
+
+/// What stands behind a word with blocks.
+#[cycle(acts)]
+fn composed(
+    alloc: Global,
+    word: Compound,
+    levels: u8,
+    ts: &[Lexed],
+) -> Result<(Stmt, &[Lexed]), Stop>
+    requires { 1 ≤ levels }
+    ensures { Gives (λ x. (act_of x.0, x.1.now)) (CompoundBehind levels (IsBlock levels) word) after_else ts.now result }
+{
+    match word {
+        Compound::If => choice(alloc, levels, ts),
+        Compound::While => repetition(alloc, levels, ts),
+        Compound::For => counting(alloc, levels, ts),
+    }
+}
+
+/// A statement.
+#[cycle(acts)]
+fn act(alloc: Global, levels: u8, ts: &[Lexed]) -> Result<(Stmt, &[Lexed]), Stop>
+    ensures { Gives (λ x. (act_of x.0, x.1.now)) (IsAct levels) after_else ts.now result }
+{
+    let Some((t, rest)) = front(ts) else {
+        return Err(Stop::At(0));
+    };
+    if let Some(word) = compound_of(&t.word) {
+        if levels == 0 {
+            return Err(Stop::At(ts.len()));
+        }
+        return composed(alloc, word, levels, rest);
+    }
+    match &t.word {
+        Word::Name(name) => assignment(alloc, name, t.at, levels, rest),
+        _ => Err(Stop::At(ts.len())),
+    }
+}

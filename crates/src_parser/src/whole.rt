@@ -1,0 +1,79 @@
+//! Whole texts.
+
+ghost use Rattle.std.specs.Prelude.{◌≡◌, ◌-◌, ◌≤◌, length, drop, IfOk, IfErr, MatchResult};
+ghost use Rattle.rec_bits.specs.declared.fault.ParseFault.{ParseFault};
+ghost use Rattle.grammar.specs.Reading.{Gives, IsStop};
+ghost use Rattle.grammar.specs.declared.stop.Stop.{Stop};
+ghost use Rattle.src_model.specs.Grammar.{IsText};
+ghost use Rattle.src_model.specs.Written.{Listing, listing_of};
+ghost use Rattle.src_parser.specs.Parses.{IsParseFault, offset_of};
+ghost use Rattle.src_parser.specs.Steps.{after_text};
+ghost use Rattle.src_parser.specs.Words.{lexed_all};
+
+use crate::declaration::lines;
+use crate::statement::body;
+use crate::words::lexed;
+use grammar::Stop;
+use lexing::Token;
+use rec_bits::{Items, ParseFault};
+use src_model::{Lexed, Program};
+use std::alloc::Global;
+
+/// How many levels blocks and expressions may have together.
+const LEVELS: u8 = 64;
+
+/// A program, and what is left behind it.
+fn program(alloc: Global, ts: &[Lexed]) -> Result<(Program, &[Lexed]), Stop>
+    ensures { Gives (λ x. (listing_of x.0, x.1.now)) IsText after_text ts.now result }
+{
+    let (vars, rest) = lines(alloc, ts)?;
+    let (body, rest) = body(alloc, LEVELS, rest)?;
+    let vars = Items::from_vec(vars);
+    Ok((Program { vars, body }, rest))
+}
+
+/// The program that the tokens spell.
+fn text(alloc: Global, ts: &[Lexed]) -> Result<Program, Stop>
+    ensures found { IfOk result (λ program. IsText ts.now (listing_of program)) }
+    ensures only { (listing : Listing) → IsText ts.now listing → MatchResult result (λ program. listing_of program ≡ listing) (λ stop. stop ≡ Stop.Memory) }
+    ensures fault { IfErr result (IsStop IsText ts.now) }
+{
+    let (program, rest) = program(alloc, ts)?;
+    if rest.is_empty() {
+        Ok(program)
+    } else {
+        Err(Stop::At(rest.len()))
+    }
+}
+
+/// The offset of the token with which so many are left, or the length of the text.
+fn offset(bytes: &[u8], ts: &[Lexed], left: usize) -> u64
+    requires { left ≤ length ts.now }
+    ensures { result ≡ offset_of (length bytes.now) (drop (length ts.now - left) ts.now) }
+{
+    match &ts[ts.len() - left..] {
+        [t, ..] => t.at,
+        [] => bytes.len() as u64,
+    }
+}
+
+/// The program that the tokens of the text `bytes` spell. `Text` comes exactly where they spell none, with the offset of the
+/// first token such that those before it begin some text and with it they don't, or the length of the text where all of them
+/// begin one. `Memory` is want of memory.
+pub fn parse(alloc: Global, bytes: &[u8], tokens: &Items<Token>) -> Result<Program, ParseFault>
+    // What is answered is what the tokens spell.
+    ensures found { IfOk result (λ program. IsText (lexed_all bytes.now tokens.now) (listing_of program)) }
+
+    // Whatever they spell is answered, and nothing else, unless memory runs out.
+    ensures only { (listing : Listing) → IsText (lexed_all bytes.now tokens.now) listing → MatchResult result (λ program. listing_of program ≡ listing) (λ fault. fault ≡ ParseFault.Memory) }
+
+    // Where they spell nothing, the fault is at the first token that shows it.
+    ensures fault { IfErr result (IsParseFault bytes.now (lexed_all bytes.now tokens.now)) }
+{
+    let ts = lexed(alloc, bytes, tokens.as_slice())?;
+    match text(alloc, ts.as_slice()) {
+        Ok(program) => Ok(program),
+        Err(Stop::At(left)) => Err(ParseFault::Text(offset(bytes, ts.as_slice(), left))),
+        Err(Stop::Memory) => Err(ParseFault::Memory),
+    }
+}
