@@ -1,7 +1,9 @@
 pub mod Places
+pub mod Layout
 pub mod Machine
 pub mod Right
 pub mod Words
+pub mod Programs
 pub mod Straight
 pub mod Flow
 pub mod ImageText

@@ -10,6 +10,14 @@ pub struct Place {
     pub len: u32,
 }
 
+/// Where the variables of a program stand: behind so many temporary cells, which have the addresses from 0 on.
+#[derive(Debug, Drop)]
+pub struct Places {
+    pub temps: u32,
+    /// The variables' places in order of declaration.
+    pub list: Items<Place>,
+}
+
 /// A marked address: the first word of the code of the test with this tree's number, or of the end, where there is no number.
 #[derive(Clone, Copy, Debug, PartialEq, Eq)]
 pub struct Mark {

@@ -1,58 +1,130 @@
--- What the texts of a first program and its image say of the two texts.
-use Rattle.std.proofs.Common.{◌≡◌, ℕ, List, sym, subst}
+-- What was read of two texts is the one thing that they say.
+use Rattle.std.proofs.Common.{◌≡◌, ℕ, ◌<◌, ◌≤◌, List, sym, subst, arith}
+use Rattle.net_model.specs.declared.hardware.Netlist.{Netlist}
+use Rattle.net_model.specs.CheckedRules.{Ordered}
+use Rattle.net_model.specs.Elaborated.{netlist_of}
+use Rattle.net_model.specs.Nets.{memory_width}
 use Rattle.net_model.specs.Written.{Entry}
-use Rattle.src_model.specs.Written.{Listing}
-use Rattle.src_parser.specs.Texts.{IsSrcText}
 use Rattle.net_front.specs.Fronts.{IsNetFile}
-use Rattle.first_text.specs.declared.plain.Plain.{Plain}
-use Rattle.first_text.specs.declared.program.FirstProgram.{FirstProgram}
-use Rattle.first_text.specs.Plain.{IsPlain}
-use Rattle.first_text.specs.First.{IsFirst}
-use Rattle.first_text.proofs.Plains.{one_plain}
+use Rattle.src_model.specs.declared.fault.SrcFault.{SrcFault}
+use Rattle.src_model.specs.Written.{Listing}
+use Rattle.src_front.specs.Fronts.{IsSrcFile, BreaksSrcRule}
+use Rattle.src_front.proofs.FrontLaws.{no_broken_rule, one_broken_rule}
 use Rattle.first_path.specs.declared.compiler.FirstFault.{FirstFault}
-use Rattle.first_path.specs.declared.compiler.FirstFault.TheVariants.{NetText, Net, SrcText, NotPlain, NotFirst, Memory}
-use Rattle.first_path.specs.First.{HasNet, HasSrcText, IsPlainText, IsTaken, IsFirstText, IsFirstImage, IsReadFault, IsReadImage, IsFirstFault}
+use Rattle.first_path.specs.declared.compiler.FirstFault.TheVariants.{NetText, Net, SrcText, Src, DataFull, WideCode, NotStraight, NoWord, Memory}
+use Rattle.first_path.specs.Code.{Property, IsFull, IsWide, IsNotStraight, IsWordless, AreStores, HasStores, HasRoom, IsNarrow, IsCode, IsCodeFault, FailsWith}
+use Rattle.first_path.specs.First.{HasNet, Holds, IsCompiled, BreaksSrc, IsNetRead, IsNetFault, IsSrcFault, IsFirstFault, word_width}
+use Rattle.word_search.specs.declared.finder.Store.{Store}
+use Rattle.word_search.specs.Found.{IsMissing}
+use Rattle.first_path.proofs.MissingLemmas.{one_missing, none_missing}
 
-pub plain_of : (net src : List ℕ) → IsFirstText net src → IsPlainText net
-plain_of net src h = record { entries = h.taken.entries; plain = h.plain; file = h.taken.net_file; read = h.taken.netlist }
+-- a program has one list of assignments
+one_stores : (netlist : Netlist) (listing : Listing) (s t : List Store) → AreStores netlist listing s → AreStores netlist listing t → s ≡ t
+one_stores netlist listing s t a b = let e = a.straight in let f = b.straight in cc
 
-pub first_of : (net src out : List ℕ) → IsFirstImage net src out → IsFirstText net src
-first_of net src out h = record { plain = h.plain; program = h.program; taken = h.taken }
+-- ---- two texts say one netlist and one program
 
-pub has_net : (net : List ℕ) → IsPlainText net → HasNet net
-has_net net h = record { entries = h.entries; file = h.file }
+module _ (net src : List ℕ) where
+  -- what holds of them, and what else does, holds of the same netlist and program
+  pub together : (P Q : Property) (G : Type 0) → ((netlist : Netlist) (word : ℕ) (listing : Listing) → P netlist word listing → Q netlist word listing → G) → Holds net src P → Holds net src Q → G
+  together P Q G f a b =
+      let e : b.entries ≡ a.entries = b.files.net_file.says.only a.entries a.files.net_file.says.text in
+      let file : IsSrcFile src (word_width a.entries) b.listing = subst (λ x. IsSrcFile src (word_width x) b.listing) e b.files.src_file in
+      let l : b.listing ≡ a.listing = file.says.only a.listing a.files.src_file.says.text in
+      f (netlist_of a.entries) (word_width a.entries) a.listing a.holds
+      (subst (λ x. Q (netlist_of x) (word_width x) a.listing) e (subst (λ y. Q (netlist_of b.entries) (word_width b.entries) y) l b.holds))
 
-pub has_src : (net src : List ℕ) → IsFirstText net src → HasSrcText src
-has_src net src h = record { listing = h.taken.listing; text = h.taken.src_text }
+  pub has_net : (P : Property) → Holds net src P → HasNet net
+  has_net P h = record { entries = h.entries; file = h.files.net_file }
 
--- what was read of the two texts is all that they are
-module _ (net src : List ℕ) (entries : List Entry) (listing : Listing) (net_is : IsNetFile net entries) (src_is : IsSrcText src listing)
-    (src_only : (l : Listing) → IsSrcText src l → listing ≡ l) where
-  pub image_of_read : (out : List ℕ) → IsReadImage entries listing out → IsFirstImage net src out
-  image_of_read out h = record {
-    plain = h.plain;
-    program = h.program;
-    taken = record { entries = entries; listing = listing; net_file = net_is; src_text = src_is; netlist = h.netlist; source = h.source };
-    right = h.right;
-  }
+  -- a program breaks one rule first, and none where it keeps them
+  pub one_broken : (fault later : SrcFault) → BreaksSrc net src fault → BreaksSrc net src later → fault ≡ later
+  one_broken fault later a b =
+      one_broken_rule src (word_width a.entries) fault later a.breaks
+      (subst (λ e. BreaksSrcRule src (word_width e) later) (b.net_file.says.only a.entries a.net_file.says.text) b.breaks)
 
-  here : (e : List Entry) (p : Plain) → IsNetFile net e → IsPlain e p → IsPlain entries p
-  here e p file is = subst (λ x. IsPlain x p) (sym (net_is.says.only e file.says.text)) is
+  pub none_broken : (P : Property) (fault : SrcFault) → Holds net src P → BreaksSrc net src fault → ⊥
+  none_broken P fault h b =
+      no_broken_rule src (word_width h.entries) h.listing fault h.files.src_file
+      (subst (λ e. BreaksSrcRule src (word_width e) fault) (b.net_file.says.only h.entries h.files.net_file.says.text) b.breaks)
 
-  first_here : (p : Plain) (l : Listing) (q : FirstProgram) → IsSrcText src l → IsFirst l p.width p.cells p.words q → IsFirst listing p.width p.cells p.words q
-  first_here p l q text is = subst (λ x. IsFirst x p.width p.cells p.words q) (sym (src_only l text)) is
+  -- what follows from what holds of them holds of them
+  pub weaker : (P Q : Property) → ((netlist : Netlist) (word : ℕ) (listing : Listing) → P netlist word listing → Q netlist word listing) → Holds net src P → Holds net src Q
+  weaker P Q f h = record { entries = h.entries; listing = h.listing; files = h.files; holds = f (netlist_of h.entries) (word_width h.entries) h.listing h.holds }
 
-  pub fault_of_read : (fault : FirstFault) → IsReadFault entries listing fault → IsFirstFault net src fault
-  fault_of_read (NetText at) h = absurd h
-  fault_of_read (Net fault) h = absurd h
-  fault_of_read (SrcText at) h = absurd h
-  fault_of_read NotPlain h = (record { entries = entries; file = net_is }, record { listing = listing; text = src_is }, λ is. h is.plain (here is.entries is.plain is.file is.read))
-  fault_of_read NotFirst h = (
-    record { listing = listing; text = src_is },
-    record { entries = entries; plain = h.plain; file = net_is; read = h.netlist },
-    λ is.
-        let t = is.taken in
-        let same : is.plain ≡ h.plain = one_plain entries is.plain h.plain (here t.entries is.plain t.net_file t.netlist) h.netlist in
-        h.none_first is.program (subst (λ p. IsFirst listing p.width p.cells p.words is.program) same (first_here is.plain t.listing is.program t.src_text t.source)),
-  )
-  fault_of_read Memory h = tt
+  -- ---- the refusals exclude each other
+
+  pub one_full : (p q : ℕ × ℕ) → Holds net src (IsFull p.0 p.1) → Holds net src (IsFull q.0 q.1) → p ≡ q
+  one_full (a, b) (c, d) = together (IsFull a b) (IsFull c d) ((a, b) ≡ (c, d)) (λ netlist word listing x y. let e = x.needs in let f = y.needs in let g = x.has in let h = y.has in cc)
+
+  pub no_full : (need have : ℕ) → Holds net src HasRoom → Holds net src (IsFull need have) → ⊥
+  no_full need have = together HasRoom (IsFull need have) ⊥ (λ netlist word listing x y. let a = x.room in let b = y.needs in let c = y.has in let d = y.more in omega arith)
+
+  pub no_wide : Holds net src IsNarrow → Holds net src IsWide → ⊥
+  no_wide = together IsNarrow IsWide ⊥ (λ netlist word listing x y. let a = x.narrow in omega arith)
+
+  pub no_crooked : Holds net src HasStores → Holds net src IsNotStraight → ⊥
+  no_crooked = together HasStores IsNotStraight ⊥ (λ netlist word listing x y. y x.stores x.are)
+
+  pub one_wordless : (number later : ℕ) → Holds net src (IsWordless number) → Holds net src (IsWordless later) → number ≡ later
+  one_wordless number later = together (IsWordless number) (IsWordless later) (number ≡ later) (λ netlist word listing x y.
+      one_missing netlist x.stores number later x.lacks (subst (λ s. IsMissing netlist s later) (one_stores netlist listing y.stores x.stores y.are x.are) y.lacks))
+
+  pub no_wordless : (out : List ℕ) (number : ℕ) → IsCompiled net src out → Holds net src (IsWordless number) → ⊥
+  no_wordless out number = together (IsCode out) (IsWordless number) ⊥ (λ netlist word listing x y.
+      none_missing netlist x.stores x.words number x.found (subst (λ s. IsMissing netlist s number) (one_stores netlist listing y.stores x.stores y.are x.are) y.lacks))
+
+  pub narrow_of_code : (out : List ℕ) → IsCompiled net src out → Holds net src IsNarrow
+  narrow_of_code out = weaker (IsCode out) IsNarrow (λ netlist word listing x. x.narrow)
+
+  pub straight_of_code : (out : List ℕ) → IsCompiled net src out → Holds net src HasStores
+  straight_of_code out = weaker (IsCode out) HasStores (λ netlist word listing x. record { stores = x.stores; are = x.are })
+
+-- ---- from what was read to the texts
+
+-- what holds of the netlist and the program that were read holds of the two texts
+pub holds_of_read : (net src : List ℕ) (checked : Ordered) (word : ℕ) (listing : Listing) (P : Property) → IsNetRead net checked → word ≡ memory_width checked.netlist.storages → IsSrcFile src word listing → P checked.netlist word listing → Holds net src P
+holds_of_read net src checked word listing P read wide file holds =
+    let w : word ≡ word_width read.entries = rw read.netlist at wide in
+    record {
+      entries = read.entries;
+      listing = listing;
+      files = record { net_file = read.file; src_file = subst (λ n. IsSrcFile src n listing) w file };
+      holds = subst (λ (n : Netlist). P n (word_width read.entries) listing) read.netlist (subst (λ n. P checked.netlist n listing) w holds);
+    }
+
+-- why the netlist was not read
+pub fault_of_net : (net src : List ℕ) (fault : FirstFault) → IsNetFault net fault → IsFirstFault net src fault
+fault_of_net net src (NetText at) h = h
+fault_of_net net src (Net fault) h = h
+fault_of_net net src (SrcText at) h = absurd h
+fault_of_net net src (Src fault) h = absurd h
+fault_of_net net src (DataFull need have) h = absurd h
+fault_of_net net src WideCode h = absurd h
+fault_of_net net src NotStraight h = absurd h
+fault_of_net net src (NoWord number) h = absurd h
+fault_of_net net src Memory h = tt
+
+-- why the program was not taken, once the netlist was read
+pub fault_of_program : (net src : List ℕ) (checked : Ordered) (word : ℕ) → IsNetRead net checked → word ≡ memory_width checked.netlist.storages → (fault : FirstFault) → IsSrcFault src word fault → IsFirstFault net src fault
+fault_of_program net src checked word read wide (NetText at) h = absurd h
+fault_of_program net src checked word read wide (Net fault) h = absurd h
+fault_of_program net src checked word read wide (SrcText at) h = (record { entries = read.entries; file = read.file }, h)
+fault_of_program net src checked word read wide (Src fault) h = record { entries = read.entries; net_file = read.file; breaks = subst (λ n. BreaksSrcRule src n fault) (rw read.netlist at wide) h }
+fault_of_program net src checked word read wide (DataFull need have) h = absurd h
+fault_of_program net src checked word read wide WideCode h = absurd h
+fault_of_program net src checked word read wide NotStraight h = absurd h
+fault_of_program net src checked word read wide (NoWord number) h = absurd h
+fault_of_program net src checked word read wide Memory h = tt
+
+-- why there is no code, once both were read
+pub fault_of_code : (net src : List ℕ) (checked : Ordered) (word : ℕ) (listing : Listing) → IsNetRead net checked → word ≡ memory_width checked.netlist.storages → IsSrcFile src word listing → (fault : FirstFault) → IsCodeFault checked.netlist word listing fault → IsFirstFault net src fault
+fault_of_code net src checked word listing read wide file (NetText at) h = absurd h
+fault_of_code net src checked word listing read wide file (Net fault) h = absurd h
+fault_of_code net src checked word listing read wide file (SrcText at) h = absurd h
+fault_of_code net src checked word listing read wide file (Src fault) h = absurd h
+fault_of_code net src checked word listing read wide file (DataFull need have) h = holds_of_read net src checked word listing (FailsWith (DataFull need have)) read wide file h
+fault_of_code net src checked word listing read wide file WideCode h = holds_of_read net src checked word listing (FailsWith WideCode) read wide file h
+fault_of_code net src checked word listing read wide file NotStraight h = holds_of_read net src checked word listing (FailsWith NotStraight) read wide file h
+fault_of_code net src checked word listing read wide file (NoWord number) h = holds_of_read net src checked word listing (FailsWith (NoWord number)) read wide file h
+fault_of_code net src checked word listing read wide file Memory h = tt

@@ -1,7 +1,7 @@
-pub mod Encoded
-pub mod Fields
 pub mod FirstLemmas
-pub mod Moves
-pub mod ProgramLemmas
-pub mod Sound
+pub mod StraightLemmas
+pub mod MemoryLemmas
+pub mod Eaches
+pub mod MissingLemmas
+pub mod CodeLemmas
 pub mod Worked

@@ -1,108 +1,109 @@
 -- The definitions at a small processor: an image that is right code for a program, and one that isn't.
-use Rattle.std.proofs.Common.{ℕ, zero, suc, ◌≡◌, ◌<◌, ◌⊎◌, inl, inr, ◌^◌, List, [], ◌∷◌, take, refl, sym, ◌∙◌, ap, arith, lit<, None, slice_get, slice_index, codes}
+use Rattle.std.proofs.Common.{ℕ, zero, suc, ◌≡◌, ◌<◌, ◌^◌, ◌+◌, List, [], ◌∷◌, take, inl, refl, sym, ◌∙◌, ap, arith, None, slice_get, slice_index, codes}
 use Rattle.net_model.specs.declared.states.State.{State}
-use Rattle.net_model.specs.Nets.{storage_bits}
+use Rattle.net_model.specs.Control.{IsSound, NetControlled}
+use Rattle.net_model.specs.Nets.{code_bits, storage_bits}
+use Rattle.net_model.specs.Widths.{NetFits, WordFits}
 use Rattle.net_model.specs.Worked.{s8}
 use Rattle.src_model.specs.declared.checkpoint.Checkpoint.TheVariants.{End}
+use Rattle.src_model.specs.Trace.{strace, run, run_in}
 use Rattle.src_model.specs.Ways.{Passed}
+use Rattle.src_model.specs.Written.{Act, assign, num, Listing}
 use Rattle.code_model.specs.declared.image.Image.{Image}
-use Rattle.code_model.specs.Places.{places_from}
+use Rattle.code_model.specs.Layout.{layout_of, variables_of}
 use Rattle.code_model.specs.Machine.{Entry, Shows, mtrace, IsAt}
+use Rattle.code_model.specs.Programs.{IsRightCode}
 use Rattle.code_model.specs.Right.{ShowsSource, passed_of}
-use Rattle.first_text.specs.declared.plain.Plain.{Plain}
-use Rattle.first_text.specs.declared.program.FirstProgram.{FirstProgram}
-use Rattle.first_text.specs.Plain.{KeepsRules}
-use Rattle.first_path.specs.Encoding.{plain_word}
-use Rattle.first_path.specs.Fits.{FitsNetlist}
-use Rattle.first_path.specs.Netlists.{netlist_of}
-use Rattle.first_path.specs.Programs.{strace, variables_of}
-use Rattle.first_path.specs.Right.{IsRightCode}
-use Rattle.first_path.proofs.Encoded.{encoded_right}
+use Rattle.code_model.specs.Straight.{IsStraight}
+use Rattle.word_search.specs.declared.finder.Store.{Store}
+use Rattle.word_search.proofs.Does.{assign_of, goto_of}
+use Rattle.first_path.specs.Images.{straight_image}
+use Rattle.first_path.proofs.CodeLemmas.{right_of_straight}
+use Rattle.first_path.proofs.StraightLemmas.{pairs_of}
 
-abbrev plain : Plain
-plain = record {
-  code = codes "I";
-  register = codes "PC";
-  memory = codes "M";
-  code_at = 0;
-  register_at = 0;
-  memory_at = 0;
-  bits = 8;
-  words = 16;
-  counter_width = 4;
-  jump_bit = 7;
-  target = record { hi = 3; lo = 0 };
-  width = 5;
-  cells = 4;
-  addr_width = 2;
-  value = record { hi = 4; lo = 0 };
-  addr = record { hi = 6; lo = 5 };
-}
-
--- the netlist is the one whose clocks were worked out
-same_netlist : netlist_of plain ≡ s8
-same_netlist = refl
-
--- names with different first letters
-differ : (a b : ℕ) → ((a < b) ⊎ (b < a)) → a ≡ b → ⊥
-differ a b h e = omega arith
-
-rules : KeepsRules plain
-rules = record {
-  names = record {
-    code_register = λ e. differ 73 80 (inl (lit< tt)) (ap (λ name. slice_index name 0) e);
-    code_memory = λ e. differ 73 77 (inl (lit< tt)) (ap (λ name. slice_index name 0) e);
-    register_memory = λ e. differ 80 77 (inr (lit< tt)) (ap (λ name. slice_index name 0) e);
-  };
-  widths = record {
-    bits = (omega arith, omega arith);
-    counter = (omega arith, omega arith);
-    cell = (omega arith, omega arith);
-    address = (omega arith, omega arith);
-    words = (omega arith, omega arith);
-    cells = (omega arith, omega arith);
-  };
-  fields = record {
-    jump = omega arith;
-    target = record { ordered = omega arith; within = omega arith; wide = refl };
-    value = record { ordered = omega arith; within = omega arith; wide = refl };
-    addr = record { ordered = omega arith; within = omega arith; wide = refl };
-  };
-  apart = record {
-    jump_target = λ h. omega (arith, h.1, h.2);
-    jump_value = λ h. omega (arith, h.1, h.2);
-    jump_addr = λ h. omega (arith, h.1, h.2);
-    value_addr = λ h. omega (arith, h.1, h.2);
-  };
-}
+abbrev into : List ℕ → ℕ → Act
+into name n = assign (record { name = name; at = 0; index = None }) (record { at = 0; shape = num n })
 
 -- a = 3; b = 31;
-abbrev program : FirstProgram
+abbrev program : Listing
 program = record {
-  vars = codes "a" ∷ codes "b" ∷ [];
-  body = record { name = codes "a"; value = 3 } ∷ record { name = codes "b"; value = 31 } ∷ [];
+  vars = record { name = codes "a"; at = 0; len = None } ∷ record { name = codes "b"; at = 0; len = None } ∷ [];
+  body = into (codes "a") 3 ∷ into (codes "b") 31 ∷ [];
 }
+
+abbrev stores : List Store
+stores = record { address = 0; value = 3 } ∷ record { address = 1; value = 31 } ∷ []
 
 abbrev image_with : ℕ → Image
-image_with second = record {
-  bits = 8;
-  temps = 0;
-  places = places_from 0 (variables_of program.vars);
-  costs = [];
-  marks = record { address = 2; label = None } ∷ [];
-  words = plain_word 3 ∷ plain_word second ∷ plain_word 130 ∷ [];
+image_with second = straight_image 8 (layout_of 5 program) (3 ∷ second ∷ 130 ∷ []) 2
+
+-- ---- the netlist keeps what the laws ask for
+
+nets_fit : (n : ℕ) → NetFits s8 (slice_get s8.nets n)
+nets_fit zero = (omega arith, omega arith, refl)
+nets_fit (suc zero) = (omega arith, omega arith, (omega arith, omega arith, omega arith, omega arith))
+nets_fit (suc (suc zero)) = (omega arith, omega arith, omega arith)
+nets_fit (suc (suc (suc zero))) = (omega arith, omega arith, (omega arith, (omega arith, refl), refl))
+nets_fit (suc (suc (suc (suc zero)))) = (omega arith, omega arith, (omega arith, omega arith, omega arith, omega arith))
+nets_fit (suc (suc (suc (suc (suc zero))))) = (omega arith, omega arith, (omega arith, (omega arith, (omega arith, refl), (omega arith, (omega arith, refl), tt)), tt))
+nets_fit (suc (suc (suc (suc (suc (suc zero)))))) = (omega arith, omega arith, refl)
+nets_fit (suc (suc (suc (suc (suc (suc (suc zero))))))) = (omega arith, omega arith, (omega arith, omega arith, omega arith, omega arith))
+nets_fit (suc (suc (suc (suc (suc (suc (suc (suc zero)))))))) = (omega arith, omega arith, (omega arith, omega arith, omega arith, omega arith))
+nets_fit (suc (suc (suc (suc (suc (suc (suc (suc (suc zero))))))))) = (omega arith, omega arith, (omega arith, omega arith, omega arith, omega arith))
+nets_fit (suc (suc (suc (suc (suc (suc (suc (suc (suc (suc zero)))))))))) = (omega arith, omega arith, (omega arith, refl))
+nets_fit (suc (suc (suc (suc (suc (suc (suc (suc (suc (suc (suc n))))))))))) = tt
+
+controlled : (n : ℕ) → NetControlled s8 (slice_get s8.nets n)
+controlled zero = tt
+controlled (suc zero) = tt
+controlled (suc (suc zero)) = tt
+controlled (suc (suc (suc zero))) = tt
+controlled (suc (suc (suc (suc zero)))) = tt
+controlled (suc (suc (suc (suc (suc zero))))) = inl refl
+controlled (suc (suc (suc (suc (suc (suc zero)))))) = tt
+controlled (suc (suc (suc (suc (suc (suc (suc zero))))))) = tt
+controlled (suc (suc (suc (suc (suc (suc (suc (suc zero)))))))) = tt
+controlled (suc (suc (suc (suc (suc (suc (suc (suc (suc zero))))))))) = tt
+controlled (suc (suc (suc (suc (suc (suc (suc (suc (suc (suc zero)))))))))) = tt
+controlled (suc (suc (suc (suc (suc (suc (suc (suc (suc (suc (suc n))))))))))) = tt
+
+sound : IsSound s8
+sound = record {
+  typed = record {
+    nets = nets_fit;
+    storages = (((omega arith, refl), tt), (((omega arith, refl), (omega arith, refl), (omega arith, refl)), tt));
+    few = omega arith;
+  };
+  controlled = record { nets = controlled };
+  storages = (tt, (refl, tt));
+  counter = tt;
 }
 
-fits : FitsNetlist plain program
-fits = record {
-  assigns = (record { cell = omega arith; value = omega arith }, (record { cell = omega arith; value = omega arith }, tt));
-  cells = omega arith;
-  words = omega arith;
+word_fits : (i : ℕ) → i < 256 → WordFits s8 i
+word_fits i lt = record { fits = by_code }
+  where
+    by_code : (code : ℕ) → 0 < code_bits (slice_get s8.codes code) → i < 2 ^ code_bits (slice_get s8.codes code)
+    by_code zero h = lt
+    by_code (suc code) h = absurd (omega arith)
+
+-- ---- the words 03, 3f and 82 are right
+
+straight : IsStraight s8 (variables_of program.vars) (pairs_of stores) (image_with 63)
+straight = record {
+  places = refl;
+  words = 3 ∷ 63 ∷ [];
+  end = 130;
+  all = refl;
+  marks = refl;
+  assigns = (assign_of s8 3 0 3 (word_fits 3 (omega arith)) refl, (assign_of s8 63 1 31 (word_fits 63 (omega arith)) refl, tt));
+  ends = goto_of s8 130 2 (word_fits 130 (omega arith)) refl;
+  short = omega arith;
 }
 
--- the words 03, 3f and 82 are right
-right : IsRightCode s8 program (image_with 63)
-right = encoded_right plain program (image_with 63) rules fits (record { bits = refl; temps = refl; places = refl; costs = refl; marks = refl; words = refl })
+right : IsRightCode s8 5 program (image_with 63)
+right = right_of_straight s8 sound 5 program stores refl (image_with 63) straight
+    (record { temps = refl; places = refl; apart = (omega arith, (omega arith, omega arith)) })
+    (record { last = 2; words = refl; marks = refl })
 
 -- ---- with 3e in place of 3f, the image puts 30 into b, and isn't right
 
@@ -131,13 +132,17 @@ abbrev second_cell : List Passed → ℕ
 second_cell [] = 0
 second_cell (p ∷ ps) = slice_index p.cells 1
 
-wrong_refused : IsRightCode s8 program (image_with 62) → ⊥
+meant : second_cell (strace 5 program (0 ∷ 0 ∷ []) 1) ≡ 31
+unfolding run run_in
+meant = refl
+
+wrong_refused : IsRightCode s8 5 program (image_with 62) → ⊥
 wrong_refused isright =
-    let h : ShowsSource s8 (image_with 62) (strace program) start 1 = isright.traces.shows start start_fits 1 in
+    let h : ShowsSource s8 (image_with 62) (strace 5 program) start 1 = isright.traces.shows start start_fits 1 in
     differ h.entries (sym h.traced ∙ seen_wrong) h.passed
   where
-    differ : (es : List Entry) → Shows es ≡ Shows (record { cycle = 2; passed = record { label = End; cells = 3 ∷ 30 ∷ [] } } ∷ []) → take 1 (passed_of es) ≡ strace program (0 ∷ 0 ∷ []) 1 → ⊥
+    differ : (es : List Entry) → Shows es ≡ Shows (record { cycle = 2; passed = record { label = End; cells = 3 ∷ 30 ∷ [] } } ∷ []) → take 1 (passed_of es) ≡ strace 5 program (0 ∷ 0 ∷ []) 1 → ⊥
     differ es e p =
         let f : es ≡ record { cycle = 2; passed = record { label = End; cells = 3 ∷ 30 ∷ [] } } ∷ [] = cc in
-        let q : (let n : ℕ = 30 in n) ≡ 31 = sym (ap (λ (xs : List Entry). second_cell (take 1 (passed_of xs))) f) ∙ ap second_cell p in
+        let q : (let n : ℕ = 30 in n) ≡ 31 = sym (ap (λ (xs : List Entry). second_cell (take 1 (passed_of xs))) f) ∙ (ap second_cell p ∙ meant) in
         omega arith

@@ -1,6 +1,4 @@
-pub mod Netlists
-pub mod Programs
-pub mod Fits
-pub mod Right
-pub mod Encoding
+pub mod Stores
+pub mod Images
+pub mod Code
 pub mod First

@@ -1,24 +1,31 @@
 //! From the two texts to the image's.
 
-ghost use Rattle.std.specs.Prelude.{◌≡◌, ◌<◌, ◌^◌, IfOk, IfErr, List, MatchResult, length, map};
-ghost use Rattle.net_model.specs.Written.{entry_of};
-ghost use Rattle.src_model.specs.Written.{Listing, listing_of};
-ghost use Rattle.net_front.specs.Fronts.{IsNetFile};
-ghost use Rattle.src_parser.specs.Texts.{IsSrcText};
-ghost use Rattle.first_text.specs.First.{KeepsProgramRules};
-ghost use Rattle.first_text.specs.Plain.{KeepsRules};
-ghost use Rattle.first_path.specs.First.{IsFirstText, IsFirstImage, IsFirstFault, IsNetFault, IsReadFault, IsReadImage, IsSrcFault};
-ghost use Rattle.first_path.specs.Netlists.{netlist_of};
-ghost use Rattle.first_path.specs.Right.{IsRight};
+ghost use Rattle.std.specs.Prelude.{◌≡◌, ◌<◌, ◌≤◌, ◌^◌, IfOk, IfErr, length};
+ghost use Rattle.src_model.specs.Written.{listing_of};
+ghost use Rattle.net_front.specs.Fronts.{IsCheckedOf};
+ghost use Rattle.src_front.specs.Fronts.{IsSrcFile};
+ghost use Rattle.code_model.specs.Layout.{layout_of};
+ghost use Rattle.code_model.specs.Places.{Apart};
+ghost use Rattle.net_model.specs.Nets.{memory_size};
+ghost use Rattle.first_path.specs.Code.{AreStores, HasRoom, IsCode, IsCodeFault, IsNarrow};
+ghost use Rattle.first_path.specs.First.{IsCompiled, IsFirstFault, IsNetFault, IsNetRead, IsSrcFault};
 ghost use Rattle.first_path.specs.declared.compiler.FirstFault.{FirstFault};
 
-use crate::encoder::encode;
-use first_text::{FirstProgram, Plain, first_program, plain_netlist};
+use crate::image::straight_image;
+use crate::sizes::{cells, code_bits, code_words, word_width};
+use crate::stores::stores_of;
+use binding::{BindFault, bind};
+use code_model::Places;
 use net_front::{NetRefusal, read_net};
-use net_model::{NetFault, Units};
-use rec_bits::{NoMemory, ParseFault};
-use src_model::Program;
+use net_model::{Checked, NetFault};
+use rec_bits::{Items, NoMemory};
+use src_front::{SrcRefusal, read_src};
+use src_model::{SrcFault, Typed};
 use std::alloc::Global;
+use word_search::{SearchFault, Store, search};
+
+// The most bits of a word that are searched.
+const SEARCHED_BITS: u8 = 8;
 
 /// Why nothing was compiled.
 #[derive(Clone, Copy, Debug, PartialEq, Eq)]
@@ -29,10 +36,17 @@ pub enum FirstFault {
     Net(NetFault),
     /// The first bytes are a netlist's, and the second are no program text; the offset at which that shows.
     SrcText(u64),
-    /// The bytes are a netlist's and a program's, and the netlist is no plain one.
-    NotPlain,
-    /// The netlist is a plain one, and the program is no first program for it.
-    NotFirst,
+    /// They are one, and this is the first rule that it breaks for the words of the netlist.
+    Src(SrcFault),
+    /// The program needs more cells than the netlist's memory has.
+    DataFull { need: u64, have: u64 },
+    /// It has room, and the instruction words have more than 8 bits.
+    WideCode,
+    /// The instruction words are narrow, and the program isn't declarations of plain variables and assignments of one number each that have
+    /// an instruction word each, with one more for the end.
+    NotStraight,
+    /// It is, and this assignment is the first that no instruction word does; the number of assignments stands for the end.
+    NoWord(u32),
     /// Want of memory.
     Memory,
 }
@@ -45,68 +59,100 @@ impl From<NoMemory> for FirstFault {
     }
 }
 
-// The text of the program's image.
-fn image_of(alloc: Global, plain: &Plain, program: &FirstProgram) -> Result<Vec<u8>, NoMemory>
-    requires rules { KeepsRules plain.now }
-    requires program { KeepsProgramRules program.now plain.now.width plain.now.cells plain.now.words }
-    ensures { IfOk result (λ text. IsRight (netlist_of plain.now) program.now text.items) }
-{
-    let image = encode(alloc, plain, program)?;
-    let text = image_text::write(alloc, &image)?;
-    Ok(text)
-}
-
-// The items of the netlist.
-fn net_items(alloc: Global, net: &[u8]) -> Result<Units, FirstFault>
+// The netlist.
+fn netlist(alloc: Global, net: &[u8]) -> Result<Checked, FirstFault>
     requires { length net.now < 2 ^ 32 }
-    ensures found { IfOk result (λ units. IsNetFile net.now (map entry_of units.items)) }
+    ensures found { IfOk result (IsNetRead net.now) }
     ensures refused { IfErr result (IsNetFault net.now) }
 {
     match read_net(alloc, net) {
-        Ok((units, _)) => Ok(units),
+        Ok((_, checked)) => Ok(checked),
         Err(NetRefusal::Text(at)) => Err(FirstFault::NetText(at)),
         Err(NetRefusal::Fault(fault)) => Err(FirstFault::Net(fault)),
         Err(NetRefusal::Memory) => Err(FirstFault::Memory),
     }
 }
 
-// The program of the program's text.
-fn read_src(alloc: Global, src: &[u8]) -> Result<Program, FirstFault>
-    requires { length src.now < 2 ^ 32 }
-    ensures found { IfOk result (λ program. IsSrcText src.now (listing_of program)) }
-    ensures only { (listing : Listing) → IsSrcText src.now listing → MatchResult result (λ program. listing_of program ≡ listing) (λ fault. fault ≡ FirstFault.Memory) }
-    ensures refused { IfErr result (IsSrcFault src.now) }
+// The program, which was checked for words of so many bits.
+fn program(alloc: Global, src: &[u8], width: u8) -> Result<Typed, FirstFault>
+    requires short { length src.now < 2 ^ 32 }
+    requires some { 1 ≤ width }
+    requires most { width ≤ 64 }
+    ensures found { IfOk result (λ typed. IsSrcFile src.now width (listing_of typed.program)) }
+    ensures width { IfOk result (λ typed. typed.width ≡ width) }
+    ensures refused { IfErr result (IsSrcFault src.now width) }
 {
-    match src_parser::read(alloc, src) {
-        Ok(program) => Ok(program),
-        Err(ParseFault::Text(at)) => Err(FirstFault::SrcText(at)),
-        Err(ParseFault::Memory) => Err(FirstFault::Memory),
+    match read_src(alloc, src, width) {
+        Ok(typed) => Ok(typed),
+        Err(SrcRefusal::Text(at)) => Err(FirstFault::SrcText(at)),
+        Err(SrcRefusal::Fault(fault)) => Err(FirstFault::Src(fault)),
+        Err(SrcRefusal::Memory) => Err(FirstFault::Memory),
     }
 }
 
-// The text of the image of the program for the netlist of these items.
-fn compile_read(alloc: Global, units: &Units, program: &Program) -> Result<Vec<u8>, FirstFault>
-    ensures image { IfOk result (λ text. IsReadImage (map entry_of units.now.items) (listing_of program.now) text.items) }
-    ensures refused { IfErr result (IsReadFault (map entry_of units.now.items) (listing_of program.now)) }
+// The places of the program's variables.
+fn places(alloc: Global, checked: &Checked, typed: &Typed) -> Result<Places, FirstFault>
+    requires { length typed.now.program.vars < 2 ^ 32 }
+    ensures places { IfOk result (λ places. places ≡ layout_of typed.now.width (listing_of typed.now.program)) }
+    ensures room { IfOk result (λ _. HasRoom checked.now.netlist typed.now.width (listing_of typed.now.program)) }
+    ensures apart { IfOk result (λ places. Apart places.temps places.list (memory_size checked.now.netlist.storages)) }
+    ensures refused { IfErr result (IsCodeFault checked.now.netlist typed.now.width (listing_of typed.now.program)) }
 {
-    let Some(plain) = plain_netlist(alloc, units)? else {
-        return Err(FirstFault::NotPlain);
+    match bind(alloc, typed, cells(checked)) {
+        Ok(places) => Ok(places),
+        Err(BindFault::DataFull { need, have }) => Err(FirstFault::DataFull { need, have }),
+        Err(BindFault::Memory) => Err(FirstFault::Memory),
+    }
+}
+
+// The assignments of the program, where it is straight and its words are searched.
+fn stores(alloc: Global, checked: &Checked, typed: &Typed) -> Result<Items<Store>, FirstFault>
+    requires few { length typed.now.program.vars < 2 ^ 32 }
+    requires room { HasRoom checked.now.netlist typed.now.width (listing_of typed.now.program) }
+    ensures narrow { IfOk result (λ _. IsNarrow checked.now.netlist typed.now.width (listing_of typed.now.program)) }
+    ensures stores { IfOk result (AreStores checked.now.netlist (listing_of typed.now.program)) }
+    ensures short { IfOk result (λ stores. length stores < 2 ^ 32) }
+    ensures refused { IfErr result (IsCodeFault checked.now.netlist typed.now.width (listing_of typed.now.program)) }
+{
+    if code_bits(checked) > SEARCHED_BITS {
+        return Err(FirstFault::WideCode);
+    }
+    let Some(stores) = stores_of(alloc, typed.program())? else {
+        return Err(FirstFault::NotStraight);
     };
-    let Some(first) = first_program(alloc, program, plain.width, plain.cells, plain.words)? else {
-        return Err(FirstFault::NotFirst);
+    if stores.len() as u64 >= u64::from(code_words(checked)) {
+        return Err(FirstFault::NotStraight);
+    }
+    Ok(stores)
+}
+
+// The text of the image of the program for the netlist.
+fn code(alloc: Global, checked: &Checked, typed: &Typed) -> Result<Vec<u8>, FirstFault>
+    requires few { length typed.now.program.vars < 2 ^ 32 }
+    ensures code { IfOk result (λ text. IsCode text.items checked.now.netlist typed.now.width (listing_of typed.now.program)) }
+    ensures refused { IfErr result (IsCodeFault checked.now.netlist typed.now.width (listing_of typed.now.program)) }
+{
+    let places = places(alloc, checked, typed)?;
+    let stores = stores(alloc, checked, typed)?;
+    let words = match search(alloc, checked, stores.as_slice()) {
+        Ok(words) => words,
+        Err(SearchFault::NoWord(number)) => return Err(FirstFault::NoWord(number)),
+        Err(SearchFault::Memory) => return Err(FirstFault::Memory),
     };
-    Ok(image_of(alloc, &plain, &first)?)
+    let end = stores.len() as u32;
+    let image = straight_image(alloc, code_bits(checked), places, words.as_slice(), end)?;
+    let text = image_text::write(alloc, &image)?;
+    Ok(text)
 }
 
 /// The text of the image of the program that `src` is, for the netlist that `net` is.
 pub fn compile(alloc: Global, net: &[u8], src: &[u8]) -> Result<Vec<u8>, FirstFault>
     requires net { length net.now < 2 ^ 32 }
     requires src { length src.now < 2 ^ 32 }
-    ensures taken { IfOk result (λ _. IsFirstText net.now src.now) }
-    ensures right { IfOk result (λ text. IsFirstImage net.now src.now text.items) }
+    ensures right { IfOk result (λ text. IsCompiled net.now src.now text.items) }
     ensures refused { IfErr result (IsFirstFault net.now src.now) }
 {
-    let units = net_items(alloc, net)?;
-    let program = read_src(alloc, src)?;
-    compile_read(alloc, &units, &program)
+    let checked = netlist(alloc, net)?;
+    let typed = program(alloc, src, word_width(&checked))?;
+    code(alloc, &checked, &typed)
 }

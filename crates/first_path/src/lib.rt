@@ -1,7 +1,9 @@
-//! The compiler of the simple texts that are taken so far: plain netlists and first programs.
+//! The compiler of straight programs for netlists of narrow instruction words: from the texts of a netlist and a program to that of an image.
 #![tactic(auto)]
 
 mod compiler;
-mod encoder;
+mod image;
+mod sizes;
+mod stores;
 
 pub use compiler::{FirstFault, compile};

@@ -1,0 +1,5 @@
+mod Progress
+mod Marks
+mod Machine
+pub mod Whole
+mod Again

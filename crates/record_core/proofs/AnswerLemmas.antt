@@ -1,17 +1,18 @@
 -- What the words answer, by how the fetches end.
-use Rattle.std.proofs.Common.{◌≡◌, ℕ, ◌⊎◌, List, [], ◌∷◌, drop, get_or, Some, refl, inl, inr, arith, ap, ◌∙◌}
+use Rattle.std.proofs.Common.{◌≡◌, ℕ, ◌⊎◌, List, [], ◌∷◌, take, drop, get_or, Some, None, refl, inl, inr, arith, ap, ◌∙◌}
+use Rattle.std.specs.Prelude.{codes}
 use Rattle.std.specs.declared.option.Option.{Option}
 use Rattle.rec_io.specs.Files.{Files}
 use Rattle.rec_io.specs.Shelf.{ShelfState}
 use Rattle.rec_io.specs.Sink.{SinkState}
 use Rattle.record_core.proofs.StageLemmas.{By-none}
-use Rattle.record_core.specs.Answers.{Answers, CompileAnswers, FormAnswers, IsReadFault, IsTooLong, AreFiles, Gives, Puts}
+use Rattle.record_core.specs.Answers.{Answers, CompileAnswers, RunAnswers, FormAnswers, IsReadFault, IsTooLong, AreFiles, Gives, Puts}
 use Rattle.record_core.specs.Fetch.{FetchStops, FetchPasses}
 use Rattle.record_core.specs.Lines.{due_line, IsRefusal}
-use Rattle.record_core.specs.Words.{Compile, form_of, IsCommand}
+use Rattle.record_core.specs.Words.{Form, Compile, Run, run_form, form_of, names_of, clocks_of, IsCommand}
 use Rattle.record_core.specs.declared.status.Status.{Status}
 use Rattle.record_core.specs.declared.status.Status.TheVariants.{Memory, ReadFault, TooLong}
-use Rattle.record_core.specs.declared.words.Command.TheVariants.{Compile as CompileCommand}
+use Rattle.record_core.specs.declared.words.Command.TheVariants.{Compile as CompileCommand, Run as RunCommand}
 
 no_read_fault : (names : List (List ℕ)) (before now : ShelfState) → FetchPasses now → (file : ℕ) → IsReadFault names before now file → ⊥
 no_read_fault names before now passes file fault = let a = passes.ended in let b = fault.failed in cc
@@ -23,39 +24,77 @@ no_long_file names before now passes at long = let a = passes.short in let b = l
 no_read_fault_at_long : (names : List (List ℕ)) (before now : ShelfState) (at : ℕ × ℕ) → IsTooLong names before now at → (file : ℕ) → IsReadFault names before now file → ⊥
 no_read_fault_at_long names before now at long file fault = let a = long.ended in let b = fault.failed in cc
 
--- the fetches of `compile` stopped
-pub answers_stopped : (words names : List (List ℕ)) (before now : ShelfState) (status : Status) → IsCommand words CompileCommand → names ≡ drop 1 words → FetchStops names before now status → (status ≡ Memory) ⊎ Answers words before now status (due_line words [] status)
-answers_stopped words names before now status (net, src, is) same stops =
-    let names_are : names ≡ net ∷ src ∷ [] = rw is at same in
-    rw is (elim (rw names_are at stops) [
+-- the fetches of a form's files stopped
+pub answers_stopped : (words names : List (List ℕ)) (form : Form) (before now : ShelfState) (status : Status) → form_of words ≡ Some form → names ≡ names_of form → FetchStops names before now status → (status ≡ Memory) ⊎ Answers words before now status (due_line words [] None status)
+answers_stopped words names form before now status is same stops =
+    rw is (elim (rw same at stops) [
       | inl memory ↦ inl memory
       | inr reason ↦ inr (elim reason [
         | inl read ↦ inl (read, refl)
-        | inr long ↦ inr (By-none ReadFault (IsReadFault (net ∷ src ∷ []) before now) (no_read_fault_at_long (net ∷ src ∷ []) before now long.0 long.1), inl (long, refl))
+        | inr long ↦ inr (By-none ReadFault (IsReadFault (names_of form) before now) (no_read_fault_at_long (names_of form) before now long.0 long.1), inl (long, refl))
       ])
     ])
 
-form_answers : (line : List ℕ → Status → List ℕ) (net src : List ℕ) (contents : List (List ℕ)) (files : Option Files) (status : Status) (text : List ℕ) → AreFiles files (net ∷ src ∷ []) contents
-    → CompileAnswers (line (get_or contents 0 [])) (get_or contents 0 []) (get_or contents 1 []) status text → FormAnswers line files (Compile net src) status text
-form_answers line net src (a ∷ b ∷ []) files status text held answers = (a, b, held.0, held.1.0, answers)
-form_answers line net src [] files status text held answers = absurd held
-form_answers line net src (a ∷ []) files status text held answers = absurd held.1
-form_answers line net src (a ∷ b ∷ d ∷ rest) files status text held answers = absurd held.1.1
+-- they passed, so the words answer what the form does on the files
+pub answers_fetched : (words : List (List ℕ)) (form : Form) (before now : ShelfState) → form_of words ≡ Some form → FetchPasses now → (status : Status) (text : List ℕ) → FormAnswers (due_line words) before.files form status text → Answers words before now status text
+answers_fetched words form before now is passes status text answers =
+    rw is (
+    inr (
+      By-none ReadFault (IsReadFault (names_of form) before now) (no_read_fault (names_of form) before now passes),
+      inr (By-none (λ (p : ℕ × ℕ). TooLong p.0 p.1) (IsTooLong (names_of form) before now) (no_long_file (names_of form) before now passes), answers),
+    ))
+
+-- ---- `compile`
+
+compile_answers : (line : List ℕ → Option ℕ → Status → List ℕ) (net src : List ℕ) (contents : List (List ℕ)) (files : Option Files) (status : Status) (text : List ℕ) → AreFiles files (net ∷ src ∷ []) contents
+    → CompileAnswers (line (get_or contents 0 []) None) (get_or contents 0 []) (get_or contents 1 []) status text → FormAnswers line files (Compile net src) status text
+compile_answers line net src (a ∷ b ∷ []) files status text held answers = (a, b, held.0, held.1.0, answers)
+compile_answers line net src [] files status text held answers = absurd held
+compile_answers line net src (a ∷ []) files status text held answers = absurd held.1
+compile_answers line net src (a ∷ b ∷ d ∷ rest) files status text held answers = absurd held.1.1
+
+-- the words of `compile` have its form, and name its files
+pub compile_stopped : (words names : List (List ℕ)) (before now : ShelfState) (status : Status) → IsCommand words CompileCommand → names ≡ drop 1 words → FetchStops names before now status → (status ≡ Memory) ⊎ Answers words before now status (due_line words [] None status)
+compile_stopped words names before now status (net, src, is) same stops =
+    answers_stopped words names (Compile net src) before now status (rw is refl) (rw is at same) stops
 
 -- the fetches of `compile` passed, so the words answer what the two texts do
-pub answers_compiled : (words names contents : List (List ℕ)) (net src : List ℕ) (before now : ShelfState) → IsCommand words CompileCommand → names ≡ drop 1 words → FetchPasses now → AreFiles before.files names contents
-    → net ≡ get_or contents 0 [] → src ≡ get_or contents 1 [] → (status : Status) (text : List ℕ) → CompileAnswers (due_line words net) net src status text → Answers words before now status text
-answers_compiled words names contents net src before now (net_name, src_name, is) same passes files net_is src_is status text answers =
+pub compile_passed : (words names contents : List (List ℕ)) (net src : List ℕ) (before now : ShelfState) → IsCommand words CompileCommand → names ≡ drop 1 words → FetchPasses now → AreFiles before.files names contents
+    → net ≡ get_or contents 0 [] → src ≡ get_or contents 1 [] → (status : Status) (text : List ℕ) → CompileAnswers (due_line words net None) net src status text → Answers words before now status text
+compile_passed words names contents net src before now (net_name, src_name, is) same passes files net_is src_is status text answers =
     let names_are : names ≡ net_name ∷ src_name ∷ [] = rw is at same in
     let held : AreFiles before.files (net_name ∷ src_name ∷ []) contents = rw names_are at files in
-    let form : FormAnswers (due_line words) before.files (Compile net_name src_name) status text =
-    form_answers (due_line words) net_name src_name contents before.files status text held (rw (← net_is, ← src_is) answers) in
-    let form_is : form_of words ≡ Some (Compile net_name src_name) = rw is refl in
-    rw form_is (
-    inr (
-      By-none ReadFault (IsReadFault (net_name ∷ src_name ∷ []) before now) (no_read_fault (net_name ∷ src_name ∷ []) before now passes),
-      inr (By-none (λ (p : ℕ × ℕ). TooLong p.0 p.1) (IsTooLong (net_name ∷ src_name ∷ []) before now) (no_long_file (net_name ∷ src_name ∷ []) before now passes), form),
-    ))
+    answers_fetched words (Compile net_name src_name) before now (rw is refl) passes status text
+    (compile_answers (due_line words) net_name src_name contents before.files status text held (rw (← net_is, ← src_is) answers))
+
+-- ---- `run`
+
+run_answers : (line : List ℕ → Option ℕ → Status → List ℕ) (net image memory : List ℕ) (clocks : ℕ) (contents : List (List ℕ)) (files : Option Files) (status : Status) (text : List ℕ) → AreFiles files (net ∷ image ∷ memory ∷ []) contents
+    → RunAnswers (line (get_or contents 0 [])) (get_or contents 0 []) (get_or contents 1 []) (get_or contents 2 []) clocks status text → FormAnswers line files (Run net image memory clocks) status text
+run_answers line net image memory clocks (a ∷ b ∷ d ∷ []) files status text held answers = (a, b, d, held.0, held.1.0, held.1.1.0, answers)
+run_answers line net image memory clocks [] files status text held answers = absurd held
+run_answers line net image memory clocks (a ∷ []) files status text held answers = absurd held.1
+run_answers line net image memory clocks (a ∷ b ∷ []) files status text held answers = absurd held.1.1
+run_answers line net image memory clocks (a ∷ b ∷ d ∷ e ∷ rest) files status text held answers = absurd held.1.1.1
+
+-- the form of the words of `run`
+run_form_is : (words : List (List ℕ)) (net image memory text : List ℕ) (clocks : ℕ) → words ≡ codes "run" ∷ net ∷ image ∷ memory ∷ text ∷ [] → clocks_of text ≡ Some clocks → form_of words ≡ Some (Run net image memory clocks)
+run_form_is words net image memory text clocks is number = rw is (ap (run_form net image memory) number)
+
+pub run_stopped : (words names : List (List ℕ)) (clocks : ℕ) (before now : ShelfState) (status : Status) → IsCommand words (RunCommand clocks) → names ≡ take 3 (drop 1 words) → FetchStops names before now status → (status ≡ Memory) ⊎ Answers words before now status (due_line words [] None status)
+run_stopped words names clocks before now status (net, image, memory, text, is, number) same stops =
+    answers_stopped words names (Run net image memory clocks) before now status (run_form_is words net image memory text clocks is number) (rw is at same) stops
+
+-- the fetches of `run` passed, so the words answer what the three texts do
+pub run_passed : (words names contents : List (List ℕ)) (clocks : ℕ) (net image memory : List ℕ) (before now : ShelfState) → IsCommand words (RunCommand clocks) → names ≡ take 3 (drop 1 words) → FetchPasses now → AreFiles before.files names contents
+    → net ≡ get_or contents 0 [] → image ≡ get_or contents 1 [] → memory ≡ get_or contents 2 [] → (status : Status) (text : List ℕ) → RunAnswers (due_line words net) net image memory clocks status text → Answers words before now status text
+run_passed words names contents clocks net image memory before now (net_name, image_name, memory_name, word, is, number) same passes files net_is image_is memory_is status text answers =
+    let names_are : names ≡ net_name ∷ image_name ∷ memory_name ∷ [] = rw is at same in
+    let held : AreFiles before.files (net_name ∷ image_name ∷ memory_name ∷ []) contents = rw names_are at files in
+    answers_fetched words (Run net_name image_name memory_name clocks) before now (run_form_is words net_name image_name memory_name word clocks is number) passes status text
+    (run_answers (due_line words) net_name image_name memory_name clocks contents before.files status text held (rw (← net_is, ← image_is, ← memory_is) answers))
+
+-- ---- what is put
 
 -- a refusal whose line was put
 pub gives_refused : (words : List (List ℕ)) (before now : ShelfState) (old new : SinkState) (status result : Status) (text : List ℕ) → (status ≡ Memory → ⊥) → (status ≡ Memory) ⊎ Answers words before now status text → Puts old new text status result → Gives words before now old new result
@@ -64,7 +103,7 @@ gives_refused words before now old new status result text room (inr due) put =
     record { due = status; text = text; answer = inr due; put = put }
 
 -- a refusal, made of its status and the line that is due
-pub refused_by : (words : List (List ℕ)) (before now : ShelfState) (net : List ℕ) (status refused : Status) (line : List ℕ) → IsRefusal words net status refused line → (status ≡ Memory) ⊎ Answers words before now status (due_line words net status) → (refused ≡ Memory) ⊎ Answers words before now refused line
-refused_by words before now net status refused line (inl memory) answers = inl memory
-refused_by words before now net status refused line (inr (is, text)) (inl memory) = inl (is ∙ memory)
-refused_by words before now net status refused line (inr (is, text)) (inr due) = inr (rw (is, text) due)
+pub refused_by : (words : List (List ℕ)) (before now : ShelfState) (net : List ℕ) (bus : Option ℕ) (status refused : Status) (line : List ℕ) → IsRefusal words net bus status refused line → (status ≡ Memory) ⊎ Answers words before now status (due_line words net bus status) → (refused ≡ Memory) ⊎ Answers words before now refused line
+refused_by words before now net bus status refused line (inl memory) answers = inl memory
+refused_by words before now net bus status refused line (inr (is, text)) (inl memory) = inl (is ∙ memory)
+refused_by words before now net bus status refused line (inr (is, text)) (inr due) = inr (rw (is, text) due)

@@ -1,46 +1,77 @@
 -- What `compile` answers for two texts.
-use Rattle.std.proofs.Common.{ℕ, List, inl, inr, refl}
+use Rattle.std.proofs.Common.{◌≡◌, ℕ, List, inl, inr, refl}
 use Rattle.net_front.proofs.FrontLaws.{no_text_fault, no_broken_rule}
 use Rattle.net_front.specs.Fronts.{BreaksRule}
 use Rattle.net_model.specs.declared.fault.NetFault.{NetFault}
 use Rattle.net_parser.specs.Texts.{IsNoNetText}
-use Rattle.src_parser.proofs.TextFaults.{no_fault_of_src_text}
+use Rattle.src_front.proofs.FrontLaws.{no_text_fault as no_src_fault}
+use Rattle.src_model.specs.declared.fault.SrcFault.{SrcFault}
 use Rattle.src_parser.specs.Texts.{IsNoSrcText}
-use Rattle.first_path.proofs.FirstLemmas.{plain_of, has_net, has_src}
-use Rattle.first_path.specs.First.{HasNet, HasSrcText, IsPlainText, IsFirstText, IsFirstImage}
+use Rattle.first_path.proofs.FirstLemmas.{has_net, none_broken, weaker, no_full, no_wide, no_crooked, no_wordless, narrow_of_code, straight_of_code}
+use Rattle.first_path.specs.declared.compiler.FirstFault.TheVariants.{WideCode, NotStraight, NoWord as Wordless}
+use Rattle.first_path.specs.Code.{Property, IsFull, IsWide, IsNotStraight, IsWordless, IsCode, FailsWith, HasRoom, IsNarrow, HasStores}
+use Rattle.first_path.specs.First.{HasNet, Holds, IsCompiled, BreaksSrc}
 use Rattle.record_core.proofs.StageLemmas.{By-none}
-use Rattle.record_core.specs.Answers.{CompileAnswers, IsNoNet, IsNoProgram}
-use Rattle.record_core.specs.Stages.{By}
+use Rattle.record_core.specs.Answers.{CompileAnswers, IsLater}
+use Rattle.record_core.specs.Stages.{By, Then}
 use Rattle.record_core.specs.declared.status.Status.{Status}
-use Rattle.record_core.specs.declared.status.Status.TheVariants.{Done, NetText, Net, SrcText, Later}
+use Rattle.record_core.specs.declared.status.Status.TheVariants.{Done, NetText, Net, SrcText, Src, DataFull, Later, NoWord}
 
 module _ (line : Status → List ℕ) (net src : List ℕ) where
-  -- the stages that a text passes
-  net_text_passes : HasNet net → (status : Status) → By NetText (IsNoNetText net) status → ⊥
-  net_text_passes h = By-none NetText (IsNoNetText net) (λ at faulty. no_text_fault net h.entries at h.file.says faulty)
+  -- the later stages, by what the texts passed so far
+  abbrev word_answers : Status → List ℕ → Type 0
+  word_answers = Then line (By NoWord (λ (number : ℕ). Holds net src (IsWordless number))) (λ status text. (status ≡ Done) × IsCompiled net src text)
 
-  rules_pass : HasNet net → (status : Status) → By Net (BreaksRule net) status → ⊥
-  rules_pass h = By-none Net (BreaksRule net) (λ fault breaks. no_broken_rule net h.entries fault h.file breaks)
+  abbrev straight_answers : Status → List ℕ → Type 0
+  straight_answers = Then line (By Later (IsLater 1 net src IsNotStraight)) word_answers
 
-  src_text_passes : HasSrcText src → (status : Status) → By SrcText (IsNoSrcText src) status → ⊥
-  src_text_passes h = By-none SrcText (IsNoSrcText src) (λ at none. no_fault_of_src_text src h.listing at h.text none)
+  abbrev wide_answers : Status → List ℕ → Type 0
+  wide_answers = Then line (By Later (IsLater 0 net src IsWide)) straight_answers
 
-  net_passes : IsPlainText net → (status : Status) → By Later (IsNoNet net) status → ⊥
-  net_passes h = By-none Later (IsNoNet net) (λ file reason. reason.1 h)
+  abbrev room_answers : Status → List ℕ → Type 0
+  room_answers = Then line (By (λ (p : ℕ × ℕ). DataFull p.0 p.1) (λ (p : ℕ × ℕ). Holds net src (IsFull p.0 p.1))) wide_answers
 
-  pub answers_done : (out : List ℕ) → IsFirstText net src → IsFirstImage net src out → CompileAnswers line net src Done out
-  answers_done out first right =
-      let plain = plain_of net src first in
-      inr (
-        net_text_passes (has_net net plain),
-        inr (
-          rules_pass (has_net net plain),
-          inr (
-            src_text_passes (has_src net src first),
-            inr (net_passes plain, inr (By-none Later (IsNoProgram net src) (λ file reason. reason.2 first), (refl, right))),
-          ),
-        ),
-      )
+  abbrev source_answers : Status → List ℕ → Type 0
+  source_answers = Then line (By SrcText (IsNoSrcText src)) (Then line (By Src (BreaksSrc net src)) room_answers)
+
+  -- a netlist's text passes the stages of the netlist
+  past_net : HasNet net → (status : Status) (text : List ℕ) → source_answers status text → CompileAnswers line net src status text
+  past_net h status text later = inr (
+    By-none NetText (IsNoNetText net) (λ at faulty. no_text_fault net h.entries at h.file.says faulty),
+    inr (By-none Net (BreaksRule net) (λ fault breaks. no_broken_rule net h.entries fault h.file breaks), later),
+  )
+
+  -- a program for it passes those of the program
+  past_program : (P : Property) → Holds net src P → (status : Status) (text : List ℕ) → room_answers status text → CompileAnswers line net src status text
+  past_program P h status text later = past_net (has_net net src P h) status text (inr (
+    By-none SrcText (IsNoSrcText src) (λ at faulty. no_src_fault src h.listing at h.files.src_file.says faulty),
+    inr (By-none Src (BreaksSrc net src) (λ fault breaks. none_broken net src P fault h breaks), later),
+  ))
+
+  -- one that has room passes that of the room, and so on
+  past_room : Holds net src HasRoom → (status : Status) (text : List ℕ) → wide_answers status text → CompileAnswers line net src status text
+  past_room h status text later = past_program HasRoom h status text (inr (
+    By-none (λ (p : ℕ × ℕ). DataFull p.0 p.1) (λ (p : ℕ × ℕ). Holds net src (IsFull p.0 p.1)) (λ p full. no_full net src p.0 p.1 h full),
+    later,
+  ))
+
+  past_wide : Holds net src IsNarrow → (status : Status) (text : List ℕ) → straight_answers status text → CompileAnswers line net src status text
+  past_wide h status text later = past_room (weaker net src IsNarrow HasRoom (λ n w l narrow. narrow.room) h) status text (inr (
+    By-none Later (IsLater 0 net src IsWide) (λ file reason. no_wide net src h reason.1),
+    later,
+  ))
+
+  past_straight : Holds net src IsNarrow → Holds net src HasStores → (status : Status) (text : List ℕ) → word_answers status text → CompileAnswers line net src status text
+  past_straight h straight status text later = past_wide h status text (inr (
+    By-none Later (IsLater 1 net src IsNotStraight) (λ file reason. no_crooked net src straight reason.1),
+    later,
+  ))
+
+  pub answers_done : (out : List ℕ) → IsCompiled net src out → CompileAnswers line net src Done out
+  answers_done out code = past_straight (narrow_of_code net src out code) (straight_of_code net src out code) Done out (inr (
+    By-none NoWord (λ (number : ℕ). Holds net src (IsWordless number)) (λ number lacks. no_wordless net src out number code lacks),
+    (refl, code),
+  ))
 
   pub answers_no_net_text : (at : ℕ) → IsNoNetText net at → CompileAnswers line net src (NetText at) (line (NetText at))
   answers_no_net_text at none = inl ((at, none, refl), refl)
@@ -50,27 +81,40 @@ module _ (line : Status → List ℕ) (net src : List ℕ) where
       inr (By-none NetText (IsNoNetText net) (λ at faulty. no_text_fault net breaks.entries at breaks.says faulty), inl ((fault, breaks, refl), refl))
 
   pub answers_no_src_text : (at : ℕ) → HasNet net × IsNoSrcText src at → CompileAnswers line net src (SrcText at) (line (SrcText at))
-  answers_no_src_text at (has, none) = inr (net_text_passes has, inr (rules_pass has, inl ((at, none, refl), refl)))
+  answers_no_src_text at (has, none) = past_net has (SrcText at) (line (SrcText at)) (inl ((at, none, refl), refl))
 
-  pub answers_no_net : HasNet net × HasSrcText src × (IsPlainText net → ⊥) → CompileAnswers line net src (Later 0) (line (Later 0))
-  answers_no_net (has, has_source, none) =
-      inr (net_text_passes has, inr (rules_pass has, inr (src_text_passes has_source, inl ((0, (refl, none), refl), refl))))
+  pub answers_broken_src : (fault : SrcFault) → BreaksSrc net src fault → CompileAnswers line net src (Src fault) (line (Src fault))
+  answers_broken_src fault breaks = past_net (record { entries = breaks.entries; file = breaks.net_file }) (Src fault) (line (Src fault)) (inr (
+    By-none SrcText (IsNoSrcText src) (λ at faulty. no_src_fault src breaks.breaks.listing at breaks.breaks.says faulty),
+    inl ((fault, breaks, refl), refl),
+  ))
 
-  pub answers_no_program : HasSrcText src × IsPlainText net × (IsFirstText net src → ⊥) → CompileAnswers line net src (Later 1) (line (Later 1))
-  answers_no_program (has_source, plain, none) =
-      inr (
-        net_text_passes (has_net net plain),
-        inr (
-          rules_pass (has_net net plain),
-          inr (src_text_passes has_source, inr (net_passes plain, inl ((1, (refl, plain, none), refl), refl))),
-        ),
-      )
+  pub answers_full : (need have : ℕ) → Holds net src (IsFull need have) → CompileAnswers line net src (DataFull need have) (line (DataFull need have))
+  answers_full need have full = past_program (IsFull need have) full (DataFull need have) (line (DataFull need have)) (inl (((need, have), full, refl), refl))
+
+  pub answers_wide : Holds net src (FailsWith WideCode) → CompileAnswers line net src (Later 0) (line (Later 0))
+  answers_wide h = past_room (weaker net src (FailsWith WideCode) HasRoom (λ n w l both. both.0) h) (Later 0) (line (Later 0))
+      (inl ((0, (refl, weaker net src (FailsWith WideCode) IsWide (λ n w l both. both.1) h), refl), refl))
+
+  pub answers_crooked : Holds net src (FailsWith NotStraight) → CompileAnswers line net src (Later 1) (line (Later 1))
+  answers_crooked h = past_wide (weaker net src (FailsWith NotStraight) IsNarrow (λ n w l both. both.0) h) (Later 1) (line (Later 1))
+      (inl ((1, (refl, weaker net src (FailsWith NotStraight) IsNotStraight (λ n w l both. both.1) h), refl), refl))
+
+  pub answers_wordless : (number : ℕ) → Holds net src (FailsWith (Wordless number)) → CompileAnswers line net src (NoWord number) (line (NoWord number))
+  answers_wordless number h =
+      past_straight (weaker net src (FailsWith (Wordless number)) IsNarrow (λ n w l both. both.0) h)
+      (weaker net src (FailsWith (Wordless number)) HasStores (λ n w l both. record { stores = both.1.stores; are = both.1.are }) h)
+      (NoWord number) (line (NoWord number))
+      (inl ((number, weaker net src (FailsWith (Wordless number)) (IsWordless number) (λ n w l both. both.1) h, refl), refl))
 
 -- what is written on `Done` is an image
-pub right_of : (line : Status → List ℕ) (net src text : List ℕ) → CompileAnswers line net src Done text → IsFirstImage net src text
+pub right_of : (line : Status → List ℕ) (net src text : List ℕ) → CompileAnswers line net src Done text → IsCompiled net src text
 right_of line net src text (inl ((at, reason, is), same)) = absurd cc
 right_of line net src text (inr (net_text, inl ((fault, reason, is), same))) = absurd cc
 right_of line net src text (inr (net_text, inr (rules, inl ((at, reason, is), same)))) = absurd cc
-right_of line net src text (inr (net_text, inr (rules, inr (src_text, inl ((file, reason, is), same))))) = absurd cc
-right_of line net src text (inr (net_text, inr (rules, inr (src_text, inr (net_is, inl ((file, reason, is), same)))))) = absurd cc
-right_of line net src text (inr (net_text, inr (rules, inr (src_text, inr (net_is, inr (program_is, (is, right))))))) = right
+right_of line net src text (inr (net_text, inr (rules, inr (src_text, inl ((fault, reason, is), same))))) = absurd cc
+right_of line net src text (inr (net_text, inr (rules, inr (src_text, inr (src_rules, inl ((p, reason, is), same)))))) = absurd cc
+right_of line net src text (inr (net_text, inr (rules, inr (src_text, inr (src_rules, inr (room, inl ((file, reason, is), same))))))) = absurd cc
+right_of line net src text (inr (net_text, inr (rules, inr (src_text, inr (src_rules, inr (room, inr (wide, inl ((file, reason, is), same)))))))) = absurd cc
+right_of line net src text (inr (net_text, inr (rules, inr (src_text, inr (src_rules, inr (room, inr (wide, inr (straight, inl ((number, reason, is), same))))))))) = absurd cc
+right_of line net src text (inr (net_text, inr (rules, inr (src_text, inr (src_rules, inr (room, inr (wide, inr (straight, inr (word, (is, right)))))))))) = right

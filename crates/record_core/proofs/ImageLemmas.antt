@@ -1,4 +1,4 @@
--- The image that is written on `Done`.
+-- What is written on `Done`.
 use Rattle.std.proofs.Common.{◌≡◌, ℕ, List, Some, None, IfSome, refl, sym, ◌∙◌, inl, inr}
 use Rattle.std.specs.declared.option.Option.{Option}
 use Rattle.rec_io.specs.Files.{Files}
@@ -6,46 +6,64 @@ use Rattle.rec_io.specs.Shelf.{ShelfState}
 use Rattle.rec_io.specs.Sink.{SinkState}
 use Rattle.rec_io.specs.Written.{Takes}
 use Rattle.record_core.proofs.CompileLemmas.{right_of}
-use Rattle.record_core.specs.Answers.{FilesAnswer, FormAnswers, Gives, HasImage}
+use Rattle.record_core.proofs.RunLemmas.{state_of}
+use Rattle.record_core.specs.Answers.{FilesAnswer, FormAnswers, Gives, WroteImage, WroteState}
 use Rattle.record_core.specs.Lines.{due_line}
-use Rattle.record_core.specs.Words.{Form, Compile, form_of}
+use Rattle.record_core.specs.Words.{Form, Compile, Run, form_of}
 use Rattle.record_core.specs.declared.status.Status.{Status}
 use Rattle.record_core.specs.declared.status.Status.TheVariants.{Done}
 
--- the promise of `image`, apart from what tells the files and the bytes
-abbrev ImageIn : List (List ℕ) → Option Files → Option (List ℕ) → Option (List ℕ) → Type 0
-ImageIn words files old new = IfSome files (λ all. IfSome old (λ before. IfSome new (HasImage words all before)))
+-- by the form: what is written on `Done`
+abbrev Wrote : Form → Option Files → Option (List ℕ) → Option (List ℕ) → Type 0
+Wrote (Compile net src) files old new = WroteImage net src files old new
+Wrote (Run net image memory clocks) files old new = WroteState net image memory clocks files old new
 
-form_image : (line : List ℕ → Status → List ℕ) (words : List (List ℕ)) (form : Form) (files : Option Files) (old new : Option (List ℕ)) (text : List ℕ) → form_of words ≡ Some form → FormAnswers line files form Done text → Takes old new text → ImageIn words files old new
-form_image line words form None old new text is answers taken = tt
-form_image line words form (Some all) None new text is answers taken = tt
-form_image line words form (Some all) (Some before) None text is answers taken = tt
-form_image line words (Compile n m) (Some all) (Some before) (Some now) text is (net, src, p, q, answers) taken = record {
-  net_name = n;
-  src_name = m;
+form_wrote : (line : List ℕ → Option ℕ → Status → List ℕ) (form : Form) (files : Option Files) (old new : Option (List ℕ)) (text : List ℕ) → FormAnswers line files form Done text → Takes old new text → Wrote form files old new
+form_wrote line (Compile n m) None old new text answers taken = tt
+form_wrote line (Compile n m) (Some all) None new text answers taken = tt
+form_wrote line (Compile n m) (Some all) (Some before) None text answers taken = tt
+form_wrote line (Compile n m) (Some all) (Some before) (Some now) text (net, src, p, q, answers) taken = record {
   net = net;
   src = src;
   out = text;
-  form = is;
   net_file = p.same;
   src_file = q.same;
   taken = cc;
-  right = right_of (line net) net src text answers;
+  right = right_of (line net None) net src text answers;
+}
+form_wrote line (Run n i m clocks) None old new text answers taken = tt
+form_wrote line (Run n i m clocks) (Some all) None new text answers taken = tt
+form_wrote line (Run n i m clocks) (Some all) (Some before) None text answers taken = tt
+form_wrote line (Run n i m clocks) (Some all) (Some before) (Some now) text (net, image, memory, p, q, r, answers) taken = record {
+  net = net;
+  image = image;
+  memory = memory;
+  out = text;
+  net_file = p.same;
+  image_file = q.same;
+  memory_file = r.same;
+  taken = cc;
+  shows = state_of (line net) net image memory clocks text answers;
 }
 
-files_image : (line : List ℕ → Status → List ℕ) (words : List (List ℕ)) (form : Option Form) (before now : ShelfState) (old new : Option (List ℕ)) (text : List ℕ) → form_of words ≡ form → FilesAnswer line form before now Done text → Takes old new text → ImageIn words before.files old new
-files_image line words None before now old new text is answer taken = absurd (let e = answer.0 in cc)
-files_image line words (Some form) before now old new text is (inl (read, t)) taken = absurd (let e = read.2 in cc)
-files_image line words (Some form) before now old new text is (inr (a, inl (long, t))) taken = absurd (let e = long.2 in cc)
-files_image line words (Some form) before now old new text is (inr (a, inr (b, answers))) taken = form_image line words form before.files old new text is answers taken
+files_wrote : (line : List ℕ → Option ℕ → Status → List ℕ) (form : Form) (before now : ShelfState) (old new : Option (List ℕ)) (text : List ℕ) → FilesAnswer line (Some form) before now Done text → Takes old new text → Wrote form before.files old new
+files_wrote line form before now old new text (inl (read, t)) taken = absurd (let e = read.2 in cc)
+files_wrote line form before now old new text (inr (a, inl (long, t))) taken = absurd (let e = long.2 in cc)
+files_wrote line form before now old new text (inr (a, inr (b, answers))) taken = form_wrote line form before.files old new text answers taken
 
-pub image_of : (words : List (List ℕ)) (before now : ShelfState) (old new : SinkState) (result : Status) → Gives words before now old new result → result ≡ Done → ImageIn words before.files old.written new.written
-image_of words before now old new result gives done = elim gives.put [
+wrote_of : (words : List (List ℕ)) (form : Form) (before now : ShelfState) (old new : SinkState) (result : Status) → form_of words ≡ Some form → Gives words before now old new result → result ≡ Done → Wrote form before.files old.written new.written
+wrote_of words form before now old new result has gives done = elim gives.put [
   | inl whole ↦ elim gives.answer [
     | inl memory ↦ absurd (let e = whole.0 in let f = memory.0 in cc)
     | inr due ↦
         let is : gives.due ≡ Done = sym whole.0 ∙ done in
-        files_image (due_line words) words (form_of words) before now old.written new.written gives.text refl (rw is at due) whole.1
+        files_wrote (due_line words) form before now old.written new.written gives.text (rw (is, has) at due) whole.1
   ]
   | inr part ↦ absurd (let e = part.0 in cc)
 ]
+
+pub image_of : (words : List (List ℕ)) (before now : ShelfState) (old new : SinkState) (result : Status) → Gives words before now old new result → (net src : List ℕ) → form_of words ≡ Some (Compile net src) → result ≡ Done → WroteImage net src before.files old.written new.written
+image_of words before now old new result gives net src form done = wrote_of words (Compile net src) before now old new result form gives done
+
+pub state_written : (words : List (List ℕ)) (before now : ShelfState) (old new : SinkState) (result : Status) → Gives words before now old new result → (net image memory : List ℕ) (clocks : ℕ) → form_of words ≡ Some (Run net image memory clocks) → result ≡ Done → WroteState net image memory clocks before.files old.written new.written
+state_written words before now old new result gives net image memory clocks form done = wrote_of words (Run net image memory clocks) before now old new result form gives done

@@ -6,3 +6,4 @@ mod StageLemmas
 mod UniqueLemmas
 mod WordLemmas
 mod NameLemmas
+mod RunLemmas

@@ -5,7 +5,9 @@ use Rattle.std.specs.Str.{bytes_eq}
 use Rattle.net_parser.specs.Texts.{IsNoNetText}
 use Rattle.net_front.specs.Fronts.{BreaksRule}
 use Rattle.src_parser.specs.Texts.{IsNoSrcText}
-use Rattle.first_path.specs.First.{IsPlainText, IsFirstText, IsFirstImage}
+use Rattle.first_path.specs.Code.{Property, IsFull, IsWide, IsNotStraight, IsWordless}
+use Rattle.first_path.specs.First.{Holds, IsCompiled, BreaksSrc}
+use Rattle.net_run.specs.Runs.{IsNoImageFile, IsNoMemoryFile, ClashedAt, Clashes, ShowsState}
 use Rattle.rec_io.specs.Causes.{Rose}
 use Rattle.rec_io.specs.Files.{Files, file_of}
 use Rattle.rec_io.specs.Shelf.{ShelfState}
@@ -13,9 +15,9 @@ use Rattle.rec_io.specs.Sink.{SinkState}
 use Rattle.rec_io.specs.Written.{Takes, TakesPrefix}
 use Rattle.record_core.specs.Lines.{due_line}
 use Rattle.record_core.specs.Stages.{By, Then}
-use Rattle.record_core.specs.Words.{Form, Compile, form_of, names_of}
+use Rattle.record_core.specs.Words.{Form, Compile, Run, form_of, names_of}
 use Rattle.record_core.specs.declared.status.Status.{Status}
-use Rattle.record_core.specs.declared.status.Status.TheVariants.{Done, Usage, ReadFault, TooLong, WriteFault, NetText, Net, SrcText, Memory, Later}
+use Rattle.record_core.specs.declared.status.Status.TheVariants.{Done, Usage, ReadFault, TooLong, WriteFault, NetText, Net, SrcText, Src, DataFull, Memory, ImageText, MemText, Clash, Later, NoWord}
 
 -- the most bytes of a file
 abbrev pub file_limit : ℕ
@@ -57,13 +59,9 @@ pub record IsTooLong (names : List (List ℕ)) (before now : ShelfState) (at : �
   pub earlier : HasFirst before.files names at.0
   pub longer : IfSome before.files (λ all. IsSomeAnd (file_of all now.last) (λ bytes. at.1 < length bytes))
 
--- the netlist is no plain one
-abbrev pub IsNoNet : List ℕ → ℕ → Type 0
-IsNoNet net file = (file ≡ 0) × (IsPlainText net → ⊥)
-
--- it is one, and the program is no first program for it
-abbrev pub IsNoProgram : List ℕ → List ℕ → ℕ → Type 0
-IsNoProgram net src file = (file ≡ 1) × IsPlainText net × (IsFirstText net src → ⊥)
+-- the file of this number is one that is compiled later, for this reason
+abbrev pub IsLater : ℕ → List ℕ → List ℕ → Property → ℕ → Type 0
+IsLater number net src P file = (file ≡ number) × Holds net src P
 
 -- what `compile` answers for these two texts
 abbrev pub CompileAnswers : (Status → List ℕ) → List ℕ → List ℕ → Status → List ℕ → Type 0
@@ -71,21 +69,42 @@ CompileAnswers line net src =
     Then line (By NetText (IsNoNetText net)) (
     Then line (By Net (BreaksRule net)) (
     Then line (By SrcText (IsNoSrcText src)) (
-    Then line (By Later (IsNoNet net)) (
-    Then line (By Later (IsNoProgram net src)) (
-    λ status text. (status ≡ Done) × IsFirstImage net src text)))))
+    Then line (By Src (BreaksSrc net src)) (
+    Then line (By (λ (p : ℕ × ℕ). DataFull p.0 p.1) (λ (p : ℕ × ℕ). Holds net src (IsFull p.0 p.1))) (
+    Then line (By Later (IsLater 0 net src IsWide)) (
+    Then line (By Later (IsLater 1 net src IsNotStraight)) (
+    Then line (By NoWord (λ (number : ℕ). Holds net src (IsWordless number))) (
+    λ status text. (status ≡ Done) × IsCompiled net src text))))))))
 
--- what a form answers once its files are there; a line is of a netlist's text
-abbrev pub FormAnswers : (List ℕ → Status → List ℕ) → Option Files → Form → Status → List ℕ → Type 0
+-- how the clocks of `run` end: a bus clashes, and its name is told, or the state is reached
+abbrev pub RunEnds : (Option ℕ → Status → List ℕ) → List ℕ → List ℕ → List ℕ → ℕ → Status → List ℕ → Type 0
+RunEnds line net image memory clocks status text =
+    ((c : ClashedAt) × Clashes net image memory clocks c × (status ≡ Clash c.cycle c.bus) × (text ≡ line (Some c.at) (Clash c.cycle c.bus)))
+    ⊎ ((status ≡ Done) × ShowsState net image memory clocks text)
+
+-- what `run` answers for these three texts and this number of clocks
+abbrev pub RunAnswers : (Option ℕ → Status → List ℕ) → List ℕ → List ℕ → List ℕ → ℕ → Status → List ℕ → Type 0
+RunAnswers line net image memory clocks =
+    Then (line None) (By NetText (IsNoNetText net)) (
+    Then (line None) (By Net (BreaksRule net)) (
+    Then (line None) (By ImageText (IsNoImageFile net image)) (
+    Then (line None) (By MemText (IsNoMemoryFile net memory)) (
+    RunEnds line net image memory clocks))))
+
+-- what a form answers once its files are there; a line is of a netlist's text, and of the place of a bus's name
+abbrev pub FormAnswers : (List ℕ → Option ℕ → Status → List ℕ) → Option Files → Form → Status → List ℕ → Type 0
 FormAnswers line files (Compile net_name src_name) status text =
-    (net : List ℕ) × (src : List ℕ) × IsFile files net_name net × IsFile files src_name src × CompileAnswers (line net) net src status text
+    (net : List ℕ) × (src : List ℕ) × IsFile files net_name net × IsFile files src_name src × CompileAnswers (line net None) net src status text
+FormAnswers line files (Run net_name image_name memory_name clocks) status text =
+    (net : List ℕ) × (image : List ℕ) × (memory : List ℕ) × IsFile files net_name net × IsFile files image_name image × IsFile files memory_name memory
+    × RunAnswers (line net) net image memory clocks status text
 
 -- what the words answer by their form
-abbrev pub FilesAnswer : (List ℕ → Status → List ℕ) → Option Form → ShelfState → ShelfState → Status → List ℕ → Type 0
-FilesAnswer line None before now status text = (status ≡ Usage) × (text ≡ line [] Usage)
+abbrev pub FilesAnswer : (List ℕ → Option ℕ → Status → List ℕ) → Option Form → ShelfState → ShelfState → Status → List ℕ → Type 0
+FilesAnswer line None before now status text = (status ≡ Usage) × (text ≡ line [] None Usage)
 FilesAnswer line (Some form) before now status text =
-    Then (line []) (By ReadFault (IsReadFault (names_of form) before now)) (
-    Then (line []) (By (λ (p : ℕ × ℕ). TooLong p.0 p.1) (IsTooLong (names_of form) before now)) (
+    Then (line [] None) (By ReadFault (IsReadFault (names_of form) before now)) (
+    Then (line [] None) (By (λ (p : ℕ × ℕ). TooLong p.0 p.1) (IsTooLong (names_of form) before now)) (
     FormAnswers line before.files form)) status text
 
 -- what the call answers: the first refusal that applies and its line, or `Done` and the text; all but want of memory and faults of the sink
@@ -94,7 +113,7 @@ Answers words before now status text = FilesAnswer (due_line words) (form_of wor
 
 -- that, or want of memory
 abbrev pub MayAnswer : List (List ℕ) → ShelfState → ShelfState → Status → List ℕ → Type 0
-MayAnswer words before now status text = ((status ≡ Memory) × (text ≡ due_line words [] Memory)) ⊎ Answers words before now status text
+MayAnswer words before now status text = ((status ≡ Memory) × (text ≡ due_line words [] None Memory)) ⊎ Answers words before now status text
 
 -- the sink took the whole text of the status, or it failed within the text and took a prefix
 abbrev pub Puts : SinkState → SinkState → List ℕ → Status → Status → Type 0
@@ -117,15 +136,32 @@ IsExact words before now result = (status : Status) (text : List ℕ) → Answer
 abbrev pub IsAccepted : List (List ℕ) → ShelfState → ShelfState → Type 0
 IsAccepted words before now = (status : Status) (text : List ℕ) → Answers words before now status text → status ≡ Done
 
--- the bytes that were taken are an image of the two files
-pub record HasImage (words : List (List ℕ)) (files : Files) (old new : List ℕ) : Type 0 where
-  pub net_name : List ℕ
-  pub src_name : List ℕ
+-- the bytes that were taken are an image of these two files
+pub record HasImage (net_name src_name : List ℕ) (files : Files) (old new : List ℕ) : Type 0 where
   pub net : List ℕ
   pub src : List ℕ
   pub out : List ℕ
-  pub form : form_of words ≡ Some (Compile net_name src_name)
   pub net_file : file_of files net_name ≡ Some net
   pub src_file : file_of files src_name ≡ Some src
   pub taken : new ≡ old ++ out
-  pub right : IsFirstImage net src out
+  pub right : IsCompiled net src out
+
+-- the bytes that were taken are the state after so many clocks of these three files
+pub record HasState (net_name image_name memory_name : List ℕ) (clocks : ℕ) (files : Files) (old new : List ℕ) : Type 0 where
+  pub net : List ℕ
+  pub image : List ℕ
+  pub memory : List ℕ
+  pub out : List ℕ
+  pub net_file : file_of files net_name ≡ Some net
+  pub image_file : file_of files image_name ≡ Some image
+  pub memory_file : file_of files memory_name ≡ Some memory
+  pub taken : new ≡ old ++ out
+  pub shows : ShowsState net image memory clocks out
+
+-- the same, where files and bytes are told
+abbrev pub WroteImage : List ℕ → List ℕ → Option Files → Option (List ℕ) → Option (List ℕ) → Type 0
+WroteImage net_name src_name files old new = IfSome files (λ all. IfSome old (λ before. IfSome new (HasImage net_name src_name all before)))
+
+abbrev pub WroteState : List ℕ → List ℕ → List ℕ → ℕ → Option Files → Option (List ℕ) → Option (List ℕ) → Type 0
+WroteState net_name image_name memory_name clocks files old new =
+    IfSome files (λ all. IfSome old (λ before. IfSome new (HasState net_name image_name memory_name clocks all before)))

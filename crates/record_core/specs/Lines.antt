@@ -1,5 +1,5 @@
 -- The line of each fault.
-use Rattle.std.specs.Prelude.{◌≡◌, ◌⊎◌, ℕ, ◌+◌, List, [], ◌∷◌, codes, slice_index_or}
+use Rattle.std.specs.Prelude.{◌≡◌, ◌⊎◌, ℕ, ◌+◌, List, [], ◌∷◌, Option, Some, None, codes, slice_index_or}
 use Rattle.std.specs.Fmt.{decimal}
 use Rattle.std.specs.List.{concat}
 use Rattle.record_core.specs.NetLines.{net_line, name_place, name_from}
@@ -36,15 +36,16 @@ line_of words name (Clash cycle bus) = concat (codes "error clash " ∷ decimal 
 line_of words name (Later file) = concat (codes "error later " ∷ decimal file ∷ codes "\n" ∷ [])
 line_of words name (NoWord number) = concat (codes "error no word " ∷ decimal number ∷ codes "\n" ∷ [])
 
--- the name that the line of a broken rule tells, from the netlist's text
-abbrev pub fault_name : List ℕ → Status → List ℕ
-fault_name net (Net fault) = name_from net (name_place fault)
-fault_name net _ = []
+-- where the name stands that a line tells: the item's of a broken rule, or that of the bus which clashes
+abbrev pub told_place : Option ℕ → Status → Option ℕ
+told_place bus (Net fault) = name_place fault
+told_place bus (Clash cycle net) = bus
+told_place bus _ = None
 
--- the line that is written, of these words and this netlist's text
-abbrev pub due_line : List (List ℕ) → List ℕ → Status → List ℕ
-due_line words net status = line_of words (fault_name net status) status
+-- the line that is written, of these words, this netlist's text, and the place of the name of a bus that clashes
+abbrev pub due_line : List (List ℕ) → List ℕ → Option ℕ → Status → List ℕ
+due_line words net bus status = line_of words (name_from net (told_place bus status)) status
 
 -- of a refusal with its line: of this status, with the line that is due, or of want of memory
-abbrev pub IsRefusal : List (List ℕ) → List ℕ → Status → Status → List ℕ → Type 0
-IsRefusal words net status refused line = (refused ≡ Memory) ⊎ ((refused ≡ status) × (line ≡ due_line words net status))
+abbrev pub IsRefusal : List (List ℕ) → List ℕ → Option ℕ → Status → Status → List ℕ → Type 0
+IsRefusal words net bus status refused line = (refused ≡ Memory) ⊎ ((refused ≡ status) × (line ≡ due_line words net bus status))

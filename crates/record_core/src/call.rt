@@ -1,16 +1,17 @@
 //! The call of the program.
-ghost use Rattle.std.specs.Prelude.{◌≡◌, ◌⊎◌, ◌≤◌, IfOk, IfErr, IfSome, IsSome, string_bytes};
+ghost use Rattle.std.specs.Prelude.{◌≡◌, ◌⊎◌, ◌≤◌, ℕ, List, Some, IfOk, IfErr, IsSome, string_bytes};
 ghost use Rattle.rec_io.specs.Causes.{Rose};
-ghost use Rattle.record_core.specs.Answers.{Answers, Puts, Gives, IsExact, IsAccepted, HasImage};
+ghost use Rattle.record_core.specs.Answers.{Answers, Puts, Gives, IsExact, IsAccepted, WroteImage, WroteState};
 ghost use Rattle.record_core.specs.Lines.{IsRefusal};
-ghost use Rattle.record_core.specs.Words.{texts_of, IsCommand};
+ghost use Rattle.record_core.specs.Words.{Compile, Run, form_of, texts_of, IsCommand};
 ghost use Rattle.record_core.specs.declared.words.Command.{Command};
 ghost use Rattle.record_core.specs.declared.status.Status.{Status};
 
 use crate::Status;
 use crate::compile::compile_text;
 use crate::fetch::fetch_all;
-use crate::line::{fault_line, fault_name};
+use crate::line::{fault_line, name_from, told_place};
+use crate::run::run_text;
 use crate::words::{Command, command_of};
 use rec_io::{Shelf, Sink, put_all};
 use std::alloc::Global;
@@ -24,11 +25,12 @@ struct Refusal {
     line: String,
 }
 
-// The refusal of this status, with its line from the words and the netlist's text.
-fn refused(alloc: Global, words: &[String], net: &[u8], status: Status) -> Refusal
-    ensures { IsRefusal (texts_of words.now) net.now status result.status (string_bytes result.line) }
+// The refusal of this status, with its line from the words and the netlist's text. `bus` is the place of the name of a bus that clashes.
+fn refused(alloc: Global, words: &[String], net: &[u8], bus: Option<u64>, status: Status) -> Refusal
+    ensures { IsRefusal (texts_of words.now) net.now bus status result.status (string_bytes result.line) }
 {
-    match fault_line(alloc, words, fault_name(net, status), status) {
+    let name = name_from(net, told_place(bus, status));
+    match fault_line(alloc, words, name, status) {
         Ok(line) => Refusal { status, line },
         Err(_) => Refusal {
             status: Status::Memory,
@@ -51,11 +53,34 @@ fn compile_files<F: Shelf>(
 {
     let got = match fetch_all(alloc, &words[1..], shelf) {
         Ok(got) => got,
-        Err(status) => return Err(refused(alloc, words, &[], status)),
+        Err(status) => return Err(refused(alloc, words, &[], None, status)),
     };
     match compile_text(alloc, &got[0], &got[1]) {
         Ok(text) => Ok(text),
-        Err(status) => Err(refused(alloc, words, &got[0], status)),
+        Err(status) => Err(refused(alloc, words, &got[0], None, status)),
+    }
+}
+
+// The state text of the files that the words name, or the first refusal that applies.
+fn run_files<F: Shelf>(
+    alloc: Global,
+    words: &[String],
+    clocks: u32,
+    shelf: &mut F,
+) -> Result<Vec<u8>, Refusal>
+    requires { IsCommand (texts_of words.now) (Command.Run clocks) }
+    ensures later { (F.state shelf.old).faults ≤ (F.state shelf.new).faults }
+    ensures same { (F.state shelf.new).files ≡ (F.state shelf.old).files }
+    ensures ok { IfOk result (λ text. Answers (texts_of words.now) (F.state shelf.old) (F.state shelf.new) Status.Done text.items) }
+    ensures refused { IfErr result (λ refusal. (refusal.status ≡ Status.Memory) ⊎ Answers (texts_of words.now) (F.state shelf.old) (F.state shelf.new) refusal.status (string_bytes refusal.line)) }
+{
+    let got = match fetch_all(alloc, &words[1..4], shelf) {
+        Ok(got) => got,
+        Err(status) => return Err(refused(alloc, words, &[], None, status)),
+    };
+    match run_text(alloc, &got[0], &got[1], &got[2], clocks) {
+        Ok(text) => Ok(text),
+        Err(stop) => Err(refused(alloc, words, &got[0], stop.bus, stop.status)),
     }
 }
 
@@ -68,7 +93,8 @@ fn decide<F: Shelf>(alloc: Global, words: &[String], shelf: &mut F) -> Result<Ve
 {
     match command_of(words) {
         Some(Command::Compile) => compile_files(alloc, words, shelf),
-        None => Err(refused(alloc, words, &[], Status::Usage)),
+        Some(Command::Run(clocks)) => run_files(alloc, words, clocks, shelf),
+        None => Err(refused(alloc, words, &[], None, Status::Usage)),
     }
 }
 
@@ -101,9 +127,10 @@ fn answer<F: Shelf, S: Sink>(alloc: Global, words: &[String], shelf: &mut F, out
 
 /// What the words ask for, over the files of this shelf, into this output.
 ///
-/// The words are those after the program's name. `compile NET SRC` is the one form so far; NET and SRC are names
-/// of files. On `Done` the output took the whole image text. On `WriteFault` it took a prefix of the text that was
-/// due, and on every other status the line of the fault. Want of memory may be answered anywhere.
+/// The words are those after the program's name: `compile NET SRC` or `run NET IMG MEM CYCLES` so far, where NET, SRC, IMG and MEM
+/// are names of files, and CYCLES is a decimal number from 0 to 1,000,000. On `Done` the output took the whole text, an image or a state. On
+/// `WriteFault` it took a prefix of the text that was due, and on every other status the line of the fault. Want of memory may be answered
+/// anywhere.
 pub fn record_call<F: Shelf, S: Sink>(
     alloc: Global,
     words: &Vec<String>,
@@ -123,8 +150,11 @@ pub fn record_call<F: Shelf, S: Sink>(
     // Where no refusal applies and the output did not fail, the call succeeds.
     ensures complete { IsAccepted (texts_of words.now.items) (F.state shelf.old) (F.state shelf.new) → ¬ Rose (S.state out.old).faults (S.state out.new).faults → (result ≡ Status.Done) ⊎ (result ≡ Status.Memory) }
 
-    // The main promise of `compile`.
-    ensures image { result ≡ Status.Done → IfSome (F.state shelf.old).files (λ files. IfSome (S.state out.old).written (λ old. IfSome (S.state out.new).written (HasImage (texts_of words.now.items) files old))) }
+    // The main promise of `compile`: what was written is an image that is right code for the program on the netlist.
+    ensures image { (net src : List ℕ) → form_of (texts_of words.now.items) ≡ Some (Compile net src) → result ≡ Status.Done → WroteImage net src (F.state shelf.old).files (S.state out.old).written (S.state out.new).written }
+
+    // The main promise of `run`: what was written is the state that the clocks reach.
+    ensures state { (net image memory : List ℕ) (clocks : ℕ) → form_of (texts_of words.now.items) ≡ Some (Run net image memory clocks) → result ≡ Status.Done → WroteState net image memory clocks (F.state shelf.old).files (S.state out.old).written (S.state out.new).written }
 {
     answer(alloc, words, shelf, out)
 }

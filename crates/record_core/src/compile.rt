@@ -21,8 +21,11 @@ pub fn compile_text(alloc: Global, net: &[u8], src: &[u8]) -> Result<Vec<u8>, St
         Err(FirstFault::NetText(at)) => Err(Status::NetText(at)),
         Err(FirstFault::Net(fault)) => Err(Status::Net(fault)),
         Err(FirstFault::SrcText(at)) => Err(Status::SrcText(at)),
-        Err(FirstFault::NotPlain) => Err(Status::Later(0)),
-        Err(FirstFault::NotFirst) => Err(Status::Later(1)),
+        Err(FirstFault::Src(fault)) => Err(Status::Src(fault)),
+        Err(FirstFault::DataFull { need, have }) => Err(Status::DataFull { need, have }),
+        Err(FirstFault::WideCode) => Err(Status::Later(0)),
+        Err(FirstFault::NotStraight) => Err(Status::Later(1)),
+        Err(FirstFault::NoWord(number)) => Err(Status::NoWord(number)),
         Err(FirstFault::Memory) => Err(Status::Memory),
     }
 }

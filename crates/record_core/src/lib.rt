@@ -5,6 +5,7 @@ mod call;
 mod compile;
 mod fetch;
 mod line;
+mod run;
 mod status;
 mod words;
 
@@ -24,8 +25,8 @@ register PC : 4 in case I[7] { 0: add(PC, 1#4); 1: I[3:0]; };
 memory M : 5 size 4 addr 2 write I[4:0] at I[6:5] when not(I[7]);
 ";
 
-    const TURNED: &str = "code I : 8 size 16 at PC;
-register PC : 4 in case I[7] { 1: I[3:0]; 0: add(PC, 1#4); };
+    const WIDE: &str = "code I : 9 size 16 at PC;
+register PC : 4 in case I[7] { 0: add(PC, 1#4); 1: I[3:0]; };
 memory M : 5 size 4 addr 2 write I[4:0] at I[6:5] when not(I[7]);
 ";
 
@@ -55,7 +56,8 @@ done
             ("two", "var a, b; a = 3; b = 31;\n"),
             ("sum", "var a; a = 1 + 2;\n"),
             ("clock", "code I : 8 size 16 at PC; // and no more"),
-            ("turned", TURNED),
+            ("wide", WIDE),
+            ("long", "var a, b, c, d, e;"),
         ] {
             let bytes = Vec::from_slice(alloc, text.as_bytes())?;
             files.push((String::from_str(alloc, name)?, bytes))?;
@@ -68,6 +70,7 @@ done
         let alloc = rt.alloc();
         let read = |file| Status::ReadFault { file };
         let unknown = Status::Net(NetFault::Unknown(22));
+        let full = Status::DataFull { need: 5, have: 4 };
         for (line, status, text) in [
             ("compile net two", Status::Done, IMAGE),
             ("", Status::Usage, "error usage\n"),
@@ -76,7 +79,12 @@ done
             ("compile net two two", Status::Usage, "error usage\n"),
             ("Compile net two", Status::Usage, "error usage\n"),
             ("extract net", Status::Usage, "error usage\n"),
-            ("run net two two 3", Status::Usage, "error usage\n"),
+            ("run net two two 03", Status::Usage, "error usage\n"),
+            (
+                "run net two two 3",
+                Status::ImageText(0),
+                "error image text 0\n",
+            ),
             ("go net two two 3", Status::Usage, "error usage\n"),
             ("make 0", Status::Usage, "error usage\n"),
             ("compile gone two", read(0), "error read gone\n"),
@@ -89,7 +97,8 @@ done
                 "error source text 5\n",
             ),
             ("compile clock two", unknown, "error net N2 Unknown PC\n"),
-            ("compile turned two", Status::Later(0), "error later 0\n"),
+            ("compile wide two", Status::Later(0), "error later 0\n"),
+            ("compile net long", full, "error data full 5 4\n"),
             ("compile net sum", Status::Later(1), "error later 1\n"),
         ] {
             let mut out = MemSink::new(alloc, 1, 200, Vec::new(alloc))?;

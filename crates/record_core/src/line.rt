@@ -1,8 +1,8 @@
 //! The lines of the faults.
 ghost use Rattle.std.specs.Prelude.{◌≡◌, ◌+◌, ◌<◌, IfOk, drop, length, string_bytes, take_while};
 ghost use Rattle.lexing.specs.Bytes.{is_name_byte};
-ghost use Rattle.record_core.specs.Lines.{fault_name, line_of, name_at};
-ghost use Rattle.record_core.specs.NetLines.{name_place, net_line, net_rule_text, net_kind_text, role_text};
+ghost use Rattle.record_core.specs.Lines.{told_place, line_of, name_at};
+ghost use Rattle.record_core.specs.NetLines.{name_from, name_place, net_line, net_rule_text, net_kind_text, role_text};
 ghost use Rattle.record_core.specs.SrcLines.{src_line, src_kind_text};
 ghost use Rattle.record_core.specs.Words.{texts_of};
 
@@ -97,14 +97,22 @@ fn behind(bytes: &[u8], at: u64) -> &[u8]
     }
 }
 
-/// The name that the line of a broken rule tells, from the netlist's text; the empty text for any other status.
-pub fn fault_name(net: &[u8], status: Status) -> &str
-    ensures { result.now ≡ fault_name net.now status }
+/// Where the name stands that the line tells, if it tells one. `bus` is the place of the name of a bus that clashes.
+pub fn told_place(bus: Option<u64>, status: Status) -> Option<u64>
+    ensures { result ≡ told_place bus status }
 {
-    let Status::Net(fault) = status else {
-        return "";
-    };
-    let Some(at) = name_place(fault) else {
+    match status {
+        Status::Net(fault) => name_place(fault),
+        Status::Clash { .. } => bus,
+        _ => None,
+    }
+}
+
+/// The name that begins at this place of the netlist's text; the empty text where there is no place.
+pub fn name_from(net: &[u8], at: Option<u64>) -> &str
+    ensures { result.now ≡ name_from net.now at }
+{
+    let Some(at) = at else {
         return "";
     };
     let rest = behind(net, at);

@@ -1,12 +1,29 @@
 //! The words of the command line.
 ghost use Rattle.std.specs.Prelude.{◌≡◌, None, MatchOption};
-ghost use Rattle.record_core.specs.Words.{texts_of, form_of, IsCommand};
+ghost use Rattle.record_core.specs.Words.{texts_of, form_of, clocks_of, IsCommand};
+
+use text_lines::number;
+
+/// The most clocks of a run.
+const CLOCK_LIMIT: u64 = 1_000_000;
 
 /// What the words ask for.
 #[derive(Clone, Copy, Debug, PartialEq, Eq)]
 pub enum Command {
     /// `compile NET SRC`: the image text of a program for a netlist.
     Compile,
+    /// `run NET IMG MEM CYCLES`: the state of a netlist after so many clocks on an image, from a memory text's state.
+    Run(u32),
+}
+
+// The number of clocks that a word asks for.
+fn clocks(word: &str) -> Option<u32>
+    ensures { result ≡ clocks_of word.now }
+{
+    match number(word.as_bytes()) {
+        Some(clocks) if clocks <= CLOCK_LIMIT => Some(clocks as u32),
+        _ => None,
+    }
 }
 
 /// The command of the words, or None where they have no form of one.
@@ -14,8 +31,12 @@ pub fn command_of(words: &[String]) -> Option<Command>
     ensures { MatchOption result (form_of (texts_of words.now) ≡ None) (IsCommand (texts_of words.now)) }
 {
     if words.len() == 3 && words[0].as_str() == "compile" {
-        Some(Command::Compile)
-    } else {
-        None
+        return Some(Command::Compile);
     }
+    if words.len() == 5 && words[0].as_str() == "run" {
+        if let Some(clocks) = clocks(words[4].as_str()) {
+            return Some(Command::Run(clocks));
+        }
+    }
+    None
 }

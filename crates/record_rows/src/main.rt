@@ -8,9 +8,10 @@
 //! file NAME         a file; the lines behind it are added to it:
 //! | TEXT            a line
 //! + TEXT            a text without an end of line
-//! fill COUNT        so many spaces
+//! fill COUNT TEXT   the text so many times; spaces where there is none
 //! fail fetch N      the Nth fetch fails
 //! fail put N        the Nth put fails
+//! byte N            a byte
 //! step N            a put takes at most N bytes
 //! room N            all puts together take at most N bytes
 //! run

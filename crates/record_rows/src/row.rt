@@ -43,14 +43,13 @@ impl Row {
         Ok(())
     }
 
-    // So many bytes of the last file: spaces, or the character behind the number.
-    fn fill(&mut self, alloc: Global, what: &str) -> Result<()> {
-        let (count, byte) = match what.split_once(" ") {
-            Some((count, text)) => (count, text.as_bytes().first().copied().unwrap_or(b' ')),
-            None => (what, b' '),
-        };
-        let bytes = vec![in alloc; byte; number(count)? as usize]?;
-        self.add(bytes.as_slice())
+    // More of the last file: the text behind the number so many times, or a space.
+    fn fill(&mut self, what: &str) -> Result<()> {
+        let (count, text) = what.split_once(" ").unwrap_or((what, " "));
+        for _ in 0..number(count)? {
+            self.add(text.as_bytes())?;
+        }
+        Ok(())
     }
 
     /// Takes one line of the row.
@@ -69,7 +68,8 @@ impl Row {
                 self.add(b"\n")?;
             }
             "+" => self.add(rest.as_bytes())?,
-            "fill" => self.fill(alloc, rest)?,
+            "fill" => self.fill(rest)?,
+            "byte" => self.add(&[number(rest)? as u8])?,
             "step" => self.step = number(rest)? as usize,
             "room" => self.room = number(rest)? as usize,
             "fail" => self.fail(rest)?,

@@ -7,4 +7,8 @@ pub mod Loops
 pub mod Indexes
 pub mod Sizes
 pub mod Rules
+pub mod Meaning
+pub mod Trace
+pub mod Fitting
 pub mod WorkedRules
+pub mod WorkedTrace

@@ -6,6 +6,7 @@ mod checkpoint;
 mod fault;
 mod program;
 mod sizes;
+mod store;
 mod typed;
 mod words;
 
@@ -13,5 +14,6 @@ pub use checkpoint::Checkpoint;
 pub use fault::{SrcFault, SrcKind};
 pub use program::{Cmp, Program, Spot, SrcExpr, SrcNode, SrcTest, Stmt, Var};
 pub use sizes::{Sizes, block_sizes, is_literal, number_of, result_width};
+pub use store::Store;
 pub use typed::{SrcFault2, Typed};
 pub use words::{Call, Lexed, Symbol, Word};

@@ -1,24 +1,21 @@
-use Rattle.std.proofs.Common.{map}
-use Rattle.std.proofs.lemmas.Result.{IfOk-weaker, IfErr-weaker}
-use Rattle.net_model.specs.Written.{entry_of}
+use Rattle.std.proofs.Common.{◌≡◌, ℕ, ◌∙◌, sym, subst, arith}
+use Rattle.std.proofs.lemmas.Result.{IfErr-weaker}
 use Rattle.src_model.specs.Written.{listing_of}
-use Rattle.first_path.proofs.FirstLemmas.{first_of, image_of_read, fault_of_read}
+use Rattle.src_front.proofs.Lengths.{few_variables}
+use Rattle.src_front.specs.Fronts.{IsSrcFile}
+use Rattle.first_path.proofs.FirstLemmas.{fault_of_code}
 use Rattle.first_path.proofs.compiler.compile.Goals as goal
 
-pub returns-clause-right : goal.returns-clause-right
-returns-clause-right c =
-    let units = c.in_ok-units.ensures in
-    let program = c.in_ok-program.ensures in
-    IfOk-weaker c.compile_read.result _ _ (λ text image. image_of_read c.args.net.now c.args.src.now (map entry_of c.in_ok-units.units.items) (listing_of c.in_ok-program.program) units.found program.found program.only text.items image) c.compile_read.ensures.image
-
-pub returns-clause-taken : goal.returns-clause-taken
-returns-clause-taken c =
-    let units = c.in_ok-units.ensures in
-    let program = c.in_ok-program.ensures in
-    IfOk-weaker c.compile_read.result _ _ (λ text image. first_of c.args.net.now c.args.src.now text.items (image_of_read c.args.net.now c.args.src.now (map entry_of c.in_ok-units.units.items) (listing_of c.in_ok-program.program) units.found program.found program.only text.items image)) c.compile_read.ensures.image
+pub code-requires : goal.code-requires
+code-requires c =
+    let k = few_variables c.args.src.now (listing_of c.in_ok-typed.typed.program) c.in_ok-typed.ensures.found.says.text in
+    record { few = omega (arith, k, c.requires.src) }
 
 pub returns-clause-refused : goal.returns-clause-refused
 returns-clause-refused c =
-    let units = c.in_ok-units.ensures in
-    let program = c.in_ok-program.ensures in
-    IfErr-weaker c.compile_read.result _ _ (fault_of_read c.args.net.now c.args.src.now (map entry_of c.in_ok-units.units.items) (listing_of c.in_ok-program.program) units.found program.found program.only) c.compile_read.ensures.refused
+    let typed = c.in_ok-typed.typed in
+    let listing = listing_of typed.program in
+    IfErr-weaker c.code.result _ _
+    (fault_of_code c.args.net.now c.args.src.now c.in_ok-checked.checked typed.width listing c.in_ok-checked.ensures.found (c.in_ok-typed.ensures.width ∙ c.word_width.ensures.width)
+    (subst (λ (n : ℕ). IsSrcFile c.args.src.now n listing) (sym c.in_ok-typed.ensures.width) c.in_ok-typed.ensures.found))
+    c.code.ensures.refused

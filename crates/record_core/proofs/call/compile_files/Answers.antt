@@ -1,10 +1,10 @@
-use Rattle.std.proofs.Common.{◌≡◌, arith, ◌-◌, ◌<◌, length, take, drop, sym, ◌∙◌, subst, inl, inr}
+use Rattle.std.proofs.Common.{◌≡◌, None, arith, ◌-◌, ◌<◌, length, take, drop, sym, ◌∙◌, subst, inl, inr}
 use Rattle.std.proofs.lemmas.Grind.{common_steps}
 use Rattle.record_core.specs.Fetch.{contents}
 use Rattle.record_core.specs.Lines.{due_line, IsRefusal}
 use Rattle.record_core.specs.Words.{texts_of}
 use Rattle.record_core.specs.declared.status.Status.TheVariants.{Done}
-use Rattle.record_core.proofs.AnswerLemmas.{answers_compiled, refused_by}
+use Rattle.record_core.proofs.AnswerLemmas.{compile_passed, refused_by}
 use Rattle.record_core.proofs.FetchLemmas.{contents-at}
 use Rattle.record_core.proofs.WordLemmas.{names_after}
 use Rattle.record_core.proofs.call.compile_files.Goals as goal
@@ -16,11 +16,11 @@ returns-in-Ok-compile_text-clause-ok g c =
     let got = c.in-Ok.got.items in
     let first : 0 < length got = grind (arith, common_steps) in
     let second : 1 < length got = grind (arith, common_steps) in
-    answers_compiled (texts_of words) (texts_of names) (contents got) c.deref.result.now c.deref-2.result.now (g.F.Shelf.state c.args.shelf.now) (g.F.Shelf.state c.fetch_all.new.shelf)
+    compile_passed (texts_of words) (texts_of names) (contents got) c.deref.result.now c.deref-2.result.now (g.F.Shelf.state c.args.shelf.now) (g.F.Shelf.state c.fetch_all.new.shelf)
     c.requires (names_after words) c.in-Ok.ensures.passed c.in-Ok.ensures.ok
     (contents-at got 0 c.index.result.now c.deref.result.now first c.index.ensures c.deref.ensures.value)
     (contents-at got 1 c.index-2.result.now c.deref-2.result.now second c.index-2.ensures c.deref-2.ensures.value)
-    Done c.in-Ok-compile_text.text.items (c.in-Ok-compile_text.ensures.ok (due_line (texts_of words) c.deref.result.now))
+    Done c.in-Ok-compile_text.text.items (c.in-Ok-compile_text.ensures.ok (due_line (texts_of words) c.deref.result.now None))
 
 pub returns-clause-refused : goal.returns-clause-refused
 returns-clause-refused g c =
@@ -35,9 +35,9 @@ returns-clause-refused g c =
     let net = c.deref.result.now in
     let refused = c.refused-in-Err-compile_text.result in
     let answered =
-    answers_compiled (texts_of words) (texts_of names) (contents got) net c.deref-2.result.now (g.F.Shelf.state c.args.shelf.now) (g.F.Shelf.state c.fetch_all.new.shelf)
+    compile_passed (texts_of words) (texts_of names) (contents got) net c.deref-2.result.now (g.F.Shelf.state c.args.shelf.now) (g.F.Shelf.state c.fetch_all.new.shelf)
     c.requires (names_after words) c.in-Ok.ensures.passed c.in-Ok.ensures.ok net_is
     (contents-at got 1 c.index-2.result.now c.deref-2.result.now second c.index-2.ensures c.deref-2.ensures.value) in
-    refused_by (texts_of words) (g.F.Shelf.state c.args.shelf.now) (g.F.Shelf.state c.fetch_all.new.shelf) net status refused.status _
+    refused_by (texts_of words) (g.F.Shelf.state c.args.shelf.now) (g.F.Shelf.state c.fetch_all.new.shelf) net None status refused.status _
     (rw (line_is ∙ sym net_is) at c.refused-in-Err-compile_text.ensures)
-    (elim (c.in-Err-compile_text.ensures.refused (due_line (texts_of words) net)) [ inl memory ↦ inl memory | inr due ↦ inr (answered status _ due) ])
+    (elim (c.in-Err-compile_text.ensures.refused (due_line (texts_of words) net None)) [ inl memory ↦ inl memory | inr due ↦ inr (answered status _ due) ])

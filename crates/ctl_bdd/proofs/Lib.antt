@@ -1,0 +1,15 @@
+pub mod Sets
+pub mod Bools
+pub mod Numbers
+pub mod Alls
+pub mod Walks
+pub mod Needed
+pub mod Rows
+pub mod Values
+pub mod Filling
+pub mod Clashes
+pub mod Placed
+pub mod Enables
+pub mod Listing
+pub mod CallerLemmas
+pub mod Examples

@@ -1,0 +1,153 @@
+-- The nets that stand in control places.
+use Rattle.std.proofs.Common.{◌≡◌, ℕ, ◌<◌, ◌&&◌, ◌||◌, nat_eq, cond, Bool, true, false, List, [], ◌∷◌, ◌++◌, Option, None, Some, map, length, slice_get, refl, sym, ap, ◌∙◌, subst, zero, suc}
+use Rattle.std.specs.Prelude.{filter}
+use Rattle.std.specs.List.{AllByRecursion, list_any}
+use Rattle.std.proofs.lemmas.Bool.{eqb-true}
+use Rattle.rec_bits.specs.Faults.{gather}
+use Rattle.net_model.specs.declared.hardware.Netlist.{Netlist}
+use Rattle.net_model.specs.declared.hardware.Net.{Net}
+use Rattle.net_model.specs.declared.hardware.Storage.{Storage}
+use Rattle.net_model.specs.declared.hardware.Storage.TheVariants.{Register, Memory}
+use Rattle.net_model.specs.declared.hardware.Gate.{Gate}
+use Rattle.net_model.specs.declared.hardware.Gate.TheVariants.{Case, Bus}
+use Rattle.net_model.specs.Widths.{GateFits, NetFits, StorageFits, WhenFits, DriversFit, IsTyped}
+use Rattle.net_model.specs.Symbolic.{is_static}
+use Rattle.net_model.specs.CheckedRules.{is_control, storage_controls, when_controls, gate_controls, net_controls, UsesControlGates, HasPlainControl}
+use Rattle.ctl_bdd.specs.Places.{control_places, is_placed, is_static_control}
+use Rattle.ctl_bdd.proofs.Alls.{or_right}
+
+-- ---- lists
+
+-- what holds of each item by its place
+pub all_by_place : {X : Type 0} (P : X → Type 0) (xs : List X) → ((n : ℕ) (x : X) → slice_get xs n ≡ Some x → P x) → AllByRecursion P xs
+all_by_place P [] h = tt
+all_by_place P (x ∷ xs) h = (h 0 x refl, all_by_place P xs (λ n y e. h (suc n) y e))
+
+all_append : (P : ℕ → Type 0) (xs ys : List ℕ) → AllByRecursion P xs → AllByRecursion P ys → AllByRecursion P (xs ++ ys)
+all_append P [] ys h k = k
+all_append P (x ∷ xs) ys h k = (h.0, all_append P xs ys h.1 k)
+
+all_gathered : {X : Type 0} (P : ℕ → Type 0) (f : X → List ℕ) (xs : List X) → AllByRecursion (λ x. AllByRecursion P (f x)) xs → AllByRecursion P (gather f xs)
+all_gathered P f [] h = tt
+all_gathered P f (x ∷ xs) h = all_append P (f x) (gather f xs) h.0 (all_gathered P f xs h.1)
+
+pub weaken : {X : Type 0} (P Q : X → Type 0) → ((x : X) → P x → Q x) → (xs : List X) → AllByRecursion P xs → AllByRecursion Q xs
+weaken P Q f [] h = tt
+weaken P Q f (x ∷ xs) h = (f x h.0, weaken P Q f xs h.1)
+
+pub all_filtered : (P : ℕ → Type 0) (f : ℕ → Bool) (xs : List ℕ) → AllByRecursion P xs → AllByRecursion P (filter f xs)
+all_filtered P f [] h = tt
+all_filtered P f (x ∷ xs) h = by (f x) (all_filtered P f xs h.1)
+  where
+    by : (b : Bool) → AllByRecursion P (filter f xs) → AllByRecursion P (cond b (x ∷ filter f xs) (filter f xs))
+    by true later = (h.0, later)
+    by false later = later
+
+-- the filter keeps those that pass
+pub all_passed : (P : ℕ → Type 0) (f : ℕ → Bool) (xs : List ℕ) → AllByRecursion (λ x. f x ≡ true → P x) xs → AllByRecursion P (filter f xs)
+all_passed P f [] h = tt
+all_passed P f (x ∷ xs) h = by (f x) refl (all_passed P f xs h.1)
+  where
+    by : (b : Bool) → f x ≡ b → AllByRecursion P (filter f xs) → AllByRecursion P (cond b (x ∷ filter f xs) (filter f xs))
+    by true e later = (h.0 e, later)
+    by false e later = later
+
+pub same_filter : (f g : ℕ → Bool) (xs : List ℕ) → AllByRecursion (λ x. f x ≡ g x) xs → filter f xs ≡ filter g xs
+same_filter f g [] h = refl
+same_filter f g (x ∷ xs) h = (λ j. cond (h.0 j) (x ∷ same_filter f g xs h.1 j) (same_filter f g xs h.1 j))
+
+any_cond : (b c : Bool) (n x : ℕ) (xs : List ℕ) → list_any (nat_eq n) (cond b (x ∷ xs) xs) ≡ ((b && nat_eq n x) || list_any (nat_eq n) xs)
+any_cond true c n x xs = refl
+any_cond false c n x xs = refl
+
+pub any_filtered : (f : ℕ → Bool) (n : ℕ) (xs : List ℕ) → list_any (nat_eq n) (filter f xs) ≡ (f n && list_any (nat_eq n) xs)
+any_filtered f n [] = by (f n)
+  where
+    by : (b : Bool) → false ≡ (b && false)
+    by true = refl
+    by false = refl
+any_filtered f n (x ∷ xs) =
+    any_cond (f x) true n x (filter f xs) ∙ ap (λ b. (f x && nat_eq n x) || b) (any_filtered f n xs) ∙ by (nat_eq n x) refl
+  where
+    spread : (b c : Bool) → ((b && true) || (b && c)) ≡ (b && true)
+    spread true c = refl
+    spread false c = refl
+
+    none : (b c : Bool) → ((b && false) || c) ≡ c
+    none true c = refl
+    none false c = refl
+
+    by : (b : Bool) → nat_eq n x ≡ b → ((f x && b) || (f n && list_any (nat_eq n) xs)) ≡ (f n && (b || list_any (nat_eq n) xs))
+    by true e = ap (λ m. (f m && true) || (f n && list_any (nat_eq n) xs)) (sym (eqb-true n x e)) ∙ spread (f n) (list_any (nat_eq n) xs)
+    by false e = none (f x) (f n && list_any (nat_eq n) xs)
+
+pub any_append : (n : ℕ) (xs ys : List ℕ) → list_any (nat_eq n) ys ≡ true → list_any (nat_eq n) (xs ++ ys) ≡ true
+any_append n [] ys e = e
+any_append n (x ∷ xs) ys e = or_right (nat_eq n x) _ (any_append n xs ys e)
+
+pub any_front : (n : ℕ) (xs ys : List ℕ) → list_any (nat_eq n) xs ≡ true → list_any (nat_eq n) (xs ++ ys) ≡ true
+any_front n [] ys e = cc
+any_front n (x ∷ xs) ys e = by (nat_eq n x) e (any_front n xs ys)
+  where
+    by : (b : Bool) → (b || list_any (nat_eq n) xs) ≡ true → (list_any (nat_eq n) xs ≡ true → list_any (nat_eq n) (xs ++ ys) ≡ true) → (b || list_any (nat_eq n) (xs ++ ys)) ≡ true
+    by true e later = refl
+    by false e later = later e
+
+any_gathered : (n k : ℕ) (nets : List Net) (net : Net) → slice_get nets k ≡ Some net → list_any (nat_eq n) (gate_controls net.gate) ≡ true → list_any (nat_eq n) (gather (λ (net : Net). gate_controls net.gate) nets) ≡ true
+any_gathered n k [] net there e = cc
+any_gathered n zero (x ∷ nets) net there e =
+    let same : net ≡ x = cc in
+    any_front n (gate_controls x.gate) (gather (λ (net : Net). gate_controls net.gate) nets) (rw same at e)
+any_gathered n (suc k) (x ∷ nets) net there e = any_append n (gate_controls x.gate) _ (any_gathered n k nets net there e)
+
+-- ---- control places
+
+module _ (netlist : Netlist) where
+  -- what the gate of a net puts in a control place
+  pub placed : (n k : ℕ) (net : Net) → slice_get netlist.nets k ≡ Some net → list_any (nat_eq n) (gate_controls net.gate) ≡ true → is_placed netlist n ≡ true
+  placed n k net there e = any_append n (gather storage_controls netlist.storages) _ (any_gathered n k netlist.nets net there e)
+
+  when_inside : (when : Option ℕ) → WhenFits netlist when → AllByRecursion (λ n. n < length netlist.nets) (when_controls when)
+  when_inside None h = tt
+  when_inside (Some when) h = (h.0, tt)
+
+  storage_inside : (storage : Storage) → StorageFits netlist storage → AllByRecursion (λ n. n < length netlist.nets) (storage_controls storage)
+  storage_inside (Register name width input when) h = when_inside when h.1
+  storage_inside (Memory name width size addr_width value addr when) h = when_inside when h.2
+
+  drivers_inside : (width : ℕ) (drivers : List (ℕ × ℕ)) → DriversFit netlist width drivers → AllByRecursion (λ n. n < length netlist.nets) (map (λ (driver : ℕ × ℕ). driver.1) drivers)
+  drivers_inside width [] h = tt
+  drivers_inside width (driver ∷ drivers) h = (h.1.0, drivers_inside width drivers h.2)
+
+  gate_inside : (width : ℕ) (gate : Gate) → GateFits netlist width gate → AllByRecursion (λ n. n < length netlist.nets) (gate_controls gate)
+  gate_inside width (Case sel rows rest) h = (h.0, tt)
+  gate_inside width (Bus drivers) h = drivers_inside width drivers h
+  gate_inside width _ h = tt
+
+  pub places_inside : IsTyped netlist → AllByRecursion (λ n. n < length netlist.nets) (control_places netlist)
+  places_inside t =
+      all_append (λ n. n < length netlist.nets) (gather storage_controls netlist.storages) _
+      (all_gathered (λ n. n < length netlist.nets) storage_controls netlist.storages
+      (weaken (StorageFits netlist) (λ storage. AllByRecursion (λ n. n < length netlist.nets) (storage_controls storage)) storage_inside netlist.storages t.storages))
+      (all_gathered (λ n. n < length netlist.nets) (λ (net : Net). gate_controls net.gate) netlist.nets
+      (all_by_place (λ (net : Net). AllByRecursion (λ n. n < length netlist.nets) (gate_controls net.gate)) netlist.nets
+      (λ k net there. let fits : NetFits netlist (Some net) = subst (NetFits netlist) there (t.nets k) in gate_inside net.width net.gate fits.2)))
+
+  -- a static net in a control place uses control's gates
+  pub places_control : HasPlainControl netlist → AllByRecursion (λ n. is_static netlist n ≡ true → is_control netlist n ≡ true) (control_places netlist)
+  places_control h =
+      all_append (λ n. is_static netlist n ≡ true → is_control netlist n ≡ true) (gather storage_controls netlist.storages) _
+      (all_gathered (UsesControlGates netlist) storage_controls netlist.storages h.storages)
+      (all_gathered (UsesControlGates netlist) (λ (net : Net). gate_controls net.gate) netlist.nets
+      (all_by_place (λ (net : Net). AllByRecursion (UsesControlGates netlist) (gate_controls net.gate)) netlist.nets
+      (λ k net there. let uses : AllByRecursion (UsesControlGates netlist) (net_controls (Some net)) = subst (λ o. AllByRecursion (UsesControlGates netlist) (net_controls o)) there (h.nets k) in uses)))
+
+  -- the static ones among them
+  pub static_inside : IsTyped netlist → AllByRecursion (λ n. n < length netlist.nets) (filter (is_static netlist) (control_places netlist))
+  static_inside t = all_filtered (λ n. n < length netlist.nets) (is_static netlist) (control_places netlist) (places_inside t)
+
+  pub static_control : HasPlainControl netlist → AllByRecursion (λ n. is_control netlist n ≡ true) (filter (is_static netlist) (control_places netlist))
+  static_control h = all_passed (λ n. is_control netlist n ≡ true) (is_static netlist) (control_places netlist) (places_control h)
+
+  pub static_any : (n : ℕ) → list_any (nat_eq n) (filter (is_static netlist) (control_places netlist)) ≡ is_static_control netlist n
+  static_any n = any_filtered (is_static netlist) n (control_places netlist)

@@ -1,0 +1,12 @@
+use Rattle.std.proofs.Common.{◌≡◌, ℕ, length, take}
+use Rattle.bit_bdd.specs.Diagrams.{Extends, has_word}
+use Rattle.ctl_bdd.specs.Bits.{AreSets, bools, choice_of}
+use Rattle.ctl_bdd.proofs.bits.choice_bits.Given as goal
+
+abbrev pub invariant-loop-i : goal.invariant-loop-i
+invariant-loop-i l = record {
+  grows : Extends l.initial.book l.book;
+  sets : AreSets l.book l.out;
+  long : length l.out ≡ l.i;
+  words : (word : ℕ) → bools l.book l.out word ≡ choice_of (has_word l.initial.book l.test word) (bools l.initial.book (take l.i l.on) word) (bools l.initial.book (take l.i l.off) word);
+}

@@ -1,0 +1,10 @@
+use Rattle.std.proofs.Common.{◌≡◌, ℕ, ◌%◌, ◌^◌, length}
+use Rattle.ctl_bdd.specs.Bits.{AreSets, number_at}
+use Rattle.ctl_bdd.proofs.bits.constant_bits.Given as goal
+
+abbrev pub invariant-loop-bit : goal.invariant-loop-bit
+invariant-loop-bit l = record {
+  sets : AreSets l.book l.out;
+  long : length l.out ≡ l.bit;
+  number : (word : ℕ) → number_at l.book l.out word ≡ l.value % 2 ^ l.bit;
+}

@@ -1,0 +1,18 @@
+use Rattle.std.proofs.Common.{◌∙◌, arith}
+use Rattle.std.proofs.lemmas.List.{length_push}
+use Rattle.bit_bdd.proofs.CallerLemmas.{extends_trans}
+use Rattle.ctl_bdd.proofs.Sets.{sets_later, number_later, sets_push}
+use Rattle.ctl_bdd.proofs.Numbers.{number_more}
+use Rattle.ctl_bdd.proofs.bits.word_bits.Goals as goal
+
+pub loop-bit-preserved : goal.loop-bit-preserved
+loop-bit-preserved c = record {
+  grows = extends_trans c.args.book.now c.loop-bit.book c.bit.new.self c.loop-bit.invariant.grows c.in_ok-set.ensures.grows;
+  sets = rw c.in_ok-push.ensures.pushed (sets_push c.bit.new.self c.loop-bit.out c.in_ok-set.set (sets_later c.loop-bit.book c.bit.new.self c.in_ok-set.ensures.grows c.loop-bit.out c.loop-bit.invariant.sets) c.in_ok-set.ensures.within);
+  long = rw c.in_ok-push.ensures.pushed (simp length_push (omega (arith, c.loop-bit.invariant.long)));
+  number = λ word.
+      rw c.in_ok-push.ensures.pushed
+      (number_more c.bit.new.self c.loop-bit.out c.in_ok-set.set word word c.loop-bit.bit c.loop-bit.invariant.long
+      (c.in_ok-set.ensures.words word)
+      (number_later c.loop-bit.book c.bit.new.self c.in_ok-set.ensures.grows c.loop-bit.out c.loop-bit.invariant.sets word ∙ c.loop-bit.invariant.number word));
+}

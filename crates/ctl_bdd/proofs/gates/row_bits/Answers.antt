@@ -1,0 +1,20 @@
+use Rattle.std.proofs.Common.{◌∙◌, cond, ap}
+use Rattle.ctl_bdd.specs.Bits.{number_of, number_at}
+use Rattle.ctl_bdd.proofs.Sets.{sets_later, number_later}
+use Rattle.ctl_bdd.proofs.Numbers.{number_choice, eqb_turned}
+use Rattle.ctl_bdd.proofs.gates.row_bits.Goals as goal
+
+pub choice_bits-requires-clause-on : goal.choice_bits-requires-clause-on
+choice_bits-requires-clause-on c = sets_later c.args.book.now c.equals.new.book c.in_ok-test.ensures.grows c.args.on.now c.requires.on
+
+pub choice_bits-requires-clause-off : goal.choice_bits-requires-clause-off
+choice_bits-requires-clause-off c = sets_later c.args.book.now c.equals.new.book c.in_ok-test.ensures.grows c.args.off.now c.requires.off
+
+pub returns-clause-number : goal.returns-clause-number
+returns-clause-number c word =
+    let on = number_later c.args.book.now c.equals.new.book c.in_ok-test.ensures.grows c.args.on.now c.requires.on word in
+    let off = number_later c.args.book.now c.equals.new.book c.in_ok-test.ensures.grows c.args.off.now c.requires.off word in
+    let test = c.in_ok-test.ensures.words word ∙ eqb_turned (number_at c.args.book.now c.args.sel.now word) c.args.key in
+    ap number_of (c.in_ok-out.ensures.words word)
+    ∙ number_choice _ _ _
+    ∙ (λ j. cond (test j) (on j) (off j))

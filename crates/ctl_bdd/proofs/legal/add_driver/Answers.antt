@@ -1,0 +1,20 @@
+use Rattle.std.proofs.Common.{◌&&◌, ◌||◌, not, ◌∙◌}
+use Rattle.bit_bdd.specs.Diagrams.{has_word}
+use Rattle.bit_bdd.proofs.CallerLemmas.{same_words, extends_trans}
+use Rattle.ctl_bdd.proofs.legal.add_driver.Goals as goal
+
+pub returns-clause-legal : goal.returns-clause-legal
+returns-clause-legal c word =
+    let one = extends_trans c.args.book.now c.and.new.self c.not.new.self c.in_ok-both.ensures.grows c.in_ok-apart.ensures.grows in
+    let all = extends_trans c.args.book.now c.not.new.self c.or.new.self one c.in_ok-more.ensures.grows in
+    let l = same_words c.args.book.now c.or.new.self all c.args.legal c.requires.legal word in
+    let a = same_words c.not.new.self c.or.new.self c.in_ok-more.ensures.grows c.in_ok-apart.apart c.in_ok-apart.ensures.within word ∙ c.in_ok-apart.ensures.words word in
+    let b = c.in_ok-both.ensures.words word in
+    c.in_ok-left.ensures.words word ∙ (λ j. l j && a j) ∙ (λ j. has_word c.args.book.now c.args.legal word && not (b j))
+
+pub returns-clause-seen : goal.returns-clause-seen
+returns-clause-seen c word =
+    let one = extends_trans c.args.book.now c.and.new.self c.not.new.self c.in_ok-both.ensures.grows c.in_ok-apart.ensures.grows in
+    let s = same_words c.args.book.now c.not.new.self one c.args.seen c.requires.seen word in
+    let d = same_words c.args.book.now c.not.new.self one c.args.driver c.requires.driver word in
+    same_words c.or.new.self c.and-2.new.self c.in_ok-left.ensures.grows c.in_ok-more.more c.in_ok-more.ensures.within word ∙ c.in_ok-more.ensures.words word ∙ (λ j. s j || d j)

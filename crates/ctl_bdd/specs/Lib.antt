@@ -1,0 +1,6 @@
+pub mod Bits
+pub mod Flags
+pub mod Places
+pub mod Tables
+pub mod Controls
+pub mod Worked

@@ -1,0 +1,139 @@
+//! The nets that stand in control places, and all that they depend on.
+
+ghost use Rattle.std.specs.Prelude.{◌≡◌, ℕ, ◌<◌, ◌++◌, ◌&&◌, ◌||◌, map, filter, nat_eq, true, length, option_to_list, IfOk, OnOk};
+ghost use Rattle.std.specs.List.{AllByRecursion, list_any};
+ghost use Rattle.rec_bits.specs.Faults.{gather};
+ghost use Rattle.net_model.specs.CheckedRules.{gate_controls, is_control, storage_controls};
+ghost use Rattle.net_model.specs.Nets.{gate_nets};
+ghost use Rattle.ctl_bdd.specs.Flags.{flag_at, IsClosed};
+ghost use Rattle.ctl_bdd.specs.Places.{control_places};
+
+use crate::flags::{is_set, named_of, new_flags, set_all};
+use net_model::{Checked, Gate, Netlist, Storage};
+use rec_bits::{Items, NoMemory};
+use std::alloc::Global;
+
+fn when_of(storage: &Storage) -> Option<u32>
+    ensures { option_to_list result ≡ storage_controls storage.now }
+{
+    match storage {
+        Storage::Register { when, .. } | Storage::Memory { when, .. } => *when,
+    }
+}
+
+fn write_enables(alloc: Global, storages: &[Storage]) -> Result<Items<u32>, NoMemory>
+    ensures { IfOk result (λ nets. nets ≡ gather storage_controls storages.now) }
+{
+    let mut nets = Items::new(alloc);
+    for storage in storages {
+        if let Some(when) = when_of(storage) {
+            nets.push(when)?;
+        }
+    }
+    Ok(nets)
+}
+
+fn push_driver_enables(nets: &mut Items<u32>, drivers: &[(u32, u32)]) -> Result<(), NoMemory>
+    ensures { OnOk result (nets.new ≡ nets.old ++ map (λ driver. driver.1) drivers.now) }
+{
+    for driver in drivers {
+        nets.push(driver.1)?;
+    }
+    Ok(())
+}
+
+fn push_controls(nets: &mut Items<u32>, gate: &Gate) -> Result<(), NoMemory>
+    ensures { OnOk result (nets.new ≡ nets.old ++ gate_controls gate.now) }
+{
+    match gate {
+        Gate::Case { sel, .. } => {
+            nets.push(*sel)?;
+            Ok(())
+        }
+        Gate::Bus(drivers) => push_driver_enables(nets, drivers.as_slice()),
+        _ => Ok(()),
+    }
+}
+
+// The nets of write enables, then those of bus enables and of selectors.
+fn places_of(alloc: Global, netlist: &Netlist) -> Result<Items<u32>, NoMemory>
+    ensures { IfOk result (λ places. places ≡ control_places netlist.now) }
+{
+    let mut places = write_enables(alloc, netlist.storages.as_slice())?;
+    for net in netlist.nets.as_slice() {
+        push_controls(&mut places, &net.gate)?;
+    }
+    Ok(places)
+}
+
+fn with_flag(alloc: Global, flags: &[bool], nets: &[u32]) -> Result<Items<u32>, NoMemory>
+    ensures { IfOk result (λ those. those ≡ filter (flag_at flags.now) nets.now) }
+{
+    let mut those = Items::new(alloc);
+    for net in nets {
+        if is_set(flags, *net) {
+            those.push(*net)?;
+        }
+    }
+    Ok(those)
+}
+
+// The control places of nets that have their flag set.
+pub(crate) fn places_with_flag(
+    alloc: Global,
+    netlist: &Netlist,
+    flags: &[bool],
+) -> Result<Items<u32>, NoMemory>
+    ensures { IfOk result (λ places. places ≡ filter (flag_at flags.now) (control_places netlist.now)) }
+{
+    let places = places_of(alloc, netlist)?;
+    with_flag(alloc, flags, places.as_slice())
+}
+
+// Flags that are set at these of so many nets.
+pub(crate) fn flags_at(alloc: Global, nets: usize, those: &[u32]) -> Result<Items<bool>, NoMemory>
+    requires { AllByRecursion (λ n. n < nets) those.now }
+    ensures long { IfOk result (λ flags. length flags ≡ nets) }
+    ensures flags { IfOk result (λ flags. (n : ℕ) → n < nets → flag_at flags n ≡ list_any (nat_eq n) those.now) }
+{
+    let mut flags = new_flags(alloc, nets)?;
+    set_all(&mut flags, those);
+    Ok(flags)
+}
+
+// Sets the flags of all that a net depends on through its gate, if its own flag is set.
+fn set_named(alloc: Global, flags: &mut Items<bool>, gate: &Gate, net: u32) -> Result<(), NoMemory>
+    requires { AllByRecursion (λ n. n < length flags.old) (gate_nets gate.now) }
+    ensures long { length flags.new ≡ length flags.old }
+    ensures flags { OnOk result ((n : ℕ) →
+        flag_at flags.new n ≡ (flag_at flags.old n || (flag_at flags.old net && list_any (nat_eq n) (gate_nets gate.now)))) }
+{
+    if is_set(flags.as_slice(), net) {
+        let named = named_of(alloc, gate)?;
+        set_all(flags, named.as_slice());
+    }
+    Ok(())
+}
+
+// For each net whether one of these is it or depends on it, from the last net in order to the first.
+pub(crate) fn needed_flags(
+    alloc: Global,
+    checked: &Checked,
+    those: &[u32],
+) -> Result<Items<bool>, NoMemory>
+    requires inside { AllByRecursion (λ n. n < length checked.now.netlist.nets) those.now }
+    requires control { AllByRecursion (λ n. is_control checked.now.netlist n ≡ true) those.now }
+    ensures closed { IfOk result (IsClosed checked.now.netlist) }
+    ensures those { IfOk result (λ flags. (n : ℕ) → list_any (nat_eq n) those.now ≡ true → flag_at flags n ≡ true) }
+{
+    let nets = checked.netlist().nets.as_slice();
+    let order = checked.order().as_slice();
+    let mut flags = flags_at(alloc, nets.len(), those)?;
+    let mut left = order.len();
+    while left > 0 {
+        left -= 1;
+        let net = order[left];
+        set_named(alloc, &mut flags, &nets[net as usize].gate, net)?;
+    }
+    Ok(flags)
+}

@@ -1,0 +1,46 @@
+//! Stores that fit a program.
+
+ghost use Rattle.std.specs.Prelude.{◌≡◌, ◌+◌, ◌<◌, ◌≤◌, ◌^◌, ℕ, length, slice_index, IfOk, OnOk};
+ghost use Rattle.src_model.specs.Meaning.{FitsStore};
+
+use rec_bits::{Items, NoMemory, mask};
+use src_model::{Store, Typed};
+use std::alloc::Global;
+
+// The value, or 0 where it doesn't fit.
+fn word(width: u8, value: u64) -> u64
+    requires low { 1 ≤ width }
+    requires high { width ≤ 64 }
+    ensures { result < 2 ^ width }
+{
+    let greatest = mask(width);
+    if value <= greatest { value } else { 0 }
+}
+
+// So many cells more. Each holds the value given for it, or 0 where there is none that fits.
+fn push_cells(cells: &mut Items<u64>, width: u8, given: &[u64], count: u64) -> Result<(), NoMemory>
+    requires low { 1 ≤ width }
+    requires high { width ≤ 64 }
+    requires words { (cell : ℕ) → slice_index cells.old cell < 2 ^ width }
+    ensures longer { OnOk result (length cells.new ≡ length cells.old + count) }
+    ensures words { OnOk result ((cell : ℕ) → slice_index cells.new cell < 2 ^ width) }
+{
+    for _ in 0..count {
+        let value = given.get(cells.len()).copied().unwrap_or(0);
+        cells.push(word(width, value))?;
+    }
+    Ok(())
+}
+
+/// The store of a program whose first cells hold these values. The other cells hold 0.
+pub fn store_of(alloc: Global, typed: &Typed, given: &[u64]) -> Result<Store, NoMemory>
+    ensures { IfOk result (λ store. FitsStore typed.now.width typed.now.program.vars store.cells) }
+{
+    let width = typed.width();
+    let vars = typed.program().vars.as_slice();
+    let mut cells = Items::new(alloc);
+    for var in vars {
+        push_cells(&mut cells, width, given, var.len.unwrap_or(1))?;
+    }
+    Ok(Store { cells })
+}

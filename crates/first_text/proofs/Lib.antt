@@ -1,3 +1,0 @@
-mod Eaches
-mod Names
-pub mod Plains

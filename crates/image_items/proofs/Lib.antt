@@ -1,0 +1,4 @@
+pub mod Lists
+pub mod Digits
+pub mod Laws
+pub mod Endings

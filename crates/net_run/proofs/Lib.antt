@@ -1,0 +1,6 @@
+pub mod ClockLemmas
+pub mod ImageLaws
+pub mod LimitLaws
+pub mod StateLaws
+pub mod RunLaws
+pub mod FaultLaws

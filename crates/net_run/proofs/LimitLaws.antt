@@ -1,0 +1,40 @@
+-- The words of a checked netlist's code.
+use Rattle.std.proofs.Common.{◌≡◌, ℕ, zero, suc, ◌^◌, ◌<◌, ◌≤◌, List, [], ◌∷◌, length, map, Some, None, refl, arith}
+use Rattle.std.specs.List.{AllByRecursion}
+use Rattle.std.specs.Prelude.{slice_get}
+use Rattle.net_model.specs.declared.hardware.Code.{Code}
+use Rattle.net_model.specs.declared.hardware.Netlist.{Netlist}
+use Rattle.net_model.specs.CheckedRules.{CodeKeeps, KeepsRules}
+use Rattle.net_model.specs.Elaborated.{netlist_of}
+use Rattle.net_model.specs.Nets.{code_bits}
+use Rattle.net_model.specs.Widths.{WordFits}
+use Rattle.net_model.specs.Written.{Entry}
+use Rattle.net_front.specs.Fronts.{IsNetFile}
+use Rattle.code_model.specs.declared.image.Word.{Word}
+use Rattle.image_text.specs.declared.limits.Limits.{Limits}
+use Rattle.image_text.specs.Lines.{CodeFits, limits_in, limits_of}
+use Rattle.image_text.proofs.Whole.{Narrow}
+
+narrow_code : (netlist : Netlist) (codes : List Code) → AllByRecursion (CodeKeeps netlist) codes → AllByRecursion (λ (code : Code). code.words ≤ 65536) codes → length codes ≡ 1 → Narrow (limits_in codes)
+narrow_code netlist [] keeps few one = absurd (omega arith)
+narrow_code netlist (code ∷ codes) keeps few one = record { some = keeps.0.0.0; narrow = keeps.0.0.1; words = omega (arith, few.0) }
+
+pub narrow_rules : (netlist : Netlist) (order : List ℕ) → KeepsRules netlist order → Narrow (limits_of netlist)
+narrow_rules netlist order rules = narrow_code netlist netlist.codes rules.formed.codes rules.formed.limits.words rules.roles.code
+
+pub narrow_of : (net : List ℕ) (entries : List Entry) → IsNetFile net entries → Narrow (limits_of (netlist_of entries))
+narrow_of net entries file = narrow_rules (netlist_of entries) file.keeps.order file.keeps.rules
+
+-- a word that fits the limits fits the netlist
+word_fits : (netlist : Netlist) (codes : List Code) → netlist.codes ≡ codes → length codes ≡ 1 → (word : ℕ) → word < 2 ^ (limits_in codes).bits → WordFits netlist word
+word_fits netlist [] is one word lt = absurd (omega arith)
+word_fits netlist (code ∷ d ∷ codes) is one word lt = absurd (omega arith)
+word_fits netlist (code ∷ []) is one word lt = record { fits = rw is by_code }
+  where
+    by_code : (k : ℕ) → 0 < code_bits (slice_get (code ∷ []) k) → word < 2 ^ code_bits (slice_get (code ∷ []) k)
+    by_code zero some = lt
+    by_code (suc k) some = absurd (omega arith)
+
+pub words_fit : (netlist : Netlist) (order : List ℕ) → KeepsRules netlist order → (words : List Word) → AllByRecursion (CodeFits (limits_of netlist).bits) words → AllByRecursion (WordFits netlist) (map (λ (w : Word). w.word) words)
+words_fit netlist order rules [] fits = tt
+words_fit netlist order rules (word ∷ words) fits = (word_fits netlist netlist.codes refl rules.roles.code word.word fits.0.word, words_fit netlist order rules words fits.1)

@@ -1,0 +1,156 @@
+//! From the texts to the machine, and from its last state to the text.
+
+ghost use Rattle.std.specs.Prelude.{◌≡◌, ◌<◌, ◌^◌, IfOk, IfErr, length};
+ghost use Rattle.std.specs.List.{AllByRecursion};
+ghost use Rattle.net_model.specs.NetFaults.{name_at};
+ghost use Rattle.net_model.specs.Widths.{IsState, WordFits};
+ghost use Rattle.code_model.specs.Places.{words_of};
+ghost use Rattle.image_text.specs.Lines.{IsImageText, limits_of};
+ghost use Rattle.state_text.specs.Settings.{IsStart, IsStateText};
+ghost use Rattle.net_run.specs.Runs.{IsEndFault, IsEndText, IsImageFault, IsNetFault, IsNetRead, IsRunFault, IsStateFaultOf, ShowsState};
+ghost use Rattle.net_run.specs.declared.machine.RunFault.{RunFault};
+
+use crate::clocks::{Clash, clock_all};
+use code_model::Image;
+use cycle_sim::Sim;
+use net_front::{NetRefusal, read_net};
+use net_model::{Checked, NetFault, State};
+use rec_bits::{Items, NoMemory, ParseFault};
+use state_text::{text_room, write_state};
+use std::alloc::Global;
+
+/// Why no state was reached.
+#[derive(Clone, Copy, Debug, PartialEq, Eq)]
+pub enum RunFault {
+    /// The first bytes are no netlist text; the offset at which that shows.
+    NetText(u64),
+    /// They are one, and this is the first rule that it breaks.
+    Net(NetFault),
+    /// The second bytes are no image text that fits the netlist; the offset of the line at fault.
+    ImageText(u64),
+    /// The third bytes are no memory text for the netlist; the offset of the line at fault.
+    MemText(u64),
+    /// Two drivers of a bus are enabled in this cycle, and in none before. The bus is told by its net, and by the offset of its name.
+    Clash { cycle: u64, bus: u32, at: u64 },
+    /// Want of memory.
+    Memory,
+}
+
+impl From<NoMemory> for RunFault {
+    ghost from_gives = { λ _ fault. fault ≡ RunFault.Memory };
+
+    fn from(_cause: NoMemory) -> RunFault {
+        RunFault::Memory
+    }
+}
+
+// The netlist.
+fn netlist(alloc: Global, net: &[u8]) -> Result<Checked, RunFault>
+    requires { length net.now < 2 ^ 32 }
+    ensures found { IfOk result (IsNetRead net.now) }
+    ensures refused { IfErr result (IsNetFault net.now) }
+{
+    match read_net(alloc, net) {
+        Ok((_, checked)) => Ok(checked),
+        Err(NetRefusal::Text(at)) => Err(RunFault::NetText(at)),
+        Err(NetRefusal::Fault(fault)) => Err(RunFault::Net(fault)),
+        Err(NetRefusal::Memory) => Err(RunFault::Memory),
+    }
+}
+
+// The image.
+fn image_of(alloc: Global, bytes: &[u8], checked: &Checked) -> Result<Image, RunFault>
+    requires { length bytes.now < 2 ^ 32 }
+    ensures found { IfOk result (IsImageText (limits_of checked.now.netlist) bytes.now) }
+    ensures refused { IfErr result (IsImageFault checked.now.netlist bytes.now) }
+{
+    match image_text::read(alloc, bytes, checked) {
+        Ok(image) => Ok(image),
+        Err(ParseFault::Text(at)) => Err(RunFault::ImageText(at)),
+        Err(ParseFault::Memory) => Err(RunFault::Memory),
+    }
+}
+
+// The state that the netlist starts from.
+fn start_of(alloc: Global, bytes: &[u8], checked: &Checked) -> Result<State, RunFault>
+    requires { length bytes.now < 2 ^ 32 }
+    ensures found { IfOk result (IsStateText checked.now.netlist bytes.now) }
+    ensures fits { IfOk result (IsStart checked.now.netlist) }
+    ensures refused { IfErr result (IsStateFaultOf checked.now.netlist bytes.now) }
+{
+    match state_text::read_state(alloc, bytes, checked) {
+        Ok(state) => Ok(state),
+        Err(ParseFault::Text(at)) => Err(RunFault::MemText(at)),
+        Err(ParseFault::Memory) => Err(RunFault::Memory),
+    }
+}
+
+// The words of an image.
+fn words_of(alloc: Global, image: &Image) -> Result<Items<u64>, NoMemory>
+    ensures { IfOk result (λ words. words ≡ words_of image.now) }
+{
+    let mut words = Items::new(alloc);
+    for word in image.words.as_slice() {
+        words.push(word.word)?;
+    }
+    Ok(words)
+}
+
+// The offset of the name of a net's item.
+fn name_of(checked: &Checked, net: u32) -> u64
+    ensures { result ≡ name_at checked.now.netlist net }
+{
+    match checked.netlist().net(net) {
+        Some(net) => net.name_at,
+        None => 0,
+    }
+}
+
+// Clocks the netlist so often, and writes the state.
+fn clocked(
+    alloc: Global,
+    checked: &Checked,
+    words: Items<u64>,
+    start: State,
+    clocks: u32,
+) -> Result<Vec<u8>, RunFault>
+    requires words { AllByRecursion (WordFits checked.now.netlist) words }
+    requires start { IsState checked.now.netlist start }
+    ensures text { IfOk result (λ text. IsEndText checked.now.netlist words start clocks text.items) }
+    ensures refused { IfErr result (IsEndFault checked.now.netlist words start clocks) }
+{
+    // nothing is asked for once the first clock has passed
+    let mut text = text_room(alloc, checked)?;
+    let mut sim = Sim::new(alloc, checked, words, start)?;
+    if let Err(Clash { cycle, bus }) = clock_all(&mut sim, clocks) {
+        let at = name_of(checked, bus);
+        return Err(RunFault::Clash { cycle, bus, at });
+    }
+    match write_state(&mut text, checked, u64::from(clocks), &sim) {
+        Ok(()) => Ok(text),
+        Err(_) => unreachable!(),
+    }
+}
+
+/// The text of the state after so many clocks of the netlist that `net` is, on the words of the image that `image` is, from the state that
+/// `memory` is. Each refusal comes exactly where it is the first that applies, in the order in which they are listed; a clash exactly where
+/// the clock equation clashes in that cycle, below `clocks`, and in none before.
+pub fn run(
+    alloc: Global,
+    net: &[u8],
+    image: &[u8],
+    memory: &[u8],
+    clocks: u32,
+) -> Result<Vec<u8>, RunFault>
+    requires net { length net.now < 2 ^ 32 }
+    requires image { length image.now < 2 ^ 32 }
+    requires memory { length memory.now < 2 ^ 32 }
+    ensures shows { IfOk result (λ text. ShowsState net.now image.now memory.now clocks text.items) }
+    ensures refused { IfErr result (IsRunFault net.now image.now memory.now clocks) }
+{
+    let checked = netlist(alloc, net)?;
+    let image = image_of(alloc, image, &checked)?;
+    let start = start_of(alloc, memory, &checked)?;
+    let words = words_of(alloc, &image)?;
+    clocked(alloc, &checked, words, start, clocks)
+}

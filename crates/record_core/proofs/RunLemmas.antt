@@ -1,0 +1,65 @@
+-- What `run` answers for three texts.
+use Rattle.std.proofs.Common.{◌≡◌, ℕ, List, Some, None, inl, inr, refl}
+use Rattle.std.specs.declared.option.Option.{Option}
+use Rattle.net_front.proofs.FrontLaws.{no_text_fault, no_broken_rule}
+use Rattle.net_front.specs.Fronts.{IsNetFile, BreaksRule}
+use Rattle.net_model.specs.Written.{Entry}
+use Rattle.net_model.specs.declared.fault.NetFault.{NetFault}
+use Rattle.net_parser.specs.Texts.{IsNoNetText}
+use Rattle.net_run.proofs.RunLaws.{no_image_fault, no_memory_fault}
+use Rattle.net_run.specs.Runs.{Loaded, IsLoaded, IsImageFile, IsNoImageFile, IsNoMemoryFile, ClashedAt, Clashes, ShowsState}
+use Rattle.record_core.proofs.StageLemmas.{By-none}
+use Rattle.record_core.specs.Answers.{RunAnswers, RunEnds}
+use Rattle.record_core.specs.Stages.{By, Then}
+use Rattle.record_core.specs.declared.status.Status.{Status}
+use Rattle.record_core.specs.declared.status.Status.TheVariants.{Done, NetText, Net, ImageText, MemText, Clash}
+
+module _ (line : Option ℕ → Status → List ℕ) (net image memory : List ℕ) (clocks : ℕ) where
+  -- the later stages, by what the texts passed so far
+  abbrev memory_answers : Status → List ℕ → Type 0
+  memory_answers = Then (line None) (By MemText (IsNoMemoryFile net memory)) (RunEnds line net image memory clocks)
+
+  abbrev image_answers : Status → List ℕ → Type 0
+  image_answers = Then (line None) (By ImageText (IsNoImageFile net image)) memory_answers
+
+  past_net : (entries : List Entry) → IsNetFile net entries → (status : Status) (text : List ℕ) → image_answers status text → RunAnswers line net image memory clocks status text
+  past_net entries file status text later = inr (
+    By-none NetText (IsNoNetText net) (λ at faulty. no_text_fault net entries at file.says faulty),
+    inr (By-none Net (BreaksRule net) (λ fault breaks. no_broken_rule net entries fault file breaks), later),
+  )
+
+  past_image : IsImageFile net image → (status : Status) (text : List ℕ) → memory_answers status text → RunAnswers line net image memory clocks status text
+  past_image h status text later = past_net h.entries h.net_file status text (inr (By-none ImageText (IsNoImageFile net image) (λ at none. no_image_fault net image at h none), later))
+
+  past_memory : (loaded : Loaded) → IsLoaded net image memory loaded → (status : Status) (text : List ℕ) → RunEnds line net image memory clocks status text → RunAnswers line net image memory clocks status text
+  past_memory loaded taken status text later =
+      past_image (record { entries = loaded.entries; said = loaded.image; net_file = taken.net_file; image_text = taken.image_text }) status text
+      (inr (By-none MemText (IsNoMemoryFile net memory) (λ at none. no_memory_fault net image memory loaded at taken none), later))
+
+  pub answers_state : (out : List ℕ) → ShowsState net image memory clocks out → RunAnswers line net image memory clocks Done out
+  answers_state out shows = past_memory shows.loaded shows.taken Done out (inr (refl, shows))
+
+  pub answers_clash : (c : ClashedAt) → Clashes net image memory clocks c → RunAnswers line net image memory clocks (Clash c.cycle c.bus) (line (Some c.at) (Clash c.cycle c.bus))
+  answers_clash c clashes = past_memory clashes.loaded clashes.taken (Clash c.cycle c.bus) (line (Some c.at) (Clash c.cycle c.bus)) (inl (c, clashes, refl, refl))
+
+  pub answers_no_net_text : (at : ℕ) → IsNoNetText net at → RunAnswers line net image memory clocks (NetText at) (line None (NetText at))
+  answers_no_net_text at none = inl ((at, none, refl), refl)
+
+  pub answers_broken : (fault : NetFault) → BreaksRule net fault → RunAnswers line net image memory clocks (Net fault) (line None (Net fault))
+  answers_broken fault breaks =
+      inr (By-none NetText (IsNoNetText net) (λ at faulty. no_text_fault net breaks.entries at breaks.says faulty), inl ((fault, breaks, refl), refl))
+
+  pub answers_no_image : (at : ℕ) → IsNoImageFile net image at → RunAnswers line net image memory clocks (ImageText at) (line None (ImageText at))
+  answers_no_image at none = past_net none.entries none.net_file (ImageText at) (line None (ImageText at)) (inl ((at, none, refl), refl))
+
+  pub answers_no_memory : (at : ℕ) → IsImageFile net image → IsNoMemoryFile net memory at → RunAnswers line net image memory clocks (MemText at) (line None (MemText at))
+  answers_no_memory at has none = past_image has (MemText at) (line None (MemText at)) (inl ((at, none, refl), refl))
+
+-- what is written on `Done` is the state
+pub state_of : (line : Option ℕ → Status → List ℕ) (net image memory : List ℕ) (clocks : ℕ) (text : List ℕ) → RunAnswers line net image memory clocks Done text → ShowsState net image memory clocks text
+state_of line net image memory clocks text (inl ((at, reason, is), same)) = absurd cc
+state_of line net image memory clocks text (inr (net_text, inl ((fault, reason, is), same))) = absurd cc
+state_of line net image memory clocks text (inr (net_text, inr (rules, inl ((at, reason, is), same)))) = absurd cc
+state_of line net image memory clocks text (inr (net_text, inr (rules, inr (image_is, inl ((at, reason, is), same))))) = absurd cc
+state_of line net image memory clocks text (inr (net_text, inr (rules, inr (image_is, inr (memory_is, inl (c, clashes, is, same)))))) = absurd cc
+state_of line net image memory clocks text (inr (net_text, inr (rules, inr (image_is, inr (memory_is, inr (is, shows)))))) = shows

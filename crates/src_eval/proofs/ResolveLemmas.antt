@@ -1,0 +1,111 @@
+-- The formulas of expressions, by their parts.
+use Rattle.std.proofs.Common.{lit<, [], ◌∷◌, ◌++◌, slice_set, ◌≡◌, ℕ, ◌+◌, ◌-◌, ◌/◌, ◌%◌, ◌^◌, ◌≤◌, ◌<◌, List, slice_index, refl, sym, ap, subst, ◌∙◌, arith}
+use Rattle.std.specs.Global.{Box}
+use Rattle.rec_bits.specs.declared.operator.Op1.{Op1}
+use Rattle.rec_bits.specs.declared.operator.Op2.{Op2}
+use Rattle.rec_bits.specs.Operators.{apply1_of, apply2_of, sext_of, slice_of, result_width}
+use Rattle.src_model.specs.declared.program.Var.{Var as Declared}
+use Rattle.src_model.specs.declared.program.SrcExpr.{SrcExpr}
+use Rattle.src_model.specs.Written.{Shape, num, plain, element, un, bin, zext, sext, low, shape_of}
+use Rattle.src_model.specs.Meaning.{width_of, operand_width, value_of, first_cell}
+use Rattle.src_model.specs.Fitting.{Fitting}
+use Rattle.src_model.proofs.FittingLemmas.{width_wide, sides_wide}
+use Rattle.src_eval.specs.declared.formula.Formula.{Formula, Number, Cell, Un, Bin, Sext, Low}
+use Rattle.src_eval.specs.declared.machine.Step.{Step}
+use Rattle.src_eval.specs.declared.machine.Step.TheVariants.{Assign}
+use Rattle.src_eval.specs.Formulas.{mean, Fits, IsWidth}
+use Rattle.src_eval.specs.Laid.{IsDoing, Pushed}
+use Rattle.src_model.specs.Trace.{stepped}
+use Rattle.std.proofs.lemmas.Nat.{pow_pos}
+use Rattle.std.proofs.Math.Nat.{pow-le-pow_right}
+use Rattle.rec_bits.specs.declared.operator.Op2.TheVariants.{Add}
+use Rattle.src_eval.specs.Resolved.{Resolves, Small}
+use Rattle.src_eval.proofs.FormulaLemmas.{fits_wider}
+
+-- what fits has small widths
+pub small : (word asked : ℕ) (e : Shape) → IsWidth word → IsWidth asked → Fitting word asked e → Small e
+small word asked (num n) w a f = tt
+small word asked (plain name at) w a f = tt
+small word asked (element name at to x) w a f = tt
+small word asked (un op at x) w a f = small word asked x w a f
+small word asked (bin op at x to y) w a f =
+    let o = sides_wide word x y w f.0 f.1 in
+    (small word (operand_width word x y) x w o f.0, small word (operand_width word x y) y w o f.1)
+small word asked (zext at x to) w a f = f.2
+small word asked (sext at x to) w a f = f.2
+small word asked (low at x to) w a f = let i = width_wide word word x w w f.0 in omega (arith, i, f.2)
+
+module _ (word : ℕ) (vars : List Declared) (w : IsWidth word) where
+  pub un_resolves : (asked : ℕ) → IsWidth asked → (op : Op1) (at : ℕ) (x : Shape) → Fitting word asked x → (width : ℕ) (b : Box Formula) → width ≡ width_of word asked x → Resolves word vars asked x b.value → Resolves word vars asked (un op at x) (Un op width b)
+  un_resolves asked a op at x f width b is r = record {
+    value = λ cells. λ j. apply1_of op (is j) (r.value cells j);
+    fits = (subst IsWidth (sym is) (width_wide word asked x w a f), omega (arith, is), subst (λ n. Fits word n b.value) (sym is) r.fits);
+  }
+
+  pub bin_resolves : (asked : ℕ) (op : Op2) (at : ℕ) (x : Shape) (to : ℕ) (y : Shape) → Fitting word asked (bin op at x to y) → (width : ℕ) (l r : Box Formula) → width ≡ operand_width word x y
+      → Resolves word vars width x l.value → Resolves word vars width y r.value → Resolves word vars asked (bin op at x to y) (Bin op width l r)
+  bin_resolves asked op at x to y f width l r is left right =
+      let lw : width_of word width x ≡ width = ap (λ n. width_of word n x) is ∙ f.2 ∙ sym is in
+      let rw' : width_of word width y ≡ width = ap (λ n. width_of word n y) is ∙ f.3 ∙ sym is in
+      record {
+        value = λ cells.
+            (λ j. apply2_of op width (left.value cells j) (right.value cells j))
+            ∙ (λ j. apply2_of op (is j) (value_of word vars cells (is j) x) (value_of word vars cells (is j) y));
+        fits = (
+          subst IsWidth (sym is) (sides_wide word x y w f.0 f.1),
+          le_of (ap (result_width op) is),
+          subst (λ n. Fits word n l.value) lw left.fits,
+          subst (λ n. Fits word n r.value) rw' right.fits,
+        );
+      }
+    where
+      le_of : {n m : ℕ} → n ≡ m → n ≤ m
+      le_of e = omega (arith, e)
+
+  pub zext_resolves : (asked at : ℕ) (x : Shape) (to : ℕ) → Fitting word asked (zext at x to) → (f : Formula) → Resolves word vars word x f → Resolves word vars asked (zext at x to) f
+  zext_resolves asked at x to h f r = record { value = r.value; fits = fits_wider word (width_of word word x) to f (omega (arith, h.1)) r.fits }
+
+  pub sext_resolves : (asked at : ℕ) (x : Shape) (to : ℕ) → Fitting word asked (sext at x to) → (from : ℕ) (b : Box Formula) → from ≡ width_of word word x → Resolves word vars word x b.value → Resolves word vars asked (sext at x to) (Sext from to b)
+  sext_resolves asked at x to h from b is r =
+      let i = width_wide word word x w w h.0 in
+      record {
+        value = λ cells. λ j. sext_of (r.value cells j) (is j) to;
+        fits = (omega (arith, i, is), omega (arith, h.1, is), h.2, omega arith, subst (λ n. Fits word n b.value) (sym is) r.fits);
+      }
+
+  pub low_resolves : (asked at : ℕ) (x : Shape) (to : ℕ) → Fitting word asked (low at x to) → (b : Box Formula) → Resolves word vars word x b.value → Resolves word vars asked (low at x to) (Low to b)
+  low_resolves asked at x to h b r =
+      let i = width_wide word word x w w h.0 in
+      record {
+        value = λ cells. low_slice (mean cells b.value) to h.1 ∙ ap (λ n. n % 2 ^ to) (r.value cells);
+        fits = ((h.1, omega (arith, i, h.2)), omega arith, fits_wider word (width_of word word x) 64 b.value i.1 r.fits);
+      }
+    where
+      low_slice : (n to : ℕ) → 1 ≤ to → slice_of n (to - 1) 0 ≡ n % 2 ^ to
+      low_slice n to le =
+          let e : to - 1 + 1 - 0 ≡ to = omega (arith, le) in
+          let d : n / 2 ^ 0 ≡ n = omega arith in
+          (λ j. d j % 2 ^ e j)
+
+-- a formula of an expression as it is borrowed, and then held in a box
+pub held_resolves : (word : ℕ) (vars : List Declared) (asked : ℕ) (d x : SrcExpr) (f g : Formula) → d ≡ x → g ≡ f → Resolves word vars asked (shape_of d.node) f → Resolves word vars asked (shape_of x.node) g
+held_resolves word vars asked d x f g e same r = subst (λ (n : SrcExpr). Resolves word vars asked (shape_of n.node) g) e (subst (λ (h : Formula). Resolves word vars asked (shape_of d.node) h) (sym same) r)
+
+-- the step of a `for`
+pub step_pushed : (word : ℕ) (vars : List Declared) (counter : List ℕ) (next f : ℕ) (old new : List Step) (n one : Box Formula) → new ≡ old ++ Assign f (Number 0) (Bin Add word n one) next ∷ [] → f ≡ first_cell vars counter
+    → n.value ≡ Cell f → one.value ≡ Number 1 → IsWidth word → Pushed word old new (IsDoing (stepped word vars counter) next)
+step_pushed word vars counter next f old new n one is e a b w = record {
+  step = Assign f (Number 0) (Bin Add word n one) next;
+  pushed = is;
+  is = (refl, λ cells. λ j. slice_set cells (at j) (apply2_of Add word (count cells j) (mean cells (b j))));
+  fits = (pow_pos word, (w, omega arith, subst (Fits word word) (sym a) (omega arith), subst (Fits word word) (sym b) small_one));
+}
+  where
+    at : f + 0 ≡ first_cell vars counter
+    at = omega (arith, e)
+
+    count : (cells : List ℕ) → mean cells n.value ≡ slice_index cells (first_cell vars counter)
+    count cells = ap (mean cells) a ∙ ap (slice_index cells) e
+
+    small_one : 1 < 2 ^ word
+    small_one = let p : 2 ^ 1 ≤ 2 ^ word = pow-le-pow_right (lit< tt) w.0 in omega (arith, p)

@@ -1,0 +1,263 @@
+//! The steps of a program's statements.
+
+ghost use Rattle.std.specs.Prelude.{◌≡◌, ◌+◌, ◌<◌, ◌≤◌, ◌^◌, ℕ, List, OnOk, map, length};
+ghost use Rattle.src_model.specs.Written.{act_of, acts_of, place_of, phrase_of, test_of, shape_of};
+ghost use Rattle.src_model.specs.Loops.{place_shape};
+ghost use Rattle.src_model.specs.Sizes.{statements, statements_in};
+ghost use Rattle.src_model.specs.Meaning.{assigned, holds};
+ghost use Rattle.src_model.specs.Trace.{started, stepped, counting};
+ghost use Rattle.src_model.specs.Fitting.{Fitting, FitsWord, FitsSides, FitsCount, FitsAct, FitsActs};
+ghost use Rattle.src_eval.specs.Formulas.{IsWidth};
+ghost use Rattle.src_eval.specs.Laid.{IsDoing, IsAsking, entry, Laid, LaidIn, Pushed, Ready, Built};
+
+use crate::formula::{Comparison, Formula};
+use crate::machine::Step;
+use crate::resolve::{resolve, resolve_index, resolve_test};
+use crate::table::Table;
+use rec_bits::{Items, Name, NoMemory, Op2};
+use src_model::{Cmp, Spot, SrcExpr, SrcTest, Stmt, block_sizes};
+use std::alloc::Global;
+
+// The number of trees of some statements.
+fn trees_in(block: &[Stmt]) -> usize
+    requires { statements_in (acts_of (map act_of block.now)) ≤ 65536 }
+    ensures { result ≡ statements_in (acts_of (map act_of block.now)) }
+{
+    block_sizes(1, block).statements as usize
+}
+
+fn trees(statement: &Stmt) -> usize
+    requires { statements (act_of statement.now) ≤ 65536 }
+    ensures { result ≡ statements (act_of statement.now) }
+{
+    match statement {
+        Stmt::Assign { .. } => 1,
+        Stmt::If { yes, no, .. } => {
+            let taken = trees_in(yes);
+            match no {
+                None => 1 + taken,
+                Some(other) => 1 + taken + trees_in(other),
+            }
+        }
+        Stmt::While { body, .. } => 1 + trees_in(body),
+        Stmt::For { body, .. } => 3 + trees_in(body),
+    }
+}
+
+// Where a block begins whose first tree has this number; an empty one is what comes after it.
+fn entry(block: &[Stmt], tree: usize, next: usize) -> usize
+    ensures { result ≡ entry (acts_of (map act_of block.now)) tree next }
+{
+    match block.split_first() {
+        None => next,
+        Some((_first, _rest)) => tree,
+    }
+}
+
+// The step of an assignment.
+fn push_assign(
+    alloc: Global,
+    word: u8,
+    table: &Table<'_>,
+    steps: &mut Items<Step>,
+    place: &Spot,
+    e: &SrcExpr,
+    next: usize,
+) -> Result<(), NoMemory>
+    requires word { IsWidth word }
+    requires place { Fitting word word (place_shape (place_of place.now)) }
+    requires value { FitsWord word (shape_of e.now.node) }
+    ensures { OnOk result (Pushed word steps.old steps.new (IsDoing (assigned word table.now (place_of place.now) (phrase_of e.now)) next)) }
+{
+    let first = table.first_cell(&place.name);
+    let index = resolve_index(alloc, word, table, place)?;
+    let value = resolve(alloc, word, table, word, e)?;
+    steps.push(Step::Assign {
+        first,
+        index,
+        value,
+        next,
+    })?;
+    Ok(())
+}
+
+// The start of a `for`.
+fn push_start(
+    table: &Table<'_>,
+    word: u8,
+    steps: &mut Items<Step>,
+    counter: &Name,
+    from: u64,
+    next: usize,
+) -> Result<(), NoMemory>
+    requires { from < 2 ^ word }
+    ensures { OnOk result (Pushed word steps.old steps.new (IsDoing (started table.now counter.now from) next)) }
+{
+    steps.push(Step::Assign {
+        first: table.first_cell(counter),
+        index: Formula::Number(0),
+        value: Formula::Number(from),
+        next,
+    })?;
+    Ok(())
+}
+
+// The step of a `for`.
+fn push_step(
+    alloc: Global,
+    word: u8,
+    table: &Table<'_>,
+    steps: &mut Items<Step>,
+    counter: &Name,
+    next: usize,
+) -> Result<(), NoMemory>
+    requires word { IsWidth word }
+    ensures { OnOk result (Pushed word steps.old steps.new (IsDoing (stepped word table.now counter.now) next)) }
+{
+    let first = table.first_cell(counter);
+    let count = Box::new(alloc, Formula::Cell(first))?;
+    let one = Box::new(alloc, Formula::Number(1))?;
+    steps.push(Step::Assign {
+        first,
+        index: Formula::Number(0),
+        value: Formula::Bin(Op2::Add, word, count, one),
+        next,
+    })?;
+    Ok(())
+}
+
+// The step of a test.
+fn push_test(
+    alloc: Global,
+    word: u8,
+    table: &Table<'_>,
+    steps: &mut Items<Step>,
+    test: &SrcTest,
+    on_true: usize,
+    on_false: usize,
+) -> Result<(), NoMemory>
+    requires word { IsWidth word }
+    requires fitting { FitsSides word (shape_of test.now.left.node) (shape_of test.now.right.node) }
+    ensures { OnOk result (Pushed word steps.old steps.new (IsAsking (holds word table.now (test_of test.now)) on_true on_false)) }
+{
+    let test = resolve_test(alloc, word, table, test)?;
+    steps.push(Step::Test {
+        test,
+        on_true,
+        on_false,
+    })?;
+    Ok(())
+}
+
+// The test of a `for`.
+fn push_counting(
+    table: &Table<'_>,
+    word: u8,
+    steps: &mut Items<Step>,
+    counter: &Name,
+    to: u64,
+    on_true: usize,
+    on_false: usize,
+) -> Result<(), NoMemory>
+    requires word { IsWidth word }
+    requires last { to + 1 < 2 ^ word }
+    ensures { OnOk result (Pushed word steps.old steps.new (IsAsking (counting table.now counter.now to) on_true on_false)) }
+{
+    let test = Comparison {
+        cmp: Cmp::Ne,
+        width: word,
+        left: Formula::Cell(table.first_cell(counter)),
+        right: Formula::Number(to + 1),
+    };
+    steps.push(Step::Test {
+        test,
+        on_true,
+        on_false,
+    })?;
+    Ok(())
+}
+
+/// Adds the steps of a statement, behind which the run goes on at `next`.
+#[cycle(build)]
+pub fn build(
+    alloc: Global,
+    word: u8,
+    table: &Table<'_>,
+    steps: &mut Items<Step>,
+    statement: &Stmt,
+    next: usize,
+) -> Result<(), NoMemory>
+    requires ready { Ready word steps.old (statements (act_of statement.now)) next }
+    requires fits { FitsAct word (act_of statement.now) }
+    ensures { OnOk result (Built word steps.old steps.new (statements (act_of statement.now)) (λ last. Laid word table.now last (act_of statement.now) (length steps.old) next)) }
+{
+    match statement {
+        Stmt::Assign { place, value } => {
+            push_assign(alloc, word, table, steps, place, value, next)?;
+            Ok(())
+        }
+        Stmt::If { test, yes, no } => {
+            let tree = steps.len();
+            let on_true = entry(yes, tree + 1, next);
+            match no {
+                None => {
+                    push_test(alloc, word, table, steps, test, on_true, next)?;
+                    build_block(alloc, word, table, steps, yes, next)?;
+                }
+                Some(other) => {
+                    let on_false = entry(other, tree + 1 + trees_in(yes), next);
+                    push_test(alloc, word, table, steps, test, on_true, on_false)?;
+                    build_block(alloc, word, table, steps, yes, next)?;
+                    build_block(alloc, word, table, steps, other, next)?;
+                }
+            }
+            Ok(())
+        }
+        Stmt::While { test, body } => {
+            let tree = steps.len();
+            let on_true = entry(body, tree + 1, tree);
+            push_test(alloc, word, table, steps, test, on_true, next)?;
+            build_block(alloc, word, table, steps, body, tree)?;
+            Ok(())
+        }
+        Stmt::For {
+            counter,
+            at: _,
+            from,
+            to,
+            body,
+        } => {
+            let tree = steps.len();
+            let step = tree + 2 + trees_in(body);
+            let on_true = entry(body, tree + 2, step);
+            push_start(table, word, steps, counter, *from, tree + 1)?;
+            push_counting(table, word, steps, counter, *to, on_true, next)?;
+            build_block(alloc, word, table, steps, body, step)?;
+            push_step(alloc, word, table, steps, counter, tree + 1)?;
+            Ok(())
+        }
+    }
+}
+
+/// Adds the steps of a block's statements, behind which the run goes on at `next`.
+#[cycle(build)]
+pub fn build_block(
+    alloc: Global,
+    word: u8,
+    table: &Table<'_>,
+    steps: &mut Items<Step>,
+    block: &[Stmt],
+    next: usize,
+) -> Result<(), NoMemory>
+    requires ready { Ready word steps.old (statements_in (acts_of (map act_of block.now))) next }
+    requires fits { FitsActs word (acts_of (map act_of block.now)) }
+    ensures { OnOk result (Built word steps.old steps.new (statements_in (acts_of (map act_of block.now))) (λ last. LaidIn word table.now last (acts_of (map act_of block.now)) (length steps.old) next)) }
+{
+    let mut left = block;
+    while let Some((statement, rest)) = left.split_first() {
+        let after = entry(rest, steps.len() + trees(statement), next);
+        build(alloc, word, table, steps, statement, after)?;
+        left = rest;
+    }
+    Ok(())
+}

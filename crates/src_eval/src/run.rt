@@ -1,0 +1,60 @@
+//! A run of a program, as its caller sees it.
+
+ghost use Rattle.std.specs.Prelude.{◌≡◌, ◌<◌, ◌^◌, ℕ, suc, [], ◌∷◌, List, IfOk};
+ghost use Rattle.src_model.specs.Written.{listing_of};
+ghost use Rattle.src_model.specs.Meaning.{FitsStore};
+ghost use Rattle.src_model.specs.Trace.{strace};
+ghost use Rattle.src_eval.specs.Steps.{Kept, Passes, Ended, ahead_of};
+ghost use Rattle.src_eval.specs.Props.{kept_prop};
+
+use crate::build::build_block;
+use crate::machine::Machine;
+use crate::table::declare;
+use rec_bits::{Items, NoMemory};
+use src_model::{Checkpoint, Store, Typed};
+use std::alloc::Global;
+
+/// A run of a program, which stops at each checkpoint.
+#[derive(Drop)]
+pub struct Runner<'a> {
+    machine: Machine<'a>,
+    ghost kept: { Kept machine } by { kept_prop machine },
+}
+
+impl<'a> Runner<'a> {
+    /// A run from this store that has not begun. The store has as many cells as the program's variables, and each holds a word.
+    pub fn new(alloc: Global, typed: &'a Typed, store: Store) -> Result<Runner<'a>, NoMemory>
+        requires { FitsStore typed.now.width typed.now.program.vars store.cells }
+        ensures cells { IfOk result (λ run. run.machine.store ≡ store) }
+        ensures ahead { IfOk result (λ run. (m : ℕ) → ahead_of run.machine m ≡ strace typed.now.width (listing_of typed.now.program) store.cells m) }
+    {
+        let word = typed.width();
+        let program = typed.program();
+        let table = declare(alloc, program.vars.as_slice())?;
+        let mut steps = Items::new(alloc);
+        build_block(alloc, word, &table, &mut steps, &program.body, usize::MAX)?;
+        let machine = Machine {
+            typed,
+            steps,
+            at: 0,
+            store,
+        };
+        Ok(Runner { machine })
+    }
+
+    /// Runs to the next checkpoint, and answers it: a test that is about to be evaluated, with its tree's number, or the end. After the end it
+    /// answers the end again.
+    pub fn next(&mut self) -> Checkpoint
+        ensures passes { Passes self.old.machine result self.new.machine }
+        ensures ended { result ≡ Checkpoint.End → Ended self.new.machine }
+    {
+        self.machine.advance()
+    }
+
+    /// What the variables hold now.
+    pub fn store(&self) -> &Store
+        ensures { result.now ≡ self.now.machine.store }
+    {
+        &self.machine.store
+    }
+}

@@ -1,0 +1,75 @@
+-- A program text declares no more variables than it has bytes.
+use Rattle.std.proofs.Common.{◌≡◌, ◌≤◌, ◌+◌, ◌-◌, ℕ, zero, suc, List, [], ◌∷◌, ◌++◌, length, refl, sym, ap, ◌∙◌, arith, length-append}
+use Rattle.std.proofs.lemmas.List.{length-map}
+use Rattle.grammar.specs.Reading.{Many, ListOf, none, some}
+use Rattle.lexing.specs.declared.piece.Piece.{Piece}
+use Rattle.lexing.specs.declared.piece.Piece.TheVariants.{Blank, Whole, Wrong}
+use Rattle.lexing.specs.Table.{Table}
+use Rattle.lexing.specs.Tokens.{piece, tokens_from}
+use Rattle.src_lexer.specs.Programs.{programs, src_tokens}
+use Rattle.src_model.specs.declared.program.Var.{Var as Declared}
+use Rattle.src_model.specs.declared.words.Lexed.{Lexed}
+use Rattle.src_model.specs.declared.words.Symbol.TheVariants.{Comma}
+use Rattle.src_model.specs.Grammar.{Behind, IsDecl, IsDecls, IsLines, IsText}
+use Rattle.src_model.specs.Written.{Listing}
+use Rattle.src_parser.specs.Texts.{words_of, IsSrcText}
+use Rattle.src_parser.specs.Words.{lexed_of}
+
+-- a piece gives one token at most and takes at least one byte
+next_token : (table : Table) (at b : ℕ) (bs : List ℕ) → ((k : ℕ) → length (tokens_from table (at + 1) k bs) ≤ length bs)
+    → (p : Piece) → piece table (b ∷ bs) ≡ p → length (tokens_from table at 0 (b ∷ bs)) ≤ length (b ∷ bs)
+unfolding tokens_from
+next_token table at b bs f (Blank n) e = rw (e, tokens_from) (let k : length (tokens_from table (at + 1) (n - 1) bs) ≤ length bs = f (n - 1) in omega arith)
+next_token table at b bs f (Whole kind n) e = rw (e, tokens_from) (let k : length (tokens_from table (at + 1) (n - 1) bs) ≤ length bs = f (n - 1) in omega arith)
+next_token table at b bs f Wrong e = rw (e, tokens_from) (omega arith)
+
+few_tokens : (table : Table) (at skip : ℕ) (bytes : List ℕ) → length (tokens_from table at skip bytes) ≤ length bytes
+unfolding tokens_from
+few_tokens table at skip [] = omega arith
+few_tokens table at (suc skip) (b ∷ bs) = let k : length (tokens_from table (at + 1) skip bs) ≤ length bs = few_tokens table (at + 1) skip bs in omega arith
+few_tokens table at zero (b ∷ bs) = next_token table at b bs (λ k. few_tokens table (at + 1) k bs) (piece table (b ∷ bs)) refl
+
+-- a declaration has a comma or `var` before it
+behind_long : (ts : List Lexed) (v : Declared) → Behind Comma IsDecl ts v → 1 ≤ length ts
+behind_long ts v i = omega (arith, ap length i.parts, length-append i.front i.back, ap length i.first.parts)
+
+others_long : (ts : List Lexed) (vs : List Declared) → ListOf (Behind Comma IsDecl) ts vs → length vs ≤ length ts
+others_long ts vs none = omega arith
+others_long ts vs (some {us = us} {b = b} {zs = zs} {w = w} p q) =
+    let k : length w ≤ length zs = others_long zs w q in
+    omega (arith, behind_long us b p, length-append us zs)
+
+decls_long : (ts : List Lexed) (vs : List Declared) → IsDecls ts vs → length vs ≤ length ts
+decls_long ts vs t =
+    let behind = t.second in
+    let decls = behind.first in
+    let k : length decls.value ≤ length decls.front = others_long decls.front decls.value decls.first in
+    omega (
+      arith,
+      ap length t.parts,
+      length-append t.front t.back,
+      ap length t.first.parts,
+      length-append t.first.front t.first.back,
+      ap length t.first.first.parts,
+      ap length behind.parts,
+      length-append behind.front behind.back,
+      ap length decls.parts,
+      length-append decls.front decls.back,
+      ap length decls.second.same,
+      ap length behind.second.second.same,
+    )
+
+lines_long : (ts : List Lexed) (vs : List Declared) → IsLines ts vs → length vs ≤ length ts
+lines_long ts vs none = omega arith
+lines_long ts vs (some {us = us} {b = b} {zs = zs} {w = w} p q) =
+    let k : length w ≤ length zs = lines_long zs w q in
+    omega (arith, decls_long us b p, length-append us zs, length-append b w)
+
+text_long : (ts : List Lexed) (l : Listing) → IsText ts l → length l.vars ≤ length ts
+text_long ts l t =
+    let k : length t.value ≤ length t.front = lines_long t.front t.value t.first in
+    omega (arith, ap length t.parts, length-append t.front t.back, ap (λ (m : Listing). length m.vars) t.second.second.same)
+
+pub few_variables : (bytes : List ℕ) (listing : Listing) → IsSrcText bytes listing → length listing.vars ≤ length bytes
+few_variables bytes listing text =
+    omega (arith, text_long (words_of bytes) listing text.spelled, length-map (src_tokens bytes) (lexed_of bytes), few_tokens programs 0 0 bytes)

@@ -1,0 +1,30 @@
+-- Which bytes are a program's, and why others are refused.
+use Rattle.std.specs.Prelude.{◌≡◌, ℕ, List, Some, None}
+use Rattle.src_model.specs.declared.fault.SrcFault.{SrcFault}
+use Rattle.src_model.specs.Rules.{first_fault}
+use Rattle.src_model.specs.Written.{Listing}
+use Rattle.src_parser.specs.Texts.{IsSrcText, IsNoSrcText}
+use Rattle.src_front.specs.declared.front.SrcRefusal.{SrcRefusal}
+use Rattle.src_front.specs.declared.front.SrcRefusal.TheVariants.{Text, Fault, Memory}
+
+-- the bytes are a program text, of this listing and no other
+pub record SaysSrc (bytes : List ℕ) (listing : Listing) : Type 0 where
+  pub text : IsSrcText bytes listing
+  pub only : (l : Listing) → IsSrcText bytes l → listing ≡ l
+
+-- the bytes are a program text, and it keeps the rules for words of `width` bits
+pub record IsSrcFile (bytes : List ℕ) (width : ℕ) (listing : Listing) : Type 0 where
+  pub says : SaysSrc bytes listing
+  pub kept : first_fault width listing ≡ None
+
+-- the bytes are a program text, and this is the first rule that it breaks
+pub record BreaksSrcRule (bytes : List ℕ) (width : ℕ) (fault : SrcFault) : Type 0 where
+  pub listing : Listing
+  pub says : SaysSrc bytes listing
+  pub broken : first_fault width listing ≡ Some fault
+
+-- why the bytes are no program's; nothing is said where memory ran out
+abbrev pub IsSrcRefusal : List ℕ → ℕ → SrcRefusal → Type 0
+IsSrcRefusal bytes width (Text at) = IsNoSrcText bytes at
+IsSrcRefusal bytes width (Fault fault) = BreaksSrcRule bytes width fault
+IsSrcRefusal bytes width Memory = Unit {0}

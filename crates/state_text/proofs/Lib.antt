@@ -1,0 +1,4 @@
+mod Storages
+mod Progress
+mod Shown
+mod Rooms

@@ -1,0 +1,65 @@
+-- How long the text of a state is at most.
+use Rattle.std.proofs.Common.{◌≡◌, ℕ, zero, suc, ◌+◌, ◌*◌, ◌^◌, ◌<◌, ◌≤◌, List, [], ◌∷◌, ◌++◌, length, get_or, Option, Some, None, ◌==◌, Bool, true, false, cond, refl, sym, ap, ◌∙◌, append_assoc, length-append, arith}
+use Rattle.std.proofs.lemmas.Fmt.{length-decimal-le}
+use Rattle.std.proofs.Math.Nat.{pow-le-pow_right}
+use Rattle.std.specs.Prelude.{slice_get, codes}
+use Rattle.std.specs.List.{AllByRecursion}
+use Rattle.std.specs.Fmt.{decimal}
+use Rattle.net_model.specs.declared.hardware.Netlist.{Netlist}
+use Rattle.net_model.specs.declared.hardware.Storage.{Storage}
+use Rattle.net_model.specs.declared.hardware.Storage.TheVariants.{Register, Memory}
+use Rattle.net_model.specs.declared.states.State.{State}
+use Rattle.net_model.specs.Nets.{storage_bits, memory_id, memory_size, memory_width}
+use Rattle.net_model.specs.Texts.{memory_name}
+use Rattle.net_model.specs.CheckedRules.{StorageKeeps, KeepsRules}
+use Rattle.net_model.specs.Widths.{IsState}
+use Rattle.state_text.proofs.Storages.{memory_wide, few_cells}
+use Rattle.state_text.specs.Shown.{register_line, register_lines, cell_line, cell_lines, state_text, register_room, state_room}
+
+digits_short : (n : ℕ) → n < 2 ^ 64 → length (decimal n) ≤ 20
+digits_short n h = length-decimal-le 20 n (omega arith) (omega (arith, h)) h
+
+line_short : (name : List ℕ) (value : ℕ) → value < 2 ^ 64 → length (register_line name value) ≤ length name + 22
+line_short name value h =
+    omega (arith, length-append name (32 ∷ (decimal value ++ (10 ∷ []))), length-append (decimal value) (10 ∷ []), digits_short value h)
+
+pub registers_short : (regs : List ℕ) (id : ℕ) (storages : List Storage) → ((k : ℕ) → get_or regs k 0 < 2 ^ 64) → length (register_lines regs id storages) ≤ register_room storages
+registers_short regs id [] h = omega arith
+registers_short regs id (Register name width input when ∷ storages) h =
+    omega (arith, length-append (register_line name (get_or regs id 0)) (register_lines regs (id + 1) storages), line_short name (get_or regs id 0) (h id), registers_short regs (id + 1) storages h)
+registers_short regs id (Memory name width size addr_width value addr when ∷ storages) h = registers_short regs (id + 1) storages h
+
+cell_short : (name : List ℕ) (address value : ℕ) → address < 2 ^ 64 → value < 2 ^ 64 → length (cell_line name address value) ≤ length name + 43
+cell_short name address value a h = step (value == 0)
+  where
+    step : (t : Bool) → length (cond t [] (name ++ (32 ∷ (decimal address ++ (32 ∷ (decimal value ++ (10 ∷ []))))))) ≤ length name + 43
+    step true = omega arith
+    step false = omega (arith, length-append name (32 ∷ (decimal address ++ (32 ∷ (decimal value ++ (10 ∷ []))))), length-append (decimal address) (32 ∷ (decimal value ++ (10 ∷ []))), length-append (decimal value) (10 ∷ []), digits_short address a, digits_short value h)
+
+pub cells_short : (name : List ℕ) (address : ℕ) (cells : List ℕ) → address + length cells ≤ 2 ^ 63 → ((k : ℕ) → get_or cells k 0 < 2 ^ 64) → length (cell_lines name address cells) ≤ length cells * (length name + 43)
+cells_short name address [] small h = omega arith
+cells_short name address (value ∷ cells) small h =
+    let rest = cells_short name (address + 1) cells (omega (arith, small)) (λ k. h (suc k)) in
+    let more : length (value ∷ cells) * (length name + 43) ≡ (length name + 43) + length cells * (length name + 43) = grind arith in
+    omega (arith, length-append (cell_line name address value) (cell_lines name (address + 1) cells), cell_short name address value (omega (arith, small)) (h 0), rest, more)
+
+storage_narrow : (netlist : Netlist) (storages : List Storage) (k : ℕ) → AllByRecursion (StorageKeeps netlist) storages → storage_bits (slice_get storages k) ≤ 64
+storage_narrow netlist [] k h = omega arith
+storage_narrow netlist (Register name width input when ∷ storages) zero h = h.0.0.1
+storage_narrow netlist (Memory name width size addr_width value addr when ∷ storages) zero h = h.0.0.1
+storage_narrow netlist (s ∷ storages) (suc k) h = storage_narrow netlist storages k h.1
+
+below_64 : (v bits : ℕ) → v < 2 ^ bits → bits ≤ 64 → v < 2 ^ 64
+below_64 v bits h n = let p : 2 ^ bits ≤ 2 ^ 64 = pow-le-pow_right {n = 2} (omega arith) {i = bits} {j = 64} n in omega (arith, h, p)
+
+pub text_short : (netlist : Netlist) (order : List ℕ) (cycles : ℕ) (s : State) → KeepsRules netlist order → IsState netlist s → cycles < 2 ^ 64 → length (state_text netlist cycles s) ≤ state_room netlist
+text_short netlist order cycles s k h c =
+    let kept = k.formed.storages in
+    let name = memory_name netlist in
+    let regs = registers_short s.regs 0 netlist.storages (λ (i : ℕ). below_64 (get_or s.regs i 0) (storage_bits (slice_get netlist.storages i)) (h.fits.regs i) (storage_narrow netlist netlist.storages i kept)) in
+    let wide : memory_width netlist.storages ≤ 64 = omega (arith, storage_narrow netlist netlist.storages (memory_id netlist.storages) kept, memory_wide netlist.storages) in
+    let cells = cells_short name 0 s.cells (omega (arith, few_cells netlist order s k h)) (λ (i : ℕ). below_64 (get_or s.cells i 0) (memory_width netlist.storages) (h.fits.cells i) wide) in
+    let sized : length s.cells * (length name + 43) ≡ memory_size netlist.storages * (length name + 43) = ap (λ n. n * (length name + 43)) h.cells in
+    let back = cell_lines name 0 s.cells ++ (codes "done\n" ++ []) in
+    let front = register_lines s.regs 0 netlist.storages ++ back in
+    omega (arith, length-append (decimal cycles) (10 ∷ front), length-append (register_lines s.regs 0 netlist.storages) back, length-append (cell_lines name 0 s.cells) (codes "done\n" ++ []), digits_short cycles c, regs, cells, sized)

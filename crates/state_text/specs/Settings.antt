@@ -1,0 +1,124 @@
+-- What a memory text sets, line by line.
+use Rattle.std.specs.Prelude.{ℕ, ◌+◌, ◌^◌, ◌≡◌, ◌≢◌, ◌<◌, ◌==◌, ◌&&◌, nat_lt, not, if◌then◌else◌, List, [], ◌∷◌, ◌++◌, length, codes, position, Option, Some, None, slice_get, slice_set}
+use Rattle.std.proofs.Math.ListN.{replicate}
+use Rattle.std.specs.Str.{bytes_eq}
+use Rattle.std.specs.List.{concat}
+use Rattle.rec_bits.specs.declared.fault.ParseFault.{ParseFault}
+use Rattle.rec_bits.specs.declared.fault.ParseFault.TheVariants as fault
+use Rattle.net_model.specs.declared.hardware.Netlist.{Netlist}
+use Rattle.net_model.specs.declared.hardware.Storage.{Storage}
+use Rattle.net_model.specs.declared.hardware.Storage.TheVariants.{Register, Memory}
+use Rattle.net_model.specs.declared.states.State.{State}
+use Rattle.net_model.specs.Nets.{counter_of, memory_id, memory_size, memory_width, storage_bits, IsRegister}
+use Rattle.net_model.specs.CheckedRules.{storage_name}
+use Rattle.net_model.specs.Widths.{IsState}
+use Rattle.net_model.specs.Clock.{counter_in}
+use Rattle.text_lines.specs.Fields.{parts_at, number_of}
+use Rattle.text_lines.specs.Lines.{lines_of}
+use Rattle.state_text.specs.declared.setting.Setting.{Setting}
+use Rattle.state_text.specs.declared.setting.Setting.TheVariants.{Entry, Cell}
+
+infixl 10 ◌>>=◌
+abbrev pub ◌>>=◌ : {A B : Type 0} → Option A → (A → Option B) → Option B
+None >>= f = None
+(Some x) >>= f = f x
+
+-- what stands before the LF, which is the last byte
+abbrev pub only_front : List ℕ × List ℕ → Option (List ℕ)
+only_front parts = if length parts.1 == 0 then Some parts.0 else None
+
+unfoldable pub line_end : List ℕ → Option (List ℕ)
+line_end text = parts_at 10 text >>= only_front
+
+-- a number of so many bits to the end of the line, decimal without leading zeros
+abbrev pub below : ℕ → ℕ → Option ℕ
+below width n = if nat_lt n (2 ^ width) then Some n else None
+
+unfoldable pub number_below : ℕ → List ℕ → Option ℕ
+number_below width text = line_end text >>= number_of >>= below width
+
+-- the first storage of this name; no two have one name
+abbrev pub named_at : List Storage → List ℕ → Option ℕ
+named_at storages name = position (λ storage. bytes_eq (storage_name storage) name) storages
+
+-- behind a register's name and a space: VALUE
+unfoldable pub entry_of : ℕ → ℕ → List ℕ → Option Setting
+entry_of storage width text = number_below width text >>= λ value. Some (Entry storage value)
+
+-- behind the memory's name and a space: ADDRESS VALUE
+unfoldable pub cell_of : ℕ → ℕ → List ℕ → Option Setting
+cell_of size width text =
+    parts_at 32 text >>= λ parts. number_of parts.0 >>= λ address. number_below width parts.1 >>= λ value. if nat_lt address size then Some (Cell address value) else None
+
+-- what stands behind the name of this storage; nothing sets the program counter
+unfoldable pub setting_at : ℕ → ℕ → ℕ → Option Storage → List ℕ → Option Setting
+setting_at counter memory id None text = None
+setting_at counter memory id (Some (Register name width input when)) text = if id == counter then None else entry_of id width text
+setting_at counter memory id (Some (Memory name width size addr_width value addr when)) text = if id == memory then cell_of size width text else None
+
+-- what stands behind a name
+unfoldable pub setting_for : Netlist → List ℕ → List ℕ → Option Setting
+setting_for netlist name text =
+    named_at netlist.storages name >>= λ id. setting_at (counter_of netlist.codes) (memory_id netlist.storages) id (slice_get netlist.storages id) text
+
+-- what a line sets, if it is of the form
+unfoldable pub setting_of : Netlist → List ℕ → Option Setting
+setting_of netlist line = parts_at 32 line >>= λ parts. setting_for netlist parts.0 parts.1
+
+abbrev pub with_setting : State → Setting → State
+with_setting s (Entry storage value) = record s { regs = slice_set s.regs storage value }
+with_setting s (Cell address value) = record s { cells = slice_set s.cells address value }
+
+-- the state with what the lines set, one after the other
+unfoldable pub state_after : Netlist → State → List (List ℕ) → Option State
+state_after netlist s [] = Some s
+state_after netlist s (line ∷ lines) = setting_of netlist line >>= λ setting. state_after netlist (with_setting s setting) lines
+
+-- nothing but zeros: an entry for each storage, and the memory's cells
+abbrev pub blank : List Storage → State
+blank storages = record { regs = replicate (length storages) 0; cells = replicate (memory_size storages) 0 }
+
+-- the bytes are a memory text, which sets this state
+pub record IsStateText (netlist : Netlist) (bytes : List ℕ) (s : State) : Type 0 where
+  pub all : state_after netlist (blank netlist.storages) (lines_of bytes) ≡ Some s
+
+-- The bytes aren't one: the lines before this byte are of the form, and the one that begins there isn't.
+pub record IsStateFault (netlist : Netlist) (bytes : List ℕ) (at : ℕ) : Type 0 where
+  pub before : List (List ℕ)
+  pub line : List ℕ
+  pub after : List (List ℕ)
+  pub state : State
+  pub lines : lines_of bytes ≡ before ++ (line ∷ after)
+  pub place : length (concat before) ≡ at
+  pub good : state_after netlist (blank netlist.storages) before ≡ Some state
+  pub bad : setting_of netlist line ≡ None
+
+abbrev pub IsStateRefusal : Netlist → List ℕ → ParseFault → Type 0
+IsStateRefusal netlist bytes (fault.Text at) = IsStateFault netlist bytes at
+IsStateRefusal netlist bytes fault.Memory = Unit {0}
+
+-- what a line sets fits: a register that isn't the program counter, or a cell, with a value of its width
+abbrev pub SettingFits : Netlist → Setting → Type 0
+SettingFits netlist (Entry id value) = IsRegister (slice_get netlist.storages id) × (id ≢ counter_of netlist.codes) × (value < 2 ^ storage_bits (slice_get netlist.storages id))
+SettingFits netlist (Cell address value) = (address < memory_size netlist.storages) × (value < 2 ^ memory_width netlist.storages)
+
+-- there is such an entry or cell
+abbrev pub IsWithin : State → Setting → Type 0
+IsWithin s (Entry id value) = id < length s.regs
+IsWithin s (Cell address value) = address < length s.cells
+
+-- a state that fits, with the program counter at 0
+pub record IsStart (netlist : Netlist) (s : State) : Type 0 where
+  pub state : IsState netlist s
+  pub counter : counter_in netlist s ≡ 0
+
+-- what a setting says of the netlist, if there is one
+abbrev pub MayFit : Netlist → Option Setting → Type 0
+MayFit netlist None = Unit {0}
+MayFit netlist (Some setting) = SettingFits netlist setting
+
+-- the cells of a memory
+abbrev pub size_in : Option Storage → ℕ
+size_in None = 0
+size_in (Some (Register name width input when)) = 0
+size_in (Some (Memory name width size addr_width value addr when)) = size

@@ -1,0 +1,44 @@
+-- The text of a state.
+use Rattle.std.specs.Prelude.{ℕ, ◌+◌, ◌==◌, if◌then◌else◌, List, [], ◌∷◌, ◌++◌, ◌*◌, length, codes, slice_index}
+use Rattle.std.specs.List.{concat}
+use Rattle.std.specs.Fmt.{decimal}
+use Rattle.net_model.specs.declared.hardware.Netlist.{Netlist}
+use Rattle.net_model.specs.declared.hardware.Storage.{Storage}
+use Rattle.net_model.specs.declared.hardware.Storage.TheVariants.{Register, Memory}
+use Rattle.net_model.specs.declared.states.State.{State}
+use Rattle.net_model.specs.Nets.{memory_size}
+use Rattle.net_model.specs.Texts.{memory_name}
+
+-- NAME VALUE
+abbrev pub register_line : List ℕ → ℕ → List ℕ
+register_line name value = concat (name ∷ codes " " ∷ decimal value ∷ codes "\n" ∷ [])
+
+-- a line for each register, where the first of these storages has this number
+abbrev pub register_lines : List ℕ → ℕ → List Storage → List ℕ
+register_lines regs id [] = []
+register_lines regs id (Register name width input when ∷ storages) = register_line name (slice_index regs id) ++ register_lines regs (id + 1) storages
+register_lines regs id (Memory name width size addr_width value addr when ∷ storages) = register_lines regs (id + 1) storages
+
+-- MEMORY ADDRESS VALUE, and nothing for a cell of 0
+abbrev pub cell_line : List ℕ → ℕ → ℕ → List ℕ
+cell_line name address value = if value == 0 then [] else concat (name ∷ codes " " ∷ decimal address ∷ codes " " ∷ decimal value ∷ codes "\n" ∷ [])
+
+-- a line for each cell that isn't 0, where the first of these cells has this address
+abbrev pub cell_lines : List ℕ → ℕ → List ℕ → List ℕ
+cell_lines name address [] = []
+cell_lines name address (value ∷ cells) = cell_line name address value ++ cell_lines name (address + 1) cells
+
+-- cycles N, the registers in order of declaration, the cells by address, done
+abbrev pub state_text : Netlist → ℕ → State → List ℕ
+state_text netlist cycles s =
+    concat (codes "cycles " ∷ decimal cycles ∷ codes "\n" ∷ register_lines s.regs 0 netlist.storages ∷ cell_lines (memory_name netlist) 0 s.cells ∷ codes "done\n" ∷ [])
+
+-- how long the lines of these registers are at most
+abbrev pub register_room : List Storage → ℕ
+register_room [] = 0
+register_room (Register name width input when ∷ storages) = length name + 22 + register_room storages
+register_room (Memory name width size addr_width value addr when ∷ storages) = register_room storages
+
+-- how long the text of a state is at most
+abbrev pub state_room : Netlist → ℕ
+state_room netlist = 33 + register_room netlist.storages + memory_size netlist.storages * (length (memory_name netlist) + 43)

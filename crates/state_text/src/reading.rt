@@ -1,0 +1,75 @@
+//! From a memory text to the state that it sets.
+
+ghost use Rattle.std.specs.Prelude.{◌≡◌, ◌<◌, ◌^◌, length, IfOk, IfErr, option_copied};
+ghost use Rattle.std.proofs.Math.ListN.{replicate};
+ghost use Rattle.net_model.specs.Nets.{memory_size};
+ghost use Rattle.state_text.specs.Settings.{blank, size_in, with_setting, IsWithin, IsStart, IsStateText, IsStateRefusal};
+
+use crate::line::setting_of;
+use crate::setting::Setting;
+use net_model::{Checked, State, Storage};
+use rec_bits::{Items, NoMemory, ParseFault};
+use std::alloc::Global;
+use text_lines::first_line;
+
+fn size_in(storage: Option<&Storage>) -> u32
+    ensures { result ≡ size_in (option_copied storage.entry) }
+{
+    match storage {
+        Some(Storage::Memory { size, .. }) => *size,
+        _ => 0,
+    }
+}
+
+// How many cells the data memory has.
+pub(crate) fn size_of(checked: &Checked) -> u32
+    ensures { result ≡ memory_size checked.now.netlist.storages }
+{
+    size_in(checked.netlist().storage(checked.memory()))
+}
+
+fn zeros(alloc: Global, count: usize) -> Result<Items<u64>, NoMemory>
+    ensures { IfOk result (λ list. list ≡ replicate count 0) }
+{
+    Ok(Items::from_vec(vec![in alloc; 0; count]?))
+}
+
+fn blank(alloc: Global, checked: &Checked) -> Result<State, NoMemory>
+    ensures { IfOk result (λ state. state ≡ blank checked.now.netlist.storages) }
+{
+    Ok(State {
+        regs: zeros(alloc, checked.netlist().storages.len())?,
+        cells: zeros(alloc, size_of(checked) as usize)?,
+    })
+}
+
+fn put(state: &mut State, setting: Setting)
+    requires { IsWithin state.old setting }
+    ensures { state.new ≡ with_setting state.old setting }
+{
+    match setting {
+        Setting::Entry { storage, value } => state.regs.set(storage as usize, value),
+        Setting::Cell { address, value } => state.cells.set(address as usize, value),
+    }
+}
+
+/// The state that a memory text sets; what it doesn't name is 0, the program counter is 0. `Text` comes exactly where a line isn't of the
+/// form, or names no storage or the program counter, or has an address past the memory or a value that is too wide, with the offset of the
+/// first such line. `Memory` is want of memory.
+pub fn read_state(alloc: Global, bytes: &[u8], checked: &Checked) -> Result<State, ParseFault>
+    requires { length bytes.now < 2 ^ 32 }
+    ensures found { IfOk result (IsStateText checked.now.netlist bytes.now) }
+    ensures fits { IfOk result (IsStart checked.now.netlist) }
+    ensures refused { IfErr result (IsStateRefusal checked.now.netlist bytes.now) }
+{
+    let mut state = blank(alloc, checked)?;
+    let mut rest = bytes;
+    while let Some((line, more)) = first_line(rest) {
+        let Some(setting) = setting_of(checked, line) else {
+            return Err(ParseFault::Text((bytes.len() - rest.len()) as u64));
+        };
+        put(&mut state, setting);
+        rest = more;
+    }
+    Ok(state)
+}

@@ -1,0 +1,167 @@
+//! From a simulator's state to its text.
+
+ghost use Rattle.std.specs.Prelude.{◌≡◌, ◌+◌, ◌++◌, ◌∷◌, [], ◌<◌, ◌≤◌, ◌^◌, length, slice_get, vec_capacity, IsOk, OnOk, IfOk, IfSome, Some, ℕ};
+ghost use Rattle.net_model.specs.Texts.{memory_name};
+ghost use Rattle.net_model.specs.Widths.{IsState};
+ghost use Rattle.state_text.specs.Shown.{register_line, register_lines, cell_line, cell_lines, state_text, register_room, state_room};
+ghost use Rattle.net_model.specs.declared.states.State.{State};
+
+use crate::reading::size_of;
+use cycle_sim::Sim;
+use itoa::Buffer;
+use net_model::{Checked, Storage};
+use rec_bits::NoMemory;
+use std::alloc::Global;
+
+fn put_register(out: &mut Vec<u8>, name: &[u8], value: u64) -> Result<(), NoMemory>
+    ensures text { OnOk result (out.new.items ≡ out.old.items ++ register_line name.now value) }
+    ensures room { vec_capacity out.old ≤ vec_capacity out.new }
+    ensures succeeds { length out.old.items + length (register_line name.now value) ≤ vec_capacity out.old → IsOk result }
+{
+    let mut buffer = Buffer::new();
+    out.extend_from_slice(name)?;
+    out.extend_from_slice(b" ")?;
+    out.extend_from_slice(buffer.format(value).as_bytes())?;
+    out.extend_from_slice(b"\n")?;
+    Ok(())
+}
+
+fn put_cell(out: &mut Vec<u8>, name: &[u8], address: u32, value: u64) -> Result<(), NoMemory>
+    ensures text { OnOk result (out.new.items ≡ out.old.items ++ cell_line name.now address value) }
+    ensures room { vec_capacity out.old ≤ vec_capacity out.new }
+    ensures succeeds { length out.old.items + length (cell_line name.now address value) ≤ vec_capacity out.old → IsOk result }
+{
+    if value == 0 {
+        return Ok(());
+    }
+    let mut buffer = Buffer::new();
+    out.extend_from_slice(name)?;
+    out.extend_from_slice(b" ")?;
+    out.extend_from_slice(buffer.format(address).as_bytes())?;
+    put_register(out, b"", value)?;
+    Ok(())
+}
+
+fn put_storage(
+    out: &mut Vec<u8>,
+    id: usize,
+    storage: &Storage,
+    sim: &Sim<'_>,
+) -> Result<(), NoMemory>
+    requires here { slice_get sim.now.netlist.storages id ≡ Some storage.now }
+    requires few { id < 2 ^ 32 }
+    ensures text { OnOk result (out.new.items ≡ out.old.items ++ register_lines sim.now.state.regs id (storage.now ∷ [])) }
+    ensures room { vec_capacity out.old ≤ vec_capacity out.new }
+    ensures succeeds { length out.old.items + length (register_lines sim.now.state.regs id (storage.now ∷ [])) ≤ vec_capacity out.old → IsOk result }
+{
+    match storage {
+        Storage::Register { name, .. } => {
+            let value = sim.reg(id as u32).unwrap_or(0);
+            put_register(out, name.as_slice(), value)
+        }
+        Storage::Memory { .. } => Ok(()),
+    }
+}
+
+// The lines of the registers, in order of declaration.
+fn put_registers(out: &mut Vec<u8>, storages: &[Storage], sim: &Sim<'_>) -> Result<(), NoMemory>
+    requires here { sim.now.netlist.storages ≡ storages.now }
+    requires few { length storages.now < 2 ^ 32 }
+    ensures text { OnOk result (out.new.items ≡ out.old.items ++ register_lines sim.now.state.regs 0 storages.now) }
+    ensures room { vec_capacity out.old ≤ vec_capacity out.new }
+    ensures succeeds { length out.old.items + length (register_lines sim.now.state.regs 0 storages.now) ≤ vec_capacity out.old → IsOk result }
+{
+    for (id, storage) in storages.iter().enumerate() {
+        put_storage(out, id, storage, sim)?;
+    }
+    Ok(())
+}
+
+// The lines of the cells that aren't 0, by address.
+fn put_cells(out: &mut Vec<u8>, name: &[u8], sim: &Sim<'_>) -> Result<(), NoMemory>
+    requires { length sim.now.state.cells < 2 ^ 32 }
+    ensures text { OnOk result (out.new.items ≡ out.old.items ++ cell_lines name.now 0 sim.now.state.cells) }
+    ensures room { vec_capacity out.old ≤ vec_capacity out.new }
+    ensures succeeds { length out.old.items + length (cell_lines name.now 0 sim.now.state.cells) ≤ vec_capacity out.old → IsOk result }
+{
+    let mut address = 0;
+    while let Some(value) = sim.cell(address) {
+        put_cell(out, name, address, value)?;
+        address += 1;
+    }
+    Ok(())
+}
+
+// The data memory's name.
+fn name_of(checked: &Checked) -> &[u8]
+    ensures { result.now ≡ memory_name checked.now.netlist }
+{
+    match checked.netlist().storage(checked.memory()) {
+        Some(Storage::Memory { name, .. } | Storage::Register { name, .. }) => name.as_slice(),
+        None => &[],
+    }
+}
+
+/// Puts the text of the simulator's state after so many cycles behind what `out` holds. It fails only where `out` has no room for all of
+/// it and gets no more.
+pub fn write_state(
+    out: &mut Vec<u8>,
+    checked: &Checked,
+    cycles: u64,
+    sim: &Sim<'_>,
+) -> Result<(), NoMemory>
+    requires netlist { sim.now.netlist ≡ checked.now.netlist }
+    requires state { IsState sim.now.netlist sim.now.state }
+    ensures text { OnOk result (out.new.items ≡ out.old.items ++ state_text sim.now.netlist cycles sim.now.state) }
+    ensures room { vec_capacity out.old ≤ vec_capacity out.new }
+    ensures succeeds { length out.old.items + length (state_text sim.now.netlist cycles sim.now.state) ≤ vec_capacity out.old → IsOk result }
+{
+    out.extend_from_slice(b"cycles")?;
+    put_register(out, b"", cycles)?;
+    put_registers(out, checked.netlist().storages.as_slice(), sim)?;
+    put_cells(out, name_of(checked), sim)?;
+    out.extend_from_slice(b"done\n")?;
+    Ok(())
+}
+
+// The bytes of `cycles`, of its number, of `done` and of their ends of line.
+const FRAME: usize = 33;
+
+// The bytes of a register's line, but for its name.
+const REGISTER: usize = 22;
+
+// The bytes of a cell's line, but for its name.
+const CELL: usize = 43;
+
+fn register_room(storages: &[Storage]) -> Option<usize>
+    ensures { IfSome result (λ room. room ≡ register_room storages.now) }
+{
+    let mut room: usize = 0;
+    for storage in storages {
+        if let Storage::Register { name, .. } = storage {
+            room = room.checked_add(name.len())?.checked_add(REGISTER)?;
+        }
+    }
+    Some(room)
+}
+
+fn room_of(checked: &Checked) -> Option<usize>
+    ensures { IfSome result (λ room. room ≡ state_room checked.now.netlist) }
+{
+    let registers = register_room(checked.netlist().storages.as_slice())?;
+    let cell = name_of(checked).len().checked_add(CELL)?;
+    let cells = (size_of(checked) as usize).checked_mul(cell)?;
+    registers.checked_add(cells)?.checked_add(FRAME)
+}
+
+/// Room for the text of any state of the netlist, so that `write_state` into it can't fail.
+pub fn text_room(alloc: Global, checked: &Checked) -> Result<Vec<u8>, NoMemory>
+    ensures empty { IfOk result (λ out. out.items ≡ []) }
+    ensures room { IfOk result (λ out. (cycles : ℕ) (state : State) → cycles < 2 ^ 64 → IsState checked.now.netlist state → length (state_text checked.now.netlist cycles state) ≤ vec_capacity out) }
+{
+    let Some(room) = room_of(checked) else {
+        return Err(NoMemory);
+    };
+    let _netlist = checked.netlist();
+    Ok(Vec::with_capacity(alloc, room)?)
+}

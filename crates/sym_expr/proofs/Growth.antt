@@ -1,0 +1,65 @@
+-- A pool stays one when a node is added.
+use Rattle.std.proofs.Common.{◌≡◌, ℕ, ◌<◌, List, [], ◌∷◌, ◌++◌, length, slice_get, Some, inl, inr, refl, sym, ap, subst, ◌∙◌, length-append, append_assoc, arith}
+use Rattle.std.proofs.lemmas.List.{append-nil}
+use Rattle.std.proofs.lemmas.Bool.{cases_lt}
+use Rattle.sym_expr.specs.declared.pool.Node.{Node}
+use Rattle.sym_expr.specs.Pools.{node_term, parts_of, AllBelow, term_at, TermFits, HeadFits, IsPool, Grows, KeepsTerms}
+use Rattle.sym_expr.proofs.Lists.{pushed_at}
+use Rattle.sym_expr.proofs.Trees.{term_at-append, term_at-push}
+use Rattle.sym_expr.proofs.Fits.{all_fit, whole_fits}
+
+pub grows_refl : (l : List Node) → Grows l l
+grows_refl l = record { more = []; nodes = sym (append-nil l); longer = omega arith }
+
+pub grows_trans : (a b c : List Node) → Grows a b → Grows b c → Grows a c
+grows_trans a b c f g = record {
+  more = f.more ++ g.more;
+  nodes = g.nodes ∙ ap (λ l. l ++ g.more) f.nodes ∙ append_assoc a f.more g.more;
+  longer = omega (arith, f.longer, g.longer);
+}
+
+pub grows_by : (old new : List Node) → ((more : List Node) × (new ≡ old ++ more)) → Grows old new
+grows_by old new w = record {
+  more = w.0;
+  nodes = w.1;
+  longer = (let e = ap length w.1 in let l = length-append old w.0 in omega (arith, e, l));
+}
+
+-- a growing pool changes no old id's expression
+pub same_term : (old new : List Node) → Grows old new → (id : ℕ) → id < length old → term_at new id ≡ term_at old id
+same_term old new g id h = ap (λ l. term_at l id) g.nodes ∙ term_at-append old g.more id h
+
+module _ (nodes : List Node) (pool : IsPool nodes) (node : Node) (below : AllBelow (length nodes) (parts_of node)) (fits : HeadFits (node_term node (term_at nodes))) where
+  pub push_pool : ((i : ℕ) → slice_get nodes i ≡ Some node → ⊥) → IsPool (nodes ++ node ∷ [])
+  push_pool absent = record {
+    below = λ place x at. elim (pushed_at nodes node place x at) [
+      | inl w ↦ pool.below place x w.1
+      | inr w ↦
+          (let e : node ≡ x = w.1 in
+          subst (λ (p : ℕ × Node). AllBelow p.0 (parts_of p.1)) (λ j. (sym w.0 j, e j)) below)
+    ];
+    fits = λ id less. elim (cases_lt id (length nodes)) [
+      | inl h ↦ subst TermFits (sym (term_at-append nodes (node ∷ []) id h)) (pool.fits id h)
+      | inr h ↦
+          (let l = length-append nodes (node ∷ []) in
+          let e : id ≡ length nodes = omega (arith, h, less, l) in
+          subst TermFits (sym (term_at-push nodes node id e)) (whole_fits node (term_at nodes) fits (all_fit (term_at nodes) (length nodes) pool.fits (parts_of node) below)))
+    ];
+    distinct = λ i j n at_i at_j. elim (pushed_at nodes node i n at_i) [
+      | inl v ↦ elim (pushed_at nodes node j n at_j) [
+        | inl w ↦ pool.distinct i j n v.1 w.1
+        | inr w ↦ absurd (absent i (v.1 ∙ ap Some (sym w.1)))
+      ]
+      | inr v ↦ elim (pushed_at nodes node j n at_j) [
+        | inl w ↦ absurd (absent j (w.1 ∙ ap Some (sym v.1)))
+        | inr w ↦ v.0 ∙ sym w.0
+      ]
+    ];
+  }
+
+-- the pool with one more node
+pub grows_push : (nodes : List Node) (node : Node) → Grows nodes (nodes ++ node ∷ [])
+grows_push nodes node = grows_by nodes (nodes ++ node ∷ []) (node ∷ [], refl)
+
+pub keeps : (old new : List Node) → Grows old new → KeepsTerms old new
+keeps old new g = λ id h. same_term old new g id h

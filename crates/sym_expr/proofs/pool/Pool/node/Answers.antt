@@ -1,0 +1,30 @@
+use Rattle.std.proofs.Common.{◌≡◌, ◌<◌, List, length, slice_get, Some, sym, subst, ◌∙◌}
+use Rattle.std.specs.List.{slice_index_or}
+use Rattle.std.specs.Map.{keys_of}
+use Rattle.std.proofs.lemmas.Option.{slice_get-get_or}
+use Rattle.sym_expr.specs.declared.pool.Node.{Node}
+use Rattle.sym_expr.specs.declared.pool.Node.TheVariants.{Word}
+use Rattle.sym_expr.specs.Pools.{TermFits, term_at, node_term}
+use Rattle.sym_expr.proofs.Trees.{term_at-node}
+use Rattle.sym_expr.proofs.pool.Pool.node.Goals as goal
+
+shown : (c : goal.After-result-1) → c.as_slice.result.now ≡ keys_of c.self.inside.nodes.entries
+shown c = c.as_slice.ensures ∙ c.keys.ensures.rest
+
+within : (c : goal.After-result-1) → c.args.id < length (keys_of c.self.inside.nodes.entries)
+within c = subst (λ (l : List Node). c.args.id < length l) (sym c.self.view_is) c.requires
+
+at : (c : goal.After-result-1) → slice_get (keys_of c.self.inside.nodes.entries) c.args.id ≡ Some (slice_index_or (keys_of c.self.inside.nodes.entries) c.args.id (Word 0))
+at c = slice_get-get_or (keys_of c.self.inside.nodes.entries) c.args.id (Word 0) (within c)
+
+term : (c : goal.After-result-1) → term_at (keys_of c.self.inside.nodes.entries) c.args.id ≡ node_term (slice_index_or (keys_of c.self.inside.nodes.entries) c.args.id (Word 0)) (term_at (keys_of c.self.inside.nodes.entries))
+term c = term_at-node (keys_of c.self.inside.nodes.entries) c.args.id _ (at c) (c.self.invariant.pool.below c.args.id _ (at c))
+
+pub returns-clause-term : goal.returns-clause-term
+returns-clause-term c = rw (shown c, ← c.self.view_is) (term c)
+
+pub returns-clause-below : goal.returns-clause-below
+returns-clause-below c = rw (shown c) (c.self.invariant.pool.below c.args.id _ (at c))
+
+pub returns-clause-fits : goal.returns-clause-fits
+returns-clause-fits c = rw (shown c, ← c.self.view_is) (subst TermFits (term c) (c.self.invariant.pool.fits c.args.id (within c)))

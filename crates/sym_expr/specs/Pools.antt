@@ -1,0 +1,115 @@
+-- What a pool says: the list of its nodes, where a node's place is its id.
+use Rattle.std.specs.Prelude.{◌-◌, min, ◌≡◌, ◌↔◌, ℕ, ◌+◌, ◌^◌, ◌<◌, ◌≤◌, ◌==◌, if◌then◌else◌, List, [], ◌∷◌, ◌++◌, length, reverse, slice_get, slice_index, Some}
+use Rattle.net_model.specs.Terms.{Term, term_width, word, reg, const, read, un, bin, slice, cat, zext, sext, select}
+use Rattle.net_model.specs.Meaning.{mean}
+use Rattle.net_model.specs.declared.states.State.{State}
+use Rattle.sym_expr.specs.declared.pool.Node.{Node}
+use Rattle.sym_expr.specs.declared.pool.Node.TheVariants.{Word, Reg, Const, Read, Un, Bin, Slice, Cat, Zext, Sext, Select}
+
+-- the expression of a node, by those of earlier ids
+abbrev pub node_term : Node → (ℕ → Term) → Term
+node_term (Word w) t = word w
+node_term (Reg r w) t = reg r w
+node_term (Const w v) t = const w v
+node_term (Read a w) t = read (t a) w
+node_term (Un o a) t = un o (t a)
+node_term (Bin o a b) t = bin o (t a) (t b)
+node_term (Slice a h l) t = slice (t a) h l
+node_term (Cat a b) t = cat (t a) (t b)
+node_term (Zext a w) t = zext (t a) w
+node_term (Sext a w) t = sext (t a) w
+node_term (Select c a b) t = select (t c) (t a) (t b)
+
+-- the ids that a node names
+abbrev pub parts_of : Node → List ℕ
+parts_of (Word w) = []
+parts_of (Reg r w) = []
+parts_of (Const w v) = []
+parts_of (Read a w) = a ∷ []
+parts_of (Un o a) = a ∷ []
+parts_of (Bin o a b) = a ∷ b ∷ []
+parts_of (Slice a h l) = a ∷ []
+parts_of (Cat a b) = a ∷ b ∷ []
+parts_of (Zext a w) = a ∷ []
+parts_of (Sext a w) = a ∷ []
+parts_of (Select c a b) = c ∷ a ∷ b ∷ []
+
+-- each number is below this one
+abbrev pub AllBelow : ℕ → List ℕ → Type 0
+AllBelow n [] = Unit {0}
+AllBelow n (i ∷ is) = (i < n) × AllBelow n is
+
+-- the expression of an id, where the newest node comes first
+unfoldable pub term_of_newest : List Node → ℕ → Term
+term_of_newest [] id = word 0
+term_of_newest (node ∷ older) id = if id == length older then node_term node (term_of_newest older) else term_of_newest older id
+
+-- the expression of an id
+unfoldable pub term_at : List Node → ℕ → Term
+term_at nodes id = term_of_newest (reverse nodes) id
+
+-- a number, or 2^64 - 1 where it is greater
+abbrev pub capped : ℕ → ℕ
+capped n = min n (2 ^ 64 - 1)
+
+-- the new pool has the old one's nodes first
+pub record Grows (old new : List Node) : Type 0 where
+  pub more : List Node
+  pub nodes : new ≡ old ++ more
+  pub longer : length old ≤ length new
+
+-- the operator at the head gets operands of the widths that it asks for
+abbrev pub HeadFits : Term → Type 0
+HeadFits (word w) = (1 ≤ w) × (w ≤ 64)
+HeadFits (reg r w) = (1 ≤ w) × (w ≤ 64)
+HeadFits (const w v) = (1 ≤ w) × (w ≤ 64) × (v < 2 ^ w)
+HeadFits (read a w) = (1 ≤ w) × (w ≤ 64)
+HeadFits (un o a) = Unit {0}
+HeadFits (bin o a b) = term_width b ≡ term_width a
+HeadFits (slice a h l) = (l ≤ h) × (h < term_width a)
+HeadFits (cat a b) = term_width a + term_width b ≤ 64
+HeadFits (zext a w) = (term_width a < w) × (w ≤ 64)
+HeadFits (sext a w) = (term_width a < w) × (w ≤ 64)
+HeadFits (select c a b) = (term_width c ≡ 1) × (term_width b ≡ term_width a)
+
+-- each operator of an expression does
+abbrev pub TermFits : Term → Type 0
+TermFits (word w) = HeadFits (word w)
+TermFits (reg r w) = HeadFits (reg r w)
+TermFits (const w v) = HeadFits (const w v)
+TermFits (read a w) = TermFits a × HeadFits (read a w)
+TermFits (un o a) = TermFits a
+TermFits (bin o a b) = TermFits a × TermFits b × HeadFits (bin o a b)
+TermFits (slice a h l) = TermFits a × HeadFits (slice a h l)
+TermFits (cat a b) = TermFits a × TermFits b × HeadFits (cat a b)
+TermFits (zext a w) = TermFits a × HeadFits (zext a w)
+TermFits (sext a w) = TermFits a × HeadFits (sext a w)
+TermFits (select c a b) = TermFits c × TermFits a × TermFits b × HeadFits (select c a b)
+
+-- the state's values and the word fit where an expression names them
+abbrev pub Suits : Term → State → ℕ → Type 0
+Suits (word w) s i = i < 2 ^ w
+Suits (reg r w) s i = slice_index s.regs r < 2 ^ w
+Suits (const w v) s i = Unit {0}
+Suits (read a w) s i = Suits a s i × (slice_index s.cells (mean a s i) < 2 ^ w)
+Suits (un o a) s i = Suits a s i
+Suits (bin o a b) s i = Suits a s i × Suits b s i
+Suits (slice a h l) s i = Suits a s i
+Suits (cat a b) s i = Suits a s i × Suits b s i
+Suits (zext a w) s i = Suits a s i
+Suits (sext a w) s i = Suits a s i
+Suits (select c a b) s i = Suits c s i × Suits a s i × Suits b s i
+
+-- the parts of each node come before it, its expression fits, and no two nodes are equal
+pub record IsPool (nodes : List Node) : Type 0 where
+  pub below : (place : ℕ) (node : Node) → slice_get nodes place ≡ Some node → AllBelow place (parts_of node)
+  pub fits : (id : ℕ) → id < length nodes → TermFits (term_at nodes id)
+  pub distinct : (i j : ℕ) (node : Node) → slice_get nodes i ≡ Some node → slice_get nodes j ≡ Some node → i ≡ j
+
+-- ids are equal exactly where their expressions are
+abbrev pub IsOneEach : List Node → Type 0
+IsOneEach nodes = (i j : ℕ) → i < length nodes → j < length nodes → (term_at nodes i ≡ term_at nodes j) ↔ (i ≡ j)
+
+-- the new pool changes no old id's expression
+abbrev pub KeepsTerms : List Node → List Node → Type 0
+KeepsTerms old new = (id : ℕ) → id < length old → term_at new id ≡ term_at old id

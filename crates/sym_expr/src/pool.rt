@@ -1,0 +1,264 @@
+//! A pool of expressions that share their parts.
+
+ghost use Rattle.std.specs.Prelude.{◌≡◌, ℕ, ◌+◌, ◌<◌, ◌≤◌, List, [], length, IfOk, OnErr, slice_index};
+ghost use Rattle.net_model.specs.Meaning.{mean};
+ghost use Rattle.net_model.specs.Terms.{size_of, term_width};
+ghost use Rattle.rec_bits.specs.Operators.{result_width as width_of_result};
+ghost use Rattle.sym_expr.specs.Pools.{AllBelow, Grows, HeadFits, IsOneEach, KeepsTerms, Suits, TermFits, capped, node_term, parts_of, term_at};
+ghost use Rattle.sym_expr.specs.Measures.{IsMeasure};
+ghost use Rattle.sym_expr.specs.declared.pool.Node.{Node as TheNode};
+
+use indexmap::IndexMap;
+use net_model::State;
+use rec_bits::{NoMemory, Op1, Op2, apply1, apply2, cat, sext, slice};
+use std::alloc::Global;
+use std::marker::Model;
+
+/// An expression, by the place of its node in a pool.
+pub type ExprId = u64;
+
+/// A leaf, or an operator over the ids of its operands, with the meanings of `net_model::Expr`. Each tells its own width: in `Word`,
+/// `Reg` and `Read` the last number is the width, in `Zext` and `Sext` the width that is reached.
+#[derive(Clone, Copy, Debug, PartialEq, Eq, Hash)]
+pub enum Node {
+    Word(u8),
+    Reg(u32, u8),
+    Const { width: u8, value: u64 },
+    Read(ExprId, u8),
+    Un(Op1, ExprId),
+    Bin(Op2, ExprId, ExprId),
+    /// The bits from the first number down to the second.
+    Slice(ExprId, u8, u8),
+    Cat(ExprId, ExprId),
+    Zext(ExprId, u8),
+    Sext(ExprId, u8),
+    /// The second where the first is 1, and otherwise the third.
+    Select(ExprId, ExprId, ExprId),
+}
+
+// What is known of an expression from its parts alone: its width, and how many nodes it has, 2^64 - 1 standing for more.
+#[derive(Clone, Copy, Debug, PartialEq, Eq)]
+struct Measure {
+    width: u8,
+    size: u64,
+}
+
+/// Expressions of widths from 1 to 64 bits, with one id for each. A pool only grows: an id means the same expression for as long as the
+/// pool lives, and want of memory leaves the pool as it was. All calls but `new` and `intern` take no memory.
+#[derive(Drop)]
+pub struct Pool {
+    nodes: IndexMap<Node, Measure>,
+}
+
+impl Model for Pool {
+    ghost use Rattle.std.specs.Prelude.{List};
+    ghost use Rattle.indexmap.specs.IndexMap.{keys};
+    ghost use Rattle.sym_expr.specs.declared.pool.Node.{Node as TheNode};
+    ghost use Rattle.sym_expr.specs.Measures.{IsMeasuredPool};
+
+    ghost Value = { List TheNode };
+
+    ghost view = { λ p. keys p.nodes };
+
+    ghost invariant = { λ p. IsMeasuredPool p.nodes.entries };
+}
+
+impl Pool {
+    /// A pool with no expressions.
+    pub fn new(alloc: Global) -> Result<Pool, NoMemory>
+        ensures { IfOk result (λ pool. pool ≡ []) }
+    {
+        Ok(Pool {
+            nodes: IndexMap::new(alloc),
+        })
+    }
+
+    /// The id of an expression, of which its parts have ids below the pool's length and the widths that its operator asks for.
+    pub fn intern(&mut self, _alloc: Global, node: Node) -> Result<ExprId, NoMemory>
+        requires parts { AllBelow (length self.old) (parts_of node) }
+        requires fits { HeadFits (node_term node (term_at self.old)) }
+        ensures grows { Grows self.old self.new }
+        ensures refused { OnErr result (self.new ≡ self.old) }
+        ensures within { IfOk result (λ id. id < length self.new) }
+        ensures term { IfOk result (λ id. term_at self.new id ≡ node_term node (term_at self.old)) }
+    {
+        if let Some(place) = self.nodes.get_index_of(&node) {
+            return Ok(place as u64);
+        }
+        let measure = self.measure(node);
+        let (place, _) = self.nodes.insert_full(node, measure)?;
+        Ok(place as u64)
+    }
+
+    /// How many ids there are: those below the answer. What holds of all ids is said here.
+    pub fn len(&self) -> u64
+        ensures len { result ≡ length self.now }
+        ensures one_each { IsOneEach self.now }
+        ensures fits { (id : ℕ) → id < length self.now → TermFits (term_at self.now id) }
+        ensures keeps { (older : List TheNode) → Grows older self.now → KeepsTerms older self.now }
+    {
+        self.nodes.len() as u64
+    }
+
+    /// The node of an id.
+    pub fn node(&self, id: ExprId) -> Node
+        requires { id < length self.now }
+        ensures term { term_at self.now id ≡ node_term result (term_at self.now) }
+        ensures below { AllBelow id (parts_of result) }
+        ensures fits { TermFits (node_term result (term_at self.now)) }
+    {
+        self.nodes.keys().as_slice()[id as usize]
+    }
+
+    /// The width of an expression, 1 to 64 bits.
+    pub fn width(&self, id: ExprId) -> u8
+        requires { id < length self.now }
+        ensures width { result ≡ term_width (term_at self.now id) }
+        ensures low { 1 ≤ result }
+        ensures high { result ≤ 64 }
+    {
+        self.measured(id).width
+    }
+
+    /// How many leaves and operators an expression has, or 2^64 - 1 where there are more.
+    pub fn size(&self, id: ExprId) -> u64
+        requires { id < length self.now }
+        ensures { result ≡ capped (size_of (term_at self.now id)) }
+    {
+        self.measured(id).size
+    }
+
+    /// The value of an expression in a state under an instruction word, where the registers, cells and the word that it names fit the
+    /// widths with which it names them.
+    pub fn eval(&self, id: ExprId, state: &State, word: u64) -> u64
+        requires id { id < length self.now }
+        requires suits { Suits (term_at self.now id) state.now word }
+        ensures { result ≡ mean (term_at self.now id) state.now word }
+    {
+        match self.node(id) {
+            Node::Word(_) => word,
+            Node::Reg(register, _) => number_at(state.regs.as_slice(), u64::from(register)),
+            Node::Const { value, .. } => value,
+            Node::Read(addr, _) => {
+                number_at(state.cells.as_slice(), self.eval(addr, state, word))
+            }
+            Node::Un(op, a) => apply1(op, self.width(a), self.eval(a, state, word)),
+            Node::Bin(op, a, b) => apply2(
+                op,
+                self.width(a),
+                self.eval(a, state, word),
+                self.eval(b, state, word),
+            ),
+            Node::Slice(a, hi, lo) => slice(self.eval(a, state, word), hi, lo),
+            Node::Cat(a, b) => cat(
+                self.eval(a, state, word),
+                self.eval(b, state, word),
+                self.width(b),
+            ),
+            Node::Zext(a, _) => self.eval(a, state, word),
+            Node::Sext(a, width) => sext(self.eval(a, state, word), self.width(a), width),
+            Node::Select(c, a, b) => {
+                if self.eval(c, state, word) == 1 {
+                    self.eval(a, state, word)
+                } else {
+                    self.eval(b, state, word)
+                }
+            }
+        }
+    }
+
+    // What is known of the expression of an id.
+    fn measured(&self, id: ExprId) -> Measure
+        requires { id < length self.now }
+        ensures fits { TermFits (term_at self.now id) }
+        ensures is { IsMeasure (term_at self.now id) result }
+    {
+        self.nodes.values().as_slice()[id as usize]
+    }
+
+    // What is known of the expression that a node would be.
+    fn measure(&self, node: Node) -> Measure
+        requires parts { AllBelow (length self.now) (parts_of node) }
+        requires fits { HeadFits (node_term node (term_at self.now)) }
+        ensures { IsMeasure (node_term node (term_at self.now)) result }
+    {
+        Measure {
+            width: self.width_of(node),
+            size: self.size_of(node),
+        }
+    }
+
+    fn width_of(&self, node: Node) -> u8
+        requires parts { AllBelow (length self.now) (parts_of node) }
+        requires fits { HeadFits (node_term node (term_at self.now)) }
+        ensures { result ≡ term_width (node_term node (term_at self.now)) }
+    {
+        match node {
+            Node::Word(width) => width,
+            Node::Reg(_, width) => width,
+            Node::Const { width, .. } => width,
+            Node::Read(_, width) => width,
+            Node::Un(_, a) => self.width(a),
+            Node::Bin(op, a, _) => result_width(op, self.width(a)),
+            Node::Slice(a, hi, lo) => {
+                let _of = self.width(a);
+                hi + 1 - lo
+            }
+            Node::Cat(a, b) => self.width(a) + self.width(b),
+            Node::Zext(_, width) => width,
+            Node::Sext(_, width) => width,
+            Node::Select(_, a, _) => self.width(a),
+        }
+    }
+
+    fn size_of(&self, node: Node) -> u64
+        requires parts { AllBelow (length self.now) (parts_of node) }
+        ensures { result ≡ capped (size_of (node_term node (term_at self.now))) }
+    {
+        match node {
+            Node::Word(_) => 1,
+            Node::Reg(..) => 1,
+            Node::Const { .. } => 1,
+            Node::Read(a, _) => self.size(a).saturating_add(1),
+            Node::Un(_, a) => self.size(a).saturating_add(1),
+            Node::Bin(_, a, b) => self.size(a).saturating_add(self.size(b)).saturating_add(1),
+            Node::Slice(a, _, _) => self.size(a).saturating_add(1),
+            Node::Cat(a, b) => self.size(a).saturating_add(self.size(b)).saturating_add(1),
+            Node::Zext(a, _) => self.size(a).saturating_add(1),
+            Node::Sext(a, _) => self.size(a).saturating_add(1),
+            Node::Select(c, a, b) => self
+                .size(c)
+                .saturating_add(self.size(a))
+                .saturating_add(self.size(b))
+                .saturating_add(1),
+        }
+    }
+}
+
+// The number at a place of a list, and 0 past its end.
+fn number_at(values: &[u64], place: u64) -> u64
+    ensures { result ≡ slice_index values.now place }
+{
+    match values.get(place as usize) {
+        Some(value) => *value,
+        None => 0,
+    }
+}
+
+// The width of an operator's value at operands of this width.
+fn result_width(op: Op2, width: u8) -> u8
+    ensures { result ≡ width_of_result op width }
+{
+    match op {
+        Op2::Eq | Op2::Ltu | Op2::Lts => 1,
+        Op2::Add
+        | Op2::Sub
+        | Op2::Mul
+        | Op2::And
+        | Op2::Or
+        | Op2::Xor
+        | Op2::Shl
+        | Op2::Shr
+        | Op2::Sar => width,
+    }
+}

@@ -1,0 +1,3 @@
+mod Values
+pub mod Parts
+pub mod Numbers

@@ -1,0 +1,40 @@
+-- What stands in a line.
+use Rattle.std.specs.Prelude.{ℕ, ◌+◌, ◌-◌, ◌*◌, ◌^◌, ◌==◌, ◌&&◌, not, nat_lt, nat_le, if◌then◌else◌, List, [], ◌∷◌, length, Bool, true, false, Option, Some, None, option_map}
+use Rattle.std.specs.List.{list_all}
+use Rattle.lexing.specs.Bytes.{is_letter, is_digit, is_name_byte, begins_with}
+
+-- what stands before the first such byte, and behind it
+abbrev pub longer_front : ℕ → List ℕ × List ℕ → List ℕ × List ℕ
+longer_front b parts = (b ∷ parts.0, parts.1)
+
+unfoldable pub parts_at : ℕ → List ℕ → Option (List ℕ × List ℕ)
+parts_at mark [] = None
+parts_at mark (b ∷ bs) = if b == mark then Some ([], bs) else option_map (longer_front b) (parts_at mark bs)
+
+-- the value of decimal digits behind those of n
+abbrev pub value_from : ℕ → List ℕ → ℕ
+value_from n [] = n
+value_from n (d ∷ ds) = value_from (10 * n + (d - 48)) ds
+
+abbrev pub below_2_64 : ℕ → Option ℕ
+below_2_64 n = if nat_lt n (2 ^ 64) then Some n else None
+
+-- a digit or more, without a zero before another
+abbrev pub is_plain : List ℕ → Bool
+is_plain [] = false
+is_plain (d ∷ []) = true
+is_plain (d ∷ e ∷ ds) = not (d == 48)
+
+abbrev pub are_digits : List ℕ → Bool
+are_digits text = list_all is_digit text
+
+-- the number below 2^64 that a text is, in decimal digits without leading zeros
+unfoldable pub number_of : List ℕ → Option ℕ
+number_of text = if is_plain text && are_digits text then below_2_64 (value_from 0 text) else None
+
+abbrev pub are_name_bytes : List ℕ → Bool
+are_name_bytes text = list_all is_name_byte text
+
+-- a name: a letter or `_`, then letters, digits and `_`, 32 bytes at most
+unfoldable pub is_name : List ℕ → Bool
+is_name text = begins_with is_letter text && nat_le (length text) 32 && are_name_bytes text

@@ -1,0 +1,76 @@
+-- A storage's transfer depends on the nets that feed it alone.
+use Rattle.std.proofs.Common.{◌≡◌, ℕ, zero, suc, ◌<◌, if◌then◌else◌, Some, List, [], ◌∷◌, ◌++◌, length, get_or, slice_get, inl, inr, refl, sym, ap, subst, ◌∙◌}
+use Rattle.std.proofs.lemmas.Option.{slice_get_read}
+use Rattle.sym_expr.proofs.Lists.{pushed_at}
+use Rattle.word_moves.specs.declared.moves.StorageMove.{StorageMove}
+use Rattle.std.specs.List.{AllByRecursion}
+use Rattle.net_model.specs.declared.hardware.Netlist.{Netlist}
+use Rattle.net_model.specs.declared.hardware.Storage.{Storage}
+use Rattle.net_model.specs.declared.hardware.Storage.TheVariants.{Register, Memory}
+use Rattle.net_model.specs.Terms.{Term, keep, write, write_at}
+use Rattle.net_model.specs.Value.{value_of}
+use Rattle.net_model.specs.Widths.{StorageFits, IsTyped}
+use Rattle.net_model.specs.Symbolic.{blank, sym_of}
+use Rattle.net_model.specs.Transfers.{is_on, same_reg, storage_move, transfer_of, move_at}
+use Rattle.sym_expr.specs.declared.pool.Node.{Node}
+use Rattle.sym_expr.specs.declared.pool.Node.TheVariants.{Word, Reg, Const, Read, Un, Bin, Slice, Cat, Zext, Sext, Select}
+use Rattle.sym_expr.specs.Pools.{node_term}
+use Rattle.word_moves.specs.Gates.{StorageKnown, is_register_node, net_terms}
+use Rattle.word_moves.specs.Moves.{AreIds, IsMoveWithin, move_in}
+
+-- a node is a register where its expression is
+pub register_node : (node : Node) (t : ℕ → Term) (id : ℕ) → is_register_node node id ≡ same_reg (node_term node t) id
+register_node (Word w) t id = refl
+register_node (Reg r w) t id = refl
+register_node (Const w v) t id = refl
+register_node (Read a w) t id = refl
+register_node (Un o a) t id = refl
+register_node (Bin o a b) t id = refl
+register_node (Slice a h l) t id = refl
+register_node (Cat a b) t id = refl
+register_node (Zext a w) t id = refl
+register_node (Sext a w) t id = refl
+register_node (Select c a b) t id = refl
+
+module _ (netlist : Netlist) (word : ℕ) (nodes : List Node) (ids : List ℕ) (a : AreIds netlist word nodes ids) where
+  pub storage_known : (storage : Storage) → StorageFits netlist storage → StorageKnown nodes ids storage
+  storage_known (Register name width input when) f = a.within input f.0.0
+  storage_known (Memory name width size addr_width value addr when) f = (a.within addr f.1.0, a.within value f.0.0)
+
+  pub storage_same : (u : ℕ → ℕ) (id : ℕ) (storage : Storage) → StorageFits netlist storage → storage_move (net_terms nodes ids) u id storage ≡ storage_move (sym_of netlist word) u id storage
+  storage_same u id (Register name width input when) f =
+      ap (λ (e : Term). if is_on u when then (if same_reg e id then keep else write e) else keep) (a.terms input f.0.0)
+  storage_same u id (Memory name width size addr_width value addr when) f =
+      let x = a.terms addr f.1.0 in
+      let y = a.terms value f.0.0 in
+      (λ j. if is_on u when then write_at (x j) (y j) else keep)
+
+all_at : {X : Type 0} (P : X → Type 0) (xs : List X) (i : ℕ) (x : X) → AllByRecursion P xs → slice_get xs i ≡ Some x → P x
+all_at P [] i x h e = absurd (cc)
+all_at P (y ∷ ys) zero x h e = let s : y ≡ x = cc in subst P s h.0
+all_at P (y ∷ ys) (suc i) x h e = all_at P ys i x h.1 e
+
+-- ---- one more storage
+
+module _ (netlist : Netlist) (word : ℕ) (nodes : List Node) (ids : List ℕ) (a : AreIds netlist word nodes ids) (u : ℕ → ℕ) (values : u ≡ value_of netlist blank word) (typed : IsTyped netlist) (moves : List StorageMove) (i : ℕ) (long : length moves ≡ i)
+    (storage : Storage) (is : storage ≡ get_or netlist.storages i storage) (inside : i < length netlist.storages) (move : StorageMove) where
+  pub more_within : ((id : ℕ) (m : StorageMove) → slice_get moves id ≡ Some m → IsMoveWithin nodes m) → IsMoveWithin nodes move → (id : ℕ) (m : StorageMove) → slice_get (moves ++ move ∷ []) id ≡ Some m → IsMoveWithin nodes m
+  more_within before this id m at = elim (pushed_at moves move id m at) as (λ _. IsMoveWithin nodes m) [
+    | inl w ↦ before id m w.1
+    | inr w ↦ subst (IsMoveWithin nodes) w.1 this
+  ]
+
+  pub more_are : ((id : ℕ) (m : StorageMove) → slice_get moves id ≡ Some m → move_in nodes m ≡ move_at netlist word id) → move_in nodes move ≡ storage_move (net_terms nodes ids) u i storage → (id : ℕ) (m : StorageMove) → slice_get (moves ++ move ∷ []) id ≡ Some m → move_in nodes m ≡ move_at netlist word id
+  more_are before this id m at =
+      let there : slice_get netlist.storages i ≡ Some storage = slice_get_read netlist.storages (length netlist.storages) i storage refl inside is in
+      let fits : StorageFits netlist storage = all_at (StorageFits netlist) netlist.storages i storage typed.storages there in
+      let here : move_in nodes move ≡ move_at netlist word i =
+      this ∙ storage_same netlist word nodes ids a u i storage fits
+      ∙ ap (λ v. storage_move (sym_of netlist word) v i storage) values
+      ∙ sym (ap (transfer_of netlist word i) there) in
+      elim (pushed_at moves move id m at) as (λ _. move_in nodes m ≡ move_at netlist word id) [
+        | inl w ↦ before id m w.1
+        | inr w ↦
+            let same : id ≡ i = w.0 ∙ long in
+            subst (λ k. move_in nodes m ≡ move_at netlist word k) (sym same) (subst (λ n. move_in nodes n ≡ move_at netlist word i) w.1 here)
+      ]

@@ -1,0 +1,60 @@
+-- A case and a bus take what stands at one net.
+use Rattle.std.proofs.Common.{◌≡◌, ℕ, ◌==◌, Bool, true, false, if◌then◌else◌, List, [], ◌∷◌, Option, Some, None, IfSome, refl, ◌∙◌}
+use Rattle.std.specs.List.{AllByRecursion}
+use Rattle.net_model.specs.declared.hardware.Netlist.{Netlist}
+use Rattle.net_model.specs.Terms.{Term}
+use Rattle.net_model.specs.Nets.{row_nets, driver_nets, width_at}
+use Rattle.net_model.specs.Value.{case_value, bus_value}
+use Rattle.net_model.specs.Symbolic.{case_term, bus_term}
+use Rattle.net_model.specs.Widths.{RowsFit, RestFits, DriversFit}
+use Rattle.sym_expr.specs.declared.pool.Node.{Node}
+use Rattle.word_moves.specs.Choices.{case_target, driver_target, value_there, term_there}
+use Rattle.word_moves.specs.Gates.{IsWide, IsKnown}
+
+module _ {X : Type 0} (there : Option ℕ → X) where
+  choose : (b : Bool) (n : ℕ) (rest : Option ℕ) (x : X) → there rest ≡ x → there (if b then Some n else rest) ≡ (if b then there (Some n) else x)
+  choose true n rest x e = refl
+  choose false n rest x e = e
+
+-- ---- values
+
+pub case_value_there : (v : ℕ → ℕ) (key : ℕ) (rows : List (ℕ × ℕ)) (rest : Option ℕ) → value_there v (case_target key rows rest) ≡ case_value v key rows rest
+case_value_there v key [] None = refl
+case_value_there v key [] (Some n) = refl
+case_value_there v key (row ∷ rows) rest = choose (value_there v) (row.0 == key) row.1 (case_target key rows rest) _ (case_value_there v key rows rest)
+
+pub bus_value_there : (v : ℕ → ℕ) (drivers : List (ℕ × ℕ)) → value_there v (driver_target v drivers) ≡ bus_value v drivers
+bus_value_there v [] = refl
+bus_value_there v (driver ∷ drivers) = choose (value_there v) (v driver.1 == 1) driver.0 (driver_target v drivers) _ (bus_value_there v drivers)
+
+-- ---- symbolic values
+
+pub case_term_there : (t : ℕ → Term) (width key : ℕ) (rows : List (ℕ × ℕ)) (rest : Option ℕ) → term_there t width (case_target key rows rest) ≡ case_term t width key rows rest
+case_term_there t width key [] None = refl
+case_term_there t width key [] (Some n) = refl
+case_term_there t width key (row ∷ rows) rest = choose (term_there t width) (row.0 == key) row.1 (case_target key rows rest) _ (case_term_there t width key rows rest)
+
+pub bus_term_there : (t : ℕ → Term) (u : ℕ → ℕ) (width : ℕ) (drivers : List (ℕ × ℕ)) → term_there t width (driver_target u drivers) ≡ bus_term t u width drivers
+bus_term_there t u width [] = refl
+bus_term_there t u width (driver ∷ drivers) = choose (term_there t width) (u driver.1 == 1) driver.0 (driver_target u drivers) _ (bus_term_there t u width drivers)
+
+-- ---- the net is known
+
+pick : (P : ℕ → Type 0) (b : Bool) (n : ℕ) (rest : Option ℕ) → P n → IfSome rest P → IfSome (if b then Some n else rest) P
+pick P true n rest h k = h
+pick P false n rest h k = k
+
+module _ (netlist : Netlist) (nodes : List Node) (ids : List ℕ) (width : ℕ) where
+  wide : (n : ℕ) → IsKnown netlist nodes ids n → width_at netlist n ≡ width → IsWide nodes ids width n
+  wide n h e = (h.0, h.1 ∙ e)
+
+  pub case_known : (sel key : ℕ) (rows : List (ℕ × ℕ)) (rest : Option ℕ) → RowsFit netlist sel width rows → RestFits netlist width rest → AllByRecursion (IsKnown netlist nodes ids) (row_nets rows rest) → IfSome (case_target key rows rest) (IsWide nodes ids width)
+  case_known sel key [] None r f k = tt
+  case_known sel key [] (Some n) r f k = wide n k.0 f.1
+  case_known sel key (row ∷ rows) rest r f k =
+      pick (IsWide nodes ids width) (row.0 == key) row.1 (case_target key rows rest) (wide row.1 k.0 r.1.1) (case_known sel key rows rest r.2 f k.1)
+
+  pub bus_known : (u : ℕ → ℕ) (drivers : List (ℕ × ℕ)) → DriversFit netlist width drivers → AllByRecursion (IsKnown netlist nodes ids) (driver_nets drivers) → IfSome (driver_target u drivers) (IsWide nodes ids width)
+  bus_known u [] f k = tt
+  bus_known u (driver ∷ drivers) f k =
+      pick (IsWide nodes ids width) (u driver.1 == 1) driver.0 (driver_target u drivers) (wide driver.0 k.0 f.0.1) (bus_known u drivers f.2 k.1.1)

@@ -1,0 +1,94 @@
+-- What is known of ids while the pool grows, and of the gates that take what stands at one net.
+use Rattle.std.proofs.Common.{◌≡◌, ℕ, ◌<◌, ◌⊎◌, inl, inr, Bool, true, false, if◌then◌else◌, List, length, Option, Some, None, IfSome, IsTrue, slice_index, refl, sym, ap, subst, ◌∙◌, arith, true≢false}
+use Rattle.std.specs.List.{AllByRecursion}
+use Rattle.net_model.specs.declared.hardware.Netlist.{Netlist}
+use Rattle.net_model.specs.declared.hardware.Gate.{Gate}
+use Rattle.net_model.specs.declared.hardware.Gate.TheVariants.{Case, Bus}
+use Rattle.net_model.specs.Terms.{Term, select, term_width}
+use Rattle.net_model.specs.Nets.{gate_nets, width_at}
+use Rattle.net_model.specs.Control.{GateControlled}
+use Rattle.net_model.specs.Symbolic.{case_term, gate_term, is_static}
+use Rattle.net_model.specs.Widths.{GateFits}
+use Rattle.sym_expr.specs.declared.pool.Node.{Node}
+use Rattle.sym_expr.specs.Pools.{Grows, term_at}
+use Rattle.sym_expr.proofs.CallerLemmas.{same_term}
+use Rattle.word_moves.specs.Choices.{case_target, driver_target, term_there}
+use Rattle.word_moves.specs.Gates.{IsKnown, IsWide, net_terms}
+use Rattle.word_moves.proofs.Targets.{case_known, bus_known, case_term_there, bus_term_there}
+
+module _ (old new : List Node) (g : Grows old new) (ids : List ℕ) (width : ℕ) where
+  wide_later : (n : ℕ) → IsWide old ids width n → IsWide new ids width n
+  wide_later n h = (omega (arith, h.0, g.longer), ap term_width (same_term old new g (slice_index ids n) h.0) ∙ h.1)
+
+  pub some_wide_later : (o : Option ℕ) → IfSome o (IsWide old ids width) → IfSome o (IsWide new ids width)
+  some_wide_later None h = tt
+  some_wide_later (Some n) h = wide_later n h
+
+  pub there_later : (o : Option ℕ) → IfSome o (IsWide old ids width) → term_there (net_terms new ids) width o ≡ term_there (net_terms old ids) width o
+  there_later None h = refl
+  there_later (Some n) h = same_term old new g (slice_index ids n) h.0
+
+pub there_wide : (nodes : List Node) (ids : List ℕ) (width : ℕ) (o : Option ℕ) → IfSome o (IsWide nodes ids width) → term_width (term_there (net_terms nodes ids) width o) ≡ width
+there_wide nodes ids width None h = refl
+there_wide nodes ids width (Some n) h = h.1
+
+-- ---- a choice between two nets, of which each may add to the pool
+
+module _ (a b c : List Node) (f : Grows a b) (g : Grows b c) (ids : List ℕ) (width : ℕ) (one zero : Option ℕ) (sel test on off : ℕ) (test_is : test ≡ slice_index ids sel)
+    (sel_known : IsWide a ids 1 sel) (one_known : IfSome one (IsWide a ids width)) (zero_known : IfSome zero (IsWide a ids width))
+    (on_in : on < length b) (on_is : term_at b on ≡ term_there (net_terms a ids) width one) (off_is : term_at c off ≡ term_there (net_terms b ids) width zero) where
+  test_term : term_at c test ≡ net_terms a ids sel
+  test_term =
+      ap (term_at c) test_is ∙ same_term b c g (slice_index ids sel) (omega (arith, sel_known.0, f.longer)) ∙ same_term a b f (slice_index ids sel) sel_known.0
+
+  on_term : term_at c on ≡ term_there (net_terms a ids) width one
+  on_term = same_term b c g on on_in ∙ on_is
+
+  off_term : term_at c off ≡ term_there (net_terms a ids) width zero
+  off_term = off_is ∙ there_later a b f ids width zero zero_known
+
+  pub choice_fits : (term_width (term_at c test) ≡ 1) × (term_width (term_at c off) ≡ term_width (term_at c on))
+  choice_fits = (
+    ap term_width test_term ∙ sel_known.1,
+    ap term_width off_term ∙ there_wide a ids width zero zero_known ∙ sym (ap term_width on_term ∙ there_wide a ids width one one_known),
+  )
+
+  pub choice_is : select (term_at c test) (term_at c on) (term_at c off) ≡ select (net_terms a ids sel) (term_there (net_terms a ids) width one) (term_there (net_terms a ids) width zero)
+  choice_is = let x = test_term in let y = on_term in let z = off_term in (λ j. select (x j) (y j) (z j))
+
+-- ---- gates that take what stands at one net
+
+module _ (netlist : Netlist) (nodes : List Node) (ids : List ℕ) (width : ℕ) (gate : Gate) (fits : GateFits netlist width gate) (known : AllByRecursion (IsKnown netlist nodes ids) (gate_nets gate)) where
+  pub case_wide : (sel key : ℕ) (rows : List (ℕ × ℕ)) (rest target : Option ℕ) → gate ≡ Case sel rows rest → target ≡ case_target key rows rest → IfSome target (IsWide nodes ids width)
+  case_wide sel key rows rest target e t =
+      let g : GateFits netlist width (Case sel rows rest) = subst (λ x. GateFits netlist width x) e fits in
+      let k : AllByRecursion (IsKnown netlist nodes ids) (gate_nets (Case sel rows rest)) = subst (λ x. AllByRecursion (IsKnown netlist nodes ids) (gate_nets x)) e known in
+      subst (λ o. IfSome o (IsWide nodes ids width)) (sym t) (case_known netlist nodes ids width (width_at netlist sel) key rows rest g.1 g.2 k.1)
+
+  pub bus_wide : (u : ℕ → ℕ) (drivers : List (ℕ × ℕ)) (target : Option ℕ) → gate ≡ Bus drivers → target ≡ driver_target u drivers → IfSome target (IsWide nodes ids width)
+  bus_wide u drivers target e t =
+      subst (λ o. IfSome o (IsWide nodes ids width)) (sym t)
+      (bus_known netlist nodes ids width u drivers (subst (λ x. GateFits netlist width x) e fits) (subst (λ x. AllByRecursion (IsKnown netlist nodes ids) (gate_nets x)) e known))
+
+  pub selector_wide : (sel : ℕ) (rows : List (ℕ × ℕ)) (rest : Option ℕ) → gate ≡ Case sel rows rest → GateControlled netlist gate → is_static netlist sel ≡ false → IsWide nodes ids 1 sel
+  selector_wide sel rows rest e c s =
+      let k : AllByRecursion (IsKnown netlist nodes ids) (gate_nets (Case sel rows rest)) = subst (λ x. AllByRecursion (IsKnown netlist nodes ids) (gate_nets x)) e known in
+      let d : IsTrue (is_static netlist sel) ⊎ (width_at netlist sel ≡ 1) = subst (λ x. GateControlled netlist x) e c in
+      (k.0.0, k.0.1 ∙ elim d as (λ _. width_at netlist sel ≡ 1) [ inl p ↦ absurd (true≢false (sym p ∙ s)) | inr p ↦ p ])
+
+module _ (t : ℕ → Term) (u : ℕ → ℕ) (f : ℕ → Bool) (width : ℕ) (gate : Gate) where
+  pub case_static : (sel key : ℕ) (rows : List (ℕ × ℕ)) (rest target : Option ℕ) → gate ≡ Case sel rows rest → f sel ≡ true → key ≡ u sel → target ≡ case_target key rows rest → term_there t width target ≡ gate_term t u f width gate
+  case_static sel key rows rest target e s k h =
+      ap (term_there t width) h ∙ case_term_there t width key rows rest ∙ ap (λ n. case_term t width n rows rest) k
+      ∙ sym (ap (gate_term t u f width) e ∙ ap (λ (b : Bool). if b then case_term t width (u sel) rows rest else select (t sel) (case_term t width 1 rows rest) (case_term t width 0 rows rest)) s)
+
+  pub case_open : (sel : ℕ) (rows : List (ℕ × ℕ)) (rest one zero : Option ℕ) → gate ≡ Case sel rows rest → f sel ≡ false → one ≡ case_target 1 rows rest → zero ≡ case_target 0 rows rest → select (t sel) (term_there t width one) (term_there t width zero) ≡ gate_term t u f width gate
+  case_open sel rows rest one zero e s h k =
+      let x = ap (term_there t width) h ∙ case_term_there t width 1 rows rest in
+      let y = ap (term_there t width) k ∙ case_term_there t width 0 rows rest in
+      (λ j. select (t sel) (x j) (y j))
+      ∙ sym (ap (gate_term t u f width) e ∙ ap (λ (b : Bool). if b then case_term t width (u sel) rows rest else select (t sel) (case_term t width 1 rows rest) (case_term t width 0 rows rest)) s)
+
+  pub bus_is : (drivers : List (ℕ × ℕ)) (target : Option ℕ) → gate ≡ Bus drivers → target ≡ driver_target u drivers → term_there t width target ≡ gate_term t u f width gate
+  bus_is drivers target e h =
+      ap (term_there t width) h ∙ bus_term_there t u width drivers ∙ sym (ap (gate_term t u f width) e)

@@ -1,0 +1,5 @@
+use Rattle.word_moves.proofs.Evaluated.{zeros_fit}
+use Rattle.word_moves.proofs.evaluate.values_of.Goals as goal
+
+pub evaluate-requires-clause-fit : goal.evaluate-requires-clause-fit
+evaluate-requires-clause-fit c = rw c.in_ok-values.ensures (zeros_fit _ _)

@@ -1,0 +1,3 @@
+pub mod Choices
+pub mod Gates
+pub mod Moves

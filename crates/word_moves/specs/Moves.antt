@@ -1,0 +1,51 @@
+-- What a netlist does under one instruction word, in the ids of a pool.
+use Rattle.std.specs.Prelude.{ℕ, ◌≡◌, ◌<◌, List, Some, length, slice_get, slice_index, slice_index_or, Bool, true}
+use Rattle.net_model.specs.declared.hardware.Netlist.{Netlist}
+use Rattle.net_model.specs.Terms.{Move, keep, write, write_at}
+use Rattle.net_model.specs.Value.{value_of}
+use Rattle.net_model.specs.Clock.{clash_in}
+use Rattle.net_model.specs.Symbolic.{blank, is_static, sym_of}
+use Rattle.net_model.specs.Transfers.{move_at}
+use Rattle.sym_expr.specs.declared.pool.Node.{Node}
+use Rattle.sym_expr.specs.Pools.{term_at}
+use Rattle.word_moves.specs.declared.moves.StorageMove.{StorageMove}
+use Rattle.word_moves.specs.declared.moves.StorageMove.TheVariants.{Keep, Write, WriteAt}
+use Rattle.word_moves.specs.declared.moves.WordMoves.{WordMoves}
+
+-- the flag of a net, which is set past the last one
+abbrev pub flag_at : List Bool → ℕ → Bool
+flag_at flags n = slice_index_or flags n true
+
+-- an id of the pool for each net, whose expression is the net's symbolic value
+pub record AreIds (netlist : Netlist) (word : ℕ) (nodes : List Node) (ids : List ℕ) : Type 0 where
+  pub long : length ids ≡ length netlist.nets
+  pub within : (n : ℕ) → n < length netlist.nets → slice_index ids n < length nodes
+  pub terms : (n : ℕ) → n < length netlist.nets → term_at nodes (slice_index ids n) ≡ sym_of netlist word n
+
+-- the transfer that ids stand for
+abbrev pub move_in : List Node → StorageMove → Move
+move_in nodes Keep = keep
+move_in nodes (Write value) = write (term_at nodes value)
+move_in nodes (WriteAt addr value) = write_at (term_at nodes addr) (term_at nodes value)
+
+-- they are ids of the pool
+abbrev pub IsMoveWithin : List Node → StorageMove → Type 0
+IsMoveWithin nodes Keep = Unit {0}
+IsMoveWithin nodes (Write value) = value < length nodes
+IsMoveWithin nodes (WriteAt addr value) = (addr < length nodes) × (value < length nodes)
+
+-- one for each storage, which is its transfer under the word
+pub record AreMoves (netlist : Netlist) (word : ℕ) (nodes : List Node) (moves : List StorageMove) : Type 0 where
+  pub long : length moves ≡ length netlist.storages
+  pub within : (id : ℕ) (move : StorageMove) → slice_get moves id ≡ Some move → IsMoveWithin nodes move
+  pub are : (id : ℕ) (move : StorageMove) → slice_get moves id ≡ Some move → move_in nodes move ≡ move_at netlist word id
+
+-- all that a netlist does under the word
+pub record IsWordMoves (netlist : Netlist) (word : ℕ) (nodes : List Node) (m : WordMoves) : Type 0 where
+  pub values_long : length m.values ≡ length netlist.nets
+  pub values : slice_index m.values ≡ value_of netlist blank word
+  pub statics_long : length m.statics ≡ length netlist.nets
+  pub statics : flag_at m.statics ≡ is_static netlist
+  pub ids : AreIds netlist word nodes m.ids
+  pub clash : m.clash ≡ clash_in (value_of netlist blank word) netlist.nets
+  pub moves : AreMoves netlist word nodes m.moves
