@@ -52,6 +52,12 @@ impl Row {
         Ok(())
     }
 
+    // One more byte of the last file.
+    fn byte(&mut self, value: u64) -> Result<()> {
+        let byte = u8::try_from(value).context("no byte")?;
+        self.add(&[byte])
+    }
+
     /// Takes one line of the row.
     pub fn take(&mut self, alloc: Global, line: &str) -> Result<()> {
         let Some((key, rest)) = line.split_once(" ") else {
@@ -69,7 +75,7 @@ impl Row {
             }
             "+" => self.add(rest.as_bytes())?,
             "fill" => self.fill(rest)?,
-            "byte" => self.add(&[number(rest)? as u8])?,
+            "byte" => self.byte(number(rest)?)?,
             "step" => self.step = number(rest)? as usize,
             "room" => self.room = number(rest)? as usize,
             "fail" => self.fail(rest)?,
