@@ -1,0 +1,200 @@
+-- What feeds a storage gives its transfers.
+use Rattle.std.proofs.Common.{◌≡◌, ℕ, zero, suc, ◌+◌, ◌^◌, ◌<◌, ◌≤◌, ◌==◌, ◌&&◌, nat_lt, Bool, true, false, true≢false, if◌then◌else◌, List, [], ◌∷◌, ◌++◌, length, Option, None, Some, slice_get, refl, sym, ap, subst, ◌∙◌, arith}
+use Rattle.std.specs.List.{AllByRecursion}
+use Rattle.std.proofs.lemmas.List.{append-nil}
+use Rattle.std.proofs.lemmas.Bool.{ltb-true, ltb-false}
+use borrow.Author.Tests.{eqb-true, eqb-false}
+use Rattle.bit_bdd.specs.Diagrams.{Diagrams, has_word, Extends}
+use Rattle.bit_bdd.proofs.CallerLemmas.{same_words}
+use Rattle.ctl_bdd.specs.declared.ControlBits.{ControlBits}
+use Rattle.net_model.specs.declared.hardware.Netlist.{Netlist}
+use Rattle.net_model.specs.declared.hardware.Storage.{Storage}
+use Rattle.net_model.specs.declared.hardware.Storage.TheVariants.{Register, Memory}
+use Rattle.net_model.specs.Symbolic.{blank, sym_of}
+use Rattle.net_model.specs.Terms.{Term, Move, keep, write, write_at}
+use Rattle.net_model.specs.Transfers.{is_on, move_at, same_reg, transfer_of}
+use Rattle.net_model.specs.Value.{value_of}
+use Rattle.net_model.specs.Widths.{StorageFits}
+use Rattle.sym_expr.specs.declared.pool.Node.{Node}
+use Rattle.sym_expr.specs.Pools.{term_at, IsOneEach}
+use Rattle.transfer_set.specs.declared.route.Route.{Route}
+use Rattle.transfer_set.specs.Routes.{RouteIs, held_terms, routes_at}
+use Rattle.transfer_set.specs.Entries.{ArePairs, AreWrites, each, given, memory_moves}
+use Rattle.transfer_set.specs.Sources.{IsOnSet, IsSource, IsStorageKnown, changes, when_set}
+use Rattle.transfer_set.proofs.Collecting.{sets_later, terms_later}
+use Rattle.transfer_set.proofs.Exact.{exact}
+
+pub all_at : {X : Type 0} (P : X → Type 0) (xs : List X) (i : ℕ) (x : X) → slice_get xs i ≡ Some x → AllByRecursion P xs → P x
+all_at P [] i x at h = absurd (cc)
+all_at P (y ∷ xs) zero x at h = (let e : y ≡ x = cc in subst P e h.0)
+all_at P (y ∷ xs) (suc i) x at h = all_at P xs i x at h.1
+
+both : (a b : Bool) → (a && b) ≡ true → (a ≡ true) × (b ≡ true)
+both true b e = (refl, e)
+both false b e = absurd (true≢false (sym e))
+
+-- ---- a book that grows
+
+on_later : (netlist : Netlist) (old new : Diagrams) → Extends old new → (set : ℕ) (when : Option ℕ) → IsOnSet netlist old set when → IsOnSet netlist new set when
+on_later netlist old new e set when h = record {
+  within = omega (arith, h.within, e.longer);
+  words = λ word fits. same_words old new e set h.within word ∙ h.words word (subst (λ b. word < 2 ^ b) e.bits fits);
+}
+
+known_later : (netlist : Netlist) (old new : Diagrams) → Extends old new → (bits : List (ℕ × List ℕ)) (storage : Option Storage) → IsStorageKnown netlist old bits storage → IsStorageKnown netlist new bits storage
+known_later netlist old new e bits None h = tt
+known_later netlist old new e bits (Some (Register name width input when)) h = (h.0, on_later netlist old new e (when_set bits when) when h.1)
+known_later netlist old new e bits (Some (Memory name width size addr_width value addr when)) h = (h.0, on_later netlist old new e (when_set bits when) when h.1)
+
+pub source_later : (netlist : Netlist) (old new : Diagrams) → Extends old new → (pool : List Node) (controls : ControlBits) (nets : List (List Route)) → IsSource netlist old pool controls nets → IsSource netlist new pool controls nets
+source_later netlist old new e pool controls nets s = record {
+  routes = record {
+    long = s.routes.long;
+    tables = λ n. record {
+      right = record { sets = sets_later old new e (routes_at nets n) (s.routes.tables n).right.sets; apart = (s.routes.tables n).right.apart };
+      exprs = (s.routes.tables n).exprs;
+    };
+    gives = λ n lt word fits.
+        terms_later old new e pool (routes_at nets n) (s.routes.tables n).right.sets word
+        ∙ s.routes.gives n lt word (subst (λ b. word < 2 ^ b) e.bits fits)
+        ∙ ap (λ b. if b then sym_of netlist word n ∷ [] else []) (sym (same_words old new e controls.legal s.within word));
+  };
+  within = omega (arith, s.within, e.longer);
+  legal = λ word fits.
+      let h = s.legal word (subst (λ b. word < 2 ^ b) e.bits fits) in
+      let w = same_words old new e controls.legal s.within word in
+      (λ k. h.0 (sym w ∙ k), λ k. w ∙ h.1 k);
+  storages = λ id. known_later netlist old new e controls.bits (slice_get netlist.storages id) (s.storages id);
+}
+
+-- ---- one storage
+
+module _ (netlist : Netlist) (book : Diagrams) (pool : List Node) (controls : ControlBits) (nets : List (List Route)) (source : IsSource netlist book pool controls nets) (one : IsOneEach pool) where
+  route_is : (n : ℕ) → n < length netlist.nets → (place : ℕ) (route : Route) → slice_get (routes_at nets n) place ≡ Some route → RouteIs book pool controls.legal (λ word. sym_of netlist word n) route
+  route_is n lt place route at = exact book pool controls.legal (λ word. sym_of netlist word n) (routes_at nets n) one (source.routes.tables n) (source.routes.gives n lt) place route at
+
+  module _ (id : ℕ) (name : List ℕ) (width input : ℕ) (when : Option ℕ) (at : slice_get netlist.storages id ≡ Some (Register name width input when)) (fit : StorageFits netlist (Register name width input when)) where
+    on : IsOnSet netlist book (when_set controls.bits when) when
+    on = (subst (IsStorageKnown netlist book controls.bits) at (source.storages id)).1
+
+    register_is : (word : ℕ) → move_at netlist word id ≡ (if is_on (value_of netlist blank word) when then (if same_reg (sym_of netlist word input) id then keep else write (sym_of netlist word input)) else keep)
+    register_is word = ap (transfer_of netlist word id) at
+
+    pub register_whole : AreWrites netlist pool book id (when_set controls.bits when) (routes_at nets input)
+    register_whole place route there other word fits = (
+      λ h.
+          let b = both (has_word book (when_set controls.bits when) word) (has_word book route.set word) h in
+          let r = (route_is input fit.0.0 place route there word fits).0 b.1 in
+          record {
+            clean = (source.legal word fits).0 r.0;
+            gives = register_is word
+                ∙ ap (λ o. if o then (if same_reg (sym_of netlist word input) id then keep else write (sym_of netlist word input)) else keep) (sym (on.words word fits) ∙ b.0)
+                ∙ ap (λ t. if same_reg t id then keep else write t) (sym r.1)
+                ∙ ap (λ s. if s then keep else write (term_at pool route.expr)) other;
+          },
+      λ q. back (is_on (value_of netlist blank word) when) (same_reg (sym_of netlist word input) id) (on.words word fits) ((source.legal word fits).1 q.clean) (sym (register_is word) ∙ q.gives),
+    )
+      where
+        back : (o s : Bool) → has_word book (when_set controls.bits when) word ≡ o → has_word book controls.legal word ≡ true
+            → (if o then (if s then keep else write (sym_of netlist word input)) else keep) ≡ write (term_at pool route.expr)
+            → (has_word book (when_set controls.bits when) word && has_word book route.set word) ≡ true
+        back true true eo l e = absurd (cc)
+        back true false eo l e =
+            let t : sym_of netlist word input ≡ term_at pool route.expr = cc in
+            let h = (route_is input fit.0.0 place route there word fits).1 (l, sym t) in
+            (λ j. eo j && h j)
+        back false s eo l e = absurd (cc)
+
+  module _ (id : ℕ) (name : List ℕ) (width size addr_width value addr : ℕ) (when : Option ℕ) (at : slice_get netlist.storages id ≡ Some (Memory name width size addr_width value addr when))
+      (fit : StorageFits netlist (Memory name width size addr_width value addr when)) where
+    on_memory : IsOnSet netlist book (when_set controls.bits when) when
+    on_memory = (subst (IsStorageKnown netlist book controls.bits) at (source.storages id)).1
+
+    memory_is : (word : ℕ) → move_at netlist word id ≡ (if is_on (value_of netlist blank word) when then write_at (sym_of netlist word addr) (sym_of netlist word value) else keep)
+    memory_is word = ap (transfer_of netlist word id) at
+
+    pub memory_whole : ArePairs netlist pool book id (when_set controls.bits when) (routes_at nets addr) (routes_at nets value)
+    memory_whole place a there i v here word fits = (
+      λ h.
+          let b = both (has_word book (when_set controls.bits when) word && has_word book a.set word) (has_word book v.set word) h in
+          let d = both (has_word book (when_set controls.bits when) word) (has_word book a.set word) b.0 in
+          let r = (route_is addr fit.1.0 place a there word fits).0 d.1 in
+          let s = (route_is value fit.0.0 i v here word fits).0 b.1 in
+          record {
+            clean = (source.legal word fits).0 r.0;
+            gives = memory_is word
+                ∙ ap (λ o. if o then write_at (sym_of netlist word addr) (sym_of netlist word value) else keep) (sym (on_memory.words word fits) ∙ d.0)
+                ∙ (λ j. write_at (sym r.1 j) (sym s.1 j));
+          },
+      λ q. back (is_on (value_of netlist blank word) when) (on_memory.words word fits) ((source.legal word fits).1 q.clean) (sym (memory_is word) ∙ q.gives),
+    )
+      where
+        back : (o : Bool) → has_word book (when_set controls.bits when) word ≡ o → has_word book controls.legal word ≡ true
+            → (if o then write_at (sym_of netlist word addr) (sym_of netlist word value) else keep) ≡ write_at (term_at pool a.expr) (term_at pool v.expr)
+            → ((has_word book (when_set controls.bits when) word && has_word book a.set word) && has_word book v.set word) ≡ true
+        back true eo l e =
+            let f : sym_of netlist word addr ≡ term_at pool a.expr = cc in
+            let g : sym_of netlist word value ≡ term_at pool v.expr = cc in
+            let h = (route_is addr fit.1.0 place a there word fits).1 (l, sym f) in
+            let k = (route_is value fit.0.0 i v here word fits).1 (l, sym g) in
+            (λ j. (eo j && h j) && k j)
+        back false eo l e = absurd (cc)
+
+    pub memory_gives : (n word : ℕ) → word < 2 ^ book.bits
+        → given ((id == n) && has_word book (when_set controls.bits when) word) (each (λ (a : Term). each (memory_moves a) (held_terms book pool (routes_at nets value) word)) (held_terms book pool (routes_at nets addr) word))
+        ≡ given ((id == n) && has_word book controls.legal word) (changes (move_at netlist word id))
+    memory_gives n word fits =
+        (let o = on_memory.words word fits in
+        let f = source.routes.gives addr fit.1.0 word fits in
+        let g = source.routes.gives value fit.0.0 word fits in
+        λ j. given ((id == n) && o j) (each (λ (a : Term). each (memory_moves a) (g j)) (f j)))
+        ∙ by (id == n) (is_on (value_of netlist blank word) when) (has_word book controls.legal word)
+        ∙ ap (λ m. given ((id == n) && has_word book controls.legal word) (changes m)) (sym (memory_is word))
+      where
+        f : Term
+        f = sym_of netlist word addr
+
+        g : Term
+        g = sym_of netlist word value
+
+        by : (k o l : Bool) → given (k && o) (each (λ (a : Term). each (memory_moves a) (if l then sym_of netlist word value ∷ [] else [])) (if l then sym_of netlist word addr ∷ [] else []))
+            ≡ given (k && l) (changes (if o then write_at (sym_of netlist word addr) (sym_of netlist word value) else keep))
+        by true true true = refl
+        by true true false = refl
+        by true false true = refl
+        by true false false = refl
+        by false o l = refl
+
+-- ---- all storages
+
+pub upto : {X : Type 0} (i n : ℕ) (l : Bool) (xs : ℕ → List X) → given (nat_lt n i && l) (xs n) ++ given ((i == n) && l) (xs i) ≡ given (nat_lt n (i + 1) && l) (xs n)
+upto i n l xs = by (nat_lt n i) (i == n) (nat_lt n (i + 1)) refl refl refl
+  where
+    by : (a b d : Bool) → nat_lt n i ≡ a → (i == n) ≡ b → nat_lt n (i + 1) ≡ d → given (a && l) (xs n) ++ given (b && l) (xs i) ≡ given (d && l) (xs n)
+    by true true d ea eb ed = absurd (omega (arith, ltb-true n i ea, eqb-true i n eb))
+    by true false true ea eb ed = append-nil (given l (xs n))
+    by true false false ea eb ed = absurd (omega (arith, ltb-true n i ea, ltb-false n (i + 1) ed))
+    by false true true ea eb ed = ap (λ m. given l (xs m)) (eqb-true i n eb)
+    by false true false ea eb ed = absurd (omega (arith, eqb-true i n eb, ltb-false n (i + 1) ed))
+    by false false true ea eb ed = (let e : i ≡ n = omega (arith, ltb-false n i ea, ltb-true n (i + 1) ed) in absurd (eqb-false i n eb e))
+    by false false false ea eb ed = refl
+
+slice_get-none : {X : Type 0} (xs : List X) (n : ℕ) → length xs ≤ n → slice_get xs n ≡ None
+slice_get-none [] n h = refl
+slice_get-none (x ∷ xs) zero h = absurd (omega (arith, h))
+slice_get-none (x ∷ xs) (suc n) h = slice_get-none xs n (omega (arith, h))
+
+-- past the last storage nothing changes
+pub past : (netlist : Netlist) (word n i : ℕ) (l : Bool) → length netlist.storages ≤ i → given (nat_lt n i && l) (changes (move_at netlist word n)) ≡ given l (changes (move_at netlist word n))
+past netlist word n i l long = by (nat_lt n i) refl
+  where
+    none : (l : Bool) → given {X = Move} l [] ≡ []
+    none true = refl
+    none false = refl
+
+    gone : length netlist.storages ≤ n → changes (move_at netlist word n) ≡ []
+    gone h = ap (λ s. changes (transfer_of netlist word n s)) (slice_get-none netlist.storages n h)
+
+    by : (b : Bool) → nat_lt n i ≡ b → given (b && l) (changes (move_at netlist word n)) ≡ given l (changes (move_at netlist word n))
+    by true e = refl
+    by false e = (let f = ltb-false n i e in sym (ap (λ m. given l m) (gone (omega (arith, f, long))) ∙ none l))

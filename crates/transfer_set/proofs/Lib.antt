@@ -1,0 +1,16 @@
+pub mod Assembling
+pub mod Collecting
+pub mod Exact
+pub mod Feeding
+pub mod Finding
+pub mod InOrder
+pub mod KeptWords
+pub mod Moved
+pub mod OnceEach
+pub mod Printing
+pub mod SetsFound
+pub mod Sourcing
+pub mod Stepped
+pub mod TermsOf
+pub mod TextsDiffer
+pub mod TransfersDiffer

@@ -1,0 +1,67 @@
+use Rattle.std.proofs.Common.{◌≡◌, ◌==◌, ◌&&◌, ◌++◌, take, slice_get, Some, ap, ◌∙◌, arith}
+use Rattle.std.specs.List.{slice_index_or}
+use Rattle.std.proofs.lemmas.Option.{slice_get-get_or}
+use Rattle.bit_bdd.specs.Diagrams.{has_word}
+use Rattle.bit_bdd.proofs.CallerLemmas.{same_words, extends_trans}
+use Rattle.net_model.specs.Terms.{Term, write_at}
+use Rattle.sym_expr.specs.Pools.{term_at}
+use Rattle.transfer_set.specs.declared.route.Route.{Route}
+use Rattle.transfer_set.specs.Routes.{held_terms}
+use Rattle.transfer_set.specs.Entries.{each, given, memory_moves, moves_held}
+use Rattle.transfer_set.proofs.Collecting.{expr_at, held_entries_later, moves_later, set_at, sets_later, terms_later, terms_more, turn, whole_later, words_same}
+use Rattle.transfer_set.proofs.entries.add_memory.Goals as goal
+
+pub and-requires-clause-b : goal.and-requires-clause-b
+and-requires-clause-b c =
+    let at = slice_get-get_or c.args.addrs.now c.loop-route.route-index (record { expr = 0; set = 0 }) c.loop-route-test.true in
+    omega (arith, (set_at c.args.book.now c.args.addrs.now c.loop-route.route-index _ at c.requires.addrs).within, c.loop-route.invariant.grows.longer)
+
+pub add_values-requires-clause-values : goal.add_values-requires-clause-values
+add_values-requires-clause-values c =
+    sets_later c.args.book.now c.and.new.self (extends_trans c.args.book.now c.loop-route.book c.and.new.self c.loop-route.invariant.grows c.in_ok-both.ensures.grows) c.args.values.now c.requires.values
+
+pub add_values-requires-clause-held : goal.add_values-requires-clause-held
+add_values-requires-clause-held c = held_entries_later c.loop-route.book c.and.new.self c.in_ok-both.ensures.grows c.loop-route.out c.loop-route.invariant.held
+
+pub loop-route-preserved : goal.loop-route-preserved
+loop-route-preserved c =
+    let route : Route = slice_index_or c.args.addrs.now c.loop-route.route-index (record { expr = 0; set = 0 }) in
+    let at : slice_get c.args.addrs.now c.loop-route.route-index ≡ Some route = slice_get-get_or c.args.addrs.now c.loop-route.route-index (record { expr = 0; set = 0 }) c.loop-route-test.true in
+    let within = (set_at c.args.book.now c.args.addrs.now c.loop-route.route-index route at c.requires.addrs).within in
+    let grows = c.loop-route.invariant.grows in
+    let step = c.in_ok-both.ensures.grows in
+    let more = extends_trans c.args.book.now c.loop-route.book c.and.new.self grows step in
+    let on = same_words c.args.book.now c.loop-route.book grows c.args.on c.requires.on in
+    let of_route = same_words c.args.book.now c.loop-route.book grows route.set within in
+    record {
+      grows = extends_trans c.args.book.now c.and.new.self c.add_values.new.book more c.in_ok-add_values.ensures.grows;
+      held = c.in_ok-add_values.ensures.held;
+      moves = λ pool id word.
+          let words = c.in_ok-both.ensures.words word in
+          turn (λ (a : Term). each (memory_moves a) (held_terms c.args.book.now pool c.args.values.now word)) (term_at pool route.expr)
+          (held_terms c.args.book.now pool (take c.loop-route.route-index c.args.addrs.now) word) _
+          _ (moves_held c.and.new.self pool c.loop-route.out id word) _
+          (each (memory_moves (term_at pool route.expr)) (held_terms c.and.new.self pool c.args.values.now word))
+          (c.args.storage == id) (has_word c.args.book.now c.args.on word) (has_word c.args.book.now route.set word)
+          (has_word c.loop-route.book c.args.on word) (has_word c.loop-route.book route.set word)
+          (moves_later c.loop-route.book c.and.new.self step pool c.loop-route.out c.loop-route.invariant.held id word ∙ c.loop-route.invariant.moves pool id word)
+          (on word) (of_route word)
+          (ap (each (memory_moves (term_at pool route.expr))) (terms_later c.args.book.now c.and.new.self more pool c.args.values.now c.requires.values word))
+          (c.in_ok-add_values.ensures.moves pool id word
+          ∙ (λ j. moves_held c.and.new.self pool c.loop-route.out id word
+          ++ given ((c.args.storage == id) && words j) (each (memory_moves (term_at pool route.expr)) (held_terms c.and.new.self pool c.args.values.now word))))
+          (terms_more c.args.book.now pool c.args.addrs.now c.loop-route.route-index route at word);
+      whole = λ netlist pool w h.
+          c.in_ok-add_values.ensures.whole netlist pool
+          (whole_later c.loop-route.book c.and.new.self step netlist pool c.loop-route.out c.loop-route.invariant.held (c.loop-route.invariant.whole netlist pool w h))
+          (λ place value there.
+          let of_value = same_words c.args.book.now c.and.new.self more value.set (set_at c.args.book.now c.args.values.now place value there c.requires.values).within in
+          words_same netlist c.args.book.now.bits c.and.new.self.bits c.args.storage (write_at (term_at pool route.expr) (term_at pool value.expr))
+          (λ word. (has_word c.args.book.now c.args.on word && has_word c.args.book.now route.set word) && has_word c.args.book.now value.set word)
+          (λ word. has_word c.and.new.self c.in_ok-both.both word && has_word c.and.new.self value.set word)
+          more.bits (λ word.
+          let both : has_word c.and.new.self c.in_ok-both.both word ≡ (has_word c.args.book.now c.args.on word && has_word c.args.book.now route.set word) = c.in_ok-both.ensures.words word ∙ (λ i. on word i && of_route word i) in
+          λ j. both j && of_value word j)
+          (h c.loop-route.route-index route at place value there));
+      known = λ size h a v. c.in_ok-add_values.ensures.known size (c.loop-route.invariant.known size h a v) (expr_at size c.args.addrs.now c.loop-route.route-index route at a) v;
+    }

@@ -1,0 +1,38 @@
+use Rattle.std.proofs.Common.{◌≡◌, ◌≤◌, length, subst, arith}
+use Rattle.ctl_bdd.proofs.CallerLemmas.{clean_is}
+use Rattle.net_model.proofs.KeptRules.{few_storages}
+use Rattle.transfer_set.specs.Entries.{AreLeft}
+use Rattle.transfer_set.proofs.Assembling.{table_is}
+use Rattle.transfer_set.proofs.Collecting.{held_entries_later}
+use Rattle.transfer_set.proofs.Sourcing.{source_of}
+use Rattle.transfer_set.proofs.patterns.collect_patterns.Goals as goal
+
+pub overflow_cast-storages : goal.overflow_cast-storages
+overflow_cast-storages c =
+    let few : length c.args.checked.now.netlist.storages ≤ 14 = few_storages c.args.checked.now.netlist c.args.checked.now.order c.netlist.ensures.kept in
+    let e : c.len-storages.result ≡ length c.args.checked.now.netlist.storages = rw c.netlist.ensures.value at c.len-storages.ensures in
+    omega (arith, few, e)
+
+pub collect_entries-requires-clause-source : goal.collect_entries-requires-clause-source
+collect_entries-requires-clause-source c =
+    source_of c.args.checked.now.netlist c.args.checked.now.order c.netlist.ensures.kept c.args.book.now c.args.controls.now c.requires.controls
+    (omega (arith, c.size.ensures.size, c.size.ensures.both)) c.size.ensures.full c.requires.word c.args.pool.now c.args.routes.now.of c.requires.routes
+
+pub step_set-requires-clause-held : goal.step_set-requires-clause-held
+step_set-requires-clause-held c =
+    rw (c.as_slice-2.ensures) (held_entries_later c.collect_entries.new.book c.keep_sets.new.book c.in_ok-keeps.ensures.grows c.in_ok-entries.entries c.in_ok-entries.ensures.held)
+
+pub returns-clause-patterns : goal.returns-clause-patterns
+returns-clause-patterns c =
+    let e : c.len-storages.result ≡ length c.args.checked.now.netlist.storages = rw c.netlist.ensures.value at c.len-storages.ensures in
+    let left : AreLeft c.collect_entries.new.book c.keep_sets.new.book c.args.controls.now.legal c.in_ok-entries.entries (length c.args.checked.now.netlist.storages) c.in_ok-keeps.keeps =
+    subst (λ count. AreLeft c.collect_entries.new.book c.keep_sets.new.book c.args.controls.now.legal c.in_ok-entries.entries count c.in_ok-keeps.keeps) e (rw c.as_slice.ensures at c.in_ok-keeps.ensures.left) in
+    table_is c.args.checked.now.netlist c.args.checked.now.order c.netlist.ensures.kept c.args.book.now c.collect_entries.new.book c.keep_sets.new.book c.step_set.new.book
+    c.in_ok-entries.ensures.grows c.in_ok-keeps.ensures.grows c.in_ok-step.ensures.grows
+    c.args.pool.now c.in_ok-entries.entries c.in_ok-entries.ensures.held c.in_ok-entries.ensures.known c.in_ok-entries.ensures.whole
+    c.args.controls.now.legal c.requires.controls.within
+    (clean_is c.args.checked.now.netlist c.args.book.now c.args.controls.now c.requires.controls c.netlist.ensures.kept.roles.code c.requires.word)
+    c.in_ok-entries.ensures.moves c.in_ok-entries.ensures.every
+    c.in_ok-rows.rows.items (rw c.as_slice-3.ensures at c.in_ok-rows.ensures.same) c.in_ok-rows.ensures.told c.in_ok-rows.ensures.ordered
+    c.in_ok-keeps.keeps left c.counter.result c.counter.ensures.storage c.counter.ensures.width
+    c.in_ok-step.step c.in_ok-step.ensures.within (rw c.as_slice-2.ensures at c.in_ok-step.ensures.words) c.memory.result c.memory.ensures

@@ -1,0 +1,53 @@
+use Rattle.std.proofs.Common.{◌≡◌, ◌^◌, ◌<◌, ◌≤◌, ◌==◌, ◌&&◌, ◌++◌, length, sym, subst, ◌∙◌, arith}
+use Rattle.bit_bdd.specs.Diagrams.{has_word}
+use Rattle.bit_bdd.proofs.CallerLemmas.{extends_trans, same_words}
+use Rattle.net_model.proofs.KeptRules.{few_storages}
+use Rattle.net_model.specs.Transfers.{move_at}
+use Rattle.transfer_set.specs.Entries.{given}
+use Rattle.transfer_set.specs.Sources.{changes}
+use Rattle.transfer_set.proofs.Finding.{each_is, every_is}
+use Rattle.transfer_set.proofs.Feeding.{past, source_later, upto}
+use Rattle.transfer_set.proofs.sources.collect_entries.Goals as goal
+
+pub overflow_cast-count : goal.overflow_cast-count
+overflow_cast-count c =
+    let few : length c.args.checked.now.netlist.storages ≤ 14 = few_storages c.args.checked.now.netlist c.args.checked.now.order c.netlist.ensures.kept in
+    let e : c.len-count.result ≡ length c.args.checked.now.netlist.storages = rw c.netlist.ensures.value at c.len-count.ensures in
+    omega (arith, few, e)
+
+pub add_storage-requires-clause-source : goal.add_storage-requires-clause-source
+add_storage-requires-clause-source c =
+    source_later c.args.checked.now.netlist c.args.book.now c.loop-id.book c.loop-id.invariant.grows c.args.pool.now c.args.controls.now c.args.routes.now.of c.requires.source
+
+pub loop-id-preserved : goal.loop-id-preserved
+loop-id-preserved c =
+    let grows = c.loop-id.invariant.grows in
+    record {
+      grows = extends_trans c.args.book.now c.loop-id.book c.add_storage.new.book grows c.in_ok-add_storage.ensures.grows;
+      held = c.in_ok-add_storage.ensures.held;
+      moves = λ n word fits.
+          let same = same_words c.args.book.now c.loop-id.book grows c.args.controls.now.legal c.requires.source.within word in
+          let so_far = c.loop-id.invariant.moves n word fits in
+          c.in_ok-add_storage.ensures.moves n word (subst (λ b. word < 2 ^ b) (sym grows.bits) fits)
+          ∙ (λ j. so_far j ++ given ((c.loop-id.id == n) && same j) (changes (move_at c.args.checked.now.netlist word c.loop-id.id)))
+          ∙ upto c.loop-id.id n (has_word c.args.book.now c.args.controls.now.legal word) (λ m. changes (move_at c.args.checked.now.netlist word m));
+      whole = c.in_ok-add_storage.ensures.whole c.loop-id.invariant.whole;
+      known = c.in_ok-add_storage.ensures.known c.loop-id.invariant.known;
+    }
+
+pub returns-clause-moves : goal.returns-clause-moves
+returns-clause-moves c n word fits =
+    let e : c.len-count.result ≡ length c.args.checked.now.netlist.storages = rw c.netlist.ensures.value at c.len-count.ensures in
+    c.loop-id.invariant.moves n word fits
+    ∙ past c.args.checked.now.netlist word n c.loop-id.id (has_word c.args.book.now c.args.controls.now.legal word) (omega (arith, e, c.loop-id-test.false))
+
+pub returns-clause-each : goal.returns-clause-each
+returns-clause-each c = each_is c.args.checked.now.netlist c.loop-id.book c.args.pool.now c.loop-id.out c.loop-id.invariant.held c.loop-id.invariant.whole
+
+pub returns-clause-every : goal.returns-clause-every
+returns-clause-every c =
+    let e : c.len-count.result ≡ length c.args.checked.now.netlist.storages = rw c.netlist.ensures.value at c.len-count.ensures in
+    every_is c.args.checked.now.netlist c.args.checked.now.order c.netlist.ensures.kept c.args.book.now c.loop-id.book c.args.pool.now c.args.controls.now.legal c.loop-id.out c.requires.bits
+    (λ pattern i fits w. (c.requires.source.legal i fits).1 w.clean)
+    (λ n word fits. c.loop-id.invariant.moves n word fits
+    ∙ past c.args.checked.now.netlist word n c.loop-id.id (has_word c.args.book.now c.args.controls.now.legal word) (omega (arith, e, c.loop-id-test.false)))

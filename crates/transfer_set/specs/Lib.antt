@@ -1,0 +1,10 @@
+pub mod Routes
+pub mod Entries
+pub mod Sources
+pub mod Stepping
+pub mod Fields
+pub mod Rows
+pub mod PatternsText
+pub mod Tables
+pub mod Sets
+pub mod TextMarks

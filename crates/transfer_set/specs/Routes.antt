@@ -1,0 +1,88 @@
+-- The routes of a net: its symbolic values, each with the words that give it.
+use Rattle.std.specs.Prelude.{◌≡◌, ◌≢◌, ◌↔◌, ℕ, ◌^◌, ◌<◌, true, if◌then◌else◌, List, [], ◌∷◌, ◌++◌, map, length, Option, None, Some}
+use Rattle.std.specs.Prelude.{slice_get}
+use Rattle.bit_bdd.specs.Diagrams.{Diagrams, has_word}
+use Rattle.net_model.specs.declared.hardware.Netlist.{Netlist}
+use Rattle.net_model.specs.Symbolic.{sym_of}
+use Rattle.net_model.specs.Terms.{Term}
+use Rattle.sym_expr.specs.declared.pool.Node.{Node}
+use Rattle.sym_expr.specs.Pools.{term_at}
+use Rattle.transfer_set.specs.declared.route.Route.{Route}
+
+-- ---- lists of routes
+
+-- the expression of a route, if its set holds the word
+abbrev pub row : Diagrams → Route → ℕ → List ℕ
+row book route word = if has_word book route.set word then route.expr ∷ [] else []
+
+-- the expressions of the routes whose sets hold a word
+abbrev pub held : Diagrams → List Route → ℕ → List ℕ
+held book [] word = []
+held book (route ∷ routes) word = row book route word ++ held book routes word
+
+abbrev pub held_terms : Diagrams → List Node → List Route → ℕ → List Term
+held_terms book pool routes word = map (term_at pool) (held book routes word)
+
+-- an expression that no route has
+abbrev pub Fresh : ℕ → List Route → Type 0
+Fresh expr [] = Unit {0}
+Fresh expr (route ∷ routes) = (route.expr ≢ expr) × Fresh expr routes
+
+-- no two routes have one expression
+abbrev pub NoRepeat : List Route → Type 0
+NoRepeat [] = Unit {0}
+NoRepeat (route ∷ routes) = Fresh route.expr routes × NoRepeat routes
+
+-- a set of the book that holds a word
+pub record IsSet (book : Diagrams) (set : ℕ) : Type 0 where
+  pub within : set < length book.nodes
+  pub word : ℕ
+  pub fits : word < 2 ^ book.bits
+  pub holds : has_word book set word ≡ true
+
+abbrev pub AllSets : Diagrams → List Route → Type 0
+AllSets book [] = Unit {0}
+AllSets book (route ∷ routes) = IsSet book route.set × AllSets book routes
+
+-- each expression is one of the pool
+abbrev pub AllExprs : ℕ → List Route → Type 0
+AllExprs size [] = Unit {0}
+AllExprs size (route ∷ routes) = (route.expr < size) × AllExprs size routes
+
+-- no set is empty, and no two routes have one expression
+pub record IsRoutes (book : Diagrams) (routes : List Route) : Type 0 where
+  pub sets : AllSets book routes
+  pub apart : NoRepeat routes
+
+-- routes over a book and a pool
+pub record IsTable (book : Diagrams) (pool : List Node) (routes : List Route) : Type 0 where
+  pub right : IsRoutes book routes
+  pub exprs : AllExprs (length pool) routes
+
+-- ---- what they say
+
+-- one expression at the words of a set, and none at others
+abbrev pub only : Diagrams → ℕ → ℕ → Term → List Term
+only book legal word term = if has_word book legal word then term ∷ [] else []
+
+-- the routes give each word of a set its expression, by just one of them, and no other word any
+abbrev pub Gives : Diagrams → List Node → ℕ → (ℕ → Term) → List Route → Type 0
+Gives book pool legal f routes = (word : ℕ) → word < 2 ^ book.bits → held_terms book pool routes word ≡ only book legal word (f word)
+
+-- the set of a route is all words of the set with its expression
+abbrev pub RouteIs : Diagrams → List Node → ℕ → (ℕ → Term) → Route → Type 0
+RouteIs book pool legal f route = (word : ℕ) → word < 2 ^ book.bits → (has_word book route.set word ≡ true) ↔ ((has_word book legal word ≡ true) × (term_at pool route.expr ≡ f word))
+
+-- the routes of a net
+abbrev pub routes_or_none : Option (List Route) → List Route
+routes_or_none None = []
+routes_or_none (Some routes) = routes
+
+abbrev pub routes_at : List (List Route) → ℕ → List Route
+routes_at nets n = routes_or_none (slice_get nets n)
+
+-- the routes of each net of the netlist partition the words without clash by the net's symbolic value
+pub record AreRoutes (netlist : Netlist) (book : Diagrams) (pool : List Node) (legal : ℕ) (nets : List (List Route)) : Type 0 where
+  pub long : length nets ≡ length netlist.nets
+  pub tables : (n : ℕ) → IsTable book pool (routes_at nets n)
+  pub gives : (n : ℕ) → n < length netlist.nets → Gives book pool legal (λ word. sym_of netlist word n) (routes_at nets n)

@@ -1,0 +1,55 @@
+-- When texts of expressions tell the expressions apart.
+use Rattle.std.specs.Prelude.{◌≡◌, ℕ, ◌^◌, ◌<◌, ◌==◌, ◌||◌, Bool, true, false, List, [], ◌∷◌, length, slice_get}
+use Rattle.ctl_bdd.specs.Controls.{word_width}
+use Rattle.net_model.specs.declared.hardware.Netlist.{Netlist}
+use Rattle.net_model.specs.Nets.{memory_width, storage_bits}
+use Rattle.net_model.specs.Terms.{Term, word, reg, const, read, un, bin, slice, cat, zext, sext, select, Move, keep, write, write_at}
+use Rattle.net_model.specs.Texts.{first_name, name_at}
+
+-- a comma, or a bracket that closes
+abbrev pub is_close : ℕ → Bool
+is_close b = (b == 44) || (b == 41) || (b == 93)
+
+-- such a byte, `#`, a bracket that opens, or a blank
+abbrev pub is_mark : ℕ → Bool
+is_mark b = is_close b || ((b == 35) || (b == 40) || (b == 91) || (b == 32))
+
+-- none of these bytes
+abbrev pub Plain : List ℕ → Type 0
+Plain [] = Unit {0}
+Plain (b ∷ bs) = (is_mark b ≡ false) × Plain bs
+
+-- nothing, or a byte first that closes
+abbrev pub Closes : List ℕ → Type 0
+Closes [] = Unit {0}
+Closes (b ∷ bs) = is_close b ≡ true
+
+-- nothing, or a mark first
+abbrev pub Marks : List ℕ → Type 0
+Marks [] = Unit {0}
+Marks (b ∷ bs) = is_mark b ≡ true
+
+-- the names of a netlist have no marks
+pub record HasPlainNames (netlist : Netlist) : Type 0 where
+  pub storages : (id : ℕ) → Plain (name_at netlist id)
+  pub code : Plain (first_name netlist.codes)
+
+-- what an expression names is the netlist's, with its width, and its numbers are below 2 to the 64
+abbrev pub IsTermOf : Netlist → Term → Type 0
+IsTermOf netlist (word w) = w ≡ word_width netlist
+IsTermOf netlist (reg r w) = (r < length netlist.storages) × (w ≡ storage_bits (slice_get netlist.storages r))
+IsTermOf netlist (const w v) = (w < 2 ^ 64) × (v < 2 ^ 64)
+IsTermOf netlist (read a w) = IsTermOf netlist a × (w ≡ memory_width netlist.storages)
+IsTermOf netlist (un o a) = IsTermOf netlist a
+IsTermOf netlist (bin o a b) = IsTermOf netlist a × IsTermOf netlist b
+IsTermOf netlist (slice a hi lo) = IsTermOf netlist a × (hi < 2 ^ 64) × (lo < 2 ^ 64)
+IsTermOf netlist (cat a b) = IsTermOf netlist a × IsTermOf netlist b
+IsTermOf netlist (zext a w) = IsTermOf netlist a × (w < 2 ^ 64)
+IsTermOf netlist (sext a w) = IsTermOf netlist a × (w < 2 ^ 64)
+IsTermOf netlist (select c a b) = IsTermOf netlist c × IsTermOf netlist a × IsTermOf netlist b
+
+-- so are the expressions of a transfer
+abbrev pub IsMoveOf : Netlist → Move → Type 0
+IsMoveOf netlist keep = Unit {0}
+IsMoveOf netlist (write e) = IsTermOf netlist e
+IsMoveOf netlist (write_at a e) = IsTermOf netlist a × IsTermOf netlist e

@@ -1,0 +1,39 @@
+//! The instruction bits that occur in an expression.
+
+ghost use Rattle.std.specs.Prelude.{◌≡◌, ◌<◌, ◌≤◌, length};
+ghost use Rattle.sym_expr.specs.Pools.{term_at};
+ghost use Rattle.transfer_set.specs.Fields.{bits_between, fields as fields_in};
+
+use rec_bits::mask;
+use sym_expr::{ExprId, Node, Pool};
+
+// The bits from one down to another.
+fn span(hi: u8, lo: u8) -> u64
+    requires order { lo ≤ hi }
+    requires high { hi ≤ 63 }
+    ensures { result ≡ bits_between hi lo }
+{
+    if lo == 0 {
+        mask(hi + 1)
+    } else {
+        mask(hi + 1) - mask(lo)
+    }
+}
+
+// The instruction bits that occur in an expression.
+pub(crate) fn fields(pool: &Pool, expr: ExprId) -> u64
+    requires { expr < length pool.now }
+    ensures { result ≡ fields_in (term_at pool.now expr) }
+{
+    match pool.node(expr) {
+        Node::Word(width) => mask(width),
+        Node::Reg(..) | Node::Const { .. } => 0,
+        Node::Read(a, _) | Node::Un(_, a) | Node::Zext(a, _) | Node::Sext(a, _) => fields(pool, a),
+        Node::Bin(_, a, b) | Node::Cat(a, b) => fields(pool, a) | fields(pool, b),
+        Node::Slice(a, hi, lo) => match pool.node(a) {
+            Node::Word(_) => span(hi, lo),
+            _ => fields(pool, a),
+        },
+        Node::Select(c, a, b) => fields(pool, c) | fields(pool, a) | fields(pool, b),
+    }
+}

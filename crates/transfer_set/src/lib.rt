@@ -1,0 +1,16 @@
+//! What instruction words do to storages: the routes of nets, and the patterns that are read off them.
+#![tactic(auto)]
+
+mod entries;
+mod fields;
+mod keeping;
+mod patterns;
+mod print;
+mod route;
+mod row;
+mod sources;
+mod stepping;
+mod texts;
+
+pub use patterns::{Patterns, collect_patterns};
+pub use route::{Route, Routes};

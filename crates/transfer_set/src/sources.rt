@@ -1,0 +1,121 @@
+//! What feeds the storages of a netlist.
+
+ghost use Rattle.std.specs.Prelude.{◌≡◌, ℕ, ◌^◌, ◌==◌, ◌<◌, ◌&&◌, ◌++◌, length, Contains, IfOk, OnOk};
+ghost use Rattle.std.specs.List.{AllByRecursion};
+ghost use Rattle.bit_bdd.specs.Diagrams.{Extends, has_word};
+ghost use Rattle.ctl_bdd.specs.Controls.{word_width};
+ghost use Rattle.net_model.specs.Patterns.{IsPattern, Pattern};
+ghost use Rattle.net_model.specs.Transfers.{move_at};
+ghost use Rattle.transfer_set.specs.Routes.{routes_at};
+ghost use Rattle.transfer_set.specs.Entries.{AreHeld, AreKnown, AreWhole, given, moves_held, patterns_of};
+ghost use Rattle.transfer_set.specs.Sources.{HasSet, IsSource, changes, when_set as set_of_when};
+
+use crate::entries::{Entry, add_memory, add_register};
+use crate::route::{Route, Routes};
+use bit_bdd::{Book, SetId};
+use ctl_bdd::ControlBits;
+use net_model::{Checked, Storage};
+use rec_bits::{Items, NoMemory};
+use std::alloc::Global;
+use sym_expr::Pool;
+
+// The routes of a net, of which there are none past the last.
+fn routes_of(routes: &Routes, net: u32) -> &[Route]
+    ensures { result.now ≡ routes_at routes.now.of net }
+{
+    match routes.of.get(net as usize) {
+        Some(list) => list.as_slice(),
+        None => &[],
+    }
+}
+
+// The words under which a storage is on.
+fn when_set(controls: &ControlBits, when: Option<u32>) -> SetId
+    requires { HasSet controls.now.bits when }
+    ensures { result ≡ set_of_when controls.now.bits when }
+{
+    match when {
+        // the set of all words
+        None => 1,
+        Some(net) => match controls.bits_of(net) {
+            Some(sets) => sets[0],
+            None => 0,
+        },
+    }
+}
+
+// Adds the transfers of a storage.
+fn add_storage(
+    alloc: Global,
+    checked: &Checked,
+    controls: &ControlBits,
+    routes: &Routes,
+    book: &mut Book,
+    pool: &Pool,
+    out: &mut Items<Entry>,
+    id: u32,
+) -> Result<(), NoMemory>
+    requires id { id < length checked.now.netlist.storages }
+    requires source { IsSource checked.now.netlist book.old pool.now controls.now routes.now.of }
+    requires held { AreHeld book.old out.old }
+    ensures grows { Extends book.old book.new }
+    ensures held { OnOk result (AreHeld book.new out.new) }
+    ensures moves { OnOk result ((n word : ℕ) → word < 2 ^ book.old.bits →
+        moves_held book.new pool.now out.new n word ≡
+        moves_held book.old pool.now out.old n word ++
+        given ((id == n) && has_word book.old controls.now.legal word) (changes (move_at checked.now.netlist word id))) }
+    ensures whole { OnOk result (AreWhole checked.now.netlist pool.now book.old out.old → AreWhole checked.now.netlist pool.now book.new out.new) }
+    ensures known { OnOk result (AreKnown (length pool.now) out.old → AreKnown (length pool.now) out.new) }
+{
+    let _ids = pool.len();
+    let storages = checked.netlist().storages.as_slice();
+    match &storages[id as usize] {
+        Storage::Register { input, when, .. } => {
+            let on = when_set(controls, *when);
+            let inputs = routes_of(routes, *input);
+            add_register(alloc, book, pool, out, id, on, inputs)?;
+            Ok(())
+        }
+        Storage::Memory {
+            value,
+            addr,
+            when,
+            ..
+        } => {
+            let on = when_set(controls, *when);
+            let addrs = routes_of(routes, *addr);
+            let values = routes_of(routes, *value);
+            add_memory(alloc, book, out, id, on, addrs, values)?;
+            Ok(())
+        }
+    }
+}
+
+// The transfers of all storages, each with all words that give it.
+pub(crate) fn collect_entries(
+    alloc: Global,
+    checked: &Checked,
+    controls: &ControlBits,
+    routes: &Routes,
+    book: &mut Book,
+    pool: &Pool,
+) -> Result<Items<Entry>, NoMemory>
+    requires source { IsSource checked.now.netlist book.old pool.now controls.now routes.now.of }
+    requires bits { book.old.bits ≡ word_width checked.now.netlist }
+    ensures grows { Extends book.old book.new }
+    ensures held { IfOk result (AreHeld book.new) }
+    ensures moves { IfOk result (λ out. (n word : ℕ) → word < 2 ^ book.old.bits →
+        moves_held book.new pool.now out n word ≡
+        given (has_word book.old controls.now.legal word) (changes (move_at checked.now.netlist word n))) }
+    ensures whole { IfOk result (AreWhole checked.now.netlist pool.now book.new) }
+    ensures known { IfOk result (AreKnown (length pool.now)) }
+    ensures each { IfOk result (λ out. AllByRecursion (IsPattern checked.now.netlist) (patterns_of pool.now out)) }
+    ensures every { IfOk result (λ out. (pattern : Pattern) → IsPattern checked.now.netlist pattern → Contains (patterns_of pool.now out) pattern) }
+{
+    let mut out = Items::new(alloc);
+    let count = checked.netlist().storages.len() as u32;
+    for id in 0..count {
+        add_storage(alloc, checked, controls, routes, book, pool, &mut out, id)?;
+    }
+    Ok(out)
+}

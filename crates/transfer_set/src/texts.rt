@@ -1,0 +1,285 @@
+//! The texts of expressions and transfers, from ids of a pool.
+
+ghost use Rattle.std.specs.Prelude.{◌≡◌, ◌<◌, ◌∷◌, [], ◌++◌, codes, length, IfOk, OnOk};
+ghost use Rattle.std.specs.Fmt.{decimal};
+ghost use Rattle.std.specs.List.{concat};
+ghost use Rattle.net_model.specs.Texts.{first_name, memory_name, move_text, name_at, op1_text, op2_text, term_text};
+ghost use Rattle.sym_expr.specs.Pools.{term_at};
+ghost use Rattle.transfer_set.specs.Entries.{IsAddrKnown, ids_move};
+
+use itoa::Buffer;
+use net_model::{Checked, Storage};
+use rec_bits::{NoMemory, Op1, Op2};
+use std::alloc::Global;
+use sym_expr::{ExprId, Node, Pool};
+
+// The name of the storage of this number, of which there is none past the last.
+fn storage_name(checked: &Checked, id: u32) -> &[u8]
+    ensures { result.now ≡ name_at checked.now.netlist id }
+{
+    match checked.netlist().storage(id) {
+        Some(Storage::Register { name, .. } | Storage::Memory { name, .. }) => name.as_slice(),
+        None => &[],
+    }
+}
+
+// The data memory's name.
+fn memory_name(checked: &Checked) -> &[u8]
+    ensures { result.now ≡ memory_name checked.now.netlist }
+{
+    storage_name(checked, checked.memory())
+}
+
+// The name of the instruction word.
+fn word_name(checked: &Checked) -> &[u8]
+    ensures { result.now ≡ first_name checked.now.netlist.codes }
+{
+    match checked.netlist().codes.get(0) {
+        Some(code) => code.name.as_slice(),
+        None => &[],
+    }
+}
+
+// The word of an operator of one operand.
+fn word_of_one(op: Op1) -> &'static str
+    ensures { result.now ≡ op1_text op }
+{
+    match op {
+        Op1::Not => "not",
+        Op1::Neg => "neg",
+    }
+}
+
+// The word of an operator of two operands.
+fn word_of_two(op: Op2) -> &'static str
+    ensures { result.now ≡ op2_text op }
+{
+    match op {
+        Op2::Add => "add",
+        Op2::Sub => "sub",
+        Op2::Mul => "mul",
+        Op2::And => "and",
+        Op2::Or => "or",
+        Op2::Xor => "xor",
+        Op2::Shl => "shl",
+        Op2::Shr => "shr",
+        Op2::Sar => "sar",
+        Op2::Eq => "eq",
+        Op2::Ltu => "ltu",
+        Op2::Lts => "lts",
+    }
+}
+
+fn add_number(text: &mut Vec<u8>, number: u64) -> Result<(), NoMemory>
+    ensures { OnOk result (text.new.items ≡ text.old.items ++ decimal number) }
+{
+    let mut buffer = Buffer::new();
+    text.extend_from_slice(buffer.format(number).as_bytes())?;
+    Ok(())
+}
+
+// A constant with its width.
+fn add_constant(text: &mut Vec<u8>, value: u64, width: u8) -> Result<(), NoMemory>
+    ensures { OnOk result (text.new.items ≡ text.old.items ++ concat (decimal value ∷ codes "#" ∷ decimal width ∷ [])) }
+{
+    add_number(text, value)?;
+    text.extend_from_slice(b"#")?;
+    add_number(text, u64::from(width))?;
+    Ok(())
+}
+
+// A number as an operand behind others.
+fn add_more(text: &mut Vec<u8>, number: u8) -> Result<(), NoMemory>
+    ensures { OnOk result (text.new.items ≡ text.old.items ++ concat (codes "," ∷ decimal number ∷ [])) }
+{
+    text.extend_from_slice(b",")?;
+    add_number(text, u64::from(number))?;
+    Ok(())
+}
+
+// `read(MEMORY,ADDRESS)`.
+#[cycle(term)]
+fn add_read(
+    text: &mut Vec<u8>,
+    checked: &Checked,
+    pool: &Pool,
+    addr: ExprId,
+) -> Result<(), NoMemory>
+    requires { addr < length pool.now }
+    ensures { OnOk result (text.new.items ≡ text.old.items
+        ++ concat (codes "read(" ∷ memory_name checked.now.netlist ∷ codes "," ∷ term_text checked.now.netlist (term_at pool.now addr) ∷ codes ")" ∷ [])) }
+{
+    text.extend_from_slice(b"read(")?;
+    text.extend_from_slice(memory_name(checked))?;
+    text.extend_from_slice(b",")?;
+    add_term(text, checked, pool, addr)?;
+    text.extend_from_slice(b")")?;
+    Ok(())
+}
+
+// `WORD(A)`.
+#[cycle(term)]
+fn add_one(
+    text: &mut Vec<u8>,
+    checked: &Checked,
+    pool: &Pool,
+    word: &str,
+    a: ExprId,
+) -> Result<(), NoMemory>
+    requires { a < length pool.now }
+    ensures { OnOk result (text.new.items ≡ text.old.items
+        ++ concat (word.now ∷ codes "(" ∷ term_text checked.now.netlist (term_at pool.now a) ∷ codes ")" ∷ [])) }
+{
+    text.extend_from_slice(word.as_bytes())?;
+    text.extend_from_slice(b"(")?;
+    add_term(text, checked, pool, a)?;
+    text.extend_from_slice(b")")?;
+    Ok(())
+}
+
+// `WORD(A,B)`.
+#[cycle(term)]
+fn add_two(
+    text: &mut Vec<u8>,
+    checked: &Checked,
+    pool: &Pool,
+    word: &str,
+    a: ExprId,
+    b: ExprId,
+) -> Result<(), NoMemory>
+    requires a { a < length pool.now }
+    requires b { b < length pool.now }
+    ensures { OnOk result (text.new.items ≡ text.old.items
+        ++ concat (word.now ∷ codes "(" ∷ term_text checked.now.netlist (term_at pool.now a) ∷ codes ","
+        ∷ term_text checked.now.netlist (term_at pool.now b) ∷ codes ")" ∷ [])) }
+{
+    text.extend_from_slice(word.as_bytes())?;
+    text.extend_from_slice(b"(")?;
+    add_term(text, checked, pool, a)?;
+    text.extend_from_slice(b",")?;
+    add_term(text, checked, pool, b)?;
+    text.extend_from_slice(b")")?;
+    Ok(())
+}
+
+// `slice(A,HI,LO)`.
+#[cycle(term)]
+fn add_slice(
+    text: &mut Vec<u8>,
+    checked: &Checked,
+    pool: &Pool,
+    a: ExprId,
+    hi: u8,
+    lo: u8,
+) -> Result<(), NoMemory>
+    requires { a < length pool.now }
+    ensures { OnOk result (text.new.items ≡ text.old.items
+        ++ concat (codes "slice(" ∷ term_text checked.now.netlist (term_at pool.now a) ∷ codes "," ∷ decimal hi ∷ codes "," ∷ decimal lo ∷ codes ")" ∷ [])) }
+{
+    text.extend_from_slice(b"slice(")?;
+    add_term(text, checked, pool, a)?;
+    add_more(text, hi)?;
+    add_more(text, lo)?;
+    text.extend_from_slice(b")")?;
+    Ok(())
+}
+
+// `WORD(A,WIDTH)`.
+#[cycle(term)]
+fn add_extension(
+    text: &mut Vec<u8>,
+    checked: &Checked,
+    pool: &Pool,
+    word: &str,
+    a: ExprId,
+    width: u8,
+) -> Result<(), NoMemory>
+    requires { a < length pool.now }
+    ensures { OnOk result (text.new.items ≡ text.old.items
+        ++ concat (word.now ∷ codes "(" ∷ term_text checked.now.netlist (term_at pool.now a) ∷ codes "," ∷ decimal width ∷ codes ")" ∷ [])) }
+{
+    text.extend_from_slice(word.as_bytes())?;
+    text.extend_from_slice(b"(")?;
+    add_term(text, checked, pool, a)?;
+    add_more(text, width)?;
+    text.extend_from_slice(b")")?;
+    Ok(())
+}
+
+// `select(C,A,B)`.
+#[cycle(term)]
+fn add_select(
+    text: &mut Vec<u8>,
+    checked: &Checked,
+    pool: &Pool,
+    c: ExprId,
+    a: ExprId,
+    b: ExprId,
+) -> Result<(), NoMemory>
+    requires c { c < length pool.now }
+    requires a { a < length pool.now }
+    requires b { b < length pool.now }
+    ensures { OnOk result (text.new.items ≡ text.old.items
+        ++ concat (codes "select(" ∷ term_text checked.now.netlist (term_at pool.now c) ∷ codes ","
+        ∷ term_text checked.now.netlist (term_at pool.now a) ∷ codes "," ∷ term_text checked.now.netlist (term_at pool.now b) ∷ codes ")" ∷ [])) }
+{
+    text.extend_from_slice(b"select(")?;
+    add_term(text, checked, pool, c)?;
+    text.extend_from_slice(b",")?;
+    add_term(text, checked, pool, a)?;
+    text.extend_from_slice(b",")?;
+    add_term(text, checked, pool, b)?;
+    text.extend_from_slice(b")")?;
+    Ok(())
+}
+
+// The text of an expression.
+#[cycle(term)]
+fn add_term(
+    text: &mut Vec<u8>,
+    checked: &Checked,
+    pool: &Pool,
+    expr: ExprId,
+) -> Result<(), NoMemory>
+    requires { expr < length pool.now }
+    ensures { OnOk result (text.new.items ≡ text.old.items ++ term_text checked.now.netlist (term_at pool.now expr)) }
+{
+    match pool.node(expr) {
+        Node::Word(_) => text.extend_from_slice(word_name(checked))?,
+        Node::Reg(id, _) => text.extend_from_slice(storage_name(checked, id))?,
+        Node::Const { width, value } => add_constant(text, value, width)?,
+        Node::Read(addr, _) => add_read(text, checked, pool, addr)?,
+        Node::Un(op, a) => add_one(text, checked, pool, word_of_one(op), a)?,
+        Node::Bin(op, a, b) => add_two(text, checked, pool, word_of_two(op), a, b)?,
+        Node::Slice(a, hi, lo) => add_slice(text, checked, pool, a, hi, lo)?,
+        Node::Cat(a, b) => add_two(text, checked, pool, "cat", a, b)?,
+        Node::Zext(a, width) => add_extension(text, checked, pool, "zext", a, width)?,
+        Node::Sext(a, width) => add_extension(text, checked, pool, "sext", a, width)?,
+        Node::Select(c, a, b) => add_select(text, checked, pool, c, a, b)?,
+    }
+    Ok(())
+}
+
+/// The text of a transfer of a storage: of the memory where there is an address, and otherwise of a register.
+pub(crate) fn transfer_text(
+    alloc: Global,
+    checked: &Checked,
+    pool: &Pool,
+    storage: u32,
+    addr: Option<ExprId>,
+    value: ExprId,
+) -> Result<Vec<u8>, NoMemory>
+    requires addr { IsAddrKnown (length pool.now) addr }
+    requires value { value < length pool.now }
+    ensures { IfOk result (λ text. text.items ≡ move_text checked.now.netlist storage (ids_move pool.now addr value)) }
+{
+    let mut text = Vec::from_slice(alloc, storage_name(checked, storage))?;
+    if let Some(addr) = addr {
+        text.extend_from_slice(b"[")?;
+        add_term(&mut text, checked, pool, addr)?;
+        text.extend_from_slice(b"]")?;
+    }
+    text.extend_from_slice(b" := ")?;
+    add_term(&mut text, checked, pool, value)?;
+    Ok(text)
+}
