@@ -1,0 +1,27 @@
+-- Choices while a pool grows.
+use Rattle.std.proofs.Common.{◌≡◌, ℕ, zero, suc, ◌<◌, List, [], ◌∷◌, length, map, slice_get, Some, subst}
+use Rattle.net_model.specs.Terms.{Term, select}
+use Rattle.sym_expr.specs.declared.pool.Node.{Node}
+use Rattle.sym_expr.specs.Pools.{AllBelow, Grows, term_at}
+use Rattle.sym_expr.proofs.CallerLemmas.{same_term}
+use Rattle.transfer_set.specs.declared.route.Route.{Route}
+use Rattle.route_trace.specs.declared.heads.Two.{Two}
+use Rattle.route_trace.specs.declared.heads.Two.TheVariants.{Select}
+use Rattle.route_trace.specs.Heads.{two_parts}
+use Rattle.transfer_set.specs.Routes.{AllExprs}
+use Rattle.route_trace.specs.Routing.{AllTwoFit, each, pairs}
+use Rattle.route_trace.specs.Selects.{AllSelectFit, under}
+use Rattle.route_trace.proofs.Loops.{two_below, all_fit_later}
+
+pub two_fit_later : (old new : List Node) → Grows old new → (two : Two) → AllBelow (length old) (two_parts two) → (xs ys : List Route) → AllExprs (length old) xs → AllExprs (length old) ys → AllTwoFit two old xs ys → AllTwoFit two new xs ys
+two_fit_later old new g two p [] ys e k f = tt
+two_fit_later old new g two p (x ∷ xs) ys e k f = (all_fit_later old new g _ (two_below (length old) two x.expr e.0 p) ys k f.0, two_fit_later old new g two p xs ys e.1 k f.1)
+
+pub select_fit_at : (pool : List Node) (xs ys zs : List Route) (i : ℕ) (c : Route) → slice_get xs i ≡ Some c → AllSelectFit pool xs ys zs → AllTwoFit (Select c.expr) pool ys zs
+select_fit_at pool [] ys zs i c at f = absurd (cc)
+select_fit_at pool (x ∷ xs) ys zs zero c at f = (let e : x ≡ c = cc in subst (λ (r : Route). AllTwoFit (Select r.expr) pool ys zs) e f.0)
+select_fit_at pool (x ∷ xs) ys zs (suc i) c at f = select_fit_at pool xs ys zs i c at f.1
+
+-- the choices under a selector, in a pool that grew
+pub under_later : (old new : List Node) → Grows old new → (c : ℕ) → c < length old → (xs ys us vs : List Term) → us ≡ xs → vs ≡ ys → pairs (Select c) (term_at new) us vs ≡ under (term_at old c) xs ys
+under_later old new g c h xs ys us vs e f = let d = same_term old new g c h in (λ j. each (λ a. map (select (d j) a) (f j)) (e j))

@@ -1,0 +1,17 @@
+pub mod Slices
+pub mod Merging
+pub mod Products
+pub mod Loops
+pub mod Firsts
+pub mod Exact
+pub mod Given
+pub mod Syms
+pub mod Deciding
+pub mod Selecting
+pub mod Deciders
+pub mod Knowing
+pub mod Judging
+pub mod Turns
+pub mod Choices
+pub mod Stopping
+pub mod Choosing

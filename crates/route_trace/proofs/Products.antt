@@ -1,0 +1,187 @@
+-- Routes of operators over operands that have routes.
+use Rattle.std.proofs.Common.{◌≡◌, ℕ, zero, suc, ◌+◌, ◌<◌, ◌≤◌, ◌&&◌, Bool, true, false, if◌then◌else◌, true≢false, List, [], ◌∷◌, ◌++◌, map, take, length, Some, slice_get, refl, sym, ap, subst, ◌∙◌, length-append, arith}
+use Rattle.std.proofs.lemmas.List.{append-nil, map-append}
+use Rattle.bit_bdd.specs.Diagrams.{Diagrams, has_word, Extends}
+use Rattle.net_model.specs.Terms.{Term, read, un, bin, cat, zext, sext, select, term_width}
+use Rattle.net_model.specs.Symbolic.{sliced}
+use Rattle.sym_expr.specs.declared.pool.Node.{Node}
+use Rattle.sym_expr.specs.Pools.{AllBelow, Grows, term_at}
+use Rattle.sym_expr.proofs.CallerLemmas.{same_term}
+use Rattle.sym_expr.proofs.Lists.{around}
+use Rattle.transfer_set.specs.declared.route.Route.{Route}
+use Rattle.route_trace.specs.declared.heads.Head.{Head}
+use Rattle.route_trace.specs.declared.heads.Head.TheVariants.{Same, Read, Un, Slice, Zext, Sext, Bin, Cat, Select}
+use Rattle.route_trace.specs.Heads.{LastFits, head_parts, head_term}
+use Rattle.transfer_set.specs.Routes.{row, held, held_terms, AllExprs, IsTable}
+use Rattle.route_trace.specs.Routing.{AllFit}
+use Rattle.route_trace.proofs.Merging.{held-append, held_later, routes_later}
+
+-- ---- a pool that grows
+
+pub exprs_later : (m n : ℕ) → m ≤ n → (routes : List Route) → AllExprs m routes → AllExprs n routes
+exprs_later m n h [] e = tt
+exprs_later m n h (route ∷ routes) e = (omega (arith, h, e.0), exprs_later m n h routes e.1)
+
+pub terms_later : (book : Diagrams) (old new : List Node) → Grows old new → (routes : List Route) → AllExprs (length old) routes → (word : ℕ) → held_terms book new routes word ≡ held_terms book old routes word
+terms_later book old new g [] h word = refl
+terms_later book old new g (route ∷ routes) h word =
+    map-append (term_at new) (row book route word) (held book routes word)
+    ∙ by (has_word book route.set word) (terms_later book old new g routes h.1 word)
+    ∙ sym (map-append (term_at old) (row book route word) (held book routes word))
+  where
+    by : (b : Bool) → map (term_at new) (held book routes word) ≡ map (term_at old) (held book routes word)
+        → map (term_at new) (if b then route.expr ∷ [] else []) ++ map (term_at new) (held book routes word) ≡ map (term_at old) (if b then route.expr ∷ [] else []) ++ map (term_at old) (held book routes word)
+    by true rest = let e = same_term old new g route.expr h.0 in (λ j. e j ∷ rest j)
+    by false rest = rest
+
+pub table_later : (book book' : Diagrams) (pool pool' : List Node) → Extends book book' → Grows pool pool' → (routes : List Route) → IsTable book pool routes → IsTable book' pool' routes
+table_later book book' pool pool' e g routes t = record {
+  right = routes_later book book' e routes t.right;
+  exprs = exprs_later (length pool) (length pool') g.longer routes t.exprs;
+}
+
+pub both_later : (book book' : Diagrams) (pool pool' : List Node) → Extends book book' → Grows pool pool' → (routes : List Route) → IsTable book pool routes → (word : ℕ) → held_terms book' pool' routes word ≡ held_terms book pool routes word
+both_later book book' pool pool' e g routes t word =
+    ap (map (term_at pool')) (held_later book book' e routes t.right.sets word) ∙ terms_later book pool pool' g routes t.exprs word
+
+module _ (old new : List Node) (g : Grows old new) where
+  pub head-same : (head : Head) → AllBelow (length old) (head_parts head) → (s t : Term) → s ≡ t → head_term head (term_at new) s ≡ head_term head (term_at old) t
+  head-same Same h s t e = e
+  head-same (Read w) h s t e = (λ j. read (e j) w)
+  head-same (Un o) h s t e = (λ j. un o (e j))
+  head-same (Slice i l) h s t e = (λ j. sliced (e j) i l)
+  head-same (Zext w) h s t e = (λ j. zext (e j) w)
+  head-same (Sext w) h s t e = (λ j. sext (e j) w)
+  head-same (Bin o a) h s t e = let f = same_term old new g a h.0 in (λ j. bin o (f j) (e j))
+  head-same (Cat a) h s t e = let f = same_term old new g a h.0 in (λ j. cat (f j) (e j))
+  head-same (Select c a) h s t e = let d = same_term old new g c h.0 in let f = same_term old new g a h.1.0 in (λ j. select (d j) (f j) (e j))
+
+  pub fits-later : (head : Head) → AllBelow (length old) (head_parts head) → (v w : ℕ) → v ≡ w → LastFits head (term_at old) v → LastFits head (term_at new) w
+  fits-later Same h v w e f = tt
+  fits-later (Read i) h v w e f = f
+  fits-later (Un o) h v w e f = tt
+  fits-later (Slice i l) h v w e f = (f.0, omega (arith, f.1, e))
+  fits-later (Zext i) h v w e f = (omega (arith, f.0, e), f.1)
+  fits-later (Sext i) h v w e f = (omega (arith, f.0, e), f.1)
+  fits-later (Bin o a) h v w e f = sym e ∙ f ∙ sym (ap term_width (same_term old new g a h.0))
+  fits-later (Cat a) h v w e f = (let q = ap term_width (same_term old new g a h.0) in omega (arith, q, f, e))
+  fits-later (Select c a) h v w e f = (ap term_width (same_term old new g c h.0) ∙ f.0, sym e ∙ f.1 ∙ sym (ap term_width (same_term old new g a h.1.0)))
+
+  pub below_later : (is : List ℕ) → AllBelow (length old) is → AllBelow (length new) is
+  below_later [] h = tt
+  below_later (i ∷ is) h = (omega (arith, h.0, g.longer), below_later is h.1)
+
+-- ---- one route
+
+-- a route was added
+pub added_terms : (book book1 book2 : Diagrams) (pool pool1 : List Node) → Extends book book1 → Grows pool pool1 → (out out2 : List Route) → IsTable book pool out → (expr : ℕ) (term : Term) → term_at pool1 expr ≡ term
+    → (word : ℕ) (b c : Bool) → c ≡ b → held book2 out2 word ≡ (if c then expr ∷ [] else held book1 out word)
+    → held_terms book2 pool1 out2 word ≡ (if b then term ∷ [] else held_terms book pool out word)
+added_terms book book1 book2 pool pool1 e g out out2 t expr term is word true c eb h =
+    ap (map (term_at pool1)) (h ∙ ap (λ d. if d then expr ∷ [] else held book1 out word) eb) ∙ (λ j. is j ∷ [])
+added_terms book book1 book2 pool pool1 e g out out2 t expr term is word false c eb h =
+    ap (map (term_at pool1)) (h ∙ ap (λ d. if d then expr ∷ [] else held book1 out word) eb) ∙ both_later book book1 pool pool1 e g out t word
+
+-- no word was there to add
+pub kept_terms : (book book1 : Diagrams) (pool : List Node) → Extends book book1 → (out : List Route) → IsTable book pool out → (term : Term) (word : ℕ) (b : Bool) → b ≡ false
+    → held_terms book1 pool out word ≡ (if b then term ∷ [] else held_terms book pool out word)
+kept_terms book book1 pool e out t term word b h =
+    ap (map (term_at pool)) (held_later book book1 e out t.right.sets word) ∙ sym (ap (λ d. if d then term ∷ [] else held_terms book pool out word) h)
+
+-- ---- all routes
+
+take_around : (before after : List Route) (x : Route) → take (length before) (before ++ x ∷ after) ≡ before
+take_around [] after x = refl
+take_around (z ∷ before) after x = ap (λ l. z ∷ l) (take_around before after x)
+
+take_more : (before after : List Route) (x : Route) → take (length before + 1) (before ++ x ∷ after) ≡ before ++ x ∷ []
+take_more before after x = let n : length before + 1 ≡ suc (length before) = omega arith in ap (λ k. take k (before ++ x ∷ after)) n ∙ by before
+  where
+    by : (before : List Route) → take (suc (length before)) (before ++ x ∷ after) ≡ before ++ x ∷ []
+    by [] = refl
+    by (z ∷ before) = ap (λ l. z ∷ l) (by before)
+
+pub held_more : (book : Diagrams) (routes : List Route) (i : ℕ) (route : Route) → slice_get routes i ≡ Some route → (word : ℕ) → held book (take (i + 1) routes) word ≡ held book (take i routes) word ++ row book route word
+held_more book routes i route at word =
+    let r = around routes i route at in
+    let more : take (i + 1) routes ≡ r.before ++ route ∷ [] = (λ j. take (sym r.place j + 1) (r.is j)) ∙ take_more r.before r.after route in
+    let less : take i routes ≡ r.before = (λ j. take (sym r.place j) (r.is j)) ∙ take_around r.before r.after route in
+    ap (λ l. held book l word) more ∙ held-append book r.before (route ∷ []) word
+    ∙ (λ j. held book (sym less j) word ++ append-nil (row book route word) j)
+
+-- where a route holds a word that at most one does, none before it holds it
+pub none_before : (book : Diagrams) (routes : List Route) (i : ℕ) (route : Route) → slice_get routes i ≡ Some route → (word : ℕ) → length (held book routes word) ≤ 1 → has_word book route.set word ≡ true → held book (take i routes) word ≡ []
+none_before book routes i route at word one h =
+    let r = around routes i route at in
+    let less : take i routes ≡ r.before = (λ j. take (sym r.place j) (r.is j)) ∙ take_around r.before r.after route in
+    let whole : held book routes word ≡ held book r.before word ++ ((route.expr ∷ []) ++ held book r.after word) =
+    ap (λ l. held book l word) r.is ∙ held-append book r.before (route ∷ r.after) word ∙ ap (λ b. held book r.before word ++ ((if b then route.expr ∷ [] else []) ++ held book r.after word)) h in
+    ap (λ l. held book l word) less ∙ short (held book r.before word) (held book r.after word) (ap length whole)
+  where
+    short : (xs ys : List ℕ) → length (held book routes word) ≡ length (xs ++ ((route.expr ∷ []) ++ ys)) → xs ≡ []
+    short [] ys e = refl
+    short (x ∷ xs) ys e = (let l = length-append xs ((route.expr ∷ []) ++ ys) in absurd (omega (arith, e, one, l)))
+
+module _ (head : Head) (book : Diagrams) (pool : List Node) (routes : List Route) (set : ℕ) (word : ℕ) (i : ℕ) (route : Route) (at : slice_get routes i ≡ Some route) (one : length (held book routes word) ≤ 1) where
+  -- what was added so far is nothing where this route is to be added
+  pub turn_apart : (book' : Diagrams) (pool' : List Node) (out out' : List Route) (b c : Bool) → b ≡ has_word book set word → c ≡ has_word book route.set word
+      → held_terms book' pool' out' word ≡ (if has_word book set word then map (head_term head (term_at pool)) (held_terms book pool (take i routes) word) else held_terms book pool out word)
+      → (b && c) ≡ true → held book' out' word ≡ []
+  turn_apart book' pool' out out' true true eb ec e h =
+      let none = none_before book routes i route at word one (sym ec) in
+      no_terms (held book' out' word) (e ∙ ap (λ d. if d then map (head_term head (term_at pool)) (held_terms book pool (take i routes) word) else held_terms book pool out word) (sym eb)
+      ∙ ap (λ l. map (head_term head (term_at pool)) (map (term_at pool) l)) none)
+    where
+      no_terms : (xs : List ℕ) → map (term_at pool') xs ≡ [] → xs ≡ []
+      no_terms [] q = refl
+      no_terms (x ∷ xs) q = absurd (cc)
+  turn_apart book' pool' out out' true false eb ec e h = absurd (true≢false (sym h))
+  turn_apart book' pool' out out' false c eb ec e h = absurd (true≢false (sym h))
+
+  -- one more route
+  pub turn_terms : (book' : Diagrams) (pool' : List Node) (out : List Route) (new old : List Term) (b c : Bool) → b ≡ has_word book set word → c ≡ has_word book route.set word
+      → old ≡ (if has_word book set word then map (head_term head (term_at pool)) (held_terms book pool (take i routes) word) else held_terms book pool out word)
+      → (term : Term) → term ≡ head_term head (term_at pool) (term_at pool route.expr)
+      → new ≡ (if b && c then term ∷ [] else old)
+      → new ≡ (if has_word book set word then map (head_term head (term_at pool)) (held_terms book pool (take (i + 1) routes) word) else held_terms book pool out word)
+  turn_terms book' pool' out new old b c eb ec eo term et en = en ∙ by b c eb ec ∙ ap (λ d. if d then map f (map (term_at pool) (held book (take (i + 1) routes) word)) else held_terms book pool out word) eb
+    where
+      f : Term → Term
+      f = head_term head (term_at pool)
+
+      before : List ℕ
+      before = held book (take i routes) word
+
+      more : held book (take (i + 1) routes) word ≡ held book (take i routes) word ++ row book route word
+      more = held_more book routes i route at word
+
+      by : (b c : Bool) → b ≡ has_word book set word → c ≡ has_word book route.set word → (if b && c then term ∷ [] else old) ≡ (if b then map (head_term head (term_at pool)) (map (term_at pool) (held book (take (i + 1) routes) word)) else held_terms book pool out word)
+      by true true eb ec =
+          let none = none_before book routes i route at word one (sym ec) in
+          let all : held book (take (i + 1) routes) word ≡ route.expr ∷ [] = more ∙ (λ j. none j ++ (if sym ec j then route.expr ∷ [] else [])) in
+          (λ j. et j ∷ []) ∙ sym (ap (λ l. map (head_term head (term_at pool)) (map (term_at pool) l)) all)
+      by true false eb ec =
+          let all : held book (take (i + 1) routes) word ≡ held book (take i routes) word = more ∙ (λ j. held book (take i routes) word ++ (if sym ec j then route.expr ∷ [] else [])) ∙ append-nil (held book (take i routes) word) in
+          eo ∙ ap (λ d. if d then map (head_term head (term_at pool)) (held_terms book pool (take i routes) word) else held_terms book pool out word) (sym eb)
+          ∙ sym (ap (λ l. map (head_term head (term_at pool)) (map (term_at pool) l)) all)
+      by false c eb ec =
+          eo ∙ ap (λ d. if d then map (head_term head (term_at pool)) (held_terms book pool (take i routes) word) else held_terms book pool out word) (sym eb)
+
+-- nothing is done yet
+pub start_terms : (head : Head) (book : Diagrams) (pool : List Node) (set word : ℕ) (out : List Route) → (has_word book set word ≡ true → held book out word ≡ [])
+    → held_terms book pool out word ≡ (if has_word book set word then map (head_term head (term_at pool)) (held_terms book pool [] word) else held_terms book pool out word)
+start_terms head book pool set word out apart = by (has_word book set word) apart
+  where
+    by : (b : Bool) → (b ≡ true → held book out word ≡ []) → held_terms book pool out word ≡ (if b then [] else held_terms book pool out word)
+    by true h = ap (map (term_at pool)) (h refl)
+    by false h = refl
+
+pub fit_at : (head : Head) (pool : List Node) (routes : List Route) (i : ℕ) (route : Route) → slice_get routes i ≡ Some route → AllFit head pool routes → LastFits head (term_at pool) (term_width (term_at pool route.expr))
+fit_at head pool [] i route at f = absurd (cc)
+fit_at head pool (x ∷ routes) zero route at f = (let e : x ≡ route = cc in subst (λ (r : Route). LastFits head (term_at pool) (term_width (term_at pool r.expr))) e f.0)
+fit_at head pool (x ∷ routes) (suc i) route at f = fit_at head pool routes i route at f.1
+
+pub expr_at : (size : ℕ) (routes : List Route) (i : ℕ) (route : Route) → slice_get routes i ≡ Some route → AllExprs size routes → route.expr < size
+expr_at size [] i route at f = absurd (cc)
+expr_at size (x ∷ routes) zero route at f = (let e : x ≡ route = cc in subst (λ (r : Route). r.expr < size) e f.0)
+expr_at size (x ∷ routes) (suc i) route at f = expr_at size routes i route at f.1

@@ -1,0 +1,11 @@
+use Rattle.std.proofs.Common.{◌^◌, ◌<◌, ap, refl, sym, subst, if◌then◌else◌, [], ◌∷◌, ◌∙◌}
+use Rattle.bit_bdd.proofs.CallerLemmas.{same_words}
+use Rattle.net_model.specs.Terms.{const}
+use Rattle.route_trace.proofs.Exact.{all_wide}
+use Rattle.route_trace.proofs.cases.row_routes.Goals as goal
+
+pub returns-in_ok-out-in-None-clause-wide : goal.returns-in_ok-out-in-None-clause-wide
+returns-in_ok-out-in-None-clause-wide c =
+    let e = c.in_ok-out-in-None.ensures.book in
+    all_wide c.leaf_routes.new.book c.leaf_routes.new.pool c.args.legal (λ word. const c.args.width 0) c.args.width (λ word fits. refl) c.in_ok-out-in-None.out c.in_ok-out-in-None.ensures.table.right.sets
+    (λ word fits. c.in_ok-out-in-None.ensures.terms word (subst (λ b. word < 2 ^ b) e.bits fits) ∙ ap (λ b. if b then const c.args.width 0 ∷ [] else []) (sym (same_words c.args.book.now c.leaf_routes.new.book e c.args.legal c.requires.legal word)))

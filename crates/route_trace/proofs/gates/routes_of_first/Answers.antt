@@ -1,0 +1,65 @@
+use Rattle.std.proofs.Common.{◌^◌, ◌<◌, inr, if◌then◌else◌, sym, ap, subst, ◌∙◌}
+use Rattle.std.proofs.lemmas.Result.{err_from_is_err_and}
+use Rattle.bit_bdd.specs.Diagrams.{has_word}
+use Rattle.transfer_set.specs.Routes.{held_terms}
+use Rattle.route_trace.proofs.Products.{both_later}
+use Rattle.route_trace.proofs.Firsts.{map_same, all_fit_same, tables_later, rest_apart, with_rest}
+use Rattle.route_trace.proofs.Stopping.{many_in, part_of_tests}
+use Rattle.route_trace.proofs.gates.routes_of_first.Goals as goal
+
+pub add_all-requires-clause-source : goal.add_all-requires-clause-source
+add_all-requires-clause-source c =
+    let t = tables_later c.args.book.now c.add_first.new.book c.args.pool.now c.add_first.new.pool c.in_ok-left.ensures.book c.in_ok-left.ensures.pool c.args.nets.now c.requires.nets in
+    rw c.routes_of-routes.ensures (t.tables _)
+
+pub add_all-requires-clause-one : goal.add_all-requires-clause-one
+add_all-requires-clause-one c word fits =
+    let t = tables_later c.args.book.now c.add_first.new.book c.args.pool.now c.add_first.new.pool c.in_ok-left.ensures.book c.in_ok-left.ensures.pool c.args.nets.now c.requires.nets in
+    rw c.routes_of-routes.ensures (t.one _ word fits)
+
+pub add_all-requires-clause-fits : goal.add_all-requires-clause-fits
+add_all-requires-clause-fits c = all_fit_same c.add_first.new.pool c.routes_of-routes.result.now
+
+pub add_all-requires-clause-apart : goal.add_all-requires-clause-apart
+add_all-requires-clause-apart c word fits holds =
+    let low = subst (λ b. word < 2 ^ b) c.in_ok-left.ensures.book.bits fits in
+    rest_apart c.args.book.now c.args.pool.now c.args.nets.now word c.args.tests.now c.add_first.new.pool _ _ _ (c.in_ok-left.ensures.left word low)
+    (rw c.new-out.ensures at c.in_ok-left.ensures.terms word low) holds
+
+pub add_leaf-requires-clause-apart : goal.add_leaf-requires-clause-apart
+add_leaf-requires-clause-apart c word fits holds =
+    let low = subst (λ b. word < 2 ^ b) c.in_ok-left.ensures.book.bits fits in
+    rest_apart c.args.book.now c.args.pool.now c.args.nets.now word c.args.tests.now c.add_first.new.pool _ _ _ (c.in_ok-left.ensures.left word low)
+    (rw c.new-out.ensures at c.in_ok-left.ensures.terms word low) holds
+
+pub returns-in_ok-add_all-in-Some-clause-terms : goal.returns-in_ok-add_all-in-Some-clause-terms
+returns-in_ok-add_all-in-Some-clause-terms c word low = rw c.in-Some.is
+    (with_rest c.args.book.now c.args.pool.now c.args.nets.now word c.args.tests.now _ (held_terms c.add_first.new.book c.add_first.new.pool c.add_first.new.out word) _ _ _ (c.in_ok-left.ensures.left word low)
+    (rw c.new-out.ensures at c.in_ok-left.ensures.terms word low)
+    (c.in_ok-add_all-in-Some.ensures.terms word (subst (λ b. word < 2 ^ b) (sym c.in_ok-left.ensures.book.bits) low)
+    ∙ ap (λ l. if has_word c.add_first.new.book c.in_ok-left.left word then l else held_terms c.add_first.new.book c.add_first.new.pool c.add_first.new.out word)
+    (map_same _ ∙ ap (λ l. held_terms c.add_first.new.book c.add_first.new.pool l word) c.routes_of-routes.ensures
+    ∙ both_later c.args.book.now c.add_first.new.book c.args.pool.now c.add_first.new.pool c.in_ok-left.ensures.book c.in_ok-left.ensures.pool _ (c.requires.nets.tables _) word)))
+
+pub returns-in_err-left-clause-many : goal.returns-in_err-left-clause-many
+returns-in_err-left-clause-many c =
+    let p = err_from_is_err_and c.from_residual.result c.from_residual.ensures.1 in
+    let many = rw c.new-out.ensures at c.in_err-left.ensures.many in
+    rw (p.1, p.2)
+    (many_in c.in_err-left.field-0.0 c.add_first.new.book c.add_first.new.pool _ _
+    (λ word fits terms e. part_of_tests c.args.book.now c.args.pool.now c.args.nets.now word c.args.tests.now (has_word c.args.book.now c.args.legal word) _ terms e)
+    many)
+
+pub returns-in_err-add_all-in-Some-clause-many : goal.returns-in_err-add_all-in-Some-clause-many
+returns-in_err-add_all-in-Some-clause-many c =
+    let p = err_from_is_err_and c.from_residual-in_err-add_all-in-Some.result c.from_residual-in_err-add_all-in-Some.ensures.1 in
+    rw (p.1, p.2, c.in-Some.is)
+    (many_in c.in_err-add_all-in-Some.field-0.0 c.add_all.new.book c.add_all.new.pool _ _
+    (λ word fits terms e.
+    (let low = subst (λ b. word < 2 ^ b) c.in_ok-left.ensures.book.bits (subst (λ b. word < 2 ^ b) c.in_err-add_all-in-Some.ensures.book.bits fits) in
+    inr (with_rest c.args.book.now c.args.pool.now c.args.nets.now word c.args.tests.now terms (held_terms c.add_first.new.book c.add_first.new.pool c.add_first.new.out word) _ _ _ (c.in_ok-left.ensures.left word low)
+    (rw c.new-out.ensures at c.in_ok-left.ensures.terms word low)
+    (e ∙ ap (λ l. if has_word c.add_first.new.book c.in_ok-left.left word then l else held_terms c.add_first.new.book c.add_first.new.pool c.add_first.new.out word)
+    (map_same _ ∙ ap (λ l. held_terms c.add_first.new.book c.add_first.new.pool l word) c.routes_of-routes.ensures
+    ∙ both_later c.args.book.now c.add_first.new.book c.args.pool.now c.add_first.new.pool c.in_ok-left.ensures.book c.in_ok-left.ensures.pool _ (c.requires.nets.tables _) word)))))
+    c.in_err-add_all-in-Some.ensures.many)

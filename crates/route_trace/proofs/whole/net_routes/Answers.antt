@@ -1,0 +1,112 @@
+use Rattle.std.proofs.Common.{inr, ◌^◌, ◌<◌, sym, subst, ◌∙◌, arith}
+use Rattle.std.proofs.lemmas.Result.{err_from_is_err_and}
+use Rattle.net_model.specs.Value.{value_of}
+use Rattle.net_model.specs.Symbolic.{blank, is_static}
+use Rattle.route_trace.specs.declared.heads.Head.TheVariants.{Same, Read, Un, Slice, Zext, Sext}
+use Rattle.route_trace.specs.declared.heads.Two.TheVariants.{Bin, Cat}
+use Rattle.route_trace.proofs.Given.{fit_wide, two_fit_wide}
+use Rattle.route_trace.proofs.Deciders.{selector_sets, selector_few, selector_keys, selector_bit, selected_at, rows_wide, driver_sets, driver_one, enabled_at}
+use Rattle.route_trace.proofs.Stopping.{many_in}
+use Rattle.route_trace.proofs.whole.net_routes.Goals as goal
+
+pub routes_under-requires-clause-fits : goal.routes_under-requires-clause-fits
+routes_under-requires-clause-fits c = fit_wide (Read c.args.net.now.width) c.args.pool.now _ (c.requires.fits.0, c.requires.fits.1) _ (c.requires.widths.widths _)
+
+pub routes_under-requires-in-Wire-clause-fits : goal.routes_under-requires-in-Wire-clause-fits
+routes_under-requires-in-Wire-clause-fits c = fit_wide Same c.args.pool.now _ tt _ (c.requires.widths.widths _)
+
+pub routes_under-requires-in-Un-clause-fits : goal.routes_under-requires-in-Un-clause-fits
+routes_under-requires-in-Un-clause-fits c = fit_wide (Un c.in-Un.op) c.args.pool.now _ tt _ (c.requires.widths.widths _)
+
+pub routes_under-requires-in-Slice-clause-fits : goal.routes_under-requires-in-Slice-clause-fits
+routes_under-requires-in-Slice-clause-fits c =
+    let g = rw c.in-Slice.is at c.requires.fits.2 in
+    fit_wide (Slice c.in-Slice.hi c.in-Slice.lo) c.args.pool.now _ (g.1, g.2) _ (c.requires.widths.widths _)
+
+pub routes_under-requires-in-Zext-clause-fits : goal.routes_under-requires-in-Zext-clause-fits
+routes_under-requires-in-Zext-clause-fits c =
+    let g = rw c.in-Zext.is at c.requires.fits.2 in
+    fit_wide (Zext c.args.net.now.width) c.args.pool.now _ (g.1, c.requires.fits.1) _ (c.requires.widths.widths _)
+
+pub routes_under-requires-in-Sext-clause-fits : goal.routes_under-requires-in-Sext-clause-fits
+routes_under-requires-in-Sext-clause-fits c =
+    let g = rw c.in-Sext.is at c.requires.fits.2 in
+    fit_wide (Sext c.args.net.now.width) c.args.pool.now _ (g.1, c.requires.fits.1) _ (c.requires.widths.widths _)
+
+pub routes_over-requires-clause-fits : goal.routes_over-requires-clause-fits
+routes_over-requires-clause-fits c =
+    let g = rw c.in-Bin.is at c.requires.fits.2 in
+    two_fit_wide (Bin c.in-Bin.op) c.args.pool.now _ _ (λ a e. g.1.1 ∙ sym e) _ _ (c.requires.widths.widths _) (c.requires.widths.widths _)
+
+pub routes_over-requires-in-Cat-clause-fits : goal.routes_over-requires-in-Cat-clause-fits
+routes_over-requires-in-Cat-clause-fits c =
+    let g = rw c.in-Cat.is at c.requires.fits.2 in
+    two_fit_wide Cat c.args.pool.now _ _ (λ a e. omega (arith, e, g.2, c.requires.fits.1)) _ _ (c.requires.widths.widths _) (c.requires.widths.widths _)
+
+pub case_routes-requires-clause-sets : goal.case_routes-requires-clause-sets
+case_routes-requires-clause-sets c = selector_sets c.args.netlist.now c.args.book.now _ _ (rw c.in-Case.is at c.requires.decided)
+
+pub case_routes-requires-clause-few : goal.case_routes-requires-clause-few
+case_routes-requires-clause-few c = selector_few c.args.netlist.now c.requires.typed c.args.book.now _ _ (rw c.in-Case.is at c.requires.decided)
+
+pub case_routes-requires-clause-keys : goal.case_routes-requires-clause-keys
+case_routes-requires-clause-keys c some =
+    let g = rw c.in-Case.is at c.requires.fits.2 in
+    rw c.as_slice-rows.ensures
+    (selector_keys c.args.netlist.now c.args.book.now _ _ (rw c.in-Case.is at c.requires.decided) some c.args.net.now.width c.in-Case.rows g.1)
+
+pub case_routes-requires-clause-bit : goal.case_routes-requires-clause-bit
+case_routes-requires-clause-bit c none =
+    let g = rw c.in-Case.is at c.requires.fits.2 in
+    selector_bit c.args.netlist.now c.requires.typed c.args.book.now c.args.pool.now c.args.nets.now c.requires.widths _ c.in-Case.sel g.0 (rw c.in-Case.is at c.requires.decided) none
+
+pub case_routes-requires-clause-wide : goal.case_routes-requires-clause-wide
+case_routes-requires-clause-wide c =
+    let g = rw c.in-Case.is at c.requires.fits.2 in
+    rw c.as_slice-rows.ensures
+    (rows_wide c.args.netlist.now c.args.pool.now c.args.nets.now c.requires.widths _ c.args.net.now.width c.in-Case.rows c.in-Case.rest g.1 g.2)
+
+pub returns-in_ok-out-in-Case-clause-terms : goal.returns-in_ok-out-in-Case-clause-terms
+returns-in_ok-out-in-Case-clause-terms c t word fits given =
+    let g = rw c.in-Case.is at given in
+    let made = rw c.as_slice-rows.ensures at c.in_ok-out-in-Case.ensures.terms in
+    rw c.in-Case.is
+    (made t (value_of c.args.netlist.now blank word) (is_static c.args.netlist.now) word fits g
+    (selected_at c.args.netlist.now c.requires.typed c.args.book.now _ c.in-Case.sel word (rw c.in-Case.is at c.requires.fits.2).0 fits (rw c.in-Case.is at c.requires.decided)))
+
+pub returns-in_err-out-in-Case-clause-many : goal.returns-in_err-out-in-Case-clause-many
+returns-in_err-out-in-Case-clause-many c =
+    let p = err_from_is_err_and c.from_residual-in_err-out-in-Case.result c.from_residual-in_err-out-in-Case.ensures.1 in
+    let many = rw c.as_slice-rows.ensures at c.in_err-out-in-Case.ensures.many in
+    rw (p.1, p.2, c.in-Case.is)
+    (many_in c.in_err-out-in-Case.field-0.0 c.case_routes.new.book c.case_routes.new.pool _ _
+    (λ word fits terms made. inr (λ t given.
+    made t (value_of c.args.netlist.now blank word) (is_static c.args.netlist.now) given
+    (selected_at c.args.netlist.now c.requires.typed c.args.book.now _ c.in-Case.sel word (rw c.in-Case.is at c.requires.fits.2).0 (subst (λ b. word < 2 ^ b) c.in_err-out-in-Case.ensures.book.bits fits) (rw c.in-Case.is at c.requires.decided))))
+    many)
+
+pub bus_routes-requires-clause-sets : goal.bus_routes-requires-clause-sets
+bus_routes-requires-clause-sets c = rw c.as_slice.ensures (driver_sets c.args.netlist.now c.args.book.now _ _ (rw c.in-Bus.is at c.requires.decided))
+
+pub bus_routes-requires-clause-one : goal.bus_routes-requires-clause-one
+bus_routes-requires-clause-one c =
+    let g = rw c.in-Bus.is at c.requires.fits.2 in
+    rw c.as_slice.ensures (driver_one c.args.netlist.now c.args.book.now _ c.args.net.now.width _ g (rw c.in-Bus.is at c.requires.decided))
+
+pub returns-in_ok-out-in-Bus-clause-terms : goal.returns-in_ok-out-in-Bus-clause-terms
+returns-in_ok-out-in-Bus-clause-terms c t word fits given =
+    let g = rw c.in-Bus.is at given in
+    let made = rw c.as_slice.ensures at c.in_ok-out-in-Bus.ensures.terms in
+    rw c.in-Bus.is
+    (made t (value_of c.args.netlist.now blank word) word fits g (enabled_at c.args.netlist.now c.args.book.now _ word fits _ (rw c.in-Bus.is at c.requires.decided)))
+
+pub returns-in_err-out-in-Bus-clause-many : goal.returns-in_err-out-in-Bus-clause-many
+returns-in_err-out-in-Bus-clause-many c =
+    let p = err_from_is_err_and c.from_residual-in_err-out-in-Bus.result c.from_residual-in_err-out-in-Bus.ensures.1 in
+    let many = rw c.as_slice.ensures at c.in_err-out-in-Bus.ensures.many in
+    rw (p.1, p.2, c.in-Bus.is)
+    (many_in c.in_err-out-in-Bus.field-0.0 c.bus_routes.new.book c.bus_routes.new.pool _ _
+    (λ word fits terms made. inr (λ t given.
+    made t (value_of c.args.netlist.now blank word) given
+    (enabled_at c.args.netlist.now c.args.book.now _ word (subst (λ b. word < 2 ^ b) c.in_err-out-in-Bus.ensures.book.bits fits) _ (rw c.in-Bus.is at c.requires.decided))))
+    many)

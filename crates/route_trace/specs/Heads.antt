@@ -1,0 +1,65 @@
+-- Operators that lack their last operand.
+use Rattle.std.specs.Prelude.{◌≡◌, ℕ, ◌+◌, ◌<◌, ◌≤◌, List, [], ◌∷◌, Option, None, Some}
+use Rattle.net_model.specs.Terms.{Term, read, un, bin, cat, zext, sext, select, term_width}
+use Rattle.net_model.specs.Symbolic.{sliced}
+use Rattle.sym_expr.specs.declared.pool.Node.{Node}
+use Rattle.sym_expr.specs.declared.pool.Node.TheVariants.{Slice as SliceNode}
+use Rattle.route_trace.specs.declared.heads.Two.{Two}
+use Rattle.route_trace.specs.declared.heads.Two.TheVariants.{Bin as TwoBin, Cat as TwoCat, Select as TwoSelect}
+use Rattle.route_trace.specs.declared.heads.Head.{Head}
+use Rattle.route_trace.specs.declared.heads.Head.TheVariants.{Same, Read, Un, Slice, Zext, Sext, Bin, Cat, Select}
+
+abbrev pub slice_parts : Node → Option (ℕ × ℕ × ℕ)
+slice_parts (SliceNode a h l) = Some (a, h, l)
+slice_parts _ = None
+
+-- the expression once the last operand is there
+abbrev pub head_term : Head → (ℕ → Term) → Term → Term
+head_term Same t last = last
+head_term (Read w) t last = read last w
+head_term (Un o) t last = un o last
+head_term (Slice h l) t last = sliced last h l
+head_term (Zext w) t last = zext last w
+head_term (Sext w) t last = sext last w
+head_term (Bin o a) t last = bin o (t a) last
+head_term (Cat a) t last = cat (t a) last
+head_term (Select c a) t last = select (t c) (t a) last
+
+abbrev pub head_parts : Head → List ℕ
+head_parts Same = []
+head_parts (Read w) = []
+head_parts (Un o) = []
+head_parts (Slice h l) = []
+head_parts (Zext w) = []
+head_parts (Sext w) = []
+head_parts (Bin o a) = a ∷ []
+head_parts (Cat a) = a ∷ []
+head_parts (Select c a) = c ∷ a ∷ []
+
+-- an operand of this width is what is asked for
+abbrev pub LastFits : Head → (ℕ → Term) → ℕ → Type 0
+LastFits Same t width = Unit {0}
+LastFits (Read w) t width = (1 ≤ w) × (w ≤ 64)
+LastFits (Un o) t width = Unit {0}
+LastFits (Slice h l) t width = (l ≤ h) × (h < width)
+LastFits (Zext w) t width = (width < w) × (w ≤ 64)
+LastFits (Sext w) t width = (width < w) × (w ≤ 64)
+LastFits (Bin o a) t width = width ≡ term_width (t a)
+LastFits (Cat a) t width = term_width (t a) + width ≤ 64
+LastFits (Select c a) t width = (term_width (t c) ≡ 1) × (width ≡ term_width (t a))
+
+abbrev pub two_head : Two → ℕ → Head
+two_head (TwoBin o) a = Bin o a
+two_head TwoCat a = Cat a
+two_head (TwoSelect c) a = Select c a
+
+abbrev pub two_parts : Two → List ℕ
+two_parts (TwoBin o) = []
+two_parts TwoCat = []
+two_parts (TwoSelect c) = c ∷ []
+
+-- the expression once both operands are there
+abbrev pub two_term : Two → (ℕ → Term) → Term → Term → Term
+two_term (TwoBin o) t a b = bin o a b
+two_term TwoCat t a b = cat a b
+two_term (TwoSelect c) t a b = select (t c) a b

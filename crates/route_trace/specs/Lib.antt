@@ -1,0 +1,9 @@
+pub mod Heads
+pub mod Routing
+pub mod Gates
+pub mod Selects
+pub mod Tests
+pub mod Laws
+pub mod Limits
+pub mod Verdicts
+pub mod Stops

@@ -1,0 +1,117 @@
+//! Operators that lack their last operand.
+
+ghost use Rattle.std.specs.Prelude.{◌≡◌, ℕ, ◌<◌, ◌≤◌, length, IfOk};
+ghost use Rattle.net_model.specs.Symbolic.{sliced};
+ghost use Rattle.net_model.specs.Terms.{term_width};
+ghost use Rattle.sym_expr.specs.Pools.{AllBelow, Grows, term_at};
+ghost use Rattle.route_trace.specs.Heads.{LastFits, head_parts, head_term, slice_parts, two_head};
+
+use rec_bits::{NoMemory, Op1, Op2};
+use std::alloc::Global;
+use sym_expr::{ExprId, Node, Pool};
+
+// An operator that lacks its last operand, or nothing around it.
+#[derive(Clone, Copy, Debug)]
+pub(crate) enum Head {
+    Same,
+    Read(u8),
+    Un(Op1),
+    Slice(u8, u8),
+    Zext(u8),
+    Sext(u8),
+    Bin(Op2, ExprId),
+    Cat(ExprId),
+    Select(ExprId, ExprId),
+}
+
+// The operand and the ends of a slice.
+fn slice_of_node(node: Node) -> Option<(ExprId, u8, u8)>
+    ensures { result ≡ slice_parts node }
+{
+    match node {
+        Node::Slice(a, hi, lo) => Some((a, hi, lo)),
+        Node::Word(_) => None,
+        Node::Reg(..) => None,
+        Node::Const { .. } => None,
+        Node::Read(..) => None,
+        Node::Un(..) => None,
+        Node::Bin(..) => None,
+        Node::Cat(..) => None,
+        Node::Zext(..) => None,
+        Node::Sext(..) => None,
+        Node::Select(..) => None,
+    }
+}
+
+// A slice, of which a slice of a slice is one slice and a slice of the whole is its operand.
+pub(crate) fn make_slice(
+    alloc: Global,
+    pool: &mut Pool,
+    of: ExprId,
+    hi: u8,
+    lo: u8,
+) -> Result<ExprId, NoMemory>
+    requires of { of < length pool.old }
+    requires ends { lo ≤ hi }
+    requires high { hi < term_width (term_at pool.old of) }
+    ensures grows { Grows pool.old pool.new }
+    ensures within { IfOk result (λ id. id < length pool.new) }
+    ensures term { IfOk result (λ id. term_at pool.new id ≡ sliced (term_at pool.old of) hi lo) }
+{
+    match slice_of_node(pool.node(of)) {
+        Some((a, _, low)) => Ok(pool.intern(alloc, Node::Slice(a, low + hi, low + lo))?),
+        None => {
+            if lo == 0 && hi + 1 == pool.width(of) {
+                Ok(of)
+            } else {
+                Ok(pool.intern(alloc, Node::Slice(of, hi, lo))?)
+            }
+        }
+    }
+}
+
+// The operator with its last operand.
+pub(crate) fn close(
+    alloc: Global,
+    pool: &mut Pool,
+    head: Head,
+    last: ExprId,
+) -> Result<ExprId, NoMemory>
+    requires last { last < length pool.old }
+    requires parts { AllBelow (length pool.old) (head_parts head) }
+    requires fits { LastFits head (term_at pool.old) (term_width (term_at pool.old last)) }
+    ensures grows { Grows pool.old pool.new }
+    ensures within { IfOk result (λ id. id < length pool.new) }
+    ensures term { IfOk result (λ id. term_at pool.new id ≡ head_term head (term_at pool.old) (term_at pool.old last)) }
+{
+    match head {
+        Head::Same => Ok(last),
+        Head::Read(width) => Ok(pool.intern(alloc, Node::Read(last, width))?),
+        Head::Un(op) => Ok(pool.intern(alloc, Node::Un(op, last))?),
+        Head::Slice(hi, lo) => make_slice(alloc, pool, last, hi, lo),
+        Head::Zext(width) => Ok(pool.intern(alloc, Node::Zext(last, width))?),
+        Head::Sext(width) => Ok(pool.intern(alloc, Node::Sext(last, width))?),
+        Head::Bin(op, a) => Ok(pool.intern(alloc, Node::Bin(op, a, last))?),
+        Head::Cat(a) => Ok(pool.intern(alloc, Node::Cat(a, last))?),
+        Head::Select(c, a) => Ok(pool.intern(alloc, Node::Select(c, a, last))?),
+    }
+}
+
+// An operator that lacks its last two operands.
+#[derive(Clone, Copy, Debug)]
+pub(crate) enum Two {
+    Bin(Op2),
+    Cat,
+    Select(ExprId),
+}
+
+// The operator with the first of the two.
+pub(crate) fn with_first(two: Two, a: ExprId) -> Head
+    ensures { result ≡ two_head two a }
+{
+    match two {
+        Two::Bin(op) => Head::Bin(op, a),
+        Two::Cat => Head::Cat(a),
+        Two::Select(c) => Head::Select(c, a),
+    }
+}

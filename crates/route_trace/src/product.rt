@@ -1,0 +1,85 @@
+//! Products of routes: operators over operands that have routes.
+
+ghost use Rattle.std.specs.Prelude.{◌≡◌, ℕ, ◌+◌, ◌^◌, ◌<◌, ◌≤◌, ◌&&◌, [], ◌∷◌, map, length, IfErr, IfOk, OnOk, true, if◌then◌else◌};
+ghost use Rattle.bit_bdd.specs.Diagrams.{Extends, has_word};
+ghost use Rattle.net_model.specs.Terms.{term_width};
+ghost use Rattle.sym_expr.specs.Pools.{AllBelow, Grows, term_at};
+ghost use Rattle.route_trace.specs.Heads.{LastFits, head_parts, head_term};
+ghost use Rattle.route_trace.specs.Routing.{AllFit};
+ghost use Rattle.route_trace.specs.Stops.{IfMany, IsOver};
+ghost use Rattle.transfer_set.specs.Routes.{IsTable, held, held_terms};
+
+use crate::heads::{Head, close};
+use crate::merge::add_route;
+use crate::stop::Stop;
+use crate::verdict::MOST_VALUES;
+use bit_bdd::{Book, SetId};
+use rec_bits::{Items, NoMemory};
+use std::alloc::Global;
+use sym_expr::Pool;
+use transfer_set::Route;
+
+// Adds the words of a set that are in a route, with the route's expression under a head.
+fn add_one(
+    alloc: Global,
+    book: &mut Book,
+    pool: &mut Pool,
+    out: &mut Items<Route>,
+    head: Head,
+    set: SetId,
+    route: Route,
+) -> Result<(), NoMemory>
+    requires set { set < length book.old.nodes }
+    requires parts { AllBelow (length pool.old) (head_parts head) }
+    requires route_set { route.set < length book.old.nodes }
+    requires route_expr { route.expr < length pool.old }
+    requires fits { LastFits head (term_at pool.old) (term_width (term_at pool.old route.expr)) }
+    requires table { IsTable book.old pool.old out.old }
+    requires apart { (word : ℕ) → word < 2 ^ book.old.bits → (has_word book.old set word && has_word book.old route.set word) ≡ true → held book.old out.old word ≡ [] }
+    ensures book { Extends book.old book.new }
+    ensures pool { Grows pool.old pool.new }
+    ensures table { OnOk result (IsTable book.new pool.new out.new) }
+    ensures terms { OnOk result ((word : ℕ) → word < 2 ^ book.old.bits → held_terms book.new pool.new out.new word ≡ (if has_word book.old set word && has_word book.old route.set word then head_term head (term_at pool.old) (term_at pool.old route.expr) ∷ [] else held_terms book.old pool.old out.old word)) }
+{
+    let both = book.and(alloc, set, route.set)?;
+    match book.least(both) {
+        None => Ok(()),
+        Some(_) => {
+            let expr = close(alloc, pool, head, route.expr)?;
+            add_route(alloc, book, out, expr, both)?;
+            Ok(())
+        }
+    }
+}
+
+// Adds the words of a set, with what some routes give them under a head, and gives up once there are too many routes.
+pub(crate) fn add_all(
+    alloc: Global,
+    book: &mut Book,
+    pool: &mut Pool,
+    out: &mut Items<Route>,
+    head: Head,
+    set: SetId,
+    routes: &[Route],
+) -> Result<(), Stop>
+    requires set { set < length book.old.nodes }
+    requires parts { AllBelow (length pool.old) (head_parts head) }
+    requires source { IsTable book.old pool.old routes.now }
+    requires one { (word : ℕ) → word < 2 ^ book.old.bits → length (held book.old routes.now word) ≤ 1 }
+    requires fits { AllFit head pool.old routes.now }
+    requires table { IsTable book.old pool.old out.old }
+    requires apart { (word : ℕ) → word < 2 ^ book.old.bits → has_word book.old set word ≡ true → held book.old out.old word ≡ [] }
+    ensures book { Extends book.old book.new }
+    ensures pool { Grows pool.old pool.new }
+    ensures table { OnOk result (IsTable book.new pool.new out.new) }
+    ensures terms { OnOk result ((word : ℕ) → word < 2 ^ book.old.bits → held_terms book.new pool.new out.new word ≡ (if has_word book.old set word then map (head_term head (term_at pool.old)) (held_terms book.old pool.old routes.now word) else held_terms book.old pool.old out.old word)) }
+    ensures many { IfErr result (λ stop. IfMany stop (IsOver book.new pool.new (λ word terms. terms ≡ (if has_word book.old set word then map (head_term head (term_at pool.old)) (held_terms book.old pool.old routes.now word) else held_terms book.old pool.old out.old word)))) }
+{
+    for route in routes {
+        if out.len() > MOST_VALUES {
+            return Err(Stop::Many);
+        }
+        add_one(alloc, book, pool, out, head, set, *route)?;
+    }
+    Ok(())
+}

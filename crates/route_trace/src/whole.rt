@@ -1,0 +1,90 @@
+//! The routes of a net.
+
+ghost use Rattle.std.specs.Prelude.{◌≡◌, ℕ, ◌+◌, ◌^◌, ◌<◌, ◌≤◌, [], length, IfErr, IfOk, true, Some};
+ghost use Rattle.bit_bdd.specs.Diagrams.{Extends, has_word};
+ghost use Rattle.net_model.specs.Terms.{Term};
+ghost use Rattle.net_model.specs.Widths.{IsTyped, NetFits};
+ghost use Rattle.net_model.specs.Value.{value_of};
+ghost use Rattle.net_model.specs.Nets.{gate_nets};
+ghost use Rattle.net_model.specs.Symbolic.{blank, gate_term, is_static};
+ghost use Rattle.sym_expr.specs.Pools.{Grows};
+ghost use Rattle.transfer_set.specs.Routes.{IsTable, held_terms, only};
+ghost use Rattle.route_trace.specs.Gates.{AllGiven, HaveWidths};
+ghost use Rattle.route_trace.specs.Routing.{AreTables};
+ghost use Rattle.route_trace.specs.Stops.{IfMany, IsOver};
+ghost use Rattle.route_trace.specs.Tests.{IsDecided};
+
+use crate::cases::{bus_routes, case_routes};
+use crate::gates::{leaf_routes, routes_over, routes_under};
+use crate::heads::{Head, Two};
+use crate::stop::Stop;
+use bit_bdd::Book;
+use ctl_bdd::ControlBits;
+use net_model::{Gate, Net, Netlist};
+use rec_bits::Items;
+use std::alloc::Global;
+use sym_expr::{Node, Pool};
+use transfer_set::Route;
+
+// The routes of a net, from those of the nets that its gate names.
+pub(crate) fn net_routes(
+    alloc: Global,
+    netlist: &Netlist,
+    controls: &ControlBits,
+    book: &mut Book,
+    pool: &mut Pool,
+    nets: &[Items<Route>],
+    net: &Net,
+) -> Result<Items<Route>, Stop>
+    requires legal { controls.now.legal < length book.old.nodes }
+    requires decided { IsDecided netlist.now book.old controls.now.bits net.now.gate }
+    requires nets { AreTables book.old pool.old nets.now }
+    requires widths { HaveWidths netlist.now pool.old nets.now }
+    requires typed { IsTyped netlist.now }
+    requires fits { NetFits netlist.now (Some net.now) }
+    ensures book { Extends book.old book.new }
+    ensures pool { Grows pool.old pool.new }
+    ensures table { IfOk result (λ out. IsTable book.new pool.new out) }
+    ensures terms { IfOk result (λ out. (t : ℕ → Term) → (word : ℕ) → word < 2 ^ book.old.bits →
+        AllGiven book.old pool.old nets.now controls.now.legal t word (gate_nets net.now.gate) →
+        held_terms book.new pool.new out word ≡
+        only book.old controls.now.legal word (gate_term t (value_of netlist.now blank word) (is_static netlist.now) net.now.width net.now.gate)) }
+    ensures many { IfErr result (λ stop. IfMany stop (IsOver book.new pool.new (λ word terms. (t : ℕ → Term) →
+        AllGiven book.old pool.old nets.now controls.now.legal t word (gate_nets net.now.gate) →
+        terms ≡
+        only book.old controls.now.legal word (gate_term t (value_of netlist.now blank word) (is_static netlist.now) net.now.width net.now.gate)))) }
+{
+    let legal = controls.legal;
+    let width = net.width;
+    match &net.gate {
+        Gate::Word(_) => Ok(leaf_routes(alloc, book, pool, legal, Node::Word(width))?),
+        Gate::Reg(id) => Ok(leaf_routes(alloc, book, pool, legal, Node::Reg(*id, width))?),
+        Gate::Const(value) => {
+            let value = *value;
+            Ok(leaf_routes(alloc, book, pool, legal, Node::Const { width, value })?)
+        }
+        Gate::Read { addr, .. } => {
+            routes_under(alloc, book, pool, legal, Head::Read(width), nets, *addr)
+        }
+        Gate::Wire(a) => routes_under(alloc, book, pool, legal, Head::Same, nets, *a),
+        Gate::Un(op, a) => routes_under(alloc, book, pool, legal, Head::Un(*op), nets, *a),
+        Gate::Slice { of, hi, lo } => {
+            routes_under(alloc, book, pool, legal, Head::Slice(*hi, *lo), nets, *of)
+        }
+        Gate::Zext(a) => routes_under(alloc, book, pool, legal, Head::Zext(width), nets, *a),
+        Gate::Sext(a) => routes_under(alloc, book, pool, legal, Head::Sext(width), nets, *a),
+        Gate::Bin(op, a, b) => {
+            routes_over(alloc, book, pool, legal, Two::Bin(*op), nets, *a, *b)
+        }
+        Gate::Cat(a, b) => routes_over(alloc, book, pool, legal, Two::Cat, nets, *a, *b),
+        Gate::Case { sel, rows, rest } => {
+            let rows = rows.as_slice();
+            let out = case_routes(alloc, controls, book, pool, nets, *sel, rows, *rest, width)?;
+            Ok(out)
+        }
+        Gate::Bus(drivers) => {
+            let out = bus_routes(alloc, controls, book, pool, nets, drivers.as_slice(), width)?;
+            Ok(out)
+        }
+    }
+}
