@@ -1,0 +1,3 @@
+pub mod Extracting
+pub mod PlainNames
+pub mod RoutedLaws

@@ -1,0 +1,129 @@
+//! Netlists with the routes of their nets.
+
+ghost use Rattle.std.specs.Prelude.{◌≡◌, ◌<◌, ◌≤◌, ◌^◌, length, IfOk, IfErr};
+ghost use Rattle.bit_bdd.specs.Diagrams.{Extends};
+ghost use Rattle.net_model.specs.NetFaults.{name_at};
+ghost use Rattle.sym_expr.specs.Pools.{Grows};
+ghost use Rattle.ctl_bdd.specs.Controls.{IsControl, word_width};
+ghost use Rattle.transfer_set.specs.Routes.{AreRoutes};
+ghost use Rattle.net_extract.specs.Extracts.{IsRouted, IsRoutedNet, IsRoutedRefusal};
+ghost use Rattle.net_extract.specs.Traced.{IsTraceRefusal, IsTraced};
+
+use bit_bdd::Book;
+use ctl_bdd::{ControlBits, CtlFault, controls};
+use net_front::{NetRefusal, read_net};
+use net_model::{Checked, NetFault};
+use route_trace::{RouteFault, trace};
+use std::alloc::Global;
+use sym_expr::Pool;
+use transfer_set::Routes;
+
+/// A netlist, its control bits, and the routes of its nets, whose sets are of the book and whose expressions are of the pool.
+#[derive(Drop)]
+pub struct Routed {
+    pub checked: Checked,
+    pub book: Book,
+    pub pool: Pool,
+    pub controls: ControlBits,
+    pub routes: Routes,
+}
+
+// The bits of an instruction word.
+fn word_bits(checked: &Checked) -> u8
+    ensures bits { result ≡ word_width checked.now.netlist }
+    ensures low { 1 ≤ result }
+    ensures high { result ≤ 64 }
+{
+    match checked.netlist().codes.get(0) {
+        Some(code) => code.bits,
+        None => unreachable!(),
+    }
+}
+
+// The offset of the name of a net's item.
+fn name_of(checked: &Checked, net: u32) -> u64
+    ensures { result ≡ name_at checked.now.netlist net }
+{
+    match checked.netlist().net(net) {
+        Some(net) => net.name_at,
+        None => 0,
+    }
+}
+
+// The control bits of the netlist, which has a word without clash.
+fn controls_of(alloc: Global, checked: &Checked, book: &mut Book) -> Result<ControlBits, NetRefusal>
+    requires { book.old.bits ≡ word_width checked.now.netlist }
+    ensures grows { Extends book.old book.new }
+    ensures found { IfOk result (IsControl checked.now.netlist book.new) }
+    ensures refused { IfErr result (IsTraceRefusal checked.now.netlist) }
+{
+    match controls(alloc, checked, book) {
+        Ok(controls) => Ok(controls),
+        Err(CtlFault::AlwaysClash) => Err(NetRefusal::Fault(NetFault::AlwaysClash)),
+        Err(CtlFault::Memory) => Err(NetRefusal::Memory),
+    }
+}
+
+// The routes of the netlist's nets, which keep the limits.
+fn routes_of(
+    alloc: Global,
+    checked: &Checked,
+    controls: &ControlBits,
+    book: &mut Book,
+    pool: &mut Pool,
+) -> Result<Routes, NetRefusal>
+    requires controls { IsControl checked.now.netlist book.old controls.now }
+    requires word { book.old.bits ≡ word_width checked.now.netlist }
+    ensures book { Extends book.old book.new }
+    ensures pool { Grows pool.old pool.new }
+    ensures routes { IfOk result (λ routes. AreRoutes checked.now.netlist book.new pool.new controls.now.legal routes.of) }
+    ensures kept { IfOk result (λ _. IsRouted checked.now.netlist) }
+    ensures refused { IfErr result (IsTraceRefusal checked.now.netlist) }
+{
+    match trace(alloc, checked, controls, book, pool) {
+        Ok(routes) => Ok(routes),
+        Err(RouteFault::PatternLarge(net)) => {
+            let at = name_of(checked, net);
+            Err(NetRefusal::Fault(NetFault::PatternLarge(at)))
+        }
+        Err(RouteFault::TooMany(net)) => {
+            let at = name_of(checked, net);
+            Err(NetRefusal::Fault(NetFault::TooMany(at)))
+        }
+        Err(RouteFault::Memory) => Err(NetRefusal::Memory),
+    }
+}
+
+// What is traced of a netlist, where it keeps N10, N12 and N13.
+fn traced(alloc: Global, checked: Checked) -> Result<Routed, NetRefusal>
+    ensures netlist { IfOk result (λ routed. routed.checked ≡ checked) }
+    ensures traced { IfOk result IsTraced }
+    ensures kept { IfOk result (λ _. IsRouted checked.netlist) }
+    ensures refused { IfErr result (IsTraceRefusal checked.netlist) }
+{
+    let mut book = Book::new(alloc, word_bits(&checked))?;
+    let controls = controls_of(alloc, &checked, &mut book)?;
+    let mut pool = Pool::new(alloc)?;
+    let routes = routes_of(alloc, &checked, &controls, &mut book, &mut pool)?;
+    Ok(Routed {
+        checked,
+        book,
+        pool,
+        controls,
+        routes,
+    })
+}
+
+/// The netlist of a text with its control bits and routes, where it keeps all rules, N10, N12 and N13 among them. `Text` comes exactly where
+/// the bytes are no netlist text, and `Fault` exactly where they are one that breaks a rule, with the first: N10, and then N12 and N13, come
+/// after all others. `Memory` is want of memory.
+pub fn read_traced(alloc: Global, bytes: &[u8]) -> Result<Routed, NetRefusal>
+    requires { length bytes.now < 2 ^ 32 }
+    ensures netlist { IfOk result (λ routed. IsRoutedNet bytes.now routed.checked) }
+    ensures traced { IfOk result IsTraced }
+    ensures refused { IfErr result (IsRoutedRefusal bytes.now) }
+{
+    let (_, checked) = read_net(alloc, bytes)?;
+    let routed = traced(alloc, checked)?;
+    Ok(routed)
+}

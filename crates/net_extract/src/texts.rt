@@ -1,0 +1,39 @@
+//! From the text of a netlist to that of its patterns.
+
+ghost use Rattle.std.specs.Prelude.{◌<◌, ◌^◌, length, IfOk, IfErr};
+ghost use Rattle.net_extract.specs.Extracts.{IsExtracted, IsRoutedNet, IsRoutedRefusal};
+
+use crate::routed::{Routed, read_traced};
+use net_front::NetRefusal;
+use net_model::Checked;
+use std::alloc::Global;
+use transfer_set::collect_patterns;
+
+/// The netlist of a text, which keeps all rules, N10, N12 and N13 among them. The refusals are those of `read_traced`.
+pub fn read_routed(alloc: Global, bytes: &[u8]) -> Result<Checked, NetRefusal>
+    requires { length bytes.now < 2 ^ 32 }
+    ensures found { IfOk result (IsRoutedNet bytes.now) }
+    ensures refused { IfErr result (IsRoutedRefusal bytes.now) }
+{
+    let routed = read_traced(alloc, bytes)?;
+    Ok(routed.checked)
+}
+
+/// The text of the patterns of a netlist's text: how many there are, and for each a line with its number, its transfer, and the least
+/// instruction word that gives it. The refusals are those of `read_traced`.
+pub fn extract(alloc: Global, bytes: &[u8]) -> Result<Vec<u8>, NetRefusal>
+    requires { length bytes.now < 2 ^ 32 }
+    ensures text { IfOk result (λ text. IsExtracted bytes.now text.items) }
+    ensures refused { IfErr result (IsRoutedRefusal bytes.now) }
+{
+    let Routed {
+        checked,
+        mut book,
+        pool,
+        controls,
+        routes,
+    } = read_traced(alloc, bytes)?;
+    let patterns = collect_patterns(alloc, &checked, &controls, &routes, &mut book, &pool)?;
+    let text = patterns.print(alloc, &book, &pool, &checked)?;
+    Ok(text)
+}
