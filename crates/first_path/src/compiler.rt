@@ -2,13 +2,13 @@
 
 ghost use Rattle.std.specs.Prelude.{◌≡◌, ◌<◌, ◌≤◌, ◌^◌, IfOk, IfErr, length};
 ghost use Rattle.src_model.specs.Written.{listing_of};
-ghost use Rattle.net_front.specs.Fronts.{IsCheckedOf};
+ghost use Rattle.net_extract.specs.Extracts.{IsRoutedNet};
 ghost use Rattle.src_front.specs.Fronts.{IsSrcFile};
 ghost use Rattle.code_model.specs.Layout.{layout_of};
 ghost use Rattle.code_model.specs.Places.{Apart};
 ghost use Rattle.net_model.specs.Nets.{memory_size};
 ghost use Rattle.first_path.specs.Code.{AreStores, HasRoom, IsCode, IsCodeFault, IsNarrow};
-ghost use Rattle.first_path.specs.First.{IsCompiled, IsFirstFault, IsNetFault, IsNetRead, IsSrcFault};
+ghost use Rattle.first_path.specs.First.{IsCompiled, IsFirstFault, IsNetFault, IsSrcFault};
 ghost use Rattle.first_path.specs.declared.compiler.FirstFault.{FirstFault};
 
 use crate::image::straight_image;
@@ -16,7 +16,8 @@ use crate::sizes::{cells, code_bits, code_words, word_width};
 use crate::stores::stores_of;
 use binding::{BindFault, bind};
 use code_model::Places;
-use net_front::{NetRefusal, read_net};
+use net_extract::read_routed;
+use net_front::NetRefusal;
 use net_model::{Checked, NetFault};
 use rec_bits::{Items, NoMemory};
 use src_front::{SrcRefusal, read_src};
@@ -32,9 +33,9 @@ const SEARCHED_BITS: u8 = 8;
 pub enum FirstFault {
     /// The first bytes are no netlist text; the offset at which that shows.
     NetText(u64),
-    /// They are one, and this is the first rule that it breaks.
+    /// They are one, and this is the first rule that it breaks: N10, and then N12 or N13, come after all others.
     Net(NetFault),
-    /// The first bytes are a netlist's, and the second are no program text; the offset at which that shows.
+    /// The first bytes are a netlist's that keeps all rules, and the second are no program text; the offset at which that shows.
     SrcText(u64),
     /// They are one, and this is the first rule that it breaks for the words of the netlist.
     Src(SrcFault),
@@ -59,14 +60,14 @@ impl From<NoMemory> for FirstFault {
     }
 }
 
-// The netlist.
+// The netlist, which keeps all rules.
 fn netlist(alloc: Global, net: &[u8]) -> Result<Checked, FirstFault>
     requires { length net.now < 2 ^ 32 }
-    ensures found { IfOk result (IsNetRead net.now) }
+    ensures found { IfOk result (IsRoutedNet net.now) }
     ensures refused { IfErr result (IsNetFault net.now) }
 {
-    match read_net(alloc, net) {
-        Ok((_, checked)) => Ok(checked),
+    match read_routed(alloc, net) {
+        Ok(checked) => Ok(checked),
         Err(NetRefusal::Text(at)) => Err(FirstFault::NetText(at)),
         Err(NetRefusal::Fault(fault)) => Err(FirstFault::Net(fault)),
         Err(NetRefusal::Memory) => Err(FirstFault::Memory),

@@ -6,13 +6,13 @@ use Rattle.rec_io.specs.Files.{Files}
 use Rattle.rec_io.specs.Shelf.{ShelfState}
 use Rattle.rec_io.specs.Sink.{SinkState}
 use Rattle.record_core.proofs.StageLemmas.{By-none}
-use Rattle.record_core.specs.Answers.{Answers, CompileAnswers, RunAnswers, FormAnswers, IsReadFault, IsTooLong, AreFiles, Gives, Puts}
+use Rattle.record_core.specs.Answers.{Answers, CompileAnswers, ExtractAnswers, RunAnswers, FormAnswers, IsReadFault, IsTooLong, AreFiles, Gives, Puts}
 use Rattle.record_core.specs.Fetch.{FetchStops, FetchPasses}
 use Rattle.record_core.specs.Lines.{due_line, IsRefusal}
-use Rattle.record_core.specs.Words.{Form, Compile, Run, run_form, form_of, names_of, clocks_of, IsCommand}
+use Rattle.record_core.specs.Words.{Form, Compile, Extract, Run, run_form, form_of, names_of, clocks_of, IsCommand}
 use Rattle.record_core.specs.declared.status.Status.{Status}
 use Rattle.record_core.specs.declared.status.Status.TheVariants.{Memory, ReadFault, TooLong}
-use Rattle.record_core.specs.declared.words.Command.TheVariants.{Compile as CompileCommand, Run as RunCommand}
+use Rattle.record_core.specs.declared.words.Command.TheVariants.{Compile as CompileCommand, Extract as ExtractCommand, Run as RunCommand}
 
 no_read_fault : (names : List (List ℕ)) (before now : ShelfState) → FetchPasses now → (file : ℕ) → IsReadFault names before now file → ⊥
 no_read_fault names before now passes file fault = let a = passes.ended in let b = fault.failed in cc
@@ -66,6 +66,27 @@ compile_passed words names contents net src before now (net_name, src_name, is) 
     let held : AreFiles before.files (net_name ∷ src_name ∷ []) contents = rw names_are at files in
     answers_fetched words (Compile net_name src_name) before now (rw is refl) passes status text
     (compile_answers (due_line words) net_name src_name contents before.files status text held (rw (← net_is, ← src_is) answers))
+
+-- ---- `extract`
+
+extract_answers : (line : List ℕ → Option ℕ → Status → List ℕ) (net : List ℕ) (contents : List (List ℕ)) (files : Option Files) (status : Status) (text : List ℕ) → AreFiles files (net ∷ []) contents
+    → ExtractAnswers (line (get_or contents 0 []) None) (get_or contents 0 []) status text → FormAnswers line files (Extract net) status text
+extract_answers line net (a ∷ []) files status text held answers = (a, held.0, answers)
+extract_answers line net [] files status text held answers = absurd held
+extract_answers line net (a ∷ b ∷ rest) files status text held answers = absurd held.1
+
+pub extract_stopped : (words names : List (List ℕ)) (before now : ShelfState) (status : Status) → IsCommand words ExtractCommand → names ≡ drop 1 words → FetchStops names before now status → (status ≡ Memory) ⊎ Answers words before now status (due_line words [] None status)
+extract_stopped words names before now status (net, is) same stops =
+    answers_stopped words names (Extract net) before now status (rw is refl) (rw is at same) stops
+
+-- the fetch of `extract` passed, so the words answer what the text does
+pub extract_passed : (words names contents : List (List ℕ)) (net : List ℕ) (before now : ShelfState) → IsCommand words ExtractCommand → names ≡ drop 1 words → FetchPasses now → AreFiles before.files names contents
+    → net ≡ get_or contents 0 [] → (status : Status) (text : List ℕ) → ExtractAnswers (due_line words net None) net status text → Answers words before now status text
+extract_passed words names contents net before now (net_name, is) same passes files net_is status text answers =
+    let names_are : names ≡ net_name ∷ [] = rw is at same in
+    let held : AreFiles before.files (net_name ∷ []) contents = rw names_are at files in
+    answers_fetched words (Extract net_name) before now (rw is refl) passes status text
+    (extract_answers (due_line words) net_name contents before.files status text held (rw (← net_is) answers))
 
 -- ---- `run`
 

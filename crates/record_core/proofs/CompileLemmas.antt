@@ -1,16 +1,16 @@
 -- What `compile` answers for two texts.
 use Rattle.std.proofs.Common.{◌≡◌, ℕ, List, inl, inr, refl}
-use Rattle.net_front.proofs.FrontLaws.{no_text_fault, no_broken_rule}
-use Rattle.net_front.specs.Fronts.{BreaksRule}
 use Rattle.net_model.specs.declared.fault.NetFault.{NetFault}
 use Rattle.net_parser.specs.Texts.{IsNoNetText}
+use Rattle.net_extract.specs.Extracts.{BreaksAnyRule}
 use Rattle.src_front.proofs.FrontLaws.{no_text_fault as no_src_fault}
 use Rattle.src_model.specs.declared.fault.SrcFault.{SrcFault}
 use Rattle.src_parser.specs.Texts.{IsNoSrcText}
 use Rattle.first_path.proofs.FirstLemmas.{has_net, none_broken, weaker, no_full, no_wide, no_crooked, no_wordless, narrow_of_code, straight_of_code}
 use Rattle.first_path.specs.declared.compiler.FirstFault.TheVariants.{WideCode, NotStraight, NoWord as Wordless}
-use Rattle.first_path.specs.Code.{Property, IsFull, IsWide, IsNotStraight, IsWordless, IsCode, FailsWith, HasRoom, IsNarrow, HasStores}
+use Rattle.first_path.specs.Code.{Property, IsFull, IsWide, IsNotStraight, IsWordless, FailsWith, HasRoom, IsNarrow, HasStores}
 use Rattle.first_path.specs.First.{HasNet, Holds, IsCompiled, BreaksSrc}
+use Rattle.record_core.proofs.NetLemmas.{past_rules, stops_at_text, stops_at_rule}
 use Rattle.record_core.proofs.StageLemmas.{By-none}
 use Rattle.record_core.specs.Answers.{CompileAnswers, IsLater}
 use Rattle.record_core.specs.Stages.{By, Then}
@@ -36,10 +36,7 @@ module _ (line : Status → List ℕ) (net src : List ℕ) where
 
   -- a netlist's text passes the stages of the netlist
   past_net : HasNet net → (status : Status) (text : List ℕ) → source_answers status text → CompileAnswers line net src status text
-  past_net h status text later = inr (
-    By-none NetText (IsNoNetText net) (λ at faulty. no_text_fault net h.entries at h.file.says faulty),
-    inr (By-none Net (BreaksRule net) (λ fault breaks. no_broken_rule net h.entries fault h.file breaks), later),
-  )
+  past_net h = past_rules line net source_answers h.entries h.file
 
   -- a program for it passes those of the program
   past_program : (P : Property) → Holds net src P → (status : Status) (text : List ℕ) → room_answers status text → CompileAnswers line net src status text
@@ -74,11 +71,10 @@ module _ (line : Status → List ℕ) (net src : List ℕ) where
   ))
 
   pub answers_no_net_text : (at : ℕ) → IsNoNetText net at → CompileAnswers line net src (NetText at) (line (NetText at))
-  answers_no_net_text at none = inl ((at, none, refl), refl)
+  answers_no_net_text = stops_at_text line net source_answers
 
-  pub answers_broken : (fault : NetFault) → BreaksRule net fault → CompileAnswers line net src (Net fault) (line (Net fault))
-  answers_broken fault breaks =
-      inr (By-none NetText (IsNoNetText net) (λ at faulty. no_text_fault net breaks.entries at breaks.says faulty), inl ((fault, breaks, refl), refl))
+  pub answers_broken : (fault : NetFault) → BreaksAnyRule net fault → CompileAnswers line net src (Net fault) (line (Net fault))
+  answers_broken = stops_at_rule line net source_answers
 
   pub answers_no_src_text : (at : ℕ) → HasNet net × IsNoSrcText src at → CompileAnswers line net src (SrcText at) (line (SrcText at))
   answers_no_src_text at (has, none) = past_net has (SrcText at) (line (SrcText at)) (inl ((at, none, refl), refl))

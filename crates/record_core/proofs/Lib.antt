@@ -1,9 +1,11 @@
 mod AnswerLemmas
 mod CompileLemmas
+mod ExtractLemmas
 mod FetchLemmas
 mod ImageLemmas
 mod StageLemmas
 mod UniqueLemmas
 mod WordLemmas
 mod NameLemmas
+mod NetLemmas
 mod RunLemmas

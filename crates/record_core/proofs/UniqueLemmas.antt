@@ -4,6 +4,7 @@ use Rattle.std.specs.declared.option.Option.{Option}
 use Rattle.net_parser.proofs.TextFaults.{one_net_fault}
 use Rattle.net_front.proofs.FrontLaws.{one_broken_rule}
 use Rattle.src_parser.proofs.TextFaults.{one_src_fault}
+use Rattle.net_extract.specs.Extracts.{IsExtracted}
 use Rattle.first_path.proofs.FirstLemmas.{one_broken, one_full, one_wordless}
 use Rattle.first_path.specs.Code.{Property, IsWide, IsNotStraight}
 use Rattle.net_run.proofs.RunLaws.{one_image_fault, one_memory_fault, one_clash, no_clash_shown}
@@ -13,10 +14,11 @@ use Rattle.rec_io.specs.Causes.{Rose}
 use Rattle.rec_io.specs.Files.{Files}
 use Rattle.rec_io.specs.Shelf.{ShelfState}
 use Rattle.rec_io.specs.Sink.{SinkState}
+use Rattle.record_core.proofs.NetLemmas.{NetStages-unique}
 use Rattle.record_core.proofs.StageLemmas.{AtMostOne, By-unique, Then-unique}
-use Rattle.record_core.specs.Answers.{Answers, FilesAnswer, CompileAnswers, RunEnds, RunAnswers, FormAnswers, IsReadFault, IsTooLong, IsLater, IsFile, Gives, IsExact, IsAccepted}
+use Rattle.record_core.specs.Answers.{Answers, FilesAnswer, CompileAnswers, ExtractAnswers, RunEnds, RunAnswers, FormAnswers, IsReadFault, IsTooLong, IsLater, IsFile, Gives, IsExact, IsAccepted}
 use Rattle.record_core.specs.Lines.{due_line}
-use Rattle.record_core.specs.Words.{Form, Compile, Run, form_of, names_of}
+use Rattle.record_core.specs.Words.{Form, Compile, Extract, Run, form_of, names_of}
 use Rattle.record_core.specs.declared.status.Status.{Status}
 use Rattle.record_core.specs.declared.status.Status.TheVariants.{Done, Usage, ReadFault, TooLong, NetText, Net, SrcText, Src, DataFull, ImageText, MemText, Clash, Memory, Later, NoWord}
 
@@ -29,19 +31,21 @@ one_long names before now (a, b) (c, d) p q = let p0 = p.place in let p1 = p.bou
 one_later : (number : ℕ) (net src : List ℕ) (P : Property) (x y : ℕ) → IsLater number net src P x → IsLater number net src P y → x ≡ y
 one_later number net src P x y p q = p.0 ∙ sym q.0
 
-done_only : (net src : List ℕ) → AtMostOne (λ status text. (status ≡ Done) × IsCompiled net src text)
-done_only net src s t a b p q = p.0 ∙ sym q.0
+done_only : (Written : List ℕ → Type 0) → AtMostOne (λ status text. (status ≡ Done) × Written text)
+done_only Written s t a b p q = p.0 ∙ sym q.0
 
 CompileAnswers-unique : (line : Status → List ℕ) (net src : List ℕ) → AtMostOne (CompileAnswers line net src)
 CompileAnswers-unique line net src =
-    Then-unique line _ _ (By-unique NetText _ (one_net_fault net)) (
-    Then-unique line _ _ (By-unique Net _ (one_broken_rule net)) (
+    NetStages-unique line net _ (
     Then-unique line _ _ (By-unique SrcText _ (one_src_fault src)) (
     Then-unique line _ _ (By-unique Src _ (one_broken net src)) (
     Then-unique line _ _ (By-unique (λ (p : ℕ × ℕ). DataFull p.0 p.1) _ (one_full net src)) (
     Then-unique line _ _ (By-unique Later _ (one_later 0 net src IsWide)) (
     Then-unique line _ _ (By-unique Later _ (one_later 1 net src IsNotStraight)) (
-    Then-unique line _ _ (By-unique NoWord _ (one_wordless net src)) (done_only net src))))))))
+    Then-unique line _ _ (By-unique NoWord _ (one_wordless net src)) (done_only (IsCompiled net src))))))))
+
+ExtractAnswers-unique : (line : Status → List ℕ) (net : List ℕ) → AtMostOne (ExtractAnswers line net)
+ExtractAnswers-unique line net = NetStages-unique line net _ (done_only (IsExtracted net))
 
 -- the bytes of a file that is told
 one_file : (files : Option Files) (name a b : List ℕ) → IsSome files → IsFile files name a → IsFile files name b → a ≡ b
@@ -68,6 +72,9 @@ FormAnswers-unique line files (Compile n m) told s t a b (net, src, p, q, x) (ne
     let e : net' ≡ net = one_file files n net' net told p' p in
     let f : src' ≡ src = one_file files m src' src told q' q in
     CompileAnswers-unique (line net None) net src s t a b x (rw (e, f) at y)
+FormAnswers-unique line files (Extract n) told s t a b (net, p, x) (net', p', y) =
+    let e : net' ≡ net = one_file files n net' net told p' p in
+    ExtractAnswers-unique (line net None) net s t a b x (rw e at y)
 FormAnswers-unique line files (Run n i m clocks) told s t a b (net, image, memory, p, q, r, x) (net', image', memory', p', q', r', y) =
     let e : net' ≡ net = one_file files n net' net told p' p in
     let f : image' ≡ image = one_file files i image' image told q' q in

@@ -6,7 +6,7 @@ use Rattle.std.specs.Prelude.{codes}
 use Rattle.std.specs.Str.{bytes_eq}
 use Rattle.std.specs.declared.alloc.Global.{Global}
 use Rattle.record_core.specs.Words.{texts_of, clocks_of, form_of, run_form, IsCommand}
-use Rattle.record_core.specs.declared.words.Command.TheVariants.{Compile, Run}
+use Rattle.record_core.specs.declared.words.Command.TheVariants.{Compile, Extract, Run}
 
 -- three words, the first of which is the command
 pub compile_words : (words : List (String Global)) (d : String Global) → length words ≡ 3 → bytes_eq (string_bytes (get_or words 0 d)) (codes "compile") ≡ true → IsCommand (texts_of words) Compile
@@ -16,6 +16,13 @@ compile_words [] d n e = absurd (omega arith)
 compile_words (a ∷ []) d n e = absurd (omega arith)
 compile_words (a ∷ b ∷ []) d n e = absurd (omega arith)
 compile_words (a ∷ b ∷ c ∷ f ∷ rest) d n e = absurd (omega arith)
+
+-- two words, the first of which is the command
+pub extract_words : (words : List (String Global)) (d : String Global) → length words ≡ 2 → bytes_eq (string_bytes (get_or words 0 d)) (codes "extract") ≡ true → IsCommand (texts_of words) Extract
+extract_words (a ∷ b ∷ []) d n e = (string_bytes b, ap (λ x. x ∷ string_bytes b ∷ []) ((bytes_eq-Decides (string_bytes a) (codes "extract")).0 e))
+extract_words [] d n e = absurd (omega arith)
+extract_words (a ∷ []) d n e = absurd (omega arith)
+extract_words (a ∷ b ∷ c ∷ rest) d n e = absurd (omega arith)
 
 -- the names are the words after the first
 pub names_after : (words : List (String Global)) → texts_of (take (length words - 1) (drop 1 words)) ≡ drop 1 (texts_of words)
@@ -52,7 +59,7 @@ no_run_words (a ∷ b ∷ c ∷ f ∷ g ∷ []) e n none = by_test (bytes_eq (st
     by_test false = refl
 no_run_words [] e n none = refl
 no_run_words (a ∷ []) e n none = refl
-no_run_words (a ∷ b ∷ []) e n none = refl
+no_run_words (a ∷ b ∷ []) e n none = absurd (omega arith)
 no_run_words (a ∷ b ∷ c ∷ []) e n none = absurd (omega arith)
 no_run_words (a ∷ b ∷ c ∷ f ∷ []) e n none = refl
 no_run_words (a ∷ b ∷ c ∷ f ∷ g ∷ h ∷ rest) e n none = refl

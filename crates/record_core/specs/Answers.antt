@@ -4,6 +4,7 @@ use Rattle.std.specs.declared.option.Option.{Option}
 use Rattle.std.specs.Str.{bytes_eq}
 use Rattle.net_parser.specs.Texts.{IsNoNetText}
 use Rattle.net_front.specs.Fronts.{BreaksRule}
+use Rattle.net_extract.specs.Extracts.{BreaksAnyRule, IsExtracted}
 use Rattle.src_parser.specs.Texts.{IsNoSrcText}
 use Rattle.first_path.specs.Code.{Property, IsFull, IsWide, IsNotStraight, IsWordless}
 use Rattle.first_path.specs.First.{Holds, IsCompiled, BreaksSrc}
@@ -15,7 +16,7 @@ use Rattle.rec_io.specs.Sink.{SinkState}
 use Rattle.rec_io.specs.Written.{Takes, TakesPrefix}
 use Rattle.record_core.specs.Lines.{due_line}
 use Rattle.record_core.specs.Stages.{By, Then}
-use Rattle.record_core.specs.Words.{Form, Compile, Run, form_of, names_of}
+use Rattle.record_core.specs.Words.{Form, Compile, Extract, Run, form_of, names_of}
 use Rattle.record_core.specs.declared.status.Status.{Status}
 use Rattle.record_core.specs.declared.status.Status.TheVariants.{Done, Usage, ReadFault, TooLong, WriteFault, NetText, Net, SrcText, Src, DataFull, Memory, ImageText, MemText, Clash, Later, NoWord}
 
@@ -67,7 +68,7 @@ IsLater number net src P file = (file ≡ number) × Holds net src P
 abbrev pub CompileAnswers : (Status → List ℕ) → List ℕ → List ℕ → Status → List ℕ → Type 0
 CompileAnswers line net src =
     Then line (By NetText (IsNoNetText net)) (
-    Then line (By Net (BreaksRule net)) (
+    Then line (By Net (BreaksAnyRule net)) (
     Then line (By SrcText (IsNoSrcText src)) (
     Then line (By Src (BreaksSrc net src)) (
     Then line (By (λ (p : ℕ × ℕ). DataFull p.0 p.1) (λ (p : ℕ × ℕ). Holds net src (IsFull p.0 p.1))) (
@@ -75,6 +76,13 @@ CompileAnswers line net src =
     Then line (By Later (IsLater 1 net src IsNotStraight)) (
     Then line (By NoWord (λ (number : ℕ). Holds net src (IsWordless number))) (
     λ status text. (status ≡ Done) × IsCompiled net src text))))))))
+
+-- what `extract` answers for this text
+abbrev pub ExtractAnswers : (Status → List ℕ) → List ℕ → Status → List ℕ → Type 0
+ExtractAnswers line net =
+    Then line (By NetText (IsNoNetText net)) (
+    Then line (By Net (BreaksAnyRule net)) (
+    λ status text. (status ≡ Done) × IsExtracted net text))
 
 -- how the clocks of `run` end: a bus clashes, and its name is told, or the state is reached
 abbrev pub RunEnds : (Option ℕ → Status → List ℕ) → List ℕ → List ℕ → List ℕ → ℕ → Status → List ℕ → Type 0
@@ -95,6 +103,8 @@ RunAnswers line net image memory clocks =
 abbrev pub FormAnswers : (List ℕ → Option ℕ → Status → List ℕ) → Option Files → Form → Status → List ℕ → Type 0
 FormAnswers line files (Compile net_name src_name) status text =
     (net : List ℕ) × (src : List ℕ) × IsFile files net_name net × IsFile files src_name src × CompileAnswers (line net None) net src status text
+FormAnswers line files (Extract net_name) status text =
+    (net : List ℕ) × IsFile files net_name net × ExtractAnswers (line net None) net status text
 FormAnswers line files (Run net_name image_name memory_name clocks) status text =
     (net : List ℕ) × (image : List ℕ) × (memory : List ℕ) × IsFile files net_name net × IsFile files image_name image × IsFile files memory_name memory
     × RunAnswers (line net) net image memory clocks status text
@@ -146,6 +156,14 @@ pub record HasImage (net_name src_name : List ℕ) (files : Files) (old new : Li
   pub taken : new ≡ old ++ out
   pub right : IsCompiled net src out
 
+-- the bytes that were taken are the text of the patterns of this file
+pub record HasPatterns (net_name : List ℕ) (files : Files) (old new : List ℕ) : Type 0 where
+  pub net : List ℕ
+  pub out : List ℕ
+  pub net_file : file_of files net_name ≡ Some net
+  pub taken : new ≡ old ++ out
+  pub extracted : IsExtracted net out
+
 -- the bytes that were taken are the state after so many clocks of these three files
 pub record HasState (net_name image_name memory_name : List ℕ) (clocks : ℕ) (files : Files) (old new : List ℕ) : Type 0 where
   pub net : List ℕ
@@ -161,6 +179,9 @@ pub record HasState (net_name image_name memory_name : List ℕ) (clocks : ℕ) 
 -- the same, where files and bytes are told
 abbrev pub WroteImage : List ℕ → List ℕ → Option Files → Option (List ℕ) → Option (List ℕ) → Type 0
 WroteImage net_name src_name files old new = IfSome files (λ all. IfSome old (λ before. IfSome new (HasImage net_name src_name all before)))
+
+abbrev pub WrotePatterns : List ℕ → Option Files → Option (List ℕ) → Option (List ℕ) → Type 0
+WrotePatterns net_name files old new = IfSome files (λ all. IfSome old (λ before. IfSome new (HasPatterns net_name all before)))
 
 abbrev pub WroteState : List ℕ → List ℕ → List ℕ → ℕ → Option Files → Option (List ℕ) → Option (List ℕ) → Type 0
 WroteState net_name image_name memory_name clocks files old new =

@@ -5,7 +5,7 @@ use Rattle.std.specs.declared.option.Option.{Option}
 use Rattle.std.specs.Str.{bytes_eq}
 use Rattle.text_lines.specs.Fields.{number_of}
 use Rattle.record_core.specs.declared.words.Command.{Command}
-use Rattle.record_core.specs.declared.words.Command.TheVariants.{Compile as CompileCommand, Run as RunCommand}
+use Rattle.record_core.specs.declared.words.Command.TheVariants.{Compile as CompileCommand, Extract as ExtractCommand, Run as RunCommand}
 
 -- the words as texts
 abbrev pub texts_of : List (String Global) → List (List ℕ)
@@ -26,6 +26,7 @@ clocks_of word = within_limit (number_of word)
 -- a command with the names of its files
 pub data Form : Type 0 where
   Compile : (net src : List ℕ) → Form
+  Extract : (net : List ℕ) → Form
   Run : (net image memory : List ℕ) (clocks : ℕ) → Form
 
 abbrev pub run_form : List ℕ → List ℕ → List ℕ → Option ℕ → Option Form
@@ -34,6 +35,7 @@ run_form net image memory (Some clocks) = Some (Run net image memory clocks)
 
 -- the form of the words, if they have one
 abbrev pub form_of : List (List ℕ) → Option Form
+form_of (command ∷ net ∷ []) = if bytes_eq command (codes "extract") then Some (Extract net) else None
 form_of (command ∷ net ∷ src ∷ []) = if bytes_eq command (codes "compile") then Some (Compile net src) else None
 form_of (command ∷ net ∷ image ∷ memory ∷ clocks ∷ []) = if bytes_eq command (codes "run") then run_form net image memory (clocks_of clocks) else None
 form_of _ = None
@@ -41,11 +43,13 @@ form_of _ = None
 -- the names of the form's files, in their order
 abbrev pub names_of : Form → List (List ℕ)
 names_of (Compile net src) = net ∷ src ∷ []
+names_of (Extract net) = net ∷ []
 names_of (Run net image memory clocks) = net ∷ image ∷ memory ∷ []
 
 -- these words have the form of this command
 abbrev pub IsCommand : List (List ℕ) → Command → Type 0
 IsCommand words CompileCommand = (net : List ℕ) × (src : List ℕ) × (words ≡ codes "compile" ∷ net ∷ src ∷ [])
+IsCommand words ExtractCommand = (net : List ℕ) × (words ≡ codes "extract" ∷ net ∷ [])
 IsCommand words (RunCommand clocks) = (net : List ℕ) × (image : List ℕ) × (memory : List ℕ) × (text : List ℕ)
     × (words ≡ codes "run" ∷ net ∷ image ∷ memory ∷ text ∷ []) × (clocks_of text ≡ Some clocks)
 

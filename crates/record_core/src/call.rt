@@ -1,14 +1,15 @@
 //! The call of the program.
 ghost use Rattle.std.specs.Prelude.{◌≡◌, ◌⊎◌, ◌≤◌, ℕ, List, Some, IfOk, IfErr, IsSome, string_bytes};
 ghost use Rattle.rec_io.specs.Causes.{Rose};
-ghost use Rattle.record_core.specs.Answers.{Answers, Puts, Gives, IsExact, IsAccepted, WroteImage, WroteState};
+ghost use Rattle.record_core.specs.Answers.{Answers, Puts, Gives, IsExact, IsAccepted, WroteImage, WrotePatterns, WroteState};
 ghost use Rattle.record_core.specs.Lines.{IsRefusal};
-ghost use Rattle.record_core.specs.Words.{Compile, Run, form_of, texts_of, IsCommand};
+ghost use Rattle.record_core.specs.Words.{Compile, Extract, Run, form_of, texts_of, IsCommand};
 ghost use Rattle.record_core.specs.declared.words.Command.{Command};
 ghost use Rattle.record_core.specs.declared.status.Status.{Status};
 
 use crate::Status;
 use crate::compile::compile_text;
+use crate::extract::extract_text;
 use crate::fetch::fetch_all;
 use crate::line::{fault_line, name_from, told_place};
 use crate::run::run_text;
@@ -61,6 +62,29 @@ fn compile_files<F: Shelf>(
     }
 }
 
+// The text of the patterns of the file that the words name, or the first refusal that applies.
+fn extract_files<F: Shelf>(
+    alloc: Global,
+    words: &[String],
+    shelf: &mut F,
+) -> Result<Vec<u8>, Refusal>
+    requires { IsCommand (texts_of words.now) Command.Extract }
+    ensures later { (F.state shelf.old).faults ≤ (F.state shelf.new).faults }
+    ensures same { (F.state shelf.new).files ≡ (F.state shelf.old).files }
+    ensures ok { IfOk result (λ text. Answers (texts_of words.now) (F.state shelf.old) (F.state shelf.new) Status.Done text.items) }
+    ensures refused { IfErr result (λ refusal. (refusal.status ≡ Status.Memory) ⊎ Answers (texts_of words.now) (F.state shelf.old) (F.state shelf.new) refusal.status (string_bytes refusal.line)) }
+{
+    let got = match fetch_all(alloc, &words[1..], shelf) {
+        Ok(got) => got,
+        Err(status) => return Err(refused(alloc, words, &[], None, status)),
+    };
+    let net = got[0].as_slice();
+    match extract_text(alloc, net) {
+        Ok(text) => Ok(text),
+        Err(status) => Err(refused(alloc, words, net, None, status)),
+    }
+}
+
 // The state text of the files that the words name, or the first refusal that applies.
 fn run_files<F: Shelf>(
     alloc: Global,
@@ -93,6 +117,7 @@ fn decide<F: Shelf>(alloc: Global, words: &[String], shelf: &mut F) -> Result<Ve
 {
     match command_of(words) {
         Some(Command::Compile) => compile_files(alloc, words, shelf),
+        Some(Command::Extract) => extract_files(alloc, words, shelf),
         Some(Command::Run(clocks)) => run_files(alloc, words, clocks, shelf),
         None => Err(refused(alloc, words, &[], None, Status::Usage)),
     }
@@ -127,10 +152,10 @@ fn answer<F: Shelf, S: Sink>(alloc: Global, words: &[String], shelf: &mut F, out
 
 /// What the words ask for, over the files of this shelf, into this output.
 ///
-/// The words are those after the program's name: `compile NET SRC` or `run NET IMG MEM CYCLES` so far, where NET, SRC, IMG and MEM
-/// are names of files, and CYCLES is a decimal number from 0 to 1,000,000. On `Done` the output took the whole text, an image or a state. On
-/// `WriteFault` it took a prefix of the text that was due, and on every other status the line of the fault. Want of memory may be answered
-/// anywhere.
+/// The words are those after the program's name: `compile NET SRC`, `extract NET` or `run NET IMG MEM CYCLES` so far, where NET, SRC, IMG and
+/// MEM are names of files, and CYCLES is a decimal number from 0 to 1,000,000. On `Done` the output took the whole text: an image, the patterns
+/// of a netlist, or a state. On `WriteFault` it took a prefix of the text that was due, and on every other status the line of the fault. Want
+/// of memory may be answered anywhere.
 pub fn record_call<F: Shelf, S: Sink>(
     alloc: Global,
     words: &Vec<String>,
@@ -152,6 +177,9 @@ pub fn record_call<F: Shelf, S: Sink>(
 
     // The main promise of `compile`: what was written is an image that is right code for the program on the netlist.
     ensures image { (net src : List ℕ) → form_of (texts_of words.now.items) ≡ Some (Compile net src) → result ≡ Status.Done → WroteImage net src (F.state shelf.old).files (S.state out.old).written (S.state out.new).written }
+
+    // The main promise of `extract`: what was written is what the instruction words do, each with its least word.
+    ensures patterns { (net : List ℕ) → form_of (texts_of words.now.items) ≡ Some (Extract net) → result ≡ Status.Done → WrotePatterns net (F.state shelf.old).files (S.state out.old).written (S.state out.new).written }
 
     // The main promise of `run`: what was written is the state that the clocks reach.
     ensures state { (net image memory : List ℕ) (clocks : ℕ) → form_of (texts_of words.now.items) ≡ Some (Run net image memory clocks) → result ≡ Status.Done → WroteState net image memory clocks (F.state shelf.old).files (S.state out.old).written (S.state out.new).written }

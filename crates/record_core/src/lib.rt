@@ -3,6 +3,7 @@
 
 mod call;
 mod compile;
+mod extract;
 mod fetch;
 mod line;
 mod run;
@@ -38,6 +39,13 @@ mark 2 end
 word 0 03 -
 word 1 3f -
 word 2 82 -
+done
+";
+
+    const PATTERNS: &str = "patterns 3
+0 PC := add(PC,1#4) ; 00
+1 PC := slice(I,3,0) ; 80
+2 M[slice(I,6,5)] := slice(I,4,0) ; 00
 done
 ";
 
@@ -78,7 +86,9 @@ done
             ("compile net", Status::Usage, "error usage\n"),
             ("compile net two two", Status::Usage, "error usage\n"),
             ("Compile net two", Status::Usage, "error usage\n"),
-            ("extract net", Status::Usage, "error usage\n"),
+            ("extract net", Status::Done, PATTERNS),
+            ("extract net two", Status::Usage, "error usage\n"),
+            ("extract clock", unknown, "error net N2 Unknown PC\n"),
             ("run net two two 03", Status::Usage, "error usage\n"),
             (
                 "run net two two 3",

@@ -12,6 +12,8 @@ const CLOCK_LIMIT: u64 = 1_000_000;
 pub enum Command {
     /// `compile NET SRC`: the image text of a program for a netlist.
     Compile,
+    /// `extract NET`: the text of a netlist's patterns.
+    Extract,
     /// `run NET IMG MEM CYCLES`: the state of a netlist after so many clocks on an image, from a memory text's state.
     Run(u32),
 }
@@ -32,6 +34,9 @@ pub fn command_of(words: &[String]) -> Option<Command>
 {
     if words.len() == 3 && words[0].as_str() == "compile" {
         return Some(Command::Compile);
+    }
+    if words.len() == 2 && words[0].as_str() == "extract" {
+        return Some(Command::Extract);
     }
     if words.len() == 5 && words[0].as_str() == "run" {
         if let Some(clocks) = clocks(words[4].as_str()) {

@@ -110,8 +110,8 @@ word_fits netlist i one h = record { fits = by }
 
 -- ---- how many words there are
 
-pub one_shift : (b : ℕ) → b ≤ 8 → 1 * 2 ^ b % 18446744073709551616 ≡ 2 ^ b
+pub one_shift : (b : ℕ) → b ≤ 16 → 1 * 2 ^ b % 18446744073709551616 ≡ 2 ^ b
 one_shift b h =
-    let q : 2 ^ b ≤ 2 ^ 8 = pow-le-pow_right (lit< tt) h in
+    let q : 2 ^ b ≤ 2 ^ 16 = pow-le-pow_right (lit< tt) h in
     let e : 1 * 2 ^ b ≡ 2 ^ b = omega arith in
     ap (λ n. n % 18446744073709551616) e ∙ mod-eq_of_lt (omega (arith, q))

@@ -1,0 +1,28 @@
+-- What `extract` answers for the text of a netlist.
+use Rattle.std.proofs.Common.{◌≡◌, ℕ, List, inl, inr, refl}
+use Rattle.net_model.specs.declared.fault.NetFault.{NetFault}
+use Rattle.net_parser.specs.Texts.{IsNoNetText}
+use Rattle.net_extract.specs.Extracts.{BreaksAnyRule, IsExtracted}
+use Rattle.record_core.proofs.NetLemmas.{past_rules, stops_at_text, stops_at_rule}
+use Rattle.record_core.specs.Answers.{ExtractAnswers}
+use Rattle.record_core.specs.declared.status.Status.{Status}
+use Rattle.record_core.specs.declared.status.Status.TheVariants.{Done, NetText, Net}
+
+module _ (line : Status → List ℕ) (net : List ℕ) where
+  abbrev pub text_answers : Status → List ℕ → Type 0
+  text_answers status text = (status ≡ Done) × IsExtracted net text
+
+  pub answers_patterns : (out : List ℕ) → IsExtracted net out → ExtractAnswers line net Done out
+  answers_patterns out is = past_rules line net text_answers is.entries is.file Done out (refl, is)
+
+  pub answers_no_net_text : (at : ℕ) → IsNoNetText net at → ExtractAnswers line net (NetText at) (line (NetText at))
+  answers_no_net_text = stops_at_text line net text_answers
+
+  pub answers_broken : (fault : NetFault) → BreaksAnyRule net fault → ExtractAnswers line net (Net fault) (line (Net fault))
+  answers_broken = stops_at_rule line net text_answers
+
+-- what is written on `Done` is the text of the patterns
+pub patterns_of : (line : Status → List ℕ) (net text : List ℕ) → ExtractAnswers line net Done text → IsExtracted net text
+patterns_of line net text (inl ((at, reason, is), same)) = absurd cc
+patterns_of line net text (inr (net_text, inl ((fault, reason, is), same))) = absurd cc
+patterns_of line net text (inr (net_text, inr (rules, (is, extracted)))) = extracted
