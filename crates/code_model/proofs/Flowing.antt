@@ -31,9 +31,6 @@ module _ (netlist : Netlist) (image : Image) where
         let within : f.0 ≤ e = f.2 in
         (n + f.0, f.1, omega arith, reaches_on n s t f.1 f.0 (n + f.0) refl r f.3, f.4, f.5, f.6)
 
-    pub follows_more : (d e : ℕ) (s : State) (ps : List Passed) → e ≤ d → Follows netlist image l e s ps → Follows netlist image l d s ps
-    follows_more d e s ps le f = follows_on 0 d e s s ps refl (omega arith) f
-
     pub stands_less : (d : ℕ) (P : State → Type 0) (way : Onward) (m : ℕ) → Stands netlist image l d P way (suc m) → Stands netlist image l d P way m
     stands_less d P way m h j le s p = h j (omega arith) s p
 

@@ -6,19 +6,17 @@ use Rattle.rec_bits.specs.Faults.{gather}
 use Rattle.net_model.specs.declared.hardware.Netlist.{Netlist}
 use Rattle.net_model.specs.declared.hardware.Code.{Code}
 use Rattle.net_model.specs.declared.hardware.Storage.{Storage}
-use Rattle.net_model.specs.declared.states.State.{State}
-use Rattle.net_model.specs.Nets.{width_at, code_bits}
+use Rattle.net_model.specs.Nets.{width_at, code_bits, word_width}
 use Rattle.net_model.specs.Widths.{WordFits}
-use Rattle.net_model.specs.Symbolic.{is_static, blank}
+use Rattle.net_model.specs.Symbolic.{blank}
 use Rattle.net_model.specs.Value.{value_of}
 use Rattle.net_model.specs.Transfers.{IsClean}
 use Rattle.net_model.specs.CheckedRules.{storage_controls}
-use Rattle.net_model.proofs.Meanings.{static_value}
 use Rattle.bit_bdd.specs.Diagrams.{Diagrams, Extends, has_word}
 use Rattle.bit_bdd.proofs.CallerLemmas.{same_words}
 use Rattle.ctl_bdd.specs.declared.ControlBits.{ControlBits}
 use Rattle.ctl_bdd.specs.Places.{is_placed, is_static_control, numbers_below, static_controls}
-use Rattle.ctl_bdd.specs.Controls.{IsControl, IsNetBits, IsWithoutClash, bits_in, word_width}
+use Rattle.ctl_bdd.specs.Controls.{IsControl, IsNetBits, IsWithoutClash, bits_in}
 use Rattle.ctl_bdd.proofs.Alls.{or_left}
 use Rattle.ctl_bdd.proofs.Sets.{sets_later, set_in}
 use Rattle.ctl_bdd.proofs.Numbers.{eqb_turned, number_one}
@@ -84,10 +82,6 @@ one_set netlist book n [] b w = absurd (omega (arith, b.number.long, w))
 one_set netlist book n (set ∷ []) b w =
     (set, refl, λ word lt. bit_is (has_word book set word) ∙ ap (λ x. x == 1) (sym (number_one book set word) ∙ b.number.number word lt))
 one_set netlist book n (set ∷ other ∷ sets) b w = absurd (omega (arith, b.number.long, w))
-
--- static nets have in each state the value that they have in the blank one
-pub same_in : (netlist : Netlist) (s : State) (word n : ℕ) → is_static netlist n ≡ true → value_of netlist s word n ≡ value_of netlist blank word n
-same_in netlist s word n e = static_value netlist s blank word (length netlist.nets) n e
 
 fits_one : (codes : List Code) (word : ℕ) → length codes ≡ 1 → word < 2 ^ code_bits (slice_get codes 0) → (k : ℕ) → 0 < code_bits (slice_get codes k) → word < 2 ^ code_bits (slice_get codes k)
 fits_one [] word e lt k pos = absurd (omega (arith, e))

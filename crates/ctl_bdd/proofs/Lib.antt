@@ -12,4 +12,3 @@ pub mod Placed
 pub mod Enables
 pub mod Listing
 pub mod CallerLemmas
-pub mod Examples

@@ -1,9 +1,9 @@
 -- What is told of a netlist's control: the bits of static nets in control places, and the words without clash.
-use Rattle.std.specs.Prelude.{◌≡◌, ◌↔◌, ℕ, ◌^◌, ◌<◌, ◌==◌, if◌then◌else◌, true, List, [], ◌∷◌, length, map, Option, None, Some, slice_get, slice_index}
+use Rattle.std.specs.Prelude.{◌≡◌, ◌↔◌, ℕ, ◌^◌, ◌<◌, ◌==◌, if◌then◌else◌, true, List, [], ◌∷◌, length, map, Option, None, Some, slice_index}
 use Rattle.std.specs.List.{AllByRecursion}
 use Rattle.std.specs.Int.{bit_at}
 use Rattle.net_model.specs.declared.hardware.Netlist.{Netlist}
-use Rattle.net_model.specs.Nets.{code_bits}
+use Rattle.net_model.specs.Nets.{word_width}
 use Rattle.net_model.specs.Symbolic.{blank}
 use Rattle.net_model.specs.Value.{value_of}
 use Rattle.net_model.specs.Clock.{clash_in}
@@ -14,10 +14,6 @@ use Rattle.ctl_bdd.specs.Tables.{AreBits}
 use Rattle.ctl_bdd.specs.declared.ControlBits.{ControlBits}
 use Rattle.ctl_bdd.specs.declared.CtlFault.{CtlFault}
 use Rattle.ctl_bdd.specs.declared.CtlFault.TheVariants.{AlwaysClash, Memory}
-
--- how many bits an instruction word has
-abbrev pub word_width : Netlist → ℕ
-word_width netlist = code_bits (slice_get netlist.codes 0)
 
 -- no bus clashes under the word; enables are static, so they are read in the blank state
 abbrev pub IsWithoutClash : Netlist → ℕ → Type 0

@@ -3,4 +3,3 @@ pub mod Flags
 pub mod Places
 pub mod Tables
 pub mod Controls
-pub mod Worked

@@ -3,8 +3,9 @@
 ghost use Rattle.std.specs.Prelude.{◌≡◌, ◌↔◌, ℕ, ◌<◌, ◌^◌, true, List, length, filter, map, IfOk, MatchResult};
 ghost use Rattle.std.specs.List.{AllByRecursion};
 ghost use Rattle.net_model.specs.Symbolic.{is_static};
+ghost use Rattle.net_model.specs.Nets.{word_width};
 ghost use Rattle.bit_bdd.specs.Diagrams.{Extends, has_word};
-ghost use Rattle.ctl_bdd.specs.Controls.{HasCause, IsControl, IsWithoutClash, word_width};
+ghost use Rattle.ctl_bdd.specs.Controls.{HasCause, IsControl, IsWithoutClash};
 ghost use Rattle.ctl_bdd.specs.Places.{control_places, static_controls};
 ghost use Rattle.ctl_bdd.specs.Tables.{HasControls, sets_at};
 

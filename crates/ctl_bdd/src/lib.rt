@@ -60,6 +60,3 @@ impl From<NoMemory> for CtlFault {
         CtlFault::Memory
     }
 }
-
-#[cfg(test)]
-mod tests;

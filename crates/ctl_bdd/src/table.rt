@@ -2,8 +2,8 @@
 
 ghost use Rattle.std.specs.Prelude.{◌≡◌, ℕ, ◌<◌, ◌∷◌, [], replicate, true, length, IfOk};
 ghost use Rattle.net_model.specs.CheckedRules.{is_control};
+ghost use Rattle.net_model.specs.Nets.{word_width};
 ghost use Rattle.bit_bdd.specs.Diagrams.{Extends};
-ghost use Rattle.ctl_bdd.specs.Controls.{word_width};
 ghost use Rattle.ctl_bdd.specs.Flags.{flag_at, IsClosed};
 ghost use Rattle.ctl_bdd.specs.Tables.{AreBits, IsTable, sets_at};
 

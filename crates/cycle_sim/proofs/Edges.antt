@@ -1,5 +1,5 @@
 -- A clock, from the values of all nets.
-use Rattle.std.proofs.Common.{◌≡◌, ℕ, ◌^◌, ◌<◌, ◌≤◌, List, [], ◌∷◌, Option, Some, None, length, sym, ◌∙◌, ap, arith, subst, refl, Bool, true, false, slice_get, slice_index, slice_set, zero, suc, replicate, IsTrue, ◌↔◌}
+use Rattle.std.proofs.Common.{◌≡◌, ℕ, ◌^◌, ◌<◌, List, [], ◌∷◌, Option, Some, None, length, sym, ◌∙◌, ap, subst, refl, Bool, true, false, slice_get, slice_index, slice_set, zero, suc, IsTrue, ◌↔◌}
 use Rattle.std.specs.List.{AllByRecursion}
 use Rattle.std.proofs.lemmas.Nat.{pow_pos}
 use Rattle.std.proofs.lemmas.List.{length-set}
@@ -7,11 +7,11 @@ use Rattle.net_model.specs.declared.hardware.Netlist.{Netlist}
 use Rattle.net_model.specs.declared.hardware.Storage.{Storage}
 use Rattle.net_model.specs.declared.hardware.Storage.TheVariants.{Register, Memory}
 use Rattle.net_model.specs.declared.states.State.{State}
-use Rattle.net_model.specs.Nets.{width_at, code_bits, memory_width, memory_size}
+use Rattle.net_model.specs.Nets.{code_bits, memory_width}
 use Rattle.net_model.specs.Value.{value_of}
-use Rattle.net_model.specs.Widths.{IsTyped, IsState, WordFits, ValuesFit}
+use Rattle.net_model.specs.Widths.{IsTyped, IsState, WordFits}
 use Rattle.net_model.specs.Clock.{clash_in, clock, next_cells, next_regs, outcome_of, next_state, word_at, Next, Clash}
-use Rattle.net_model.specs.CheckedRules.{HasFewCells, StorageKeeps, KeepsRules}
+use Rattle.net_model.specs.CheckedRules.{StorageKeeps}
 use Rattle.net_model.proofs.Effects.{next_is_state}
 use Rattle.net_model.proofs.NextStates.{set_fits}
 use Rattle.cycle_sim.specs.declared.edge.Port.{Port}
@@ -40,16 +40,6 @@ has_port_width netlist [] h = tt
 has_port_width netlist (Register name width input when ∷ storages) h = has_port_width netlist storages h.1
 has_port_width netlist (Memory name width size addr_width value addr when ∷ storages) h = h.0.0
 
--- ---- sizes
-
-memory_small : (storages : List Storage) → AllByRecursion HasFewCells storages → memory_size storages ≤ 65536
-memory_small [] h = omega arith
-memory_small (Register name width input when ∷ storages) h = memory_small storages h.1
-memory_small (Memory name width size addr_width value addr when ∷ storages) h = h.0
-
-pub few_cells : (netlist : Netlist) (order : List ℕ) (s : State) → KeepsRules netlist order → IsState netlist s → length s.cells < 2 ^ 32
-few_cells netlist order s k h = omega (arith, memory_small netlist.storages k.formed.limits.cells, h.cells)
-
 -- ---- words
 
 zero_fits : (netlist : Netlist) → WordFits netlist 0
@@ -60,16 +50,6 @@ pub words_fit_at : (netlist : Netlist) (words : List ℕ) → AllByRecursion (Wo
 words_fit_at netlist [] h k = zero_fits netlist
 words_fit_at netlist (word ∷ words) h zero = h.0
 words_fit_at netlist (word ∷ words) h (suc k) = words_fit_at netlist words h.1 k
-
--- ---- the room
-
-zeros_at : (n k : ℕ) → slice_index (replicate n 0) k ≡ 0
-zeros_at zero k = refl
-zeros_at (suc n) zero = refl
-zeros_at (suc n) (suc k) = zeros_at n k
-
-pub zeros_fit : (netlist : Netlist) (n : ℕ) → ValuesFit netlist (slice_index (replicate n 0))
-zeros_fit netlist n = record { fits = λ m. rw zeros_at (pow_pos (width_at netlist m)) }
 
 -- ---- the clock
 

@@ -4,7 +4,5 @@
 mod edge;
 mod evaluate;
 mod sim;
-#[cfg(test)]
-mod tests;
 
 pub use sim::{Clocked, Sim};

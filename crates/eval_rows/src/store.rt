@@ -11,7 +11,8 @@ use std::alloc::Global;
 fn word(width: u8, value: u64) -> u64
     requires low { 1 ≤ width }
     requires high { width ≤ 64 }
-    ensures { result < 2 ^ width }
+    ensures fits { result < 2 ^ width }
+    ensures same { value < 2 ^ width → result ≡ value }
 {
     let greatest = mask(width);
     if value <= greatest { value } else { 0 }

@@ -1,27 +1,27 @@
 -- The words that were found for a straight program make right code.
-use Rattle.std.proofs.Common.{◌≡◌, ℕ, ◌+◌, ◌<◌, ◌^◌, List, [], ◌∷◌, map, length, Bool, true, false, cond, Option, Some, None, refl, sym, ◌∙◌, ap, subst, arith}
+use Rattle.std.proofs.Common.{◌≡◌, ℕ, List, [], ◌∷◌, map, length, Bool, true, false, cond, Some, None, refl, sym, ◌∙◌, ap, subst, arith}
 use Rattle.std.proofs.lemmas.List.{length-map}
 use Rattle.net_model.specs.declared.hardware.Netlist.{Netlist}
 use Rattle.net_model.specs.CheckedRules.{KeepsRules}
 use Rattle.net_model.specs.Control.{IsSound}
-use Rattle.net_model.specs.Nets.{counter_width, memory_size}
+use Rattle.net_model.specs.Nets.{memory_size, word_width}
 use Rattle.src_model.specs.Rules.{temp_count}
 use Rattle.src_model.specs.Ways.{Passed}
-use Rattle.src_model.specs.Written.{Act, Listing}
+use Rattle.src_model.specs.Written.{Listing}
 use Rattle.code_model.specs.declared.image.Image.{Image}
 use Rattle.code_model.specs.declared.image.Places.{Places}
 use Rattle.code_model.specs.declared.image.Word.{Word}
 use Rattle.code_model.specs.ImageText.{image_text}
 use Rattle.code_model.specs.Layout.{layout_of, variables_of}
-use Rattle.code_model.specs.Places.{words_of, places_from, Apart}
+use Rattle.code_model.specs.Places.{words_of, Apart}
 use Rattle.code_model.specs.Programs.{IsRightCode}
 use Rattle.code_model.specs.Right.{IsLaidOut, IsEndMarked, TracesRight}
 use Rattle.code_model.specs.Straight.{IsStraight}
 use Rattle.code_model.proofs.Straight.{straight_traces}
 use Rattle.word_search.specs.declared.finder.Store.{Store}
-use Rattle.word_search.specs.Found.{AreCells, AreFound, IsImageOf}
+use Rattle.word_search.specs.Found.{AreCells, AreFound}
 use Rattle.word_search.proofs.Straight.{straight}
-use Rattle.first_path.specs.Code.{AreStores, IsCode, IsNarrow, bits_of}
+use Rattle.first_path.specs.Code.{AreStores, IsCode, IsNarrow}
 use Rattle.first_path.specs.Images.{plain_word, straight_image}
 use Rattle.first_path.specs.Stores.{are_plain, each, store_in, stores_in}
 use Rattle.first_path.proofs.StraightLemmas.{pairs_of, straight_temps, straight_trace}
@@ -55,7 +55,7 @@ right_of_straight netlist sound word listing stores each_is image is_straight la
 module _ (netlist : Netlist) (order : List ℕ) (rules : KeepsRules netlist order) (sound : IsSound netlist) (word : ℕ) (listing : Listing) (stores : List Store)
     (are : AreStores netlist listing stores) (words : List ℕ) (found : AreFound netlist stores words) (apart : Apart (layout_of word listing).temps (layout_of word listing).list (memory_size netlist.storages)) where
   abbrev image : Image
-  image = straight_image (bits_of netlist) (layout_of word listing) words (length stores)
+  image = straight_image (word_width netlist) (layout_of word listing) words (length stores)
 
   each_is : each (store_in listing.vars) listing.body ≡ Some stores
   each_is = each_of listing stores are.straight
@@ -79,9 +79,9 @@ module _ (netlist : Netlist) (order : List ℕ) (rules : KeepsRules netlist orde
   code_right = right_of_straight netlist sound word listing stores each_is image is_straight (record { temps = refl; places = refl; apart = apart })
       (record { last = length stores; words = ap length all ∙ found.long; marks = refl })
 
-  pub code_is : (narrow : IsNarrow netlist word listing) (places : Places) (out : List ℕ) (made : Image) → places ≡ layout_of word listing → made ≡ straight_image (bits_of netlist) places words (length stores) → out ≡ image_text made → IsCode out netlist word listing
+  pub code_is : (narrow : IsNarrow netlist word listing) (places : Places) (out : List ℕ) (made : Image) → places ≡ layout_of word listing → made ≡ straight_image (word_width netlist) places words (length stores) → out ≡ image_text made → IsCode out netlist word listing
   code_is narrow places out made places_is made_is out_is =
-      let same : made ≡ image = made_is ∙ ap (λ (p : Places). straight_image (bits_of netlist) p words (length stores)) places_is in
+      let same : made ≡ image = made_is ∙ ap (λ (p : Places). straight_image (word_width netlist) p words (length stores)) places_is in
       record {
         narrow = narrow;
         stores = stores;

@@ -1,15 +1,11 @@
 -- What is found in each of a list.
-use Rattle.std.proofs.Common.{◌≡◌, List, [], ◌∷◌, ◌++◌, map, Option, Some, None, refl, sym, ap, ◌∙◌, append_assoc}
+use Rattle.std.proofs.Common.{◌≡◌, List, [], ◌∷◌, ◌++◌, Option, Some, None, refl, ap, append_assoc}
 use Rattle.first_path.specs.Stores.{put_first, each}
 
 -- a list in front of what was found
 abbrev pub put_before : {B : Type 0} → List B → Option (List B) → Option (List B)
 put_before front None = None
 put_before front (Some rest) = Some (front ++ rest)
-
-pub before_nothing : {B : Type 0} (found : Option (List B)) → put_before [] found ≡ found
-before_nothing None = refl
-before_nothing (Some rest) = refl
 
 pub one_more : {B : Type 0} (front : List B) (b : B) (found : Option (List B)) → put_before (front ++ b ∷ []) found ≡ put_before front (put_first (Some b) found)
 one_more front b None = refl

@@ -12,7 +12,7 @@ use Rattle.src_front.proofs.FrontLaws.{no_broken_rule, one_broken_rule}
 use Rattle.first_path.specs.declared.compiler.FirstFault.{FirstFault}
 use Rattle.first_path.specs.declared.compiler.FirstFault.TheVariants.{NetText, Net, SrcText, Src, DataFull, WideCode, NotStraight, NoWord, Memory}
 use Rattle.first_path.specs.Code.{Property, IsFull, IsWide, IsNotStraight, IsWordless, AreStores, HasStores, HasRoom, IsNarrow, IsCode, IsCodeFault, FailsWith}
-use Rattle.first_path.specs.First.{HasNet, Holds, IsCompiled, BreaksSrc, IsNetFault, IsSrcFault, IsFirstFault, word_width}
+use Rattle.first_path.specs.First.{HasNet, Holds, IsCompiled, BreaksSrc, IsFirstFault, data_width}
 use Rattle.word_search.specs.declared.finder.Store.{Store}
 use Rattle.word_search.specs.Found.{IsMissing}
 use Rattle.first_path.proofs.MissingLemmas.{one_missing, none_missing}
@@ -28,10 +28,10 @@ module _ (net src : List ℕ) where
   pub together : (P Q : Property) (G : Type 0) → ((netlist : Netlist) (word : ℕ) (listing : Listing) → P netlist word listing → Q netlist word listing → G) → Holds net src P → Holds net src Q → G
   together P Q G f a b =
       let e : b.entries ≡ a.entries = b.files.net_file.file.says.only a.entries a.files.net_file.file.says.text in
-      let file : IsSrcFile src (word_width a.entries) b.listing = subst (λ x. IsSrcFile src (word_width x) b.listing) e b.files.src_file in
+      let file : IsSrcFile src (data_width a.entries) b.listing = subst (λ x. IsSrcFile src (data_width x) b.listing) e b.files.src_file in
       let l : b.listing ≡ a.listing = file.says.only a.listing a.files.src_file.says.text in
-      f (netlist_of a.entries) (word_width a.entries) a.listing a.holds
-      (subst (λ x. Q (netlist_of x) (word_width x) a.listing) e (subst (λ y. Q (netlist_of b.entries) (word_width b.entries) y) l b.holds))
+      f (netlist_of a.entries) (data_width a.entries) a.listing a.holds
+      (subst (λ x. Q (netlist_of x) (data_width x) a.listing) e (subst (λ y. Q (netlist_of b.entries) (data_width b.entries) y) l b.holds))
 
   pub has_net : (P : Property) → Holds net src P → HasNet net
   has_net P h = record { entries = h.entries; file = h.files.net_file }
@@ -39,17 +39,17 @@ module _ (net src : List ℕ) where
   -- a program breaks one rule first, and none where it keeps them
   pub one_broken : (fault later : SrcFault) → BreaksSrc net src fault → BreaksSrc net src later → fault ≡ later
   one_broken fault later a b =
-      one_broken_rule src (word_width a.entries) fault later a.breaks
-      (subst (λ e. BreaksSrcRule src (word_width e) later) (b.net_file.file.says.only a.entries a.net_file.file.says.text) b.breaks)
+      one_broken_rule src (data_width a.entries) fault later a.breaks
+      (subst (λ e. BreaksSrcRule src (data_width e) later) (b.net_file.file.says.only a.entries a.net_file.file.says.text) b.breaks)
 
   pub none_broken : (P : Property) (fault : SrcFault) → Holds net src P → BreaksSrc net src fault → ⊥
   none_broken P fault h b =
-      no_broken_rule src (word_width h.entries) h.listing fault h.files.src_file
-      (subst (λ e. BreaksSrcRule src (word_width e) fault) (b.net_file.file.says.only h.entries h.files.net_file.file.says.text) b.breaks)
+      no_broken_rule src (data_width h.entries) h.listing fault h.files.src_file
+      (subst (λ e. BreaksSrcRule src (data_width e) fault) (b.net_file.file.says.only h.entries h.files.net_file.file.says.text) b.breaks)
 
   -- what follows from what holds of them holds of them
   pub weaker : (P Q : Property) → ((netlist : Netlist) (word : ℕ) (listing : Listing) → P netlist word listing → Q netlist word listing) → Holds net src P → Holds net src Q
-  weaker P Q f h = record { entries = h.entries; listing = h.listing; files = h.files; holds = f (netlist_of h.entries) (word_width h.entries) h.listing h.holds }
+  weaker P Q f h = record { entries = h.entries; listing = h.listing; files = h.files; holds = f (netlist_of h.entries) (data_width h.entries) h.listing h.holds }
 
   -- ---- the refusals exclude each other
 
@@ -84,37 +84,13 @@ module _ (net src : List ℕ) where
 -- what holds of the netlist and the program that were read holds of the two texts
 pub holds_of_read : (net src : List ℕ) (checked : Ordered) (word : ℕ) (listing : Listing) (P : Property) → IsRoutedNet net checked → word ≡ memory_width checked.netlist.storages → IsSrcFile src word listing → P checked.netlist word listing → Holds net src P
 holds_of_read net src checked word listing P read wide file holds =
-    let w : word ≡ word_width read.entries = rw read.netlist.netlist at wide in
+    let w : word ≡ data_width read.entries = rw read.netlist.netlist at wide in
     record {
       entries = read.entries;
       listing = listing;
       files = record { net_file = read.file; src_file = subst (λ n. IsSrcFile src n listing) w file };
-      holds = subst (λ (n : Netlist). P n (word_width read.entries) listing) read.netlist.netlist (subst (λ n. P checked.netlist n listing) w holds);
+      holds = subst (λ (n : Netlist). P n (data_width read.entries) listing) read.netlist.netlist (subst (λ n. P checked.netlist n listing) w holds);
     }
-
--- why the netlist was not read
-pub fault_of_net : (net src : List ℕ) (fault : FirstFault) → IsNetFault net fault → IsFirstFault net src fault
-fault_of_net net src (NetText at) h = h
-fault_of_net net src (Net fault) h = h
-fault_of_net net src (SrcText at) h = absurd h
-fault_of_net net src (Src fault) h = absurd h
-fault_of_net net src (DataFull need have) h = absurd h
-fault_of_net net src WideCode h = absurd h
-fault_of_net net src NotStraight h = absurd h
-fault_of_net net src (NoWord number) h = absurd h
-fault_of_net net src Memory h = tt
-
--- why the program was not taken, once the netlist was read
-pub fault_of_program : (net src : List ℕ) (checked : Ordered) (word : ℕ) → IsRoutedNet net checked → word ≡ memory_width checked.netlist.storages → (fault : FirstFault) → IsSrcFault src word fault → IsFirstFault net src fault
-fault_of_program net src checked word read wide (NetText at) h = absurd h
-fault_of_program net src checked word read wide (Net fault) h = absurd h
-fault_of_program net src checked word read wide (SrcText at) h = (record { entries = read.entries; file = read.file }, h)
-fault_of_program net src checked word read wide (Src fault) h = record { entries = read.entries; net_file = read.file; breaks = subst (λ n. BreaksSrcRule src n fault) (rw read.netlist.netlist at wide) h }
-fault_of_program net src checked word read wide (DataFull need have) h = absurd h
-fault_of_program net src checked word read wide WideCode h = absurd h
-fault_of_program net src checked word read wide NotStraight h = absurd h
-fault_of_program net src checked word read wide (NoWord number) h = absurd h
-fault_of_program net src checked word read wide Memory h = tt
 
 -- why there is no code, once both were read
 pub fault_of_code : (net src : List ℕ) (checked : Ordered) (word : ℕ) (listing : Listing) → IsRoutedNet net checked → word ≡ memory_width checked.netlist.storages → IsSrcFile src word listing → (fault : FirstFault) → IsCodeFault checked.netlist word listing fault → IsFirstFault net src fault

@@ -1,6 +1,5 @@
 pub mod FirstLemmas
 pub mod StraightLemmas
-pub mod MemoryLemmas
 pub mod Eaches
 pub mod MissingLemmas
 pub mod CodeLemmas

@@ -1,11 +1,11 @@
 -- What a straight program means: its assignments, one after the other.
-use Rattle.std.proofs.Common.{◌≡◌, ℕ, ◌+◌, List, [], ◌∷◌, ◌++◌, map, Option, Some, None, Bool, true, false, refl, sym, ◌∙◌, ap, arith}
+use Rattle.std.proofs.Common.{◌≡◌, ℕ, ◌+◌, List, [], ◌∷◌, ◌++◌, map, Option, Some, None, refl, sym, ◌∙◌, ap, arith}
 use Rattle.std.specs.Prelude.{slice_set}
 use Rattle.src_model.specs.declared.program.Var.{Var as Declared}
 use Rattle.src_model.specs.Written.{Shape, num, plain, element, un, bin, zext, sext, low, Phrase, Act, assign, choice, while, count, acts_of, Listing}
 use Rattle.src_model.specs.Sizes.{statements, greatest, temps_of, assigned_root, roots, roots_in}
 use Rattle.src_model.proofs.Measures.{greatest_append}
-use Rattle.src_model.specs.Ways.{Passed, Onward, finish}
+use Rattle.src_model.specs.Ways.{Onward, finish}
 use Rattle.src_model.specs.Meaning.{first_cell}
 use Rattle.src_model.specs.Trace.{run, run_in, strace}
 use Rattle.code_model.specs.Straight.{run_stores}

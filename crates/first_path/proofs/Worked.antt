@@ -1,5 +1,5 @@
 -- The definitions at a small processor: an image that is right code for a program, and one that isn't.
-use Rattle.std.proofs.Common.{ℕ, zero, suc, ◌≡◌, ◌<◌, ◌^◌, ◌+◌, List, [], ◌∷◌, take, inl, refl, sym, ◌∙◌, ap, arith, None, slice_get, slice_index, codes}
+use Rattle.std.proofs.Common.{ℕ, zero, suc, ◌≡◌, ◌<◌, ◌^◌, List, [], ◌∷◌, take, inl, refl, sym, ◌∙◌, ap, arith, None, slice_get, slice_index, codes}
 use Rattle.net_model.specs.declared.states.State.{State}
 use Rattle.net_model.specs.Control.{IsSound, NetControlled}
 use Rattle.net_model.specs.Nets.{code_bits, storage_bits}

@@ -1,8 +1,8 @@
 -- The code of a straight program for a netlist, and why there is none. Everything here is of a netlist, the number of bits of a word, and a
 -- program that keeps the rules for such words.
-use Rattle.std.specs.Prelude.{ℕ, ◌≡◌, ◌≤◌, ◌<◌, List, Some, length, slice_get}
+use Rattle.std.specs.Prelude.{ℕ, ◌≡◌, ◌≤◌, ◌<◌, List, Some, length}
 use Rattle.net_model.specs.declared.hardware.Netlist.{Netlist}
-use Rattle.net_model.specs.Nets.{code_bits, memory_size}
+use Rattle.net_model.specs.Nets.{memory_size, word_width}
 use Rattle.net_model.specs.CheckedRules.{code_size}
 use Rattle.src_model.specs.Written.{Listing}
 use Rattle.code_model.specs.declared.image.Image.{Image}
@@ -20,10 +20,6 @@ use Rattle.first_path.specs.declared.compiler.FirstFault.TheVariants.{DataFull, 
 abbrev pub Property : Type 1
 Property = Netlist → ℕ → Listing → Type 0
 
--- the bits of an instruction word
-abbrev pub bits_of : Netlist → ℕ
-bits_of netlist = code_bits (slice_get netlist.codes 0)
-
 -- the most bits of a word that are searched
 abbrev pub searched_bits : ℕ
 searched_bits = 8
@@ -35,7 +31,7 @@ pub record IsFull (need have : ℕ) (netlist : Netlist) (word : ℕ) (listing : 
   pub more : have < need
 
 abbrev pub IsWide : Property
-IsWide netlist word listing = searched_bits < bits_of netlist
+IsWide netlist word listing = searched_bits < word_width netlist
 
 -- the assignments of a straight program that has an instruction word for each, and one for the end
 pub record AreStores (netlist : Netlist) (listing : Listing) (stores : List Store) : Type 0 where
@@ -62,7 +58,7 @@ pub record HasRoom (netlist : Netlist) (word : ℕ) (listing : Listing) : Type 0
 
 pub record IsNarrow (netlist : Netlist) (word : ℕ) (listing : Listing) : Type 0 where
   pub room : HasRoom netlist word listing
-  pub narrow : bits_of netlist ≤ searched_bits
+  pub narrow : word_width netlist ≤ searched_bits
 
 -- the text of an image that is right code, of the least word for each assignment and for the end
 pub record IsCode (out : List ℕ) (netlist : Netlist) (word : ℕ) (listing : Listing) : Type 0 where
@@ -72,7 +68,7 @@ pub record IsCode (out : List ℕ) (netlist : Netlist) (word : ℕ) (listing : L
   pub words : List ℕ
   pub found : AreFound netlist stores words
   pub image : Image
-  pub image_is : image ≡ straight_image (bits_of netlist) (layout_of word listing) words (length stores)
+  pub image_is : image ≡ straight_image (word_width netlist) (layout_of word listing) words (length stores)
   pub text : out ≡ image_text image
   pub code : IsRightCode netlist word listing image
 

@@ -21,20 +21,20 @@ pub record HasNet (net : List ℕ) : Type 0 where
   pub file : IsRoutedFile net entries
 
 -- the number of bits of a word: the width of the data memory that these items say
-abbrev pub word_width : List Entry → ℕ
-word_width entries = memory_width (netlist_of entries).storages
+abbrev pub data_width : List Entry → ℕ
+data_width entries = memory_width (netlist_of entries).storages
 
 -- the first bytes are a netlist's, and the second a program's for its words
 pub record AreFiles (net src : List ℕ) (entries : List Entry) (listing : Listing) : Type 0 where
   pub net_file : IsRoutedFile net entries
-  pub src_file : IsSrcFile src (word_width entries) listing
+  pub src_file : IsSrcFile src (data_width entries) listing
 
 -- they are, and this holds of the netlist, the bits of a word, and the program
 pub record Holds (net src : List ℕ) (P : Property) : Type 0 where
   pub entries : List Entry
   pub listing : Listing
   pub files : AreFiles net src entries listing
-  pub holds : P (netlist_of entries) (word_width entries) listing
+  pub holds : P (netlist_of entries) (data_width entries) listing
 
 -- the third bytes are the text of an image that is right code for the program of the second on the netlist of the first
 abbrev pub IsCompiled : List ℕ → List ℕ → List ℕ → Type 0
@@ -46,7 +46,7 @@ IsCompiled net src out = Holds net src (IsCode out)
 pub record BreaksSrc (net src : List ℕ) (fault : SrcFault) : Type 0 where
   pub entries : List Entry
   pub net_file : IsRoutedFile net entries
-  pub breaks : BreaksSrcRule src (word_width entries) fault
+  pub breaks : BreaksSrcRule src (data_width entries) fault
 
 -- why the netlist's bytes were not taken
 abbrev pub IsNetFault : List ℕ → FirstFault → Type 0

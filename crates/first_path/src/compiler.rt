@@ -12,7 +12,7 @@ ghost use Rattle.first_path.specs.First.{IsCompiled, IsFirstFault, IsNetFault, I
 ghost use Rattle.first_path.specs.declared.compiler.FirstFault.{FirstFault};
 
 use crate::image::straight_image;
-use crate::sizes::{cells, code_bits, code_words, word_width};
+use crate::sizes::{code_bits, code_words};
 use crate::stores::stores_of;
 use binding::{BindFault, bind};
 use code_model::Places;
@@ -99,7 +99,7 @@ fn places(alloc: Global, checked: &Checked, typed: &Typed) -> Result<Places, Fir
     ensures apart { IfOk result (λ places. Apart places.temps places.list (memory_size checked.now.netlist.storages)) }
     ensures refused { IfErr result (IsCodeFault checked.now.netlist typed.now.width (listing_of typed.now.program)) }
 {
-    match bind(alloc, typed, cells(checked)) {
+    match bind(alloc, typed, checked.memory_size()) {
         Ok(places) => Ok(places),
         Err(BindFault::DataFull { need, have }) => Err(FirstFault::DataFull { need, have }),
         Err(BindFault::Memory) => Err(FirstFault::Memory),
@@ -154,6 +154,6 @@ pub fn compile(alloc: Global, net: &[u8], src: &[u8]) -> Result<Vec<u8>, FirstFa
     ensures refused { IfErr result (IsFirstFault net.now src.now) }
 {
     let checked = netlist(alloc, net)?;
-    let typed = program(alloc, src, word_width(&checked))?;
+    let typed = program(alloc, src, checked.memory_width())?;
     code(alloc, &checked, &typed)
 }

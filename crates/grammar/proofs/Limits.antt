@@ -1,9 +1,9 @@
 -- Texts with a limit on their tokens.
-use Rattle.std.proofs.Common.{◌≡◌, ℕ, ◌-◌, ◌≤◌, List, [], ◌∷◌, ◌++◌, length, Bool, Some, refl, sym, ap, subst, ◌∙◌, arith}
+use Rattle.std.proofs.Common.{◌≡◌, ℕ, ◌-◌, ◌≤◌, List, length, Bool, refl, ap, subst, ◌∙◌, arith}
 use Rattle.std.proofs.lemmas.List.{length-append}
 use Rattle.grammar.specs.declared.stop.Stop.{Stop}
-use Rattle.grammar.specs.Reading.{Token, Bind, Made, Within, head, Reads, Fails, FailsAs, Leads}
-use Rattle.grammar.proofs.Steps.{reads_as, fails_as, fails_here, bind_reads, bind_fails_first, bind_fails_second}
+use Rattle.grammar.specs.Reading.{Bind, Made, Within, Reads, FailsAs, Leads}
+use Rattle.grammar.proofs.Steps.{reads_as, fails_as, bind_reads, bind_fails_first, bind_fails_second}
 use Rattle.grammar.proofs.Passing.{Apart}
 
 pub used_length : {T V : Type 0} {R : List T → V → Type 0} {m : T → Bool} {ts rest : List T} {v : V} (p : Reads R m ts v rest) → length p.used ≡ length ts - length rest
@@ -12,12 +12,6 @@ used_length {rest = rest} p = omega (arith, ap length p.parts, length-append p.u
 -- what was read has few enough tokens
 pub within_reads : {T V : Type 0} {R : List T → V → Type 0} {m : T → Bool} {ts rest : List T} {v : V} {room : ℕ} → length ts - length rest ≤ room → Reads R m ts v rest → Reads (Within room R) m ts v rest
 within_reads fits r = record { used = r.used; parts = r.parts; is = record { text = r.is; fits = omega (arith, used_length r) }; only = λ x w c q st agrees. r.only x w c q.text st agrees }
-
--- a token that is not there, where one would fit
-pub within_misses : {T V : Type 0} {has : T → V → Type 0} {more : T → Bool} {ts : List T} {room : ℕ} → 1 ≤ room → (t : T) (v : V) → has t v → ((u : T) (w : V) → head ts ≡ Some u → has u w → ⊥)
-    → Fails (Within room (Token has)) more ts (length ts)
-within_misses long t v h not_it = fails_here (t ∷ []) v (record { text = record { token = t; parts = refl; is = h }; fits = omega arith })
-    (λ x w c r stops e. not_it r.text.token w (sym (ap (λ y. head (y ++ c)) (sym r.text.parts) ∙ e)) r.text.is)
 
 pub within_made : {T V W : Type 0} {make : V → W} {R : List T → V → Type 0} {room : ℕ} {more : T → Bool} {ts : List T} → Leads make (Within room R) more ts (Within room (Made make R)) more ts
 within_made {make = make} = record {

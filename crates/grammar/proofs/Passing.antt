@@ -1,17 +1,11 @@
 -- The steps of a parser: what it owes at each of its exits follows from what the steps before gave.
 use Rattle.std.proofs.Common.{◌≡◌, ℕ, List, [], ◌∷◌, ◌++◌, length, Bool, true, false, Option, Some, None, Result, Ok, Err, refl, sym, ap, subst, ◌∙◌}
 use Rattle.grammar.specs.declared.stop.Stop.{Stop}
-use Rattle.grammar.specs.declared.stop.Stop.TheVariants.{At, Memory}
-use Rattle.grammar.specs.Reading.{Return, Token, Bind, Made, Maybe, without, with_one, Many, none, head, Stops, never, Agrees, Reads, Fails, FailsAs, Gives, Leads}
+use Rattle.grammar.specs.declared.stop.Stop.TheVariants.{At}
+use Rattle.grammar.specs.Reading.{Return, Token, Bind, Maybe, without, with_one, Many, none, head, Stops, never, Agrees, Reads, Fails, FailsAs, Gives, Leads}
 use Rattle.grammar.proofs.Steps.{never_stops, return_reads, token_fails, bind_reads, bind_fails_first, bind_fails_second, Agrees-head}
 
 -- ---- answers
-
-pub memory_fails : {T V : Type 0} {R : List T → V → Type 0} {more : T → Bool} {ts : List T} {stop : Stop} → stop ≡ Memory → FailsAs R more ts stop
-memory_fails e = record { fails = λ left h. absurd (clash (sym e ∙ h)) }
-  where
-    clash : {left : ℕ} → Memory ≡ At left → ⊥
-    clash h = cc
 
 pub stops_at : {T V : Type 0} {R : List T → V → Type 0} {more : T → Bool} {ts : List T} {n : ℕ} → Fails R more ts n → FailsAs R more ts (At n)
 stops_at {R = R} {more = more} {ts = ts} f = record { fails = λ left h. (let e : _ ≡ left = cc in subst (λ k. Fails R more ts k) e f) }
@@ -53,9 +47,6 @@ pub there_bind : {T V W : Type 0} {A : List T → V → Type 0} {B : V → List 
 there_bind a b =
     let c = b a.value in
     record { text = a.text ++ c.text; value = c.value; is = record { front = a.text; back = c.text; value = a.value; parts = refl; first = a.is; second = c.is } }
-
-pub there_made : {T V W : Type 0} {make : V → W} {R : List T → V → Type 0} → There R → There (Made make R)
-there_made {make = make} a = record { text = a.text; value = make a.value; is = record { value = a.value; first = a.is; made = refl } }
 
 pub there_maybe : {T V : Type 0} {X : List T → V → Type 0} → There (Maybe X)
 there_maybe = record { text = []; value = None; is = without refl refl }
@@ -111,12 +102,6 @@ starts_bind of = record { at = λ x w b. (b.first.token, b.back, b.parts ∙ ap 
 
 pub starts_inner : {T V W : Type 0} {begins : T → Type 0} {A : List T → V → Type 0} {B : List T → V → List T → W → Type 0} → Starts begins A → Starts begins (Bind A B)
 starts_inner s = record { at = λ x w b. (let f = s.at b.front b.value b.first in (f.0, f.1 ++ b.back, b.parts ∙ ap (λ y. y ++ b.back) f.2, f.3)) }
-
-pub starts_made : {T V W : Type 0} {begins : T → Type 0} {make : V → W} {R : List T → V → Type 0} → Starts begins R → Starts begins (Made make R)
-starts_made s = record { at = λ x w m. s.at x m.value m.first }
-
-pub starts_token : {T V : Type 0} {has : T → V → Type 0} {begins : T → Type 0} → ((t : T) (v : V) → has t v → begins t) → Starts begins (Token has)
-starts_token of = record { at = λ x v r. (r.token, [], r.parts, of r.token v r.is) }
 
 pub start_head : {T V : Type 0} {begins : T → Type 0} {R : List T → V → Type 0} → Starts begins R → (x : List T) (v : V) (c : List T) → R x v → (t : T) × (head (x ++ c) ≡ Some t) × begins t
 start_head s x v c r = let f = s.at x v r in (f.0, ap (λ y. head (y ++ c)) f.2, f.3)

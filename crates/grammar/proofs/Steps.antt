@@ -1,7 +1,7 @@
 -- How what is read follows from what is read of the parts.
 use Rattle.std.proofs.Common.{◌≡◌, ℕ, List, [], ◌∷◌, ◌++◌, length, Bool, Some, refl, sym, ap, subst, ◌∙◌, append_assoc}
 use Rattle.std.proofs.lemmas.List.{append_cancel_left}
-use Rattle.grammar.specs.Reading.{Return, Token, Bind, Made, head, Stops, never, Agrees, Reads, Fails, Leads}
+use Rattle.grammar.specs.Reading.{Return, Token, Bind, head, Stops, never, Agrees, Reads, Fails, Leads}
 
 -- ---- lists
 
@@ -149,25 +149,3 @@ module _ {T V W : Type 0} (A : List T → V → Type 0) (B : List T → V → Li
             let e : z ++ c ≡ b.front ++ (b.back ++ c) = ap (λ y. y ++ c) b.parts ∙ append_assoc b.front b.back c in
             p.none b.front b.value (b.back ++ c) b.first (stops b.front b.value b.back w c b.first b.second st) (subst (λ y. Agrees y p.used p.rest) e agrees);
       }
-
--- ---- what is made of a value
-
-pub made_leads : {T V W : Type 0} {make : V → W} {R : List T → V → Type 0} {more : T → Bool} {ts : List T} → Leads make R more ts (Made make R) more ts
-made_leads {make = make} = record {
-  reads = λ v s r. record {
-    used = r.used;
-    parts = r.parts;
-    is = record { value = v; first = r.is; made = refl };
-    only = λ x w c m st agrees. let f = r.only x m.value c m.first st agrees in (f.0, m.made ∙ ap make f.1);
-  };
-  fails = λ left r. record {
-    used = r.used;
-    rest = r.rest;
-    parts = r.parts;
-    left_is = r.left_is;
-    end = r.end;
-    value = make r.value;
-    begins = record { value = r.value; first = r.begins; made = refl };
-    none = λ x w c m st agrees. r.none x m.value c m.first st agrees;
-  };
-}

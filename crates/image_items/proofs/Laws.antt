@@ -1,10 +1,10 @@
 -- A line that is read says what it is read as, and a line that says something is read as that.
-use Rattle.std.proofs.Common.{◌≡◌, ◌==◌, not, ℕ, zero, suc, ◌+◌, ◌-◌, ◌^◌, ◌<◌, ◌≤◌, List, [], ◌∷◌, ◌++◌, length, Bool, true, false, cond, Option, Some, None, refl, sym, ap, subst, ◌∙◌, append_assoc, eq-eqb, eqb-true, arith}
+use Rattle.std.proofs.Common.{◌≡◌, ◌==◌, ℕ, ◌+◌, ◌-◌, ◌^◌, ◌<◌, ◌≤◌, List, [], ◌∷◌, ◌++◌, length, Bool, true, false, cond, Option, Some, None, refl, sym, ap, subst, ◌∙◌, eq-eqb, eqb-true, arith}
 use Rattle.std.proofs.lemmas.List.{append-nil}
 use Rattle.std.proofs.lemmas.Option.{some_pair_parts, cond_some, same_Some}
 use Rattle.std.proofs.lemmas.Bool.{ltb-true, ltb-false, lt-ltb, le-ltb}
-use Rattle.std.specs.Prelude.{option_map, nat_lt, codes, map}
-use Rattle.std.specs.List.{concat, flat_map}
+use Rattle.std.specs.Prelude.{nat_lt, codes, map}
+use Rattle.std.specs.List.{flat_map}
 use Rattle.std.specs.Str.{bytes_eq}
 use Rattle.std.proofs.lemmas.Slice.Eq.{bytes_eq-Decides}
 use Rattle.std.specs.Fmt.{decimal}
@@ -12,8 +12,8 @@ use Rattle.code_model.specs.declared.image.Mark.{Mark}
 use Rattle.code_model.specs.declared.image.Place.{Place}
 use Rattle.code_model.specs.declared.image.Word.{Word}
 use Rattle.code_model.specs.ImageText.{after_comma, numbers_text, label_text, hex_of, place_line, cost_line, mark_line, word_line}
-use Rattle.text_lines.specs.Fields.{parts_at, number_of, is_name}
-use Rattle.lexing.specs.Bytes.{is_digit, is_name_byte}
+use Rattle.text_lines.specs.Fields.{parts_at, number_of, is_name, ◌>>=◌, only_front, line_end}
+use Rattle.lexing.specs.Bytes.{is_digit}
 use Rattle.text_lines.specs.Lines.{longer_line}
 use Rattle.text_lines.proofs.Parts.{Avoids, parts_are, parts_again, avoids-append}
 use Rattle.text_lines.proofs.Numbers.{number_is, number_again, avoids-decimal, avoids-name}
@@ -22,22 +22,9 @@ use Rattle.std.proofs.lemmas.Fmt.{decimal_nonempty}
 use Rattle.image_items.specs.declared.item.Item.{Item}
 use Rattle.image_items.specs.declared.item.Item.TheVariants.{Size, Temps, Variable, Tree, Label, Code, Done}
 use Rattle.image_items.specs.Items.{item_line, size_line, temps_line, IsSayable, AscendFrom, LabelFits, PlaceFits, MarkFits, IsWithin}
-use Rattle.image_items.specs.Reading.{◌>>=◌, below_2_32, small, number_before, only_front, line_end, last_number, pair_of, label_of, number_from, numbers_from, fields_of, list_of, place_parts, place_item, size_item, temps_item, tree_item, mark_item, word_parts, word_item, word_in, said_by, item_of}
+use Rattle.image_items.specs.Reading.{below_2_32, small, number_before, last_number, pair_of, label_of, number_from, numbers_from, fields_of, list_of, place_parts, place_item, size_item, temps_item, tree_item, mark_item, word_parts, word_item, word_in, said_by, item_of}
 use Rattle.image_items.proofs.Digits.{word_in_is, word_in_again, hex_avoids}
-
--- ---- a step after another
-
-pub record Bound (A B : Type 0) (o : Option A) (f : A → Option B) (y : B) : Type 0 where
-  pub value : A
-  pub first : o ≡ Some value
-  pub then : f value ≡ Some y
-
-pub bind_ok : {A B : Type 0} (o : Option A) (f : A → Option B) (y : B) → (o >>= f) ≡ Some y → Bound A B o f y
-bind_ok None f y e = absurd cc
-bind_ok (Some x) f y e = record { value = x; first = refl; then = e }
-
-pub bind_again : {A B : Type 0} (o : Option A) (f : A → Option B) (x : A) (y : Option B) → o ≡ Some x → f x ≡ y → (o >>= f) ≡ y
-bind_again o f x y e g = rw e g
+use Rattle.text_lines.proofs.Steps.{bind_ok, bind_again}
 
 -- ---- numbers
 
@@ -49,7 +36,7 @@ below_is m n e =
 below_again : (n : ℕ) → n < 2 ^ 32 → below_2_32 n ≡ Some n
 below_again n h = ap (λ t. cond t (Some n) None) (lt-ltb n (2 ^ 32) h)
 
-pub small_is : (text : List ℕ) (n : ℕ) → small text ≡ Some n → (text ≡ decimal n) × (n < 2 ^ 32)
+small_is : (text : List ℕ) (n : ℕ) → small text ≡ Some n → (text ≡ decimal n) × (n < 2 ^ 32)
 unfolding small
 small_is text n e =
     let b = bind_ok (number_of text) below_2_32 n e in
@@ -57,16 +44,16 @@ small_is text n e =
     let q = number_is text b.value b.first in
     (rw p.0 at q.0, p.1)
 
-pub small_again : (n : ℕ) → n < 2 ^ 32 → small (decimal n) ≡ Some n
+small_again : (n : ℕ) → n < 2 ^ 32 → small (decimal n) ≡ Some n
 unfolding small
 small_again n h = bind_again (number_of (decimal n)) below_2_32 n (Some n) (number_again n (omega arith)) (below_again n h)
 
 -- what stands before a mark
-pub record BeforeIs (mark : ℕ) (text : List ℕ) (n : ℕ) (rest : List ℕ) : Type 0 where
+record BeforeIs (mark : ℕ) (text : List ℕ) (n : ℕ) (rest : List ℕ) : Type 0 where
   pub text_is : text ≡ decimal n ++ (mark ∷ rest)
   pub fits : n < 2 ^ 32
 
-pub before_is : (mark : ℕ) (text : List ℕ) (n : ℕ) (rest : List ℕ) → number_before mark text ≡ Some (n, rest) → BeforeIs mark text n rest
+before_is : (mark : ℕ) (text : List ℕ) (n : ℕ) (rest : List ℕ) → number_before mark text ≡ Some (n, rest) → BeforeIs mark text n rest
 unfolding number_before
 before_is mark text n rest e =
     let b = bind_ok (parts_at mark text) _ (n, rest) e in
@@ -79,7 +66,7 @@ before_is mark text n rest e =
       fits = omega (arith, p.0, s.1);
     }
 
-pub before_again : (mark n : ℕ) (rest : List ℕ) → Avoids mark (decimal n) → n < 2 ^ 32 → number_before mark (decimal n ++ (mark ∷ rest)) ≡ Some (n, rest)
+before_again : (mark n : ℕ) (rest : List ℕ) → Avoids mark (decimal n) → n < 2 ^ 32 → number_before mark (decimal n ++ (mark ∷ rest)) ≡ Some (n, rest)
 unfolding number_before
 before_again mark n rest out h =
     bind_again (parts_at mark (decimal n ++ (mark ∷ rest))) _ (decimal n, rest) (Some (n, rest)) (parts_again mark (decimal n) rest out)
@@ -97,7 +84,7 @@ end_is text front e =
     let whole : text ≡ b.value.0 ++ (10 ∷ b.value.1) = parts_are 10 text b.value.0 b.value.1 b.first in
     rw (p.1, nil_of b.value.1 p.0) at whole
 
-pub end_again : (front : List ℕ) → Avoids 10 front → line_end (front ++ (10 ∷ [])) ≡ Some front
+end_again : (front : List ℕ) → Avoids 10 front → line_end (front ++ (10 ∷ [])) ≡ Some front
 unfolding line_end
 end_again front out = bind_again (parts_at 10 (front ++ (10 ∷ []))) only_front (front, []) (Some front) (parts_again 10 front [] out) refl
 
@@ -112,16 +99,16 @@ last_is text n e =
 digits_avoid : (mark n : ℕ) → n < 2 ^ 32 → (is_digit mark ≡ false) → Avoids mark (decimal n)
 digits_avoid mark n h out = avoids-decimal mark n out (omega arith)
 
-pub last_again : (n : ℕ) → n < 2 ^ 32 → last_number (decimal n ++ (10 ∷ [])) ≡ Some n
+last_again : (n : ℕ) → n < 2 ^ 32 → last_number (decimal n ++ (10 ∷ [])) ≡ Some n
 unfolding last_number
 last_again n h = bind_again (line_end (decimal n ++ (10 ∷ []))) small (decimal n) (Some n) (end_again (decimal n) (digits_avoid 10 n h refl)) (small_again n h)
 
-pub record PairIs (text : List ℕ) (pair : ℕ × ℕ) : Type 0 where
+record PairIs (text : List ℕ) (pair : ℕ × ℕ) : Type 0 where
   pub text_is : text ≡ decimal pair.0 ++ (32 ∷ (decimal pair.1 ++ (10 ∷ [])))
   pub first : pair.0 < 2 ^ 32
   pub second : pair.1 < 2 ^ 32
 
-pub pair_is : (text : List ℕ) (pair : ℕ × ℕ) → pair_of text ≡ Some pair → PairIs text pair
+pair_is : (text : List ℕ) (pair : ℕ × ℕ) → pair_of text ≡ Some pair → PairIs text pair
 unfolding pair_of
 pair_is text pair e =
     let b = bind_ok (number_before 32 text) _ pair e in
@@ -135,7 +122,7 @@ pair_is text pair e =
       second = omega (arith, p.1, back.1);
     }
 
-pub pair_again : (pair : ℕ × ℕ) → pair.0 < 2 ^ 32 → pair.1 < 2 ^ 32 → pair_of (decimal pair.0 ++ (32 ∷ (decimal pair.1 ++ (10 ∷ [])))) ≡ Some pair
+pair_again : (pair : ℕ × ℕ) → pair.0 < 2 ^ 32 → pair.1 < 2 ^ 32 → pair_of (decimal pair.0 ++ (32 ∷ (decimal pair.1 ++ (10 ∷ [])))) ≡ Some pair
 unfolding pair_of
 pair_again pair h k =
     bind_again (number_before 32 (decimal pair.0 ++ (32 ∷ (decimal pair.1 ++ (10 ∷ []))))) _ (pair.0, decimal pair.1 ++ (10 ∷ [])) (Some pair) (before_again 32 pair.0 _ (digits_avoid 32 pair.0 h refl) h)
@@ -146,10 +133,7 @@ pair_again pair h k =
 same_text : (xs ys : List ℕ) → bytes_eq xs ys ≡ true → xs ≡ ys
 same_text xs ys e = (bytes_eq-Decides xs ys).0 e
 
-pub own_text : (xs : List ℕ) → bytes_eq xs xs ≡ true
-own_text xs = (bytes_eq-Decides xs xs).1 refl
-
-pub other_text : (xs ys : List ℕ) → (xs ≡ ys → ⊥) → bytes_eq xs ys ≡ false
+other_text : (xs ys : List ℕ) → (xs ≡ ys → ⊥) → bytes_eq xs ys ≡ false
 other_text xs ys h = step (bytes_eq xs ys) (same_text xs ys)
   where
     step : (t : Bool) → (t ≡ true → xs ≡ ys) → t ≡ false
@@ -167,14 +151,14 @@ label_step text (Some n) false t e =
     let s = small_is text b.value b.first in
     (s.0 ∙ ap decimal g, omega (arith, g, s.1))
 
-pub label_is : (text : List ℕ) (label : Option ℕ) → label_of text ≡ Some label → (text ≡ label_text label) × LabelFits label
+label_is : (text : List ℕ) (label : Option ℕ) → label_of text ≡ Some label → (text ≡ label_text label) × LabelFits label
 unfolding label_of
 label_is text label e = label_step text label (bytes_eq text (codes "end")) refl e
 
 not_end : (ds : List ℕ) → Avoids 101 ds → ds ≡ codes "end" → ⊥
 not_end ds h e = let k : Avoids 101 (codes "end") = subst (Avoids 101) e h in let f : true ≡ false = k.0 in cc
 
-pub label_again : (label : Option ℕ) → LabelFits label → label_of (label_text label) ≡ Some label
+label_again : (label : Option ℕ) → LabelFits label → label_of (label_text label) ≡ Some label
 unfolding label_of
 label_again None h = refl
 label_again (Some n) h =
@@ -203,7 +187,7 @@ number_from_again : (from n : ℕ) → from ≤ n → n < 2 ^ 32 → number_from
 unfolding number_from
 number_from_again from n h k = bind_again (small (decimal n)) _ n (Some n) (small_again n k) (ap (λ t. cond t None (Some n)) (le-ltb n from h))
 
-pub numbers_is : (from : ℕ) (fields : List (List ℕ)) (ns : List ℕ) → numbers_from from fields ≡ Some ns → (fields ≡ map decimal ns) × AscendFrom from ns
+numbers_is : (from : ℕ) (fields : List (List ℕ)) (ns : List ℕ) → numbers_from from fields ≡ Some ns → (fields ≡ map decimal ns) × AscendFrom from ns
 unfolding numbers_from
 numbers_is from [] ns e = let q : [] ≡ ns = same_Some [] ns e in rw (← q) (refl, tt)
 numbers_is from (field ∷ fields) ns e =
@@ -215,7 +199,7 @@ numbers_is from (field ∷ fields) ns e =
     let P : List ℕ → Type 0 = λ ns. ((field ∷ fields) ≡ map decimal ns) × AscendFrom from ns in
     subst P q (ap (λ f. f ∷ fields) first.0 ∙ ap (λ fs. decimal b.value ∷ fs) more.0, (first.1, first.2, more.1))
 
-pub numbers_again : (from : ℕ) (ns : List ℕ) → AscendFrom from ns → numbers_from from (map decimal ns) ≡ Some ns
+numbers_again : (from : ℕ) (ns : List ℕ) → AscendFrom from ns → numbers_from from (map decimal ns) ≡ Some ns
 unfolding numbers_from
 numbers_again from [] h = refl
 numbers_again from (n ∷ ns) h =
@@ -286,11 +270,11 @@ list_step text ns false t e = spelled ns (numbers_is 0 (fields_of 44 text) ns e)
     spelled [] p = absurd (some_fields 44 text p.0)
     spelled (n ∷ ns) p = (sym (fields_joined 44 text) ∙ ap (joined 44) p.0 ∙ ap (λ r. decimal n ++ r) (commas ns), p.1)
 
-pub list_is : (text ns : List ℕ) → list_of text ≡ Some ns → (text ≡ numbers_text ns) × AscendFrom 0 ns
+list_is : (text ns : List ℕ) → list_of text ≡ Some ns → (text ≡ numbers_text ns) × AscendFrom 0 ns
 unfolding list_of
 list_is text ns e = list_step text ns (bytes_eq text (codes "-")) refl e
 
-pub list_again : (ns : List ℕ) → AscendFrom 0 ns → list_of (numbers_text ns) ≡ Some ns
+list_again : (ns : List ℕ) → AscendFrom 0 ns → list_of (numbers_text ns) ≡ Some ns
 unfolding list_of
 list_again [] h = refl
 list_again (n ∷ ns) h =
@@ -308,7 +292,7 @@ list_avoids (n ∷ ns) h = avoids-append 10 (decimal n) (flat_map after_comma ns
 -- ---- lines by their keywords
 
 -- what a line says after its keyword and a space
-pub record SaysAfter (bytes : ℕ) (keyword text : List ℕ) (item : Item) : Type 0 where
+record SaysAfter (bytes : ℕ) (keyword text : List ℕ) (item : Item) : Type 0 where
   pub line_is : keyword ++ (32 ∷ text) ≡ item_line bytes item
   pub sayable : IsSayable item
 

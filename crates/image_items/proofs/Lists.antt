@@ -1,11 +1,10 @@
 -- Lists of numbers between commas.
-use Rattle.std.proofs.Common.{◌≡◌, ◌==◌, not, ℕ, zero, suc, ◌+◌, ◌-◌, ◌<◌, ◌≤◌, List, [], ◌∷◌, ◌++◌, length, Bool, true, false, cond, Option, Some, None, refl, sym, ap, subst, ◌∙◌, append_assoc, eq-eqb, eqb-true, arith}
-use Rattle.std.proofs.lemmas.List.{append-nil}
+use Rattle.std.proofs.Common.{◌≡◌, ◌==◌, ℕ, ◌+◌, List, [], ◌∷◌, ◌++◌, Bool, true, false, cond, Option, Some, None, refl, sym, ap, ◌∙◌, append_assoc}
 use Rattle.std.proofs.lemmas.Option.{some_pair_parts}
 use Rattle.std.specs.Prelude.{option_map}
-use Rattle.text_lines.specs.Fields.{parts_at, longer_front}
+use Rattle.text_lines.specs.Fields.{parts_at, longer_front, ◌>>=◌}
 use Rattle.text_lines.specs.Lines.{longer_line}
-use Rattle.image_items.specs.Reading.{◌>>=◌, number_from, numbers_from, fields_of}
+use Rattle.image_items.specs.Reading.{number_from, numbers_from, fields_of}
 
 pub fields_cut : (mark : ℕ) (bs x y : List ℕ) → parts_at mark bs ≡ Some (x, y) → fields_of mark bs ≡ x ∷ fields_of mark y
 unfolding parts_at fields_of

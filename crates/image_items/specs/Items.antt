@@ -4,7 +4,6 @@ use Rattle.std.specs.List.{concat}
 use Rattle.std.specs.Fmt.{decimal}
 use Rattle.code_model.specs.declared.image.Mark.{Mark}
 use Rattle.code_model.specs.declared.image.Place.{Place}
-use Rattle.code_model.specs.declared.image.Word.{Word}
 use Rattle.code_model.specs.ImageText.{place_line, cost_line, mark_line, word_line}
 use Rattle.text_lines.specs.Fields.{is_name}
 use Rattle.image_items.specs.declared.item.Item.{Item}

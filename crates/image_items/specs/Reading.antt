@@ -1,18 +1,13 @@
 -- From a line to what it says, step by step.
-use Rattle.std.specs.Prelude.{ℕ, ◌+◌, ◌-◌, ◌^◌, ◌==◌, nat_lt, nat_le, if◌then◌else◌, List, [], ◌∷◌, ◌++◌, length, take, codes, Option, Some, None, option_map, Result, Ok, Err}
+use Rattle.std.specs.Prelude.{ℕ, ◌+◌, ◌-◌, ◌^◌, ◌==◌, nat_lt, if◌then◌else◌, List, [], ◌∷◌, ◌++◌, take, codes, Option, Some, None, Result, Ok, Err}
 use Rattle.std.specs.Str.{bytes_eq}
 use Rattle.std.specs.Int.{w64, from_be_bytes}
 use Rattle.hex.specs.Hex.{encode_lower, decode_sized}
 use Rattle.hex.specs.declared.error.FromHexError.{FromHexError}
-use Rattle.text_lines.specs.Fields.{parts_at, number_of, is_name}
+use Rattle.text_lines.specs.Fields.{parts_at, number_of, is_name, line_end, ◌>>=◌}
 use Rattle.text_lines.specs.Lines.{longer_line}
 use Rattle.image_items.specs.declared.item.Item.{Item}
 use Rattle.image_items.specs.declared.item.Item.TheVariants.{Size, Temps, Variable, Tree, Label, Code, Done}
-
-infixl 10 ◌>>=◌
-abbrev pub ◌>>=◌ : {A B : Type 0} → Option A → (A → Option B) → Option B
-None >>= f = None
-(Some x) >>= f = f x
 
 abbrev pub below_2_32 : ℕ → Option ℕ
 below_2_32 n = if nat_lt n (2 ^ 32) then Some n else None
@@ -22,12 +17,6 @@ small text = number_of text >>= below_2_32
 
 unfoldable pub number_before : ℕ → List ℕ → Option (ℕ × List ℕ)
 number_before mark text = parts_at mark text >>= λ parts. small parts.0 >>= λ n. Some (n, parts.1)
-
-abbrev pub only_front : List ℕ × List ℕ → Option (List ℕ)
-only_front parts = if length parts.1 == 0 then Some parts.0 else None
-
-unfoldable pub line_end : List ℕ → Option (List ℕ)
-line_end text = parts_at 10 text >>= only_front
 
 unfoldable pub last_number : List ℕ → Option ℕ
 last_number text = line_end text >>= small

@@ -1,9 +1,10 @@
 //! Numbers and words in a line.
 
-ghost use Rattle.std.specs.Prelude.{◌≡◌, ◌≤◌, ◌<◌, option_map, option_copied};
-ghost use Rattle.image_items.specs.Reading.{small, number_before, line_end, last_number, pair_of, label_of, word_in};
+ghost use Rattle.std.specs.Prelude.{◌≡◌, ◌≤◌, ◌<◌, option_map};
+ghost use Rattle.image_items.specs.Reading.{small, number_before, last_number, pair_of, label_of, word_in};
+ghost use Rattle.text_lines.specs.Fields.{line_end};
 
-use text_lines::{cut, number};
+use text_lines::{cut, line_end, number};
 
 // The bytes of the widest word.
 const WORD_BYTES: usize = 8;
@@ -23,15 +24,6 @@ pub fn number_before(text: &[u8], mark: u8) -> Option<(u32, &[u8])>
 {
     let (front, rest) = cut(text, mark)?;
     Some((small(front)?, rest))
-}
-
-/// What stands before the LF, which is the last byte.
-#[tactic(auto, unfolding(crate::specs::Reading::line_end))]
-pub fn line_end(text: &[u8]) -> Option<&[u8]>
-    ensures { option_copied result ≡ line_end text.now }
-{
-    let (front, rest) = cut(text, b'\n')?;
-    if rest.is_empty() { Some(front) } else { None }
 }
 
 /// The number to the end of the line.

@@ -4,12 +4,12 @@ ghost use Rattle.std.specs.Prelude.{◌≡◌, ◌≤◌, IfOk, option_map};
 ghost use Rattle.image_items.specs.Reading.{place_parts, word_parts, said_by, item_of, size_item, temps_item, place_item, tree_item, mark_item, word_item};
 
 use crate::Item;
-use crate::field::{label_of, last_number, line_end, number_before, pair_of, word_in};
+use crate::field::{label_of, last_number, number_before, pair_of, word_in};
 use crate::list::list_of;
 use code_model::{Mark, Place, Word};
 use rec_bits::{Items, NoMemory};
 use std::alloc::Global;
-use text_lines::{cut, is_name};
+use text_lines::{cut, is_name, line_end};
 
 // A name, an address and a length.
 #[tactic(auto, unfolding(crate::specs::Reading::place_parts))]

@@ -1,22 +1,20 @@
 -- The text of an image that fits is read as that image.
-use Rattle.std.proofs.Common.{◌≡◌, ℕ, zero, suc, ◌+◌, ◌<◌, ◌≤◌, ◌^◌, List, [], ◌∷◌, ◌++◌, length, map, Option, Some, None, refl, sym, ap, ◌∙◌, append_assoc, arith}
-use Rattle.std.proofs.lemmas.List.{append-nil, map-append}
+use Rattle.std.proofs.Common.{◌≡◌, ℕ, ◌+◌, ◌<◌, ◌^◌, List, [], ◌∷◌, ◌++◌, length, map, refl, sym, ap, ◌∙◌, append_assoc, arith}
+use Rattle.std.proofs.lemmas.List.{map-append}
 use Rattle.std.specs.Prelude.{codes}
 use Rattle.std.specs.Fmt.{decimal}
 use Rattle.std.specs.List.{AllByRecursion, concat, flat_map}
 use Rattle.code_model.specs.declared.image.Image.{Image}
-use Rattle.code_model.specs.declared.image.Mark.{Mark}
-use Rattle.code_model.specs.declared.image.Place.{Place}
 use Rattle.code_model.specs.declared.image.Word.{Word}
-use Rattle.code_model.specs.ImageText.{bytes_of, head_text, place_line, cost_line, mark_line, word_line, word_lines, image_text}
+use Rattle.code_model.specs.ImageText.{bytes_of, place_line, cost_line, mark_line, word_line, word_lines, image_text}
 use Rattle.text_lines.specs.Lines.{lines_of}
 use Rattle.text_lines.proofs.Parts.{IsLine, lines-joined}
 use Rattle.image_items.specs.declared.item.Item.{Item}
 use Rattle.image_items.specs.declared.item.Item.TheVariants.{Size, Temps, Variable, Tree, Label, Code, Done}
-use Rattle.image_items.specs.Items.{item_line, IsSayable, PlaceFits, MarkFits}
+use Rattle.image_items.specs.Items.{item_line, PlaceFits, MarkFits}
 use Rattle.image_items.proofs.Endings.{item_ends}
 use Rattle.image_text.specs.declared.limits.Limits.{Limits}
-use Rattle.image_text.specs.Lines.{code_items, image_items, image_lines, CostFits, CodeFits, IsFitting, IsImageText}
+use Rattle.image_text.specs.Lines.{code_items, image_lines, CostFits, CodeFits, IsFitting, IsImageText}
 
 -- ---- the lines one after the other are the text
 

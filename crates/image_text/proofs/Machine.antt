@@ -1,27 +1,23 @@
 -- Reading line by line: what was read is the front of a text, and the text of an image is read whole.
-use Rattle.std.proofs.Common.{◌≡◌, ◌==◌, ◌&&◌, not, ℕ, zero, suc, ◌+◌, ◌-◌, ◌^◌, ◌<◌, ◌≤◌, List, [], ◌∷◌, ◌++◌, length, map, Bool, true, false, cond, Option, Some, None, refl, sym, ap, subst, ◌∙◌, append_assoc, eq-eqb, eqb-true, length-append, arith}
+use Rattle.std.proofs.Common.{◌≡◌, ◌==◌, ◌&&◌, ℕ, ◌+◌, ◌-◌, ◌^◌, ◌<◌, ◌≤◌, List, [], ◌∷◌, ◌++◌, length, map, Bool, true, false, Some, None, refl, sym, ap, subst, ◌∙◌, append_assoc, eqb-true, length-append, arith}
 use Rattle.std.proofs.lemmas.List.{append-nil}
 use Rattle.std.proofs.lemmas.Option.{cond_some, same_Some}
-use Rattle.std.proofs.lemmas.Bool.{ltb-true, lt-ltb, leb-true, le-leb}
-use Rattle.std.specs.Prelude.{nat_le, nat_lt, slice_get}
-use Rattle.std.specs.List.{AllByRecursion, concat}
+use Rattle.std.proofs.lemmas.Bool.{ltb-true, leb-true}
+use Rattle.std.specs.Prelude.{nat_le, nat_lt}
+use Rattle.std.specs.List.{AllByRecursion}
 use Rattle.code_model.specs.declared.image.Image.{Image}
 use Rattle.code_model.specs.declared.image.Mark.{Mark}
 use Rattle.code_model.specs.declared.image.Place.{Place}
 use Rattle.code_model.specs.declared.image.Word.{Word}
-use Rattle.code_model.specs.ImageText.{bytes_of}
-use Rattle.text_lines.specs.Lines.{lines_of}
 use Rattle.image_items.specs.declared.item.Item.{Item}
 use Rattle.image_items.specs.declared.item.Item.TheVariants.{Size, Temps, Variable, Tree, Label, Code, Done}
-use Rattle.image_items.specs.Items.{item_line, IsSayable, IsWithin, PlaceFits, MarkFits, AscendFrom}
-use Rattle.image_items.specs.Reading.{◌>>=◌, item_of}
-use Rattle.image_items.proofs.Laws.{Bound, bind_ok, bind_again, Says, item_is, item_again}
-use Rattle.image_text.proofs.Marks.{marks-snoc, follow_true, follow_again, last-snoc}
+use Rattle.image_items.specs.Items.{IsSayable, PlaceFits, MarkFits, AscendFrom}
+use Rattle.image_text.proofs.Marks.{marks-snoc, follow_true}
 use Rattle.image_text.specs.declared.limits.Limits.{Limits}
 use Rattle.image_text.specs.declared.front.Front.{Front}
 use Rattle.image_text.specs.declared.front.Front.TheVariants.{Nothing, Sized, Open, Whole}
-use Rattle.image_text.specs.Lines.{code_items, image_items, image_lines, MayFollow, HasNumber, AreMarksAfter, CostFits, CodeFits, IsFitting, IsImageText, Begin, IsFault}
-use Rattle.image_text.specs.Fronts.{no_items, has_number, may_follow, last_mark, opened, with_size, with_place, with_cost, with_mark, with_word, whole, with_item, after_nothing, after_size, step, step_line, reads, IsRead, StopsAt}
+use Rattle.image_text.specs.Lines.{code_items, CostFits, CodeFits, IsFitting}
+use Rattle.image_text.specs.Fronts.{no_items, may_follow, last_mark, opened, with_size, with_place, with_cost, with_mark, with_word, whole, with_item, after_nothing, after_size, step}
 
 -- ---- what was read
 

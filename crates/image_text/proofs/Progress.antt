@@ -1,13 +1,13 @@
 -- Going over the lines.
-use Rattle.std.proofs.Common.{◌≡◌, ℕ, ◌+◌, ◌-◌, ◌<◌, ◌≤◌, List, [], ◌∷◌, ◌++◌, length, Option, Some, None, refl, sym, ap, ◌∙◌, append_assoc, length-append, arith}
+use Rattle.std.proofs.Common.{◌≡◌, ℕ, ◌+◌, ◌-◌, List, [], ◌∷◌, ◌++◌, length, Option, Some, None, refl, sym, ap, ◌∙◌, append_assoc, length-append, arith}
 use Rattle.std.proofs.lemmas.List.{append-nil}
 use Rattle.std.specs.List.{concat}
 use Rattle.text_lines.specs.Lines.{lines_of, IsFirstLine}
-use Rattle.image_items.specs.Reading.{◌>>=◌}
 use Rattle.image_text.specs.declared.limits.Limits.{Limits}
 use Rattle.image_text.specs.declared.front.Front.{Front}
-use Rattle.image_text.specs.declared.front.Front.TheVariants.{Nothing, Sized, Open, Whole}
+use Rattle.image_text.specs.declared.front.Front.TheVariants.{Nothing}
 use Rattle.image_text.specs.Fronts.{step_line, reads, IsRead, StopsAt}
+use Rattle.text_lines.specs.Fields.{◌>>=◌}
 
 -- some lines of the bytes were read, and the rest is left
 pub record Progress (limits : Limits) (bytes rest : List ℕ) (front : Front) : Type 0 where

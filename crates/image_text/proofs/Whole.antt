@@ -1,15 +1,15 @@
 -- What reading all lines says of a text.
-use Rattle.std.proofs.Common.{◌≡◌, ◌==◌, ◌&&◌, not, ℕ, zero, suc, ◌+◌, ◌-◌, ◌*◌, ◌/◌, ◌^◌, ◌<◌, ◌≤◌, List, [], ◌∷◌, ◌++◌, length, map, Bool, true, false, cond, Option, Some, None, refl, sym, ap, subst, ◌∙◌, append_assoc, eq-eqb, eqb-true, length-append, arith}
+use Rattle.std.proofs.Common.{◌≡◌, ℕ, zero, suc, ◌+◌, ◌-◌, ◌*◌, ◌^◌, ◌<◌, ◌≤◌, List, [], ◌∷◌, ◌++◌, length, map, cond, Option, Some, None, refl, sym, ap, subst, ◌∙◌, append_assoc, eq-eqb, length-append, arith}
 use Rattle.std.proofs.lemmas.List.{append-nil, map-append}
-use Rattle.std.proofs.lemmas.Option.{cond_some, same_Some}
-use Rattle.std.proofs.lemmas.Bool.{ltb-true, lt-ltb, leb-true, le-leb}
+use Rattle.std.proofs.lemmas.Option.{same_Some}
+use Rattle.std.proofs.lemmas.Bool.{lt-ltb, le-leb}
 use Rattle.std.proofs.lemmas.Nat.{pow-add}
 use Rattle.std.proofs.Math.Nat.{pow-le-pow_right}
 use Rattle.text_lines.proofs.Parts.{joined-lines}
-use Rattle.std.specs.Prelude.{nat_le, nat_lt, slice_get, Result, Ok, Err, IfOk, IfErr, MatchResult}
+use Rattle.std.specs.Prelude.{slice_get, Result, Ok, Err, IfOk, IfErr, MatchResult}
 use Rattle.rec_bits.specs.declared.fault.ParseFault.{ParseFault}
 use Rattle.rec_bits.specs.declared.fault.ParseFault.TheVariants.{Text, Memory}
-use Rattle.std.specs.List.{AllByRecursion, concat}
+use Rattle.std.specs.List.{AllByRecursion}
 use Rattle.code_model.specs.declared.image.Image.{Image}
 use Rattle.code_model.specs.declared.image.Mark.{Mark}
 use Rattle.code_model.specs.declared.image.Place.{Place}
@@ -18,17 +18,19 @@ use Rattle.code_model.specs.ImageText.{bytes_of}
 use Rattle.text_lines.specs.Lines.{lines_of}
 use Rattle.image_items.specs.declared.item.Item.{Item}
 use Rattle.image_items.specs.declared.item.Item.TheVariants.{Size, Temps, Variable, Tree, Label, Code, Done}
-use Rattle.image_items.specs.Items.{item_line, IsSayable, IsWithin, PlaceFits, MarkFits, AscendFrom}
-use Rattle.image_items.specs.Reading.{◌>>=◌, item_of}
-use Rattle.image_items.proofs.Laws.{Bound, bind_ok, bind_again, Says, item_is, item_again}
+use Rattle.image_items.specs.Items.{item_line, IsSayable, IsWithin, PlaceFits, MarkFits}
+use Rattle.image_items.specs.Reading.{item_of}
+use Rattle.image_items.proofs.Laws.{item_is, item_again}
 use Rattle.image_text.proofs.Marks.{follow_again, last-snoc}
-use Rattle.image_text.proofs.Machine.{body_items, front_items, FrontFits, Goes, step_goes, codes-append, more_codes}
+use Rattle.image_text.proofs.Machine.{body_items, front_items, FrontFits, step_goes, more_codes}
 use Rattle.image_text.proofs.Progress.{reads-append}
 use Rattle.image_text.specs.declared.limits.Limits.{Limits}
 use Rattle.image_text.specs.declared.front.Front.{Front}
 use Rattle.image_text.specs.declared.front.Front.TheVariants.{Nothing, Sized, Open, Whole}
-use Rattle.image_text.specs.Lines.{code_items, image_items, image_lines, MayFollow, HasNumber, AreMarksAfter, CostFits, CodeFits, IsFitting, IsImageText, Begin, IsFault, IsRefusal}
-use Rattle.image_text.specs.Fronts.{no_items, may_follow, last_mark, opened, with_size, with_place, with_cost, with_mark, with_word, whole, with_item, after_nothing, after_size, step, step_line, reads, IsRead, StopsAt, Stops, IsWholeOf}
+use Rattle.image_text.specs.Lines.{code_items, image_lines, MayFollow, AreMarksAfter, CostFits, CodeFits, IsFitting, IsImageText, Begin, IsFault, IsRefusal}
+use Rattle.image_text.specs.Fronts.{last_mark, opened, with_size, with_place, with_cost, with_mark, with_word, whole, with_item, after_nothing, after_size, step, step_line, reads, IsRead, StopsAt, Stops, IsWholeOf}
+use Rattle.text_lines.specs.Fields.{◌>>=◌}
+use Rattle.text_lines.proofs.Steps.{bind_ok, bind_again}
 
 -- a word of 1 to 64 bits
 pub record Narrow (limits : Limits) : Type 0 where
@@ -44,11 +46,11 @@ line_in limits item = item_line (bytes_of limits.bits) item
 
 -- ---- lines that were read are those of what was read
 
-pub record Spells (limits : Limits) (from : Front) (lines : List (List ℕ)) (to : Front) : Type 0 where
+record Spells (limits : Limits) (from : Front) (lines : List (List ℕ)) (to : Front) : Type 0 where
   pub spelled : map (line_in limits) (front_items limits to) ≡ map (line_in limits) (front_items limits from) ++ lines
   pub fits : FrontFits limits to
 
-pub spells : (limits : Limits) (from : Front) (lines : List (List ℕ)) (to : Front) → Narrow limits → FrontFits limits from → reads limits from lines ≡ Some to → Spells limits from lines to
+spells : (limits : Limits) (from : Front) (lines : List (List ℕ)) (to : Front) → Narrow limits → FrontFits limits from → reads limits from lines ≡ Some to → Spells limits from lines to
 unfolding reads step_line
 spells limits from [] to n h e = subst (Spells limits from []) (same_Some from to e) (record { spelled = sym (append-nil (map (line_in limits) (front_items limits from))); fits = h })
 spells limits from (line ∷ lines) to n h e =
@@ -174,7 +176,7 @@ made_read limits t ps cs ms ws n f =
     ∙ codes_read limits count t ps cs ms [] ws 0 done n f.words refl (omega arith) small
     ∙ go_on limits (Open count (made limits t ps cs ms ws)) (Whole (made limits t ps cs ms ws)) Done [] n tt tt (done_step limits (made limits t ps cs ms ws))
 
-pub image_read : (limits : Limits) (image : Image) → Narrow limits → IsFitting limits image → reads limits Nothing (image_lines image) ≡ Some (Whole image)
+image_read : (limits : Limits) (image : Image) → Narrow limits → IsFitting limits image → reads limits Nothing (image_lines image) ≡ Some (Whole image)
 image_read limits image n f =
     let same : image ≡ made limits image.temps image.places image.costs image.marks image.words = ap (λ (b : ℕ). let i : Image = record { bits = b; temps = image.temps; places = image.places; costs = image.costs; marks = image.marks; words = image.words } in i) f.bits in
     let P : Image → Type 0 = λ i. reads limits Nothing (image_lines i) ≡ Some (Whole i) in
@@ -237,7 +239,7 @@ sized_begins limits count h =
     begin_less limits (line_in limits (Size limits.bits count) ∷ []) (line_in limits (Temps 0) ∷ [])
     (open_begins limits count (opened limits 0) (h, omega arith, record { bits = refl; few = omega arith; temps = omega arith; places = tt; costs = tt; marks = tt; in_order = tt; words = tt }))
 
-pub front_begins : (limits : Limits) (front : Front) → FrontFits limits front → Begin limits (map (line_in limits) (front_items limits front))
+front_begins : (limits : Limits) (front : Front) → FrontFits limits front → Begin limits (map (line_in limits) (front_items limits front))
 front_begins limits Nothing h = begin_less limits [] (line_in limits (Size limits.bits 0) ∷ []) (sized_begins limits 0 (omega arith))
 front_begins limits (Sized count) h = sized_begins limits count h
 front_begins limits (Open count image) h = open_begins limits count image h
@@ -261,7 +263,7 @@ no_text limits before front line more image n e s f same =
     let d : None ≡ Some (Whole image) = sym a ∙ ap (reads limits Nothing) same ∙ b in
     cc
 
-pub stop_is_fault : (limits : Limits) (bytes : List ℕ) (at : ℕ) → Narrow limits → StopsAt limits bytes at → IsFault limits bytes at
+stop_is_fault : (limits : Limits) (bytes : List ℕ) (at : ℕ) → Narrow limits → StopsAt limits bytes at → IsFault limits bytes at
 stop_is_fault limits bytes at n s = record {
   front = s.before;
   rest = s.line ∷ s.after;
@@ -277,7 +279,7 @@ stop_is_fault limits bytes at n s = record {
 pub text_is_read : (limits : Limits) (bytes : List ℕ) (image : Image) → Narrow limits → IsImageText limits bytes image → reads limits Nothing (lines_of bytes) ≡ Some (Whole image)
 text_is_read limits bytes image n t = ap (reads limits Nothing) t.lines ∙ image_read limits image n t.fits
 
-pub end_is_fault : (limits : Limits) (bytes : List ℕ) (front : Front) → Narrow limits → IsRead limits bytes front → ((image : Image) → front ≡ Whole image → ⊥) → IsFault limits bytes (length bytes)
+end_is_fault : (limits : Limits) (bytes : List ℕ) (front : Front) → Narrow limits → IsRead limits bytes front → ((image : Image) → front ≡ Whole image → ⊥) → IsFault limits bytes (length bytes)
 end_is_fault limits bytes front n r other = record {
   front = lines_of bytes;
   rest = [];
@@ -288,7 +290,7 @@ end_is_fault limits bytes front n r other = record {
   whole = λ (image : Image) (t : IsImageText limits bytes image). other image (same_Some front (Whole image) (sym r.all ∙ text_is_read limits bytes image n t));
 }
 
-pub whole_is_text : (limits : Limits) (bytes : List ℕ) (image : Image) → Narrow limits → IsRead limits bytes (Whole image) → IsImageText limits bytes image
+whole_is_text : (limits : Limits) (bytes : List ℕ) (image : Image) → Narrow limits → IsRead limits bytes (Whole image) → IsImageText limits bytes image
 whole_is_text limits bytes image n r =
     let s = spells limits Nothing (lines_of bytes) (Whole image) n tt r.all in
     let f : IsFitting limits image = s.fits in
@@ -301,7 +303,7 @@ one_image limits bytes found image n r t =
 
 -- ---- the answers
 
-abbrev pub Only : Limits → List ℕ → Result Image ParseFault → Type 0
+abbrev Only : Limits → List ℕ → Result Image ParseFault → Type 0
 Only limits bytes result = (image : Image) → IsImageText limits bytes image → MatchResult result (λ found. found ≡ image) (λ fault. fault ≡ Memory)
 
 pub record Answers (limits : Limits) (bytes : List ℕ) (result : Result Image ParseFault) : Type 0 where

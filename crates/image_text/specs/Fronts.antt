@@ -11,10 +11,11 @@ use Rattle.rec_bits.specs.declared.fault.ParseFault.TheVariants as fault
 use Rattle.text_lines.specs.Lines.{lines_of}
 use Rattle.image_items.specs.declared.item.Item.{Item}
 use Rattle.image_items.specs.declared.item.Item.TheVariants.{Size, Temps, Variable, Tree, Label, Code, Done}
-use Rattle.image_items.specs.Reading.{◌>>=◌, item_of}
+use Rattle.image_items.specs.Reading.{item_of}
 use Rattle.image_text.specs.declared.limits.Limits.{Limits}
 use Rattle.image_text.specs.declared.front.Front.{Front}
 use Rattle.image_text.specs.declared.front.Front.TheVariants.{Nothing, Sized, Open, Whole}
+use Rattle.text_lines.specs.Fields.{◌>>=◌}
 
 abbrev pub no_items : {A : Type 0} → List A → Bool
 no_items xs = length xs == 0

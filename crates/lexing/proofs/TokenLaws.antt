@@ -1,16 +1,15 @@
 -- The laws of the tokens of a text.
-use Rattle.std.proofs.Common.{◌≡◌, ◌≢◌, ℕ, zero, suc, ◌+◌, ◌-◌, ◌≤◌, List, [], ◌∷◌, length, take, drop, All, refl, sym, ap, subst, ◌∙◌, arith}
-use Rattle.std.proofs.lemmas.List.{length-drop, length-take-le, drop-drop}
+use Rattle.std.proofs.Common.{◌≡◌, ◌≢◌, ℕ, zero, suc, ◌+◌, ◌-◌, ◌≤◌, List, [], ◌∷◌, length, drop, All, refl, sym, ap, subst, ◌∙◌, arith}
+use Rattle.std.proofs.lemmas.List.{length-drop, drop-drop}
 use Rattle.std.proofs.lemmas.List.Elements.{All-nil, All-cons, All-weaker}
 use Rattle.lexing.specs.declared.token.Token.{Token}
 use Rattle.lexing.specs.declared.token.Kind.{Kind}
 use Rattle.lexing.specs.declared.token.Kind.TheVariants.{Bad}
 use Rattle.lexing.specs.declared.piece.Piece.{Piece}
 use Rattle.lexing.specs.declared.piece.Piece.TheVariants.{Blank, Whole, Wrong}
-use Rattle.lexing.specs.Numbers.{number_value, written_number}
 use Rattle.lexing.specs.Table.{Table}
-use Rattle.lexing.specs.Tokens.{piece, a_token, token_bytes, tokens_from, tokens_of}
-use Rattle.lexing.specs.Laws.{IsSpacing, nothing, IsNumber, IsKind, IsTokenOf, AreInOrder, AreSpaced, IsBadLast, AreTokens}
+use Rattle.lexing.specs.Tokens.{piece, a_token, tokens_from, tokens_of}
+use Rattle.lexing.specs.Laws.{IsSpacing, nothing, IsKind, IsTokenOf, AreInOrder, AreSpaced, IsBadLast, AreTokens}
 use Rattle.lexing.proofs.Scans.{IsWithin, piece_within}
 use Rattle.lexing.proofs.Standing.{blank_is, whole_is, wrong_is}
 
@@ -125,10 +124,18 @@ later from (token ∷ rest) order =
     let behind : All (λ next. token.at + token.len ≤ next.at) rest = later (token.at + token.len) rest order.1 in
     All-cons (λ next. from ≤ next.at) token rest order.0 (All-weaker (λ next. token.at + token.len ≤ next.at) (λ next. from ≤ next.at) (λ next h. omega (arith, order.0)) rest behind)
 
--- a token has as many bytes as it says
-pub length-token_bytes : (table : Table) (bytes : List ℕ) (token : Token) → IsTokenOf table bytes token → length (token_bytes bytes token) ≡ token.len
-length-token_bytes table bytes token is = length-take-le token.len (drop token.at bytes) (omega (arith, is.within, length-drop token.at bytes))
+-- ---- no more tokens than bytes
 
--- the number that stands for a number token is its value
-pub written_number-number : (n : ℕ) (bytes : List ℕ) → IsNumber n bytes → written_number (take n bytes) ≡ number_value (take n bytes)
-written_number-number n bytes number = omega (arith, number.small)
+-- a piece gives one token at most and takes at least one byte
+next_token : (table : Table) (at b : ℕ) (bs : List ℕ) → ((k : ℕ) → length (tokens_from table (at + 1) k bs) ≤ length bs)
+    → (p : Piece) → piece table (b ∷ bs) ≡ p → length (tokens_from table at 0 (b ∷ bs)) ≤ length (b ∷ bs)
+unfolding tokens_from
+next_token table at b bs f (Blank n) e = rw (e, tokens_from) (let k : length (tokens_from table (at + 1) (n - 1) bs) ≤ length bs = f (n - 1) in omega arith)
+next_token table at b bs f (Whole kind n) e = rw (e, tokens_from) (let k : length (tokens_from table (at + 1) (n - 1) bs) ≤ length bs = f (n - 1) in omega arith)
+next_token table at b bs f Wrong e = rw (e, tokens_from) (omega arith)
+
+pub few_tokens : (table : Table) (at skip : ℕ) (bytes : List ℕ) → length (tokens_from table at skip bytes) ≤ length bytes
+unfolding tokens_from
+few_tokens table at skip [] = omega arith
+few_tokens table at (suc skip) (b ∷ bs) = let k : length (tokens_from table (at + 1) skip bs) ≤ length bs = few_tokens table (at + 1) skip bs in omega arith
+few_tokens table at zero (b ∷ bs) = next_token table at b bs (λ k. few_tokens table (at + 1) k bs) (piece table (b ∷ bs)) refl

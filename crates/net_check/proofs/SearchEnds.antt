@@ -1,6 +1,6 @@
 -- Where the search begins and where it ends.
-use Rattle.std.proofs.Common.{◌≡◌, ◌≢◌, true, false, ℕ, ◌<◌, List, [], ◌∷◌, length, replicate, slice_index, refl, sym, ap, ◌∙◌, subst, arith, zero, suc}
-use Rattle.std.proofs.lemmas.List.{length-replicate, get_or-set_same}
+use Rattle.std.proofs.Common.{◌≡◌, ◌≢◌, false, ℕ, ◌<◌, List, [], ◌∷◌, length, replicate, slice_index, refl, sym, ap, ◌∙◌, subst, arith, zero, suc}
+use Rattle.std.proofs.lemmas.List.{get_or-set_same}
 use Rattle.net_model.specs.Depends.{Among, Depends, direct, via}
 use Rattle.net_check.specs.Graphs.{named_in}
 use Rattle.net_check.specs.Components.{mark_at, on_cycle, IsDone, Reaches, IsSearch, IsMet, IsTold}
@@ -12,26 +12,6 @@ new_at : (n m : ℕ) → mark_at (replicate n New) m ≡ New
 new_at zero m = refl
 new_at (suc n) zero = refl
 new_at (suc n) (suc m) = new_at n m
-
--- nothing is met
-pub part_start : (graph : List (List ℕ)) (marks : List Mark) (met starts path : List ℕ) → marks ≡ replicate (length graph) New → met ≡ [] → starts ≡ [] → path ≡ [] → IsSearch graph marks met starts path
-part_start graph marks met starts path em en es ep = rw (em, en, es, ep) (record {
-  long = length-replicate (length graph) New;
-  at = λ i h. absurd (omega arith);
-  back = λ m i a. absurd (let b = a.is in let f = new_at (length graph) m in cc);
-  joined = λ p q h k u. absurd (omega arith);
-  seen = λ m i k h. absurd (let f = new_at (length graph) m in cc);
-  ended = λ m i k h. absurd (let f = new_at (length graph) m in cc);
-  rising = tt;
-  low = λ s h. absurd h;
-  begun = λ s h. absurd h;
-  based = λ i h. absurd (omega arith);
-  climbs = tt;
-  on_path = λ m h. absurd h;
-  closed = λ m d. absurd (let b = d.is in let f = new_at (length graph) m in cc);
-  cyclic = λ m h. absurd (let f = new_at (length graph) m in cc);
-  acyclic = λ m h. absurd (let f = new_at (length graph) m in cc);
-})
 
 -- with no net open, none is met
 module _ (graph : List (List ℕ)) (marks : List Mark) (met starts path : List ℕ) (w : IsSearch graph marks met starts path) (none : path ≡ []) where
@@ -68,15 +48,7 @@ depends_inside : (graph : List (List ℕ)) (a b : ℕ) → Depends (named_in gra
 depends_inside graph a b (direct h) = inside_of graph a b h
 depends_inside graph a b (via {b = c} h d) = inside_of graph a c h
 
-told_true : (mark : Mark) → on_cycle mark ≡ true → mark ≡ Done true
-told_true (Done told) e = ap Done e
-told_true New e = cc e
-told_true (Met i k) e = cc e
-
 module _ (graph : List (List ℕ)) (marks : List Mark) (p : IsTold graph marks) where
-  pub lies_on : (m : ℕ) → on_cycle (mark_at marks m) ≡ true → Depends (named_in graph) m m
-  lies_on m e = p.cyclic m (told_true (mark_at marks m) e)
-
   pub lies_off : (m : ℕ) → on_cycle (mark_at marks m) ≡ false → Depends (named_in graph) m m → ⊥
   lies_off m e d =
       let k : IsDone marks m = p.all m (depends_inside graph m m d) in

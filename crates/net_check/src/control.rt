@@ -46,16 +46,6 @@ fn width_of(netlist: &Netlist, net: u32) -> u8
     }
 }
 
-// The offset of the name of the item that a net was numbered for.
-pub(crate) fn name_of(netlist: &Netlist, net: u32) -> u64
-    ensures { result ≡ name_at netlist.now net }
-{
-    match netlist.net(net) {
-        Some(net) => net.name_at,
-        None => 0,
-    }
-}
-
 fn keeps(rule: Rule, netlist: &Netlist, flags: &Flags, net: u32) -> bool
     ensures { result ≡ passes rule netlist.now flags.now net }
 {
@@ -94,7 +84,7 @@ fn least_broken(rule: Rule, netlist: &Netlist, flags: &Flags, nets: &[u32]) -> O
     let mut found = None;
     for net in nets {
         if !keeps(rule, netlist, flags, *net) {
-            found = Some(lesser(found, name_of(netlist, *net)));
+            found = Some(lesser(found, netlist.name_at(*net)));
         }
     }
     found

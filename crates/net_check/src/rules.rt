@@ -7,7 +7,7 @@ ghost use Rattle.net_model.specs.NetFaults.{Accepts, FaultOf, IsFaultOrMemory, R
 ghost use Rattle.net_model.specs.Nets.{gate_nets};
 ghost use Rattle.net_model.specs.Order.{IsOrder};
 
-use crate::control::{control_fault, name_of};
+use crate::control::control_fault;
 use crate::cycle::least_on_cycle;
 use crate::graph::graph_of;
 use crate::role::lacking_role;
@@ -30,7 +30,7 @@ fn order_of(
         Sorted::Order(order) => Ok(order),
         Sorted::Cycle(known) => {
             let net = least_on_cycle(alloc, graph, known)?;
-            let fault = NetFault::Cycle(name_of(netlist, net));
+            let fault = NetFault::Cycle(netlist.name_at(net));
             Err(CheckFault::Fault(fault))
         }
     }

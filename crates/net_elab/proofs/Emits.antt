@@ -16,7 +16,7 @@ use Rattle.net_elab.specs.Found.{IsCells, cell_of}
 use Rattle.net_elab.specs.declared.site.Spot.{Spot}
 use Rattle.net_elab.specs.declared.site.Cells.{Cells}
 use Rattle.net_elab.specs.declared.expression.Pairs.{Pairs}
-use Rattle.net_elab.proofs.Rows.{Row, phrase_Case}
+use Rattle.net_model.proofs.Cases.{Row, phrase_Case}
 use Rattle.net_elab.proofs.Cases.{width_without, width_with}
 
 pub if_ok_map : {A E : Type 0} {P Q : A → Type 0} → ((a : A) → P a → Q a) → (r : Result A E) → IfOk r P → IfOk r Q

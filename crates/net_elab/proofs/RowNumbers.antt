@@ -102,9 +102,6 @@ rows_below : (s : Scope) (key w : ℕ) (rows : Rows) → RowsHave s key w rows �
 rows_below s key w no_rows h q e = absurd (cc e)
 rows_below s key w (row numbers a rows) h q e = below_in key numbers (numbers_of rows) h.0 (rows_below s key w rows h.2) q e
 
-rest_or : (b : Bool) → IsTrue (false || b) → IsTrue b
-rest_or b h = h
-
 pub rows_whole : (site : Site) (start later : ℕ) (s : Scope) (key w : ℕ) (rows : Rows) (other : Rest) → RowsHave s key w rows → IsTrue (is_covered (Some key) rows other)
     → IsWhole key (row_pairs site start rows) (rest_out site later other)
 rows_whole site start later s key w rows (rest a) h c = tt

@@ -1,29 +1,13 @@
--- What a case is seen as, and the rows that are left at a row.
-use Rattle.std.proofs.Common.{ℕ, ◌≡◌, ◌+◌, ◌<◌, zero, suc, length, get_or, drop, List, [], ◌∷◌, map, Option, Some, None, Box, refl, ap, ◌∙◌, arith}
+-- How many nodes and nets a case has, and the rows that are left at a row.
+use Rattle.std.proofs.Common.{ℕ, ◌≡◌, ◌+◌, ◌<◌, zero, suc, length, get_or, drop, List, [], ◌∷◌, map, Option, Box, ap, ◌∙◌, arith}
 use Rattle.std.specs.declared.vec.Vec.{Vec}
 use Rattle.std.specs.declared.alloc.Global.{Global}
-use mathlib.Core.Former.{Count}
 use Rattle.rec_bits.proofs.Faults.{drop_item}
-use Rattle.net_model.specs.declared.units.NetExpr.{NetExpr, Row_of-NetExpr-Case-1-2, end_of-NetExpr-Case-1-2, more_of-NetExpr-Case-1-2, Case, items-the_row-NetExpr-Case-1-2, items_hidden-the_row-NetExpr-Case-1-2-0}
-use Rattle.net_model.specs.declared.units.NetExpr.TheBlock.{hidden-the_row-NetExpr-Case-1-2-0}
-use Rattle.net_model.specs.Written.{case, row, phrase_of, rows_in, row_of, rows_of, rest_of, other_of}
+use Rattle.net_model.specs.declared.units.NetExpr.{NetExpr, Case}
+use Rattle.net_model.specs.Written.{row, phrase_of, row_of, rows_of, rest_of, other_of}
 use Rattle.net_model.specs.Numbering.{count, count_rows, count_rest}
+use Rattle.net_model.proofs.Cases.{Row, phrase_Case}
 use Rattle.net_elab.specs.Nodes.{nodes, nodes_rows, nodes_rest}
-
-abbrev pub Row : Type 0
-Row = Vec ℕ Global × NetExpr
-
-rows_seen : (n : Count) (r : Row_of-NetExpr-Case-1-2 n) → rows_in r ≡ rows_of (map row_of (items-the_row-NetExpr-Case-1-2 n r))
-rows_seen n end_of-NetExpr-Case-1-2 = refl
-rows_seen n (more_of-NetExpr-Case-1-2 {n = m} numbers e others) = ap (λ rs. row numbers.items (phrase_of e) rs) (rows_seen m others)
-
-block_seen : (rows : Vec Row Global) → rows_in (hidden-the_row-NetExpr-Case-1-2-0 rows) ≡ rows_of (map row_of rows.items)
-block_seen rows = rows_seen _ (hidden-the_row-NetExpr-Case-1-2-0 rows) ∙ ap (λ rs. rows_of (map row_of rs)) (items_hidden-the_row-NetExpr-Case-1-2-0 rows)
-
-pub phrase_Case : (sel : Box NetExpr Global) (rows : Vec Row Global) (other : Option (Box NetExpr Global))
-    → phrase_of (Case sel rows other) ≡ case (phrase_of sel.value) (rows_of (map row_of rows.items)) (rest_of (other_of other))
-phrase_Case sel rows None = ap (λ rs. case (phrase_of sel.value) rs (rest_of None)) (block_seen rows)
-phrase_Case sel rows (Some b) = ap (λ rs. case (phrase_of sel.value) rs (rest_of (Some (phrase_of b.value)))) (block_seen rows)
 
 -- how many nodes and nets a case has
 pub case_nodes : (e : NetExpr) (sel : Box NetExpr Global) (rows : Vec Row Global) (other : Option (Box NetExpr Global)) → e ≡ Case sel rows other

@@ -21,7 +21,7 @@ use Rattle.net_model.specs.Elaborated.{codes_from, netlist_of, storages_from}
 use Rattle.net_model.specs.Grammar.{IsItem, IsName, IsSized, IsText, ItemBehind, ItemByWord}
 use Rattle.net_model.specs.Numbering.{count_item}
 use Rattle.net_model.specs.TextNames.{own_name}
-use Rattle.net_model.specs.Texts.{first_name, storage_name}
+use Rattle.net_model.specs.Texts.{first_name, name_in}
 use Rattle.net_model.specs.Written.{Entry, code, register, memory}
 use Rattle.net_front.specs.Fronts.{SaysNet}
 use Rattle.net_parser.specs.Texts.{words_of}
@@ -157,7 +157,7 @@ plain_text ts entries plain is =
 
 -- ---- netlists
 
-plain_storages : (text : List Entry) (start : ℕ) (entries : List Entry) → AllByRecursion PlainEntry entries → (id : ℕ) → Plain (storage_name (slice_get (storages_from text start entries) id))
+plain_storages : (text : List Entry) (start : ℕ) (entries : List Entry) → AllByRecursion PlainEntry entries → (id : ℕ) → Plain (name_in (slice_get (storages_from text start entries) id))
 plain_storages text start [] plain id = tt
 plain_storages text start (register name width input when ∷ entries) plain zero = plain.0
 plain_storages text start (register name width input when ∷ entries) plain (suc id) =

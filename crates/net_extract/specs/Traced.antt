@@ -1,9 +1,10 @@
 -- What is traced of a netlist: its control bits and the routes of its nets, over one book and one pool.
 use Rattle.std.specs.Prelude.{◌≡◌}
 use Rattle.net_model.specs.declared.hardware.Netlist.{Netlist}
+use Rattle.net_model.specs.Nets.{word_width}
 use Rattle.net_front.specs.declared.front.NetRefusal.{NetRefusal}
 use Rattle.net_front.specs.declared.front.NetRefusal.TheVariants.{Text, Fault, Memory}
-use Rattle.ctl_bdd.specs.Controls.{IsControl, word_width}
+use Rattle.ctl_bdd.specs.Controls.{IsControl}
 use Rattle.transfer_set.specs.Routes.{AreRoutes}
 use Rattle.net_extract.specs.Extracts.{BreaksRoutes}
 use Rattle.net_extract.specs.declared.routed.Routed.{Routed}

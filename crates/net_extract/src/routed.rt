@@ -1,10 +1,10 @@
 //! Netlists with the routes of their nets.
 
-ghost use Rattle.std.specs.Prelude.{◌≡◌, ◌<◌, ◌≤◌, ◌^◌, length, IfOk, IfErr};
+ghost use Rattle.std.specs.Prelude.{◌≡◌, ◌<◌, ◌^◌, length, IfOk, IfErr};
 ghost use Rattle.bit_bdd.specs.Diagrams.{Extends};
-ghost use Rattle.net_model.specs.NetFaults.{name_at};
+ghost use Rattle.net_model.specs.Nets.{word_width};
 ghost use Rattle.sym_expr.specs.Pools.{Grows};
-ghost use Rattle.ctl_bdd.specs.Controls.{IsControl, word_width};
+ghost use Rattle.ctl_bdd.specs.Controls.{IsControl};
 ghost use Rattle.transfer_set.specs.Routes.{AreRoutes};
 ghost use Rattle.net_extract.specs.Extracts.{IsRouted, IsRoutedNet, IsRoutedRefusal};
 ghost use Rattle.net_extract.specs.Traced.{IsTraceRefusal, IsTraced};
@@ -26,28 +26,6 @@ pub struct Routed {
     pub pool: Pool,
     pub controls: ControlBits,
     pub routes: Routes,
-}
-
-// The bits of an instruction word.
-fn word_bits(checked: &Checked) -> u8
-    ensures bits { result ≡ word_width checked.now.netlist }
-    ensures low { 1 ≤ result }
-    ensures high { result ≤ 64 }
-{
-    match checked.netlist().codes.get(0) {
-        Some(code) => code.bits,
-        None => unreachable!(),
-    }
-}
-
-// The offset of the name of a net's item.
-fn name_of(checked: &Checked, net: u32) -> u64
-    ensures { result ≡ name_at checked.now.netlist net }
-{
-    match checked.netlist().net(net) {
-        Some(net) => net.name_at,
-        None => 0,
-    }
 }
 
 // The control bits of the netlist, which has a word without clash.
@@ -83,11 +61,11 @@ fn routes_of(
     match trace(alloc, checked, controls, book, pool) {
         Ok(routes) => Ok(routes),
         Err(RouteFault::PatternLarge(net)) => {
-            let at = name_of(checked, net);
+            let at = checked.netlist().name_at(net);
             Err(NetRefusal::Fault(NetFault::PatternLarge(at)))
         }
         Err(RouteFault::TooMany(net)) => {
-            let at = name_of(checked, net);
+            let at = checked.netlist().name_at(net);
             Err(NetRefusal::Fault(NetFault::TooMany(at)))
         }
         Err(RouteFault::Memory) => Err(NetRefusal::Memory),
@@ -101,7 +79,7 @@ fn traced(alloc: Global, checked: Checked) -> Result<Routed, NetRefusal>
     ensures kept { IfOk result (λ _. IsRouted checked.netlist) }
     ensures refused { IfErr result (IsTraceRefusal checked.netlist) }
 {
-    let mut book = Book::new(alloc, word_bits(&checked))?;
+    let mut book = Book::new(alloc, checked.netlist().word_width())?;
     let controls = controls_of(alloc, &checked, &mut book)?;
     let mut pool = Pool::new(alloc)?;
     let routes = routes_of(alloc, &checked, &controls, &mut book, &mut pool)?;

@@ -1,12 +1,10 @@
 -- The answers on a netlist's bytes exclude each other.
-use Rattle.std.proofs.Common.{◌≡◌, ℕ, ◌<◌, ◌^◌, List, length, map, Some, None, inl, inr, sym, subst, arith}
+use Rattle.std.proofs.Common.{◌≡◌, ℕ, ◌<◌, ◌^◌, List, length, map, inl, inr, sym, subst, arith}
 use Rattle.std.proofs.lemmas.List.{length-map}
 use Rattle.net_model.specs.declared.fault.NetFault.{NetFault}
 use Rattle.net_model.specs.declared.units.Unit.{Unit as Item}
 use Rattle.net_model.specs.CheckedRules.{KeepsRules, Ordered}
 use Rattle.net_model.specs.Elaborated.{netlist_of}
-use Rattle.net_model.specs.NetFaults.{FaultOf}
-use Rattle.net_model.specs.TextRules.{first_fault}
 use Rattle.net_model.specs.Written.{Entry, entry_of}
 use Rattle.net_model.proofs.FaultLaws.{kept_no_fault, one_fault}
 use Rattle.net_parser.specs.Texts.{IsNoNetText}

@@ -1,5 +1,5 @@
 -- What a case is seen as, by the list of its rows.
-use Rattle.std.proofs.Common.{◌≡◌, ℕ, List, Option, Some, None, map, Box, refl, ap, ◌∙◌}
+use Rattle.std.proofs.Common.{◌≡◌, ℕ, Option, Some, None, map, Box, refl, ap, ◌∙◌}
 use Rattle.std.specs.declared.vec.Vec.{Vec}
 use Rattle.std.specs.declared.alloc.Global.{Global}
 use mathlib.Core.Former.{Count}

@@ -1,5 +1,5 @@
 -- The values of a typed netlist fit their widths.
-use Rattle.std.proofs.Common.{lit<, inl, inr, ◌≡◌, ℕ, ◌+◌, ◌-◌, ◌^◌, ◌<◌, ◌≤◌, ◌==◌, List, [], ◌∷◌, Option, Some, None, length, sym, arith, subst, slice_get, slice_index, zero, suc}
+use Rattle.std.proofs.Common.{lit<, inl, inr, ◌≡◌, ℕ, ◌+◌, ◌-◌, ◌^◌, ◌<◌, ◌≤◌, ◌==◌, List, [], ◌∷◌, Option, Some, None, length, sym, arith, subst, slice_get, slice_index, zero, suc, refl, replicate}
 use Rattle.std.proofs.lemmas.Nat.{pow_pos, mod_below}
 use Rattle.std.proofs.Math.Nat.{pow-le-pow_right}
 use Rattle.std.proofs.lemmas.Option.{slice_get_cases}
@@ -12,7 +12,7 @@ use Rattle.net_model.specs.declared.hardware.Gate.TheVariants.{Word, Reg, Read, 
 use Rattle.net_model.specs.declared.states.State.{State}
 use Rattle.net_model.specs.Nets.{width_at, net_width}
 use Rattle.net_model.specs.Value.{case_value, bus_value, gate_value, net_value, value_within}
-use Rattle.net_model.specs.Widths.{RowsFit, RestFits, DriversFit, GateFits, NetFits, IsTyped, StateFits, WordFits}
+use Rattle.net_model.specs.Widths.{RowsFit, RestFits, DriversFit, GateFits, NetFits, IsTyped, StateFits, WordFits, ValuesFit}
 
 module _ (netlist : Netlist) (s : State) (word : ℕ) (v : ℕ → ℕ) (fits : (m : ℕ) → v m < 2 ^ width_at netlist m) where
   at_width : (m width : ℕ) → width_at netlist m ≡ width → v m < 2 ^ width
@@ -56,10 +56,6 @@ value_fits netlist s word t f w zero n = pow_pos (width_at netlist n)
 value_fits netlist s word t f w (suc k) n =
     net_fits netlist s word (value_within k netlist s word) (value_fits netlist s word t f w k) f w (slice_get netlist.nets n) (t.nets n)
 
-net_bounds : (netlist : Netlist) (net : Option Net) → NetFits netlist net → 0 < net_width net → (1 ≤ net_width net) × (net_width net ≤ 64)
-net_bounds netlist None t h = absurd (omega arith)
-net_bounds netlist (Some net) t h = (t.0, t.1)
-
 typed_at : (netlist : Netlist) (net : Option Net) (x : Net) → net ≡ Some x → NetFits netlist net → (1 ≤ net_width net) × (net_width net ≤ 64)
 typed_at netlist net x e t =
     let u : NetFits netlist (Some x) = subst (λ o. NetFits netlist o) e t in
@@ -72,3 +68,13 @@ typed_width netlist n t h =
       | inl w ↦ typed_at netlist (slice_get netlist.nets n) w.0 w.2 (t.nets n)
       | inr w ↦ absurd (omega (arith, w.0))
     ]
+
+-- ---- values of 0
+
+zeros_at : (n k : ℕ) → slice_index (replicate n 0) k ≡ 0
+zeros_at zero k = refl
+zeros_at (suc n) zero = refl
+zeros_at (suc n) (suc k) = zeros_at n k
+
+pub zeros_fit : (netlist : Netlist) (n : ℕ) → ValuesFit netlist (slice_index (replicate n 0))
+zeros_fit netlist n = record { fits = λ m. rw zeros_at (pow_pos (width_at netlist m)) }

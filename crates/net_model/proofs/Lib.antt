@@ -9,8 +9,9 @@ pub mod WorkedElaborable
 pub mod Orders
 pub mod KeptRules
 pub mod KeptTexts
-pub mod AllNumbers
 pub mod WorkedRules
 pub mod Acyclic
 pub mod Offsets
 pub mod FaultLaws
+pub mod Memories
+pub mod Syms

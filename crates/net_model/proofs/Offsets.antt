@@ -1,8 +1,7 @@
 -- The offsets at which a test fails, and the least of them.
-use Rattle.std.proofs.Common.{ℕ, ◌≡◌, ◌++◌, Bool, true, false, if◌then◌else◌, List, [], ◌∷◌, Option, Some, None, min, refl, sym, ap, ◌∙◌, arith}
+use Rattle.std.proofs.Common.{ℕ, ◌≡◌, ◌++◌, Bool, true, false, if◌then◌else◌, List, [], ◌∷◌, refl, ap}
 use Rattle.std.specs.List.{AllByRecursion}
-use Rattle.rec_bits.proofs.Faults.{least_none, least_append}
-use Rattle.rec_bits.specs.Faults.{sooner, least, gather}
+use Rattle.rec_bits.specs.Faults.{least, gather}
 use Rattle.net_model.specs.NetFaults.{failing}
 
 -- ---- what all of a list keeps

@@ -26,11 +26,21 @@ abbrev pub code_bits : Option Code → ℕ
 code_bits None = 0
 code_bits (Some code) = code.bits
 
+-- the bits of an instruction word
+abbrev pub word_width : Netlist → ℕ
+word_width netlist = code_bits (slice_get netlist.codes 0)
+
 -- the width of a register, or of a memory's cells
 abbrev pub storage_bits : Option Storage → ℕ
 storage_bits None = 0
 storage_bits (Some (Register name width input when)) = width
 storage_bits (Some (Memory name width size addr_width value addr when)) = width
+
+-- the number of a memory's cells
+abbrev pub storage_cells : Option Storage → ℕ
+storage_cells None = 0
+storage_cells (Some (Register name width input when)) = 0
+storage_cells (Some (Memory name width size addr_width value addr when)) = size
 
 -- ---- the data memory is the first one
 

@@ -1,5 +1,5 @@
 -- What the names of a netlist text stand for. Items may be used before they are declared; where several have one name, the first counts.
-use Rattle.std.specs.Prelude.{ℕ, ◌+◌, ◌==◌, ◌&&◌, if◌then◌else◌, nat_eq, List, [], ◌∷◌, Option, Some, None, slice_get, Bool, true, false}
+use Rattle.std.specs.Prelude.{ℕ, ◌+◌, ◌&&◌, if◌then◌else◌, nat_eq, List, [], ◌∷◌, Option, Some, None, slice_get, Bool, true, false}
 use Rattle.std.specs.Cmp.Lexicographic.{pointwise}
 use Rattle.net_model.specs.declared.units.Ident.{Ident}
 use Rattle.net_model.specs.declared.units.Port.{Port}

@@ -13,17 +13,17 @@ use Rattle.net_model.specs.declared.hardware.Storage.TheVariants.{Register, Memo
 use Rattle.net_model.specs.Terms.{Term, word, reg, const, read, un, bin, slice, cat, zext, sext, select, Move, keep, write, write_at}
 use Rattle.net_model.specs.Nets.{memory_id}
 
-abbrev pub storage_name : Option Storage → List ℕ
-storage_name None = []
-storage_name (Some (Register name width input when)) = name
-storage_name (Some (Memory name width size addr_width value addr when)) = name
+abbrev pub name_in : Option Storage → List ℕ
+name_in None = []
+name_in (Some (Register name width input when)) = name
+name_in (Some (Memory name width size addr_width value addr when)) = name
 
 -- the name of the storage of this number, of the data memory, and of the instruction word
-abbrev pub name_at : Netlist → ℕ → List ℕ
-name_at netlist id = storage_name (slice_get netlist.storages id)
+abbrev pub name_of : Netlist → ℕ → List ℕ
+name_of netlist id = name_in (slice_get netlist.storages id)
 
 abbrev pub memory_name : Netlist → List ℕ
-memory_name netlist = name_at netlist (memory_id netlist.storages)
+memory_name netlist = name_of netlist (memory_id netlist.storages)
 
 abbrev pub first_name : List Code → List ℕ
 first_name [] = []
@@ -50,7 +50,7 @@ op2_text Lts = codes "lts"
 -- an expression
 abbrev pub term_text : Netlist → Term → List ℕ
 term_text netlist (word w) = first_name netlist.codes
-term_text netlist (reg r w) = name_at netlist r
+term_text netlist (reg r w) = name_of netlist r
 term_text netlist (const w v) = concat (decimal v ∷ codes "#" ∷ decimal w ∷ [])
 term_text netlist (read a w) = concat (codes "read(" ∷ memory_name netlist ∷ codes "," ∷ term_text netlist a ∷ codes ")" ∷ [])
 term_text netlist (un op a) = concat (op1_text op ∷ codes "(" ∷ term_text netlist a ∷ codes ")" ∷ [])
@@ -67,6 +67,6 @@ term_text netlist (select c a b) =
 -- a transfer of the storage of this number
 abbrev pub move_text : Netlist → ℕ → Move → List ℕ
 move_text netlist id keep = []
-move_text netlist id (write e) = concat (name_at netlist id ∷ codes " := " ∷ term_text netlist e ∷ [])
+move_text netlist id (write e) = concat (name_of netlist id ∷ codes " := " ∷ term_text netlist e ∷ [])
 move_text netlist id (write_at a e) =
-    concat (name_at netlist id ∷ codes "[" ∷ term_text netlist a ∷ codes "] := " ∷ term_text netlist e ∷ [])
+    concat (name_of netlist id ∷ codes "[" ∷ term_text netlist a ∷ codes "] := " ∷ term_text netlist e ∷ [])

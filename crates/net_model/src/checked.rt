@@ -1,9 +1,10 @@
 //! A netlist that was checked.
 
-ghost use Rattle.std.specs.Prelude.{◌≡◌, ◌<◌, ◌^◌, length};
-ghost use Rattle.net_model.specs.Nets.{counter_of, memory_id};
-ghost use Rattle.net_model.specs.CheckedRules.{KeepsRules};
+ghost use Rattle.std.specs.Prelude.{◌≡◌, ◌<◌, ◌^◌, length, option_copied};
+ghost use Rattle.net_model.specs.Nets.{counter_of, memory_id, memory_size, memory_width, storage_bits, storage_cells};
+ghost use Rattle.net_model.specs.CheckedRules.{IsWidth, KeepsRules};
 ghost use Rattle.net_model.specs.Control.{IsSound};
+ghost use Rattle.net_model.specs.Texts.{memory_name};
 
 use crate::{Netlist, Storage};
 use rec_bits::Items;
@@ -69,6 +70,31 @@ impl Checked {
     {
         memory_place(self.netlist.storages.as_slice())
     }
+
+    /// The number of cells of the data memory.
+    pub fn memory_size(&self) -> u32
+        ensures { result ≡ memory_size self.now.netlist.storages }
+    {
+        cells_of(self.netlist.storage(self.memory()))
+    }
+
+    /// The number of bits of a cell of the data memory, 1 to 64.
+    pub fn memory_width(&self) -> u8
+        ensures width { result ≡ memory_width self.now.netlist.storages }
+        ensures within { IsWidth result }
+    {
+        bits_of(self.netlist.storage(self.memory()))
+    }
+
+    /// The data memory's name.
+    pub fn memory_name(&self) -> &[u8]
+        ensures { result.now ≡ memory_name self.now.netlist }
+    {
+        match self.netlist.storage(self.memory()) {
+            Some(Storage::Memory { name, .. } | Storage::Register { name, .. }) => name.as_slice(),
+            None => &[],
+        }
+    }
 }
 
 // The place of the first memory, and the length where there is none.
@@ -84,4 +110,24 @@ fn memory_place(storages: &[Storage]) -> u32
         place += 1;
     }
     place
+}
+
+// The number of a memory's cells.
+fn cells_of(storage: Option<&Storage>) -> u32
+    ensures { result ≡ storage_cells (option_copied storage.entry) }
+{
+    match storage {
+        Some(Storage::Memory { size, .. }) => *size,
+        _ => 0,
+    }
+}
+
+// The width of a register, or of a memory's cells.
+fn bits_of(storage: Option<&Storage>) -> u8
+    ensures { result ≡ storage_bits (option_copied storage.entry) }
+{
+    match storage {
+        Some(Storage::Memory { width, .. } | Storage::Register { width, .. }) => *width,
+        None => 0,
+    }
 }

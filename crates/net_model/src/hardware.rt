@@ -1,7 +1,9 @@
 //! A netlist: nets, storages and codes.
 
 ghost use Rattle.std.specs.Prelude.{◌≡◌, option_copied, slice_get};
-ghost use Rattle.net_model.specs.Nets.{width_of};
+ghost use Rattle.net_model.specs.Nets.{width_of, word_width};
+ghost use Rattle.net_model.specs.NetFaults.{name_at};
+ghost use Rattle.net_model.specs.CheckedRules.{code_size};
 
 use rec_bits::{Items, Name, Op1, Op2};
 
@@ -114,6 +116,36 @@ impl Netlist {
         match self.net(id) {
             Some(net) => Some(net.width),
             None => None,
+        }
+    }
+
+    /// The offset of the name that the net of this number was made for, and 0 past the last.
+    pub fn name_at(&self, id: u32) -> u64
+        ensures { result ≡ name_at self.now id }
+    {
+        match self.net(id) {
+            Some(net) => net.name_at,
+            None => 0,
+        }
+    }
+
+    /// The number of bits of an instruction word, and 0 where there is no code.
+    pub fn word_width(&self) -> u8
+        ensures { result ≡ word_width self.now }
+    {
+        match self.codes.get(0) {
+            Some(code) => code.bits,
+            None => 0,
+        }
+    }
+
+    /// The number of instruction words, and 0 where there is no code.
+    pub fn code_size(&self) -> u32
+        ensures { result ≡ code_size self.now.codes }
+    {
+        match self.codes.get(0) {
+            Some(code) => code.words,
+            None => 0,
         }
     }
 }

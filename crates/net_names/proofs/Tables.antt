@@ -27,9 +27,6 @@ fresh None false place h = refl
 found_so : (table : List (List ℕ × ℕ)) (own name : List ℕ) (found : Bool) → is_some (lookup (same_name own) table) ≡ found → same_name own name ≡ true → is_some (lookup (same_name name) table) ≡ found
 found_so table own name found is same = ap (λ q. is_some (lookup (same_name q) table)) (sym ((bytes_decides own name).0 same)) ∙ is
 
-pub enters_known : (table : List (List ℕ × ℕ)) (own : List ℕ) (place : ℕ) → is_some (lookup (same_name own) table) ≡ true → Enters table table own place
-enters_known table own place is = λ name. known (lookup (same_name name) table) (same_name own name) place (found_so table own name true is)
-
 pub enters_new : (old new : List (List ℕ × ℕ)) (own : List ℕ) (place : ℕ) → is_some (lookup (same_name own) old) ≡ false
     → ((name : List ℕ) → lookup (same_name name) new ≡ cond (same_name own name) (Some place) (lookup (same_name name) old)) → Enters old new own place
 enters_new old new own place is updates =

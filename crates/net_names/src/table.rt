@@ -1,6 +1,6 @@
 //! A table from names to the places where they stand first.
 
-ghost use Rattle.std.specs.Prelude.{◌≡◌, OnOk, option_copied};
+ghost use Rattle.std.specs.Prelude.{◌≡◌, OnErr, OnOk, option_copied};
 ghost use Rattle.std.specs.Map.{lookup};
 ghost use Rattle.net_model.specs.TextNames.{same_name};
 ghost use Rattle.net_names.specs.Places.{Enters, item_at};
@@ -44,9 +44,10 @@ impl<'a> Table<'a> {
         self.first.get(name.as_slice()).copied()
     }
 
-    /// Gives a name a place, if it has none yet.
+    /// Gives a name a place, if it has none yet. Where memory runs out the table stays as it was.
     pub fn enter(&mut self, name: &'a Name, place: usize) -> Result<(), NoMemory>
-        ensures { OnOk result (Enters self.old self.new name.now place) }
+        ensures entered { OnOk result (Enters self.old self.new name.now place) }
+        ensures refused { OnErr result (self.new ≡ self.old) }
     {
         if self.place(name).is_none() {
             self.first.insert(name.as_slice(), place)?;

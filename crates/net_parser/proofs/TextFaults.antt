@@ -1,12 +1,8 @@
 -- Texts as bytes: what is a text has no fault, a fault is at one place, and a text has no more items than bytes.
-use Rattle.std.proofs.Common.{◌≡◌, ◌≤◌, ◌+◌, ◌-◌, ℕ, zero, suc, List, [], ◌∷◌, length, refl, sym, ap, ◌∙◌, arith, length-append}
+use Rattle.std.proofs.Common.{◌≡◌, ◌≤◌, ◌-◌, ℕ, List, length, sym, ap, ◌∙◌, arith, length-append}
 use Rattle.std.proofs.lemmas.List.{length-map}
 use Rattle.grammar.proofs.Faults.{no_fault_of_text, one_fault}
 use Rattle.grammar.specs.Reading.{ListOf, none, some}
-use Rattle.lexing.specs.declared.piece.Piece.{Piece}
-use Rattle.lexing.specs.declared.piece.Piece.TheVariants.{Blank, Whole, Wrong}
-use Rattle.lexing.specs.Table.{Table}
-use Rattle.lexing.specs.Tokens.{piece, tokens_from}
 use Rattle.net_lexer.specs.Netlists.{netlists, net_tokens}
 use Rattle.net_model.specs.declared.words.Lexed.{Lexed}
 use Rattle.net_model.specs.Grammar.{IsItem, IsText}
@@ -14,6 +10,7 @@ use Rattle.net_model.specs.Written.{Entry}
 use Rattle.net_parser.specs.Parses.{offset_of}
 use Rattle.net_parser.specs.Words.{lexed_of}
 use Rattle.net_parser.specs.Texts.{words_of, IsNetText, IsNoNetText}
+use Rattle.lexing.proofs.TokenLaws.{few_tokens}
 
 pub no_fault_of_net_text : (bytes : List ℕ) (entries : List Entry) (offset : ℕ) → IsNetText bytes entries → IsNoNetText bytes offset → ⊥
 no_fault_of_net_text bytes entries offset text faulty =
@@ -24,20 +21,6 @@ one_net_fault bytes offset later a b =
     a.fault.at ∙ ap (offset_of (length bytes)) (one_fault IsText (words_of bytes) a.fault.rest b.fault.rest a.fault.fault b.fault.fault) ∙ sym b.fault.at
 
 -- ---- no more items than bytes
-
--- a piece gives one token at most and takes at least one byte
-next_token : (table : Table) (at b : ℕ) (bs : List ℕ) → ((k : ℕ) → length (tokens_from table (at + 1) k bs) ≤ length bs)
-    → (p : Piece) → piece table (b ∷ bs) ≡ p → length (tokens_from table at 0 (b ∷ bs)) ≤ length (b ∷ bs)
-unfolding tokens_from
-next_token table at b bs f (Blank n) e = rw (e, tokens_from) (let k : length (tokens_from table (at + 1) (n - 1) bs) ≤ length bs = f (n - 1) in omega arith)
-next_token table at b bs f (Whole kind n) e = rw (e, tokens_from) (let k : length (tokens_from table (at + 1) (n - 1) bs) ≤ length bs = f (n - 1) in omega arith)
-next_token table at b bs f Wrong e = rw (e, tokens_from) (omega arith)
-
-few_tokens : (table : Table) (at skip : ℕ) (bytes : List ℕ) → length (tokens_from table at skip bytes) ≤ length bytes
-unfolding tokens_from
-few_tokens table at skip [] = omega arith
-few_tokens table at (suc skip) (b ∷ bs) = let k : length (tokens_from table (at + 1) skip bs) ≤ length bs = few_tokens table (at + 1) skip bs in omega arith
-few_tokens table at zero (b ∷ bs) = next_token table at b bs (λ k. few_tokens table (at + 1) k bs) (piece table (b ∷ bs)) refl
 
 item_long : (ts : List Lexed) (e : Entry) → IsItem ts e → 1 ≤ length ts
 item_long ts e i = omega (arith, ap length i.parts, length-append i.front i.back, ap length i.first.parts)

@@ -21,10 +21,6 @@ counted_last f xs i total all none h k =
     let rest : f (drop i xs) ≡ 0 = ap f (drop_all i xs h) ∙ none in
     omega (arith, k.0, k.1, rest)
 
--- and one item further
-pub counted_next : (total one rest before all : ℕ) → before ≡ one + rest → Counted total before all → Counted (min (total + told one) (2 ^ 64 - 1)) rest all
-counted_next total one rest before all parts k = (omega arith, omega (arith, k.0, k.1, parts))
-
 pub ruleset counts = (told_sum)
 
 -- what the table of modules says of the item at a place

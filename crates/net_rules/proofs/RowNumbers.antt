@@ -4,7 +4,8 @@ use Rattle.std.specs.List.{list_any}
 use Rattle.std.proofs.Math.Nat.{pow-le-pow_right}
 use Rattle.std.proofs.lemmas.Bool.{ne_eqb}
 use Rattle.net_model.specs.DriverRules.{are_new, row_numbers}
-use Rattle.net_rules.proofs.Rows.{Row, seen_rows, rows_item}
+use Rattle.net_model.proofs.Cases.{Row}
+use Rattle.net_rules.proofs.Rows.{seen_rows, rows_item}
 
 -- no 64 bits hold as many numbers as a wide selector has
 pub too_few : (count width : ℕ) → count < 2 ^ 64 → 64 ≤ width → false ≡ nat_eq count (2 ^ width)

@@ -1,9 +1,8 @@
 -- Scans, one item further and at the end.
-use Rattle.std.proofs.Common.{◌≡◌, ℕ, ◌+◌, ◌<◌, ◌≤◌, Bool, true, false, ◌||◌, List, [], ◌∷◌, ◌++◌, length, map, drop, get_or, Option, Some, None, is_some, refl, sym, ap, ◌∙◌}
-use Rattle.std.proofs.lemmas.List.{drop_all}
+use Rattle.std.proofs.Common.{◌≡◌, ℕ, ◌+◌, ◌<◌, Bool, true, false, ◌||◌, List, ◌∷◌, ◌++◌, length, map, drop, get_or, Option, Some, None, is_some, refl, sym, ap, ◌∙◌}
 use Rattle.std.specs.Map.{lookup}
 use Rattle.rec_bits.specs.Faults.{sooner, least, broken, gather}
-use Rattle.rec_bits.proofs.Faults.{drop_item, least_append, sooner_none, sooner_assoc}
+use Rattle.rec_bits.proofs.Faults.{drop_item, least_append, sooner_assoc}
 use Rattle.net_model.specs.declared.units.Ident.{Ident}
 use Rattle.net_model.specs.declared.units.Unit.{Unit as Item}
 use Rattle.net_model.specs.Written.{entry_of}
@@ -24,9 +23,6 @@ pub seen_more : (old new : List (List ℕ × ℕ)) (own : List ℕ) (names : Lis
 seen_more old new own names enters h = λ name.
     ap is_some (enters name) ∙ entered_known (lookup (same_name name) old) (same_name own name) 0 ∙ ap (λ b. same_name own name || b) (h name)
 
-pub repeating_first : (rest : List Ident) → Repeating [] None rest (least (repeated [] rest))
-repeating_first rest = record { names = []; seen = λ name. refl; all_is = refl }
-
 pub repeating_next : (old new : List (List ℕ × ℕ)) (found : Option ℕ) (rest after : List Ident) (all : Option ℕ) (name : Ident) → rest ≡ name ∷ after
     → Enters old new name.name 0 → Repeating old found rest all
     → Repeating new (sooner found (least (broken (is_some (lookup (same_name name.name) old)) name.at))) after all
@@ -41,9 +37,6 @@ repeating_next old new found rest after all name parts enters h = record {
       ∙ h.all_is;
 }
 
-pub repeating_last : (table : List (List ℕ × ℕ)) (found : Option ℕ) (rest : List Ident) (all : Option ℕ) → rest ≡ [] → Repeating table found rest all → found ≡ all
-repeating_last table found rest all none h = sym (sooner_none found) ∙ ap (λ names. sooner found (least (repeated h.names names))) (sym none) ∙ h.all_is
-
 -- ---- lists of which each item is seen as something
 
 module _ {A B : Type 0} (f : B → List ℕ) (view : A → B) (items : List A) (i : ℕ) where
@@ -54,10 +47,6 @@ module _ {A B : Type 0} (f : B → List ℕ) (view : A → B) (items : List A) (
       ∙ ap (sooner found) (sym (least_append (f (view item)) (gather f (map view (drop (i + 1) items)))))
       ∙ ap (λ (xs : List A). sooner found (least (gather f (map view xs)))) (sym (drop_item items i item h is))
       ∙ k
-
-  pub gathered_last : (found all : Option ℕ) → length items ≤ i → sooner found (least (gather f (map view (drop i items)))) ≡ all → found ≡ all
-  gathered_last found all h k =
-      sym (sooner_none found) ∙ ap (λ (xs : List A). sooner found (least (gather f (map view xs)))) (sym (drop_all i items h)) ∙ k
 
 pub own_names_from : (items : List Item) (i : ℕ) (item : Item) (name : Ident) → i < length items → item ≡ get_or items i item → name ≡ own_name (entry_of item)
     → map own_name (map entry_of (drop i items)) ≡ name ∷ map own_name (map entry_of (drop (i + 1) items))

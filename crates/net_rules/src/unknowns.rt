@@ -11,7 +11,7 @@ ghost use Rattle.net_rules.specs.Scopes.{scope_of};
 
 use crate::least::{broken, sooner};
 use crate::text::{Place, Text};
-use net_model::{Ident, NetExpr, Unit, Units};
+use net_model::{Ident, NetExpr, Unit};
 use net_names::Ports;
 
 // ---- what names stand for

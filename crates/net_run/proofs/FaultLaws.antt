@@ -1,19 +1,17 @@
 -- From what was read to the texts.
-use Rattle.std.proofs.Common.{◌≡◌, ℕ, List, sym, subst}
+use Rattle.std.proofs.Common.{ℕ, List, sym, subst}
 use Rattle.std.specs.List.{AllByRecursion}
 use Rattle.net_model.specs.declared.hardware.Netlist.{Netlist}
 use Rattle.net_model.specs.Widths.{WordFits}
 use Rattle.net_model.specs.declared.states.State.{State}
 use Rattle.net_model.specs.CheckedRules.{Ordered}
-use Rattle.net_model.specs.Clock.{run, Reached, Clashed}
 use Rattle.net_model.specs.Elaborated.{netlist_of}
-use Rattle.net_model.specs.NetFaults.{name_at}
 use Rattle.code_model.specs.declared.image.Image.{Image}
 use Rattle.code_model.specs.Places.{words_of}
-use Rattle.image_text.specs.Lines.{CodeFits, IsImageText, IsFault, limits_of}
+use Rattle.image_text.specs.Lines.{CodeFits, IsImageText, limits_of}
 use Rattle.net_run.proofs.LimitLaws.{words_fit}
-use Rattle.state_text.specs.Settings.{IsStateText, IsStateFault}
-use Rattle.net_run.specs.Runs.{Loaded, IsLoaded, IsImageFile, IsNetRead, ShowsState, IsImageFault, IsStateFaultOf, IsEndText, IsEndFault, IsRunFault}
+use Rattle.state_text.specs.Settings.{IsStateText}
+use Rattle.net_run.specs.Runs.{IsLoaded, IsImageFile, IsNetRead, ShowsState, IsEndText, IsEndFault, IsRunFault}
 use Rattle.net_run.specs.declared.machine.RunFault.{RunFault}
 use Rattle.net_run.specs.declared.machine.RunFault.TheVariants.{NetText, Net, ImageText, MemText, Clash, Memory}
 
@@ -24,25 +22,9 @@ read_words_fit net image checked read said is =
     (words_fit (netlist_of read.entries) read.file.keeps.order read.file.keeps.rules said.words (subst (λ (n : Netlist). AllByRecursion (CodeFits (limits_of n).bits) said.words) read.netlist is.fits.words))
 
 module _ (net image memory : List ℕ) (clocks : ℕ) (checked : Ordered) (read : IsNetRead net checked) where
-  pub fault_of_image : (fault : RunFault) → IsImageFault checked.netlist image fault → IsRunFault net image memory clocks fault
-  fault_of_image (NetText at) h = absurd h
-  fault_of_image (Net fault) h = absurd h
-  fault_of_image (ImageText at) h = record { entries = read.entries; net_file = read.file; none = subst (λ (n : Netlist). IsFault (limits_of n) image at) read.netlist h }
-  fault_of_image (MemText at) h = absurd h
-  fault_of_image (Clash cycle bus at) h = absurd h
-  fault_of_image Memory h = tt
-
   module _ (said : Image) (image_is : IsImageText (limits_of checked.netlist) image said) where
     abbrev image_file : IsImageFile net image
     image_file = record { entries = read.entries; said = said; net_file = read.file; image_text = subst (λ (n : Netlist). IsImageText (limits_of n) image said) read.netlist image_is }
-
-    pub fault_of_memory : (fault : RunFault) → IsStateFaultOf checked.netlist memory fault → IsRunFault net image memory clocks fault
-    fault_of_memory (NetText at) h = absurd h
-    fault_of_memory (Net fault) h = absurd h
-    fault_of_memory (ImageText at) h = absurd h
-    fault_of_memory (MemText at) h = (image_file, record { entries = read.entries; net_file = read.file; none = subst (λ (n : Netlist). IsStateFault n memory at) read.netlist h })
-    fault_of_memory (Clash cycle bus at) h = absurd h
-    fault_of_memory Memory h = tt
 
     module _ (start : State) (memory_is : IsStateText checked.netlist memory start) where
       taken : IsLoaded net image memory (record { entries = read.entries; image = said; start = start })

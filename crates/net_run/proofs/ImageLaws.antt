@@ -1,14 +1,12 @@
 -- An image text says one image, and a fault of a text is at one place.
-use Rattle.std.proofs.Common.{◌≡◌, ℕ, ◌<◌, ◌≤◌, ◌⊎◌, List, [], ◌∷◌, ◌++◌, length, Some, refl, sym, ap, ◌∙◌, subst, arith, inl, inr, append_assoc, length-append}
+use Rattle.std.proofs.Common.{◌≡◌, ℕ, ◌<◌, ◌≤◌, List, [], ◌∷◌, ◌++◌, length, refl, sym, ap, ◌∙◌, arith, inl, inr, append_assoc, length-append}
 use Rattle.std.specs.Prelude.{slice_get}
 use Rattle.std.specs.List.{concat}
 use Rattle.std.proofs.lemmas.Bool.{cases_lt}
 use Rattle.std.proofs.lemmas.List.{append-nil}
 use Rattle.code_model.specs.declared.image.Image.{Image}
-use Rattle.text_lines.specs.Lines.{lines_of}
 use Rattle.image_text.specs.declared.limits.Limits.{Limits}
-use Rattle.image_text.specs.declared.front.Front.TheVariants.{Whole}
-use Rattle.image_text.specs.Lines.{IsImageText, Begin, IsFault, image_lines}
+use Rattle.image_text.specs.Lines.{IsImageText, IsFault}
 use Rattle.image_text.proofs.Whole.{Narrow, text_is_read}
 
 -- of two ways to cut a list, what the shorter front lacks of the longer one stands at the front of its rest

@@ -1,5 +1,5 @@
 -- The words of a checked netlist's code.
-use Rattle.std.proofs.Common.{◌≡◌, ℕ, zero, suc, ◌^◌, ◌<◌, ◌≤◌, List, [], ◌∷◌, length, map, Some, None, refl, arith}
+use Rattle.std.proofs.Common.{◌≡◌, ℕ, zero, suc, ◌^◌, ◌<◌, ◌≤◌, List, [], ◌∷◌, length, map, refl, arith}
 use Rattle.std.specs.List.{AllByRecursion}
 use Rattle.std.specs.Prelude.{slice_get}
 use Rattle.net_model.specs.declared.hardware.Code.{Code}
@@ -11,7 +11,6 @@ use Rattle.net_model.specs.Widths.{WordFits}
 use Rattle.net_model.specs.Written.{Entry}
 use Rattle.net_front.specs.Fronts.{IsNetFile}
 use Rattle.code_model.specs.declared.image.Word.{Word}
-use Rattle.image_text.specs.declared.limits.Limits.{Limits}
 use Rattle.image_text.specs.Lines.{CodeFits, limits_in, limits_of}
 use Rattle.image_text.proofs.Whole.{Narrow}
 
@@ -19,7 +18,7 @@ narrow_code : (netlist : Netlist) (codes : List Code) → AllByRecursion (CodeKe
 narrow_code netlist [] keeps few one = absurd (omega arith)
 narrow_code netlist (code ∷ codes) keeps few one = record { some = keeps.0.0.0; narrow = keeps.0.0.1; words = omega (arith, few.0) }
 
-pub narrow_rules : (netlist : Netlist) (order : List ℕ) → KeepsRules netlist order → Narrow (limits_of netlist)
+narrow_rules : (netlist : Netlist) (order : List ℕ) → KeepsRules netlist order → Narrow (limits_of netlist)
 narrow_rules netlist order rules = narrow_code netlist netlist.codes rules.formed.codes rules.formed.limits.words rules.roles.code
 
 pub narrow_of : (net : List ℕ) (entries : List Entry) → IsNetFile net entries → Narrow (limits_of (netlist_of entries))

@@ -1,12 +1,10 @@
 -- The answers of a run exclude each other.
-use Rattle.std.proofs.Common.{◌≡◌, ℕ, List, sym, ◌∙◌, ap, subst, arith}
-use Rattle.net_model.specs.declared.states.State.{State}
+use Rattle.std.proofs.Common.{◌≡◌, ℕ, List, sym, ◌∙◌, ap, subst}
 use Rattle.net_model.specs.Clock.{Reached, Clashed}
 use Rattle.net_model.specs.Elaborated.{netlist_of}
 use Rattle.net_model.specs.NetFaults.{name_at}
 use Rattle.net_model.specs.Written.{Entry}
 use Rattle.net_front.specs.Fronts.{IsNetFile}
-use Rattle.code_model.specs.declared.image.Image.{Image}
 use Rattle.image_text.specs.Lines.{IsImageText, IsFault, limits_of}
 use Rattle.state_text.specs.Settings.{IsStateText, IsStateFault}
 use Rattle.net_run.specs.Runs.{Loaded, IsLoaded, IsImageFile, IsNoImageFile, IsNoMemoryFile, ClashedAt, Clashes, ShowsState, clocked}

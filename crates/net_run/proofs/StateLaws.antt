@@ -1,14 +1,14 @@
 -- A fault of a memory text is at one place, and a memory text has none.
-use Rattle.std.proofs.Common.{◌≡◌, ℕ, ◌<◌, List, [], ◌∷◌, ◌++◌, length, Option, Some, None, refl, sym, ap, ◌∙◌, arith, inl, inr, length-append}
+use Rattle.std.proofs.Common.{◌≡◌, ℕ, ◌<◌, List, [], ◌∷◌, ◌++◌, length, Option, Some, None, sym, ap, ◌∙◌, arith, inl, inr, length-append}
 use Rattle.std.specs.List.{concat}
 use Rattle.std.proofs.lemmas.Bool.{cases_lt}
 use Rattle.std.proofs.lemmas.List.{append-nil}
 use Rattle.net_model.specs.declared.hardware.Netlist.{Netlist}
 use Rattle.net_model.specs.declared.states.State.{State}
-use Rattle.text_lines.specs.Lines.{lines_of}
 use Rattle.state_text.specs.declared.setting.Setting.{Setting}
-use Rattle.state_text.specs.Settings.{◌>>=◌, blank, setting_of, state_after, with_setting, IsStateText, IsStateFault}
+use Rattle.state_text.specs.Settings.{blank, setting_of, state_after, with_setting, IsStateText, IsStateFault}
 use Rattle.net_run.proofs.ImageLaws.{cut}
+use Rattle.text_lines.specs.Fields.{◌>>=◌}
 
 module _ (netlist : Netlist) where
   -- lines that set a state have no line among them that sets nothing

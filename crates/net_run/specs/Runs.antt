@@ -1,6 +1,5 @@
 -- What a run of an image on a netlist shows, and why there is none.
-use Rattle.std.specs.Prelude.{ℕ, ◌≡◌, List, length}
-use Rattle.net_model.specs.declared.fault.NetFault.{NetFault}
+use Rattle.std.specs.Prelude.{ℕ, ◌≡◌, List}
 use Rattle.net_model.specs.declared.hardware.Netlist.{Netlist}
 use Rattle.net_model.specs.declared.states.State.{State}
 use Rattle.net_model.specs.CheckedRules.{Ordered}

@@ -96,16 +96,6 @@ fn words_of(alloc: Global, image: &Image) -> Result<Items<u64>, NoMemory>
     Ok(words)
 }
 
-// The offset of the name of a net's item.
-fn name_of(checked: &Checked, net: u32) -> u64
-    ensures { result ≡ name_at checked.now.netlist net }
-{
-    match checked.netlist().net(net) {
-        Some(net) => net.name_at,
-        None => 0,
-    }
-}
-
 // Clocks the netlist so often, and writes the state.
 fn clocked(
     alloc: Global,
@@ -123,7 +113,7 @@ fn clocked(
     let mut text = text_room(alloc, checked)?;
     let mut sim = Sim::new(alloc, checked, words, start)?;
     if let Err(Clash { cycle, bus }) = clock_all(&mut sim, clocks) {
-        let at = name_of(checked, bus);
+        let at = checked.netlist().name_at(bus);
         return Err(RunFault::Clash { cycle, bus, at });
     }
     match write_state(&mut text, checked, u64::from(clocks), &sim) {

@@ -143,6 +143,10 @@ impl<T: Hash> Hash for Items<T> {
 }
 
 impl<T: Clone> Clone for Items<T> {
+    ghost use Rattle.std.specs.List.{AllZip};
+
+    ghost is_clone = { λ list made. AllZip T.is_clone list made };
+
     fn clone(&self) -> Result<Items<T>, AllocError> {
         Ok(Items {
             items: self.items.clone()?,

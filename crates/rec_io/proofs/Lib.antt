@@ -1,4 +1,2 @@
-pub mod CauseLemmas
 mod Examples
-pub mod ShelfLemmas
 pub mod WrittenLemmas

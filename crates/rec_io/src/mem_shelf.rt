@@ -1,6 +1,6 @@
 //! Files in memory, some of whose fetches fail.
 
-ghost use Rattle.std.specs.Prelude.{◌≡◌, ◌≢◌, ◌⊎◌, ◌^◌, ◌<◌, ◌≤◌, true, length, option_map, IfSome, IfOk, IfErr};
+ghost use Rattle.std.specs.Prelude.{◌≡◌, ◌≢◌, ◌⊎◌, ◌^◌, ◌<◌, ◌≤◌, true, length, option_map, IfSome, IfOk, IfErr, OnOk};
 ghost use Rattle.rec_io.specs.Causes.{count_after};
 ghost use Rattle.rec_io.specs.Files.{file_of};
 ghost use Rattle.rec_io.specs.MemShelf.{pairs_of, files_of, fails_of, fetches_of, shelf_state, first_state, IsDue};
@@ -75,6 +75,7 @@ impl Shelf for MemShelf {
         // As of every shelf.
         ensures same { files_of self.new ≡ files_of self.old }
         ensures later { (shelf_state self.old).faults ≤ (shelf_state self.new).faults }
+        ensures calm { OnOk result ((shelf_state self.new).faults ≡ (shelf_state self.old).faults) }
         ensures got { IfOk result (λ bytes. IsGot (shelf_state self.old) (shelf_state self.new) name.now limit bytes.items) }
         ensures refused { IfErr result (IsRefused (shelf_state self.old) (shelf_state self.new) name.now limit) }
 
@@ -85,7 +86,7 @@ impl Shelf for MemShelf {
         ensures faulty { IsDue self.old name.now → (result ≡ Err Fetch.Failed) ⊎ (result ≡ Err Fetch.Memory) }
         ensures rise { result ≡ Err Fetch.Failed
             → (shelf_state self.new).faults ≡ count_after (shelf_state self.old).faults }
-        ensures calm { result ≢ Err Fetch.Failed → (shelf_state self.new).faults ≡ (shelf_state self.old).faults }
+        ensures steady { result ≢ Err Fetch.Failed → (shelf_state self.new).faults ≡ (shelf_state self.old).faults }
         ensures nothing { result ≡ Err Fetch.Failed → (shelf_state self.new).taken ≡ 0 }
         ensures whole { result ≡ Err (Fetch.TooLong limit)
             → IfSome (file_of (files_of self.old) name.now) (λ bytes. (shelf_state self.new).taken ≡ length bytes) }

@@ -81,6 +81,7 @@ impl Sink for MemSink {
     fn put(&mut self, bytes: &[u8]) -> Result<usize, WriteFault>
         // As of every sink.
         ensures cause { HasCause (sink_state self.old).faults (sink_state self.new).faults result }
+        ensures calm { OnOk result ((sink_state self.new).faults ≡ (sink_state self.old).faults) }
         ensures empty { length bytes.now ≡ 0 → result ≡ Ok 0 }
         ensures count { IfOk result (λ count. (count ≤ length bytes.now) × (0 < length bytes.now → 0 < count)) }
         ensures took { IfOk result (λ count.
@@ -92,7 +93,6 @@ impl Sink for MemSink {
         ensures due { IsErr result ↔ IsDue self.old bytes.now }
         ensures portion { IfOk result (λ count. count ≡ portion_of self.old bytes.now) }
         ensures rise { OnErr result ((sink_state self.new).faults ≡ count_after (sink_state self.old).faults) }
-        ensures calm { OnOk result ((sink_state self.new).faults ≡ (sink_state self.old).faults) }
         ensures step { step_of self.new ≡ step_of self.old }
         ensures room { room_of self.new ≡ room_of self.old }
         ensures fails { fails_of self.new ≡ fails_of self.old }

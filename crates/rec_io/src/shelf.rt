@@ -1,6 +1,6 @@
 //! Files that are asked for by name.
 
-ghost use Rattle.std.specs.Prelude.{◌≡◌, ◌^◌, ◌<◌, ◌≤◌, IfOk, IfErr};
+ghost use Rattle.std.specs.Prelude.{◌≡◌, ◌^◌, ◌<◌, ◌≤◌, IfOk, IfErr, OnOk};
 ghost use Rattle.rec_io.specs.Shelf.{ShelfState, IsGot, IsRefused};
 ghost use Rattle.rec_io.specs.declared.shelf.Fetch.{Fetch};
 
@@ -42,8 +42,8 @@ impl From<AllocError> for Fetch {
 pub trait Shelf {
     ghost state: { Self → ShelfState };
 
-    /// All bytes of the file `name`, if they are at most `limit`, which is below 2^32. A fetch leaves the files as they
-    /// are.
+    /// All bytes of the file `name`, if they are at most `limit`, which is below 2^32; the count of faults stays as it was
+    /// then. A fetch leaves the files as they are.
     ///
     /// # Errors
     ///
@@ -55,6 +55,7 @@ pub trait Shelf {
 
         ensures same { (state self.new).files ≡ (state self.old).files }
         ensures later { (state self.old).faults ≤ (state self.new).faults }
+        ensures calm { OnOk result ((state self.new).faults ≡ (state self.old).faults) }
         ensures got { IfOk result (λ bytes. IsGot (state self.old) (state self.new) name.now limit bytes.items) }
         ensures refused { IfErr result (IsRefused (state self.old) (state self.new) name.now limit) };
 }

@@ -4,10 +4,9 @@ use Rattle.std.specs.Prelude.{codes}
 use Rattle.std.specs.declared.option.Option.{Option}
 use Rattle.rec_io.specs.Files.{Files}
 use Rattle.rec_io.specs.Shelf.{ShelfState}
-use Rattle.rec_io.specs.Sink.{SinkState}
 use Rattle.record_core.proofs.StageLemmas.{By-none}
-use Rattle.record_core.specs.Answers.{Answers, CompileAnswers, ExtractAnswers, RunAnswers, FormAnswers, IsReadFault, IsTooLong, AreFiles, Gives, Puts}
-use Rattle.record_core.specs.Fetch.{FetchStops, FetchPasses}
+use Rattle.record_core.specs.Answers.{Answers, CompileAnswers, ExtractAnswers, RunAnswers, FormAnswers, IsReadFault, IsTooLong, AreFiles}
+use Rattle.record_core.specs.Fetch.{FetchPasses}
 use Rattle.record_core.specs.Lines.{due_line, IsRefusal}
 use Rattle.record_core.specs.Words.{Form, Compile, Extract, Run, run_form, form_of, names_of, clocks_of, IsCommand}
 use Rattle.record_core.specs.declared.status.Status.{Status}
@@ -19,21 +18,6 @@ no_read_fault names before now passes file fault = let a = passes.ended in let b
 
 no_long_file : (names : List (List ℕ)) (before now : ShelfState) → FetchPasses now → (at : ℕ × ℕ) → IsTooLong names before now at → ⊥
 no_long_file names before now passes at long = let a = passes.short in let b = long.bound in let c = long.above in omega arith
-
--- a file that is too long did not fail to be read
-no_read_fault_at_long : (names : List (List ℕ)) (before now : ShelfState) (at : ℕ × ℕ) → IsTooLong names before now at → (file : ℕ) → IsReadFault names before now file → ⊥
-no_read_fault_at_long names before now at long file fault = let a = long.ended in let b = fault.failed in cc
-
--- the fetches of a form's files stopped
-pub answers_stopped : (words names : List (List ℕ)) (form : Form) (before now : ShelfState) (status : Status) → form_of words ≡ Some form → names ≡ names_of form → FetchStops names before now status → (status ≡ Memory) ⊎ Answers words before now status (due_line words [] None status)
-answers_stopped words names form before now status is same stops =
-    rw is (elim (rw same at stops) [
-      | inl memory ↦ inl memory
-      | inr reason ↦ inr (elim reason [
-        | inl read ↦ inl (read, refl)
-        | inr long ↦ inr (By-none ReadFault (IsReadFault (names_of form) before now) (no_read_fault_at_long (names_of form) before now long.0 long.1), inl (long, refl))
-      ])
-    ])
 
 -- they passed, so the words answer what the form does on the files
 pub answers_fetched : (words : List (List ℕ)) (form : Form) (before now : ShelfState) → form_of words ≡ Some form → FetchPasses now → (status : Status) (text : List ℕ) → FormAnswers (due_line words) before.files form status text → Answers words before now status text
@@ -53,11 +37,6 @@ compile_answers line net src [] files status text held answers = absurd held
 compile_answers line net src (a ∷ []) files status text held answers = absurd held.1
 compile_answers line net src (a ∷ b ∷ d ∷ rest) files status text held answers = absurd held.1.1
 
--- the words of `compile` have its form, and name its files
-pub compile_stopped : (words names : List (List ℕ)) (before now : ShelfState) (status : Status) → IsCommand words CompileCommand → names ≡ drop 1 words → FetchStops names before now status → (status ≡ Memory) ⊎ Answers words before now status (due_line words [] None status)
-compile_stopped words names before now status (net, src, is) same stops =
-    answers_stopped words names (Compile net src) before now status (rw is refl) (rw is at same) stops
-
 -- the fetches of `compile` passed, so the words answer what the two texts do
 pub compile_passed : (words names contents : List (List ℕ)) (net src : List ℕ) (before now : ShelfState) → IsCommand words CompileCommand → names ≡ drop 1 words → FetchPasses now → AreFiles before.files names contents
     → net ≡ get_or contents 0 [] → src ≡ get_or contents 1 [] → (status : Status) (text : List ℕ) → CompileAnswers (due_line words net None) net src status text → Answers words before now status text
@@ -74,10 +53,6 @@ extract_answers : (line : List ℕ → Option ℕ → Status → List ℕ) (net 
 extract_answers line net (a ∷ []) files status text held answers = (a, held.0, answers)
 extract_answers line net [] files status text held answers = absurd held
 extract_answers line net (a ∷ b ∷ rest) files status text held answers = absurd held.1
-
-pub extract_stopped : (words names : List (List ℕ)) (before now : ShelfState) (status : Status) → IsCommand words ExtractCommand → names ≡ drop 1 words → FetchStops names before now status → (status ≡ Memory) ⊎ Answers words before now status (due_line words [] None status)
-extract_stopped words names before now status (net, is) same stops =
-    answers_stopped words names (Extract net) before now status (rw is refl) (rw is at same) stops
 
 -- the fetch of `extract` passed, so the words answer what the text does
 pub extract_passed : (words names contents : List (List ℕ)) (net : List ℕ) (before now : ShelfState) → IsCommand words ExtractCommand → names ≡ drop 1 words → FetchPasses now → AreFiles before.files names contents
@@ -102,10 +77,6 @@ run_answers line net image memory clocks (a ∷ b ∷ d ∷ e ∷ rest) files st
 run_form_is : (words : List (List ℕ)) (net image memory text : List ℕ) (clocks : ℕ) → words ≡ codes "run" ∷ net ∷ image ∷ memory ∷ text ∷ [] → clocks_of text ≡ Some clocks → form_of words ≡ Some (Run net image memory clocks)
 run_form_is words net image memory text clocks is number = rw is (ap (run_form net image memory) number)
 
-pub run_stopped : (words names : List (List ℕ)) (clocks : ℕ) (before now : ShelfState) (status : Status) → IsCommand words (RunCommand clocks) → names ≡ take 3 (drop 1 words) → FetchStops names before now status → (status ≡ Memory) ⊎ Answers words before now status (due_line words [] None status)
-run_stopped words names clocks before now status (net, image, memory, text, is, number) same stops =
-    answers_stopped words names (Run net image memory clocks) before now status (run_form_is words net image memory text clocks is number) (rw is at same) stops
-
 -- the fetches of `run` passed, so the words answer what the three texts do
 pub run_passed : (words names contents : List (List ℕ)) (clocks : ℕ) (net image memory : List ℕ) (before now : ShelfState) → IsCommand words (RunCommand clocks) → names ≡ take 3 (drop 1 words) → FetchPasses now → AreFiles before.files names contents
     → net ≡ get_or contents 0 [] → image ≡ get_or contents 1 [] → memory ≡ get_or contents 2 [] → (status : Status) (text : List ℕ) → RunAnswers (due_line words net) net image memory clocks status text → Answers words before now status text
@@ -116,12 +87,6 @@ run_passed words names contents clocks net image memory before now (net_name, im
     (run_answers (due_line words) net_name image_name memory_name clocks contents before.files status text held (rw (← net_is, ← image_is, ← memory_is) answers))
 
 -- ---- what is put
-
--- a refusal whose line was put
-pub gives_refused : (words : List (List ℕ)) (before now : ShelfState) (old new : SinkState) (status result : Status) (text : List ℕ) → (status ≡ Memory → ⊥) → (status ≡ Memory) ⊎ Answers words before now status text → Puts old new text status result → Gives words before now old new result
-gives_refused words before now old new status result text room (inl memory) put = absurd (room memory)
-gives_refused words before now old new status result text room (inr due) put =
-    record { due = status; text = text; answer = inr due; put = put }
 
 -- a refusal, made of its status and the line that is due
 pub refused_by : (words : List (List ℕ)) (before now : ShelfState) (net : List ℕ) (bus : Option ℕ) (status refused : Status) (line : List ℕ) → IsRefusal words net bus status refused line → (status ≡ Memory) ⊎ Answers words before now status (due_line words net bus status) → (refused ≡ Memory) ⊎ Answers words before now refused line

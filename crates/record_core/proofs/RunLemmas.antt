@@ -1,5 +1,5 @@
 -- What `run` answers for three texts.
-use Rattle.std.proofs.Common.{◌≡◌, ℕ, List, Some, None, inl, inr, refl}
+use Rattle.std.proofs.Common.{ℕ, List, Some, None, inl, inr, refl}
 use Rattle.std.specs.declared.option.Option.{Option}
 use Rattle.net_front.proofs.FrontLaws.{no_text_fault, no_broken_rule}
 use Rattle.net_front.specs.Fronts.{IsNetFile, BreaksRule}

@@ -1,11 +1,11 @@
 -- Words and forms.
-use Rattle.std.proofs.Common.{◌≡◌, ℕ, zero, suc, Some, None, Bool, false, cond, ◌-◌, List, [], ◌∷◌, length, get_or, take, drop, String, string_bytes, true, refl, arith, ap}
+use Rattle.std.proofs.Common.{◌≡◌, ℕ, zero, suc, Some, ◌-◌, List, [], ◌∷◌, length, get_or, take, drop, String, string_bytes, true, refl, arith, ap}
 use Rattle.std.proofs.lemmas.Grind.{common_steps}
 use Rattle.std.proofs.lemmas.Slice.Eq.{bytes_eq-Decides}
 use Rattle.std.specs.Prelude.{codes}
 use Rattle.std.specs.Str.{bytes_eq}
 use Rattle.std.specs.declared.alloc.Global.{Global}
-use Rattle.record_core.specs.Words.{texts_of, clocks_of, form_of, run_form, IsCommand}
+use Rattle.record_core.specs.Words.{texts_of, clocks_of, IsCommand}
 use Rattle.record_core.specs.declared.words.Command.TheVariants.{Compile, Extract, Run}
 
 -- three words, the first of which is the command
@@ -49,17 +49,3 @@ run_words (a ∷ b ∷ []) d e clocks n is number = absurd (omega arith)
 run_words (a ∷ b ∷ c ∷ []) d e clocks n is number = absurd (omega arith)
 run_words (a ∷ b ∷ c ∷ f ∷ []) d e clocks n is number = absurd (omega arith)
 run_words (a ∷ b ∷ c ∷ f ∷ g ∷ h ∷ rest) d e clocks n is number = absurd (omega arith)
-
--- five words, the last of which is no number of clocks
-pub no_run_words : (words : List (String Global)) (e : String Global) → length words ≡ 5 → clocks_of (string_bytes (get_or words 4 e)) ≡ None → form_of (texts_of words) ≡ None
-no_run_words (a ∷ b ∷ c ∷ f ∷ g ∷ []) e n none = by_test (bytes_eq (string_bytes a) (codes "run"))
-  where
-    by_test : (test : Bool) → cond test (run_form (string_bytes b) (string_bytes c) (string_bytes f) (clocks_of (string_bytes g))) None ≡ None
-    by_test true = ap (run_form (string_bytes b) (string_bytes c) (string_bytes f)) none
-    by_test false = refl
-no_run_words [] e n none = refl
-no_run_words (a ∷ []) e n none = refl
-no_run_words (a ∷ b ∷ []) e n none = absurd (omega arith)
-no_run_words (a ∷ b ∷ c ∷ []) e n none = absurd (omega arith)
-no_run_words (a ∷ b ∷ c ∷ f ∷ []) e n none = refl
-no_run_words (a ∷ b ∷ c ∷ f ∷ g ∷ h ∷ rest) e n none = refl

@@ -50,6 +50,7 @@ fn fetch_one<F: Shelf>(
     ensures later { (F.state shelf.old).faults ≤ (F.state shelf.new).faults }
     ensures ok { IfOk result (λ bytes. IsFile (F.state shelf.old).files (name_in names.now index) bytes.items) }
     ensures passed { OnOk result (FetchPasses (F.state shelf.new)) }
+    ensures calm { OnOk result ((F.state shelf.new).faults ≡ (F.state shelf.old).faults) }
     ensures stopped { IfErr result (FetchStops (texts_of names.now) (F.state shelf.old) (F.state shelf.new)) }
 {
     let name = names[index].as_str();
@@ -66,7 +67,7 @@ fn fetch_one<F: Shelf>(
     }
 }
 
-/// All files in their order, before any of them is read.
+/// All files in their order, before any of them is read. No fetch failed then.
 pub fn fetch_all<F: Shelf>(
     alloc: Global,
     names: &[String],
@@ -78,6 +79,7 @@ pub fn fetch_all<F: Shelf>(
     ensures files { (F.state shelf.new).files ≡ (F.state shelf.old).files }
     ensures ok { IfOk result (λ got. AreFiles (F.state shelf.old).files (texts_of names.now) (contents got.items)) }
     ensures passed { OnOk result (FetchPasses (F.state shelf.new)) }
+    ensures calm { OnOk result ((F.state shelf.new).faults ≡ (F.state shelf.old).faults) }
     ensures stopped { IfErr result (FetchStops (texts_of names.now) (F.state shelf.old) (F.state shelf.new)) }
 {
     let mut got = Vec::new(alloc);

@@ -87,7 +87,7 @@ module _ (book : Diagrams) (pool : List Node) (nets : List (List Route)) (word :
     first_apart pool' now outs true true c ep e h = absurd (true≢false (sym h))
     first_apart pool' now outs false p c ep e h = absurd (true≢false (sym h))
 
-    pub first_terms_more : (outs new old add : List Term) (b p c : Bool) → p ≡ passes book word (take i tests) → c ≡ has_word book test.0 word
+    first_terms_more : (outs new old add : List Term) (b p c : Bool) → p ≡ passes book word (take i tests) → c ≡ has_word book test.0 word
         → old ≡ (if b then first_terms book pool nets word (take i tests) else outs)
         → add ≡ held_terms book pool (routes_at nets test.1) word
         → new ≡ (if (b && not p) && c then add else old)

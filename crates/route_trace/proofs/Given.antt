@@ -1,5 +1,5 @@
 -- What gates give, from what their nets give.
-use Rattle.std.proofs.Common.{◌≡◌, ℕ, ◌==◌, ◌||◌, Bool, true, false, if◌then◌else◌, List, [], ◌∷◌, map, Option, None, Some, refl, sym, ap, subst, ◌∙◌}
+use Rattle.std.proofs.Common.{◌≡◌, ℕ, ◌==◌, ◌||◌, Bool, true, false, if◌then◌else◌, List, [], ◌∷◌, Option, None, Some, refl, sym, ap, subst, ◌∙◌}
 use Rattle.bit_bdd.specs.Diagrams.{Diagrams, has_word}
 use Rattle.net_model.specs.Terms.{Term, const, term_width}
 use Rattle.net_model.specs.Symbolic.{case_term, bus_term}
@@ -9,18 +9,10 @@ use Rattle.sym_expr.specs.Pools.{term_at}
 use Rattle.transfer_set.specs.declared.route.Route.{Route}
 use Rattle.route_trace.specs.declared.heads.Head.{Head}
 use Rattle.route_trace.specs.declared.heads.Two.{Two}
-use Rattle.route_trace.specs.Heads.{LastFits, two_head, two_term}
+use Rattle.route_trace.specs.Heads.{LastFits, two_head}
 use Rattle.transfer_set.specs.Routes.{held_terms, routes_at, only}
-use Rattle.route_trace.specs.Routing.{pairs, passes, first_terms, AllFit, AllTwoFit}
+use Rattle.route_trace.specs.Routing.{passes, first_terms, AllFit, AllTwoFit}
 use Rattle.route_trace.specs.Gates.{rest_terms, AllGiven, AllWide, RowTests, DriverTests}
-
-pub given_one : (b : Bool) (g : Term → Term) (x : Term) (ts new : List Term) → ts ≡ (if b then x ∷ [] else []) → new ≡ (if b then map g ts else []) → new ≡ (if b then g x ∷ [] else [])
-given_one true g x ts new e h = h ∙ ap (map g) e
-given_one false g x ts new e h = h
-
-pub given_two : (b : Bool) (two : Two) (t : ℕ → Term) (x y : Term) (xs ys new : List Term) → xs ≡ (if b then x ∷ [] else []) → ys ≡ (if b then y ∷ [] else []) → new ≡ (if b then pairs two t xs ys else []) → new ≡ (if b then two_term two t x y ∷ [] else [])
-given_two true two t x y xs ys new e f h = h ∙ (λ j. pairs two t (e j) (f j))
-given_two false two t x y xs ys new e f h = h
 
 -- expressions of one width are operands of what asks for it
 pub fit_wide : (head : Head) (pool : List Node) (width : ℕ) → LastFits head (term_at pool) width → (routes : List Route) → AllWide pool width routes → AllFit head pool routes

@@ -9,9 +9,10 @@ use Rattle.net_model.specs.declared.hardware.Netlist.{Netlist}
 use Rattle.net_model.specs.Depends.{Among, Depends, named_by, direct, via}
 use Rattle.net_model.specs.Symbolic.{all_of, sym_of}
 use Rattle.net_model.specs.Terms.{Term, size_of}
+use Rattle.net_model.specs.Nets.{word_width}
 use Rattle.sym_expr.specs.declared.pool.Node.{Node}
 use Rattle.sym_expr.specs.Pools.{capped, term_at, IsOneEach}
-use Rattle.ctl_bdd.specs.Controls.{IsControl, word_width}
+use Rattle.ctl_bdd.specs.Controls.{IsControl}
 use Rattle.ctl_bdd.specs.declared.ControlBits.{ControlBits}
 use Rattle.transfer_set.specs.declared.route.Route.{Route}
 use Rattle.transfer_set.specs.Routes.{held, Gives, IsTable}

@@ -5,7 +5,6 @@ pub mod Loops
 pub mod Firsts
 pub mod Exact
 pub mod Given
-pub mod Syms
 pub mod Deciding
 pub mod Selecting
 pub mod Deciders

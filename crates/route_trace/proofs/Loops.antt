@@ -30,7 +30,7 @@ module _ (f : Term → List Term) (book : Diagrams) (pool : List Node) (routes :
   each_apart pool' now outs true false eb ec e h = absurd (true≢false (sym h))
   each_apart pool' now outs false c eb ec e h = absurd (true≢false (sym h))
 
-  pub each_terms : (outs new old add : List Term) (b c : Bool) → b ≡ has_word book set word → c ≡ has_word book route.set word
+  each_terms : (outs new old add : List Term) (b c : Bool) → b ≡ has_word book set word → c ≡ has_word book route.set word
       → old ≡ (if has_word book set word then each f (held_terms book pool (take i routes) word) else outs)
       → add ≡ f (term_at pool route.expr)
       → new ≡ (if b && c then add else old)
@@ -91,11 +91,3 @@ map-same f g h ts us e = ap (map f) e ∙ by us
     by : (us : List Term) → map f us ≡ map g us
     by [] = refl
     by (u ∷ us) = let p = h u in let q = by us in (λ j. p j ∷ q j)
-
-pub start_each : (f : Term → List Term) (book : Diagrams) (pool : List Node) (set word : ℕ) (out : List Route) → (has_word book set word ≡ true → held book out word ≡ [])
-    → held_terms book pool out word ≡ (if has_word book set word then each f (held_terms book pool [] word) else held_terms book pool out word)
-start_each f book pool set word out apart = by (has_word book set word) apart
-  where
-    by : (b : Bool) → (b ≡ true → held book out word ≡ []) → held_terms book pool out word ≡ (if b then [] else held_terms book pool out word)
-    by true h = ap (map (term_at pool)) (h refl)
-    by false h = refl

@@ -14,7 +14,7 @@ use Rattle.route_trace.specs.Routing.{Finds}
 
 -- ---- finding
 
-pub finds_len : (expr : ℕ) (routes : List Route) → Finds expr routes (position (λ route. route.expr == expr) routes)
+finds_len : (expr : ℕ) (routes : List Route) → Finds expr routes (position (λ route. route.expr == expr) routes)
 finds_len expr routes = by (nat_lt (position_or_len (λ route. route.expr == expr) routes) (length routes)) refl
   where
     none : (routes : List Route) → length routes ≤ position_or_len (λ route. route.expr == expr) routes → Fresh expr routes
@@ -53,7 +53,7 @@ pub held-append : (book : Diagrams) (xs ys : List Route) (word : ℕ) → held b
 held-append book [] ys word = refl
 held-append book (x ∷ xs) ys word = ap (λ l. row book x word ++ l) (held-append book xs ys word) ∙ sym (append_assoc (row book x word) (held book xs word) (held book ys word))
 
-pub set_around : (before after : List Route) (x y : Route) → slice_set (before ++ x ∷ after) (length before) y ≡ before ++ y ∷ after
+set_around : (before after : List Route) (x y : Route) → slice_set (before ++ x ∷ after) (length before) y ≡ before ++ y ∷ after
 set_around [] after x y = refl
 set_around (z ∷ before) after x y = ap (λ l. z ∷ l) (set_around before after x y)
 
@@ -93,15 +93,15 @@ sets_at : (book : Diagrams) (before after : List Route) (x : Route) → AllSets 
 sets_at book [] after x h = h.0
 sets_at book (z ∷ before) after x h = sets_at book before after x h.1
 
-pub sets_left : (book : Diagrams) (xs ys : List Route) → AllSets book (xs ++ ys) → AllSets book xs
+sets_left : (book : Diagrams) (xs ys : List Route) → AllSets book (xs ++ ys) → AllSets book xs
 sets_left book [] ys h = tt
 sets_left book (x ∷ xs) ys h = (h.0, sets_left book xs ys h.1)
 
-pub sets_right : (book : Diagrams) (xs ys : List Route) → AllSets book (xs ++ ys) → AllSets book ys
+sets_right : (book : Diagrams) (xs ys : List Route) → AllSets book (xs ++ ys) → AllSets book ys
 sets_right book [] ys h = h
 sets_right book (x ∷ xs) ys h = sets_right book xs ys h.1
 
-pub exprs_put : (size : ℕ) (before after : List Route) (x y : Route) → y.expr < size → AllExprs size (before ++ x ∷ after) → AllExprs size (before ++ y ∷ after)
+exprs_put : (size : ℕ) (before after : List Route) (x y : Route) → y.expr < size → AllExprs size (before ++ x ∷ after) → AllExprs size (before ++ y ∷ after)
 exprs_put size [] after x y s h = (s, h.1)
 exprs_put size (z ∷ before) after x y s h = (h.0, exprs_put size before after x y s h.1)
 
@@ -215,7 +215,7 @@ module _ (old new : Diagrams) (g : Extends old new) (out : List Route) (routes :
 
 -- ---- for what the code finds
 
-pub found_at : (expr : ℕ) (seen out : List Route) (place : ℕ) (d : Route) → seen ≡ out → Some place ≡ position (λ route. route.expr == expr) seen → (route : Route) × (slice_get out place ≡ Some route) × (route.expr ≡ expr)
+found_at : (expr : ℕ) (seen out : List Route) (place : ℕ) (d : Route) → seen ≡ out → Some place ≡ position (λ route. route.expr == expr) seen → (route : Route) × (slice_get out place ≡ Some route) × (route.expr ≡ expr)
 found_at expr seen out place d e f =
     subst (λ l. (route : Route) × (slice_get l place ≡ Some route) × (route.expr ≡ expr)) e (subst (λ o. Finds expr seen o) (sym f) (finds_len expr seen))
 

@@ -167,15 +167,6 @@ module _ (head : Head) (book : Diagrams) (pool : List Node) (routes : List Route
       by false c eb ec =
           eo ∙ ap (λ d. if d then map (head_term head (term_at pool)) (held_terms book pool (take i routes) word) else held_terms book pool out word) (sym eb)
 
--- nothing is done yet
-pub start_terms : (head : Head) (book : Diagrams) (pool : List Node) (set word : ℕ) (out : List Route) → (has_word book set word ≡ true → held book out word ≡ [])
-    → held_terms book pool out word ≡ (if has_word book set word then map (head_term head (term_at pool)) (held_terms book pool [] word) else held_terms book pool out word)
-start_terms head book pool set word out apart = by (has_word book set word) apart
-  where
-    by : (b : Bool) → (b ≡ true → held book out word ≡ []) → held_terms book pool out word ≡ (if b then [] else held_terms book pool out word)
-    by true h = ap (map (term_at pool)) (h refl)
-    by false h = refl
-
 pub fit_at : (head : Head) (pool : List Node) (routes : List Route) (i : ℕ) (route : Route) → slice_get routes i ≡ Some route → AllFit head pool routes → LastFits head (term_at pool) (term_width (term_at pool route.expr))
 fit_at head pool [] i route at f = absurd (cc)
 fit_at head pool (x ∷ routes) zero route at f = (let e : x ≡ route = cc in subst (λ (r : Route). LastFits head (term_at pool) (term_width (term_at pool r.expr))) e f.0)

@@ -14,7 +14,7 @@ use Rattle.route_trace.specs.declared.stop.Stop.{Stop}
 use Rattle.route_trace.specs.declared.stop.Stop.TheVariants.{Many, Memory}
 
 -- what is right for a part is nothing or right for the whole
-abbrev pub Becomes : Diagrams → (P Q : ℕ → List Term → Type 0) → Type 0
+abbrev Becomes : Diagrams → (P Q : ℕ → List Term → Type 0) → Type 0
 Becomes book P Q = (word : ℕ) → word < 2 ^ book.bits → (terms : List Term) → P word terms → (terms ≡ []) ⊎ Q word terms
 
 pub many_in : (stop : Stop) (book : Diagrams) (pool : List Node) (P Q : ℕ → List Term → Type 0) → Becomes book P Q → IfMany stop (IsOver book pool P) → IfMany stop (IsOver book pool Q)

@@ -23,7 +23,7 @@ use Rattle.route_trace.specs.Gates.{AllGiven, AllWide, HaveWidths}
 use Rattle.route_trace.proofs.Products.{both_later}
 use Rattle.route_trace.proofs.Firsts.{tables_later}
 use Rattle.route_trace.proofs.Exact.{all_wide}
-use Rattle.route_trace.proofs.Syms.{sym_is}
+use Rattle.net_model.proofs.Syms.{sym_is}
 use Rattle.route_trace.proofs.Selecting.{wide_later}
 use Rattle.std.proofs.lemmas.List.{get_or-set_same, get_or-set_other}
 use Rattle.net_model.specs.Depends.{Among, named_by}

@@ -5,7 +5,8 @@ use Rattle.net_model.specs.declared.hardware.Netlist.{Netlist}
 use Rattle.net_model.specs.Depends.{Depends, named_by}
 use Rattle.net_model.specs.Symbolic.{sym_of}
 use Rattle.net_model.specs.Terms.{Term, size_of}
-use Rattle.ctl_bdd.specs.Controls.{IsWithoutClash, word_width}
+use Rattle.net_model.specs.Nets.{word_width}
+use Rattle.ctl_bdd.specs.Controls.{IsWithoutClash}
 use Rattle.route_trace.specs.declared.RouteFault.{RouteFault}
 use Rattle.route_trace.specs.declared.RouteFault.TheVariants.{PatternLarge, TooMany, Memory}
 

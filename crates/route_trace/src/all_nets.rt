@@ -3,8 +3,9 @@
 ghost use Rattle.std.specs.Prelude.{◌≡◌, ℕ, ◌<◌, length, replicate, [], IfErr, IfOk, true};
 ghost use Rattle.bit_bdd.specs.Diagrams.{Extends};
 ghost use Rattle.net_model.specs.Symbolic.{sym_of};
+ghost use Rattle.net_model.specs.Nets.{word_width};
 ghost use Rattle.sym_expr.specs.Pools.{Grows};
-ghost use Rattle.ctl_bdd.specs.Controls.{IsControl, word_width};
+ghost use Rattle.ctl_bdd.specs.Controls.{IsControl};
 ghost use Rattle.transfer_set.specs.Routes.{AreRoutes, Gives, IsTable, routes_at};
 ghost use Rattle.route_trace.specs.Limits.{IsRefusal, KeepsLimits};
 ghost use Rattle.route_trace.specs.Verdicts.{IsFound, kept_at, verdict_at};

@@ -42,6 +42,3 @@ impl From<NoMemory> for RouteFault {
         RouteFault::Memory
     }
 }
-
-#[cfg(test)]
-mod tests;

@@ -1,16 +1,14 @@
 -- The formulas of expressions, by their parts.
 use Rattle.std.proofs.Common.{lit<, [], ◌∷◌, ◌++◌, slice_set, ◌≡◌, ℕ, ◌+◌, ◌-◌, ◌/◌, ◌%◌, ◌^◌, ◌≤◌, ◌<◌, List, slice_index, refl, sym, ap, subst, ◌∙◌, arith}
 use Rattle.std.specs.Global.{Box}
-use Rattle.rec_bits.specs.declared.operator.Op1.{Op1}
-use Rattle.rec_bits.specs.declared.operator.Op2.{Op2}
-use Rattle.rec_bits.specs.Operators.{apply1_of, apply2_of, sext_of, slice_of, result_width}
+use Rattle.rec_bits.specs.Operators.{apply2_of, slice_of}
 use Rattle.src_model.specs.declared.program.Var.{Var as Declared}
 use Rattle.src_model.specs.declared.program.SrcExpr.{SrcExpr}
 use Rattle.src_model.specs.Written.{Shape, num, plain, element, un, bin, zext, sext, low, shape_of}
-use Rattle.src_model.specs.Meaning.{width_of, operand_width, value_of, first_cell}
+use Rattle.src_model.specs.Meaning.{width_of, operand_width, first_cell}
 use Rattle.src_model.specs.Fitting.{Fitting}
 use Rattle.src_model.proofs.FittingLemmas.{width_wide, sides_wide}
-use Rattle.src_eval.specs.declared.formula.Formula.{Formula, Number, Cell, Un, Bin, Sext, Low}
+use Rattle.src_eval.specs.declared.formula.Formula.{Formula, Number, Cell, Bin, Low}
 use Rattle.src_eval.specs.declared.machine.Step.{Step}
 use Rattle.src_eval.specs.declared.machine.Step.TheVariants.{Assign}
 use Rattle.src_eval.specs.Formulas.{mean, Fits, IsWidth}
@@ -36,42 +34,8 @@ small word asked (sext at x to) w a f = f.2
 small word asked (low at x to) w a f = let i = width_wide word word x w w f.0 in omega (arith, i, f.2)
 
 module _ (word : ℕ) (vars : List Declared) (w : IsWidth word) where
-  pub un_resolves : (asked : ℕ) → IsWidth asked → (op : Op1) (at : ℕ) (x : Shape) → Fitting word asked x → (width : ℕ) (b : Box Formula) → width ≡ width_of word asked x → Resolves word vars asked x b.value → Resolves word vars asked (un op at x) (Un op width b)
-  un_resolves asked a op at x f width b is r = record {
-    value = λ cells. λ j. apply1_of op (is j) (r.value cells j);
-    fits = (subst IsWidth (sym is) (width_wide word asked x w a f), omega (arith, is), subst (λ n. Fits word n b.value) (sym is) r.fits);
-  }
-
-  pub bin_resolves : (asked : ℕ) (op : Op2) (at : ℕ) (x : Shape) (to : ℕ) (y : Shape) → Fitting word asked (bin op at x to y) → (width : ℕ) (l r : Box Formula) → width ≡ operand_width word x y
-      → Resolves word vars width x l.value → Resolves word vars width y r.value → Resolves word vars asked (bin op at x to y) (Bin op width l r)
-  bin_resolves asked op at x to y f width l r is left right =
-      let lw : width_of word width x ≡ width = ap (λ n. width_of word n x) is ∙ f.2 ∙ sym is in
-      let rw' : width_of word width y ≡ width = ap (λ n. width_of word n y) is ∙ f.3 ∙ sym is in
-      record {
-        value = λ cells.
-            (λ j. apply2_of op width (left.value cells j) (right.value cells j))
-            ∙ (λ j. apply2_of op (is j) (value_of word vars cells (is j) x) (value_of word vars cells (is j) y));
-        fits = (
-          subst IsWidth (sym is) (sides_wide word x y w f.0 f.1),
-          le_of (ap (result_width op) is),
-          subst (λ n. Fits word n l.value) lw left.fits,
-          subst (λ n. Fits word n r.value) rw' right.fits,
-        );
-      }
-    where
-      le_of : {n m : ℕ} → n ≡ m → n ≤ m
-      le_of e = omega (arith, e)
-
   pub zext_resolves : (asked at : ℕ) (x : Shape) (to : ℕ) → Fitting word asked (zext at x to) → (f : Formula) → Resolves word vars word x f → Resolves word vars asked (zext at x to) f
   zext_resolves asked at x to h f r = record { value = r.value; fits = fits_wider word (width_of word word x) to f (omega (arith, h.1)) r.fits }
-
-  pub sext_resolves : (asked at : ℕ) (x : Shape) (to : ℕ) → Fitting word asked (sext at x to) → (from : ℕ) (b : Box Formula) → from ≡ width_of word word x → Resolves word vars word x b.value → Resolves word vars asked (sext at x to) (Sext from to b)
-  sext_resolves asked at x to h from b is r =
-      let i = width_wide word word x w w h.0 in
-      record {
-        value = λ cells. λ j. sext_of (r.value cells j) (is j) to;
-        fits = (omega (arith, i, is), omega (arith, h.1, is), h.2, omega arith, subst (λ n. Fits word n b.value) (sym is) r.fits);
-      }
 
   pub low_resolves : (asked at : ℕ) (x : Shape) (to : ℕ) → Fitting word asked (low at x to) → (b : Box Formula) → Resolves word vars word x b.value → Resolves word vars asked (low at x to) (Low to b)
   low_resolves asked at x to h b r =

@@ -1,11 +1,7 @@
 -- A program text declares no more variables than it has bytes.
-use Rattle.std.proofs.Common.{◌≡◌, ◌≤◌, ◌+◌, ◌-◌, ℕ, zero, suc, List, [], ◌∷◌, ◌++◌, length, refl, sym, ap, ◌∙◌, arith, length-append}
+use Rattle.std.proofs.Common.{◌≤◌, ◌-◌, ℕ, List, length, ap, arith, length-append}
 use Rattle.std.proofs.lemmas.List.{length-map}
-use Rattle.grammar.specs.Reading.{Many, ListOf, none, some}
-use Rattle.lexing.specs.declared.piece.Piece.{Piece}
-use Rattle.lexing.specs.declared.piece.Piece.TheVariants.{Blank, Whole, Wrong}
-use Rattle.lexing.specs.Table.{Table}
-use Rattle.lexing.specs.Tokens.{piece, tokens_from}
+use Rattle.grammar.specs.Reading.{ListOf, none, some}
 use Rattle.src_lexer.specs.Programs.{programs, src_tokens}
 use Rattle.src_model.specs.declared.program.Var.{Var as Declared}
 use Rattle.src_model.specs.declared.words.Lexed.{Lexed}
@@ -14,20 +10,7 @@ use Rattle.src_model.specs.Grammar.{Behind, IsDecl, IsDecls, IsLines, IsText}
 use Rattle.src_model.specs.Written.{Listing}
 use Rattle.src_parser.specs.Texts.{words_of, IsSrcText}
 use Rattle.src_parser.specs.Words.{lexed_of}
-
--- a piece gives one token at most and takes at least one byte
-next_token : (table : Table) (at b : ℕ) (bs : List ℕ) → ((k : ℕ) → length (tokens_from table (at + 1) k bs) ≤ length bs)
-    → (p : Piece) → piece table (b ∷ bs) ≡ p → length (tokens_from table at 0 (b ∷ bs)) ≤ length (b ∷ bs)
-unfolding tokens_from
-next_token table at b bs f (Blank n) e = rw (e, tokens_from) (let k : length (tokens_from table (at + 1) (n - 1) bs) ≤ length bs = f (n - 1) in omega arith)
-next_token table at b bs f (Whole kind n) e = rw (e, tokens_from) (let k : length (tokens_from table (at + 1) (n - 1) bs) ≤ length bs = f (n - 1) in omega arith)
-next_token table at b bs f Wrong e = rw (e, tokens_from) (omega arith)
-
-few_tokens : (table : Table) (at skip : ℕ) (bytes : List ℕ) → length (tokens_from table at skip bytes) ≤ length bytes
-unfolding tokens_from
-few_tokens table at skip [] = omega arith
-few_tokens table at (suc skip) (b ∷ bs) = let k : length (tokens_from table (at + 1) skip bs) ≤ length bs = few_tokens table (at + 1) skip bs in omega arith
-few_tokens table at zero (b ∷ bs) = next_token table at b bs (λ k. few_tokens table (at + 1) k bs) (piece table (b ∷ bs)) refl
+use Rattle.lexing.proofs.TokenLaws.{few_tokens}
 
 -- a declaration has a comma or `var` before it
 behind_long : (ts : List Lexed) (v : Declared) → Behind Comma IsDecl ts v → 1 ≤ length ts

@@ -124,15 +124,3 @@ module _ (word : ℕ) (l : Listing) (h : first_fault word l ≡ None) where
   -- and none of its trees needs more temporary cells than it has nodes
   pub few_temps : temp_count word l ≤ 255
   few_temps = let n = rules_hold.few_nodes in let k = greatest_le (temps_of word) nodes_of (temps_le word) (roots_in (acts_of l.body)) in omega (arith, n, k)
-
-above_within : (kind : SrcKind) (count bound : ℕ) → count ≤ bound → above kind count bound ≡ None
-above_within kind count bound h = ap (λ (b : Bool). if b then Some (Limit kind count bound) else None) (let e : nat_lt bound count ≡ false = grind (arith, nat_tests, h) in e)
-
--- the other way round: a program that keeps each rule has no fault
-pub no_fault : (word : ℕ) (l : Listing) → RulesHold word l → first_fault word l ≡ None
-no_fault word l r =
-    let lengths : above Length (longest l.vars) 65536 ≡ None = above_within Length (longest l.vars) 65536 r.few_cells in
-    let stated : above Statements (capped (statement_count l)) 65536 ≡ None = (let k = r.few_statements in above_within Statements (capped (statement_count l)) 65536 (omega (arith, k))) in
-    let noded : above Nodes (capped (node_count l)) 255 ≡ None = (let k = r.few_nodes in above_within Nodes (capped (node_count l)) 255 (omega (arith, k))) in
-    (λ j. or_else (fault_at Duplicate (least (r.names_once j))) (or_else (fault_at Unknown (least (r.names_known j))) (or_else (fault_at Width (least (r.widths_fit j)))
-    (or_else (fault_at Index (least (r.indexes_within j))) (or_else (fault_at Counter (least (r.counters_kept j))) (or_else (lengths j) (or_else (stated j) (noded j))))))))

@@ -1,9 +1,7 @@
 -- The sizes of statements, by their parts.
-use Rattle.std.proofs.Common.{◌≡◌, ℕ, ◌+◌, ◌-◌, ◌<◌, ◌≤◌, max, ◌^◌, List, [], ◌∷◌, ◌++◌, map, length, drop, get_or, Option, refl, sym, ap, ◌∙◌, arith, eq-eqb, if◌then◌else◌}
+use Rattle.std.proofs.Common.{◌≡◌, ℕ, ◌+◌, ◌-◌, max, List, [], ◌∷◌, ◌++◌, map, Option, refl, ap, ◌∙◌, arith, eq-eqb, if◌then◌else◌}
 use Rattle.std.specs.declared.alloc.Global.{Global}
 use Rattle.std.specs.declared.vec.Vec.{Vec}
-use Rattle.std.proofs.lemmas.List.{drop_all}
-use Rattle.rec_bits.proofs.Faults.{drop_item}
 use Rattle.src_model.specs.declared.sizes.Sizes.{Sizes}
 use Rattle.src_model.specs.declared.program.Stmt.{Stmt, If, While, For}
 use Rattle.src_model.specs.declared.program.SrcTest.{SrcTest}
@@ -23,13 +21,6 @@ measured_append word xs ys n m =
     let d : capped (greatest (temps_of word) (xs ++ ys)) ≡ max (capped (greatest (temps_of word) xs)) (capped (greatest (temps_of word) ys)) = omega (arith, greatest_append (temps_of word) xs ys) in
     λ j. record { statements = a j; nodes = b j; temps = d j }
 
-pub together_assoc : (a b d : Sizes) → together (together a b) d ≡ together a (together b d)
-together_assoc a b d =
-    let p : capped (capped (a.statements + b.statements) + d.statements) ≡ capped (a.statements + capped (b.statements + d.statements)) = omega arith in
-    let q : max (max a.nodes b.nodes) d.nodes ≡ max a.nodes (max b.nodes d.nodes) = omega arith in
-    let r : max (max a.temps b.temps) d.temps ≡ max a.temps (max b.temps d.temps) = omega arith in
-    λ j. record { statements = p j; nodes = q j; temps = r j }
-
 -- the sizes of a block, and of a list of statements
 abbrev pub acts_measured : ℕ → Acts → Sizes
 acts_measured word acts = measured word (roots_in acts) (statements_in acts)
@@ -44,26 +35,6 @@ abbrev pub test_measured : ℕ → SrcTest → Sizes
 test_measured word test = measured word (tested_roots (test_of test)) 1
 
 module _ (word : ℕ) where
-  pub list_more : (s : Stmt) (rest : List Stmt) → list_measured word (s ∷ rest) ≡ together (act_measured word s) (list_measured word rest)
-  list_more s rest = measured_append word (roots (act_of s)) (roots_in (acts_of (map act_of rest))) (statements (act_of s)) (statements_in (acts_of (map act_of rest)))
-
-  -- a scan, at its start, one statement further and at the end
-  pub scan_next : (list : List Stmt) (i : ℕ) (s : Stmt) (found all more : Sizes) → i < length list → s ≡ get_or list i s
-      → together found (list_measured word (drop i list)) ≡ all → together (together found (act_measured word s)) (list_measured word (drop (i + 1) list)) ≡ all
-  scan_next list i s found all more h e k =
-      together_assoc found (act_measured word s) (list_measured word (drop (i + 1) list))
-      ∙ ap (together found) (sym (list_more s (drop (i + 1) list)))
-      ∙ ap (λ (l : List Stmt). together found (list_measured word l)) (sym (drop_item list i s h e)) ∙ k
-
-  pub scan_end : (list : List Stmt) (i : ℕ) (found all : Sizes) → found.statements ≤ 2 ^ 64 - 1 → length list ≤ i
-      → together found (list_measured word (drop i list)) ≡ all → found ≡ all
-  scan_end list i found all few h k =
-      let a : found.statements ≡ capped (found.statements + 0) = omega arith in
-      let b : found.nodes ≡ max found.nodes 0 = omega arith in
-      let d : found.temps ≡ max found.temps 0 = omega arith in
-      let e : found ≡ together found (list_measured word []) = λ j. record { statements = a j; nodes = b j; temps = d j } in
-      e ∙ ap (λ (l : List Stmt). together found (list_measured word l)) (sym (drop_all i list h)) ∙ k
-
   pub while_measured : (s : Stmt) (test : SrcTest) (body : Vec Stmt Global) → s ≡ While test body → act_measured word s ≡ together (test_measured word test) (list_measured word body.items)
   while_measured s test body is = ap (λ a. measured word (roots a) (statements a)) (ap act_of is ∙ act_While test body)
       ∙ measured_append word (tested_roots (test_of test)) (roots_in (acts_of (map act_of body.items))) 1 (statements_in (acts_of (map act_of body.items)))

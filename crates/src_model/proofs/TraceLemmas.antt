@@ -1,13 +1,13 @@
 -- The trace of a program: of two ways on that agree the program makes two that agree, and what is asked for more adds at the end.
-use Rattle.std.proofs.Common.{ℕ, suc, ◌≡◌, ◌+◌, List, take, arith}
+use Rattle.std.proofs.Common.{ℕ, ◌+◌, List}
 use Rattle.src_model.specs.declared.checkpoint.Checkpoint.TheVariants.{At}
 use Rattle.src_model.specs.declared.program.Var.{Var as Declared}
-use Rattle.src_model.specs.Written.{Act, assign, choice, while, count, Acts, no_acts, act, Otherwise, without, otherwise, Listing, acts_of}
+use Rattle.src_model.specs.Written.{Act, assign, choice, while, count, Acts, no_acts, act, Otherwise, without, otherwise}
 use Rattle.src_model.specs.Sizes.{statements, statements_in}
-use Rattle.src_model.specs.Ways.{Onward, choose, loop, finish}
+use Rattle.src_model.specs.Ways.{Onward, choose, loop}
 use Rattle.src_model.specs.Meaning.{assigned, holds}
-use Rattle.src_model.specs.Trace.{started, stepped, counting, after, run, run_in, run_else, strace}
-use Rattle.src_model.proofs.WayLemmas.{Agree, Keeps, pass_agree_here, choose_agree, loop_agree, Whole, pass_whole, choose_whole, whole_less, loop_whole, finish_whole, Steady, pass_steady, choose_steady, steady_less, loop_steady, finish_steady}
+use Rattle.src_model.specs.Trace.{started, stepped, counting, after, run, run_in, run_else}
+use Rattle.src_model.proofs.WayLemmas.{Agree, Keeps, pass_agree_here, choose_agree, loop_agree, Whole, pass_whole, choose_whole, whole_less, loop_whole, Steady, pass_steady, choose_steady, steady_less, loop_steady}
 
 pub after_agree : (m : ℕ) (change : List ℕ → List ℕ) (k k' : Onward) → Agree m k k' → Agree m (after change k) (after change k')
 after_agree m change k k' h j le cells = h j le (change cells)
@@ -84,9 +84,6 @@ mutual
   else_whole word vars without tree m k h = h
   else_whole word vars (otherwise body) tree m k h = in_whole word vars body tree m k h
 
-pub strace_whole : (word : ℕ) (l : Listing) (m : ℕ) → Whole m (λ j cells. strace word l cells j)
-strace_whole word l m = in_whole word l.vars (acts_of l.body) 0 m finish (finish_whole m)
-
 -- ---- what is asked for more adds at the end
 
 after_steady : (m : ℕ) (change : List ℕ → List ℕ) (k : Onward) → Steady m k → Steady m (after change k)
@@ -117,10 +114,3 @@ mutual
   else_steady : (word : ℕ) (vars : List Declared) (o : Otherwise) (tree m : ℕ) (k : Onward) → Steady m k → Steady m (run_else word vars o tree k)
   else_steady word vars without tree m k h = h
   else_steady word vars (otherwise body) tree m k h = in_steady word vars body tree m k h
-
-pub strace_steady : (word : ℕ) (l : Listing) (m : ℕ) → Steady m (λ j cells. strace word l cells j)
-strace_steady word l m = in_steady word l.vars (acts_of l.body) 0 m finish (finish_steady m)
-
--- the trace of m checkpoints is the front of the trace of one more
-pub strace_front : (word : ℕ) (l : Listing) (cells : List ℕ) (m : ℕ) → take m (strace word l cells (suc m)) ≡ strace word l cells m
-strace_front word l cells m = strace_steady word l (suc m) m (omega arith) cells

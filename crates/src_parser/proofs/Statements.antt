@@ -2,7 +2,6 @@
 use Rattle.std.proofs.Common.{◌≡◌, ℕ, zero, suc, ◌≤◌, Bool, true, false, List, [], ◌∷◌, ◌++◌, length, map, Option, Some, None, Box, IsTrue, ◌↔◌, refl, sym, ap, subst, ◌∙◌, arith}
 use Rattle.std.specs.declared.alloc.Global.{Global}
 use Rattle.std.specs.declared.vec.Vec.{Vec}
-use mathlib.Core.Former.{Count}
 use Rattle.grammar.specs.declared.stop.Stop.TheVariants.{At}
 use Rattle.grammar.specs.Reading.{Bind, without, head, never, Reads, FailsAs, Leads}
 use Rattle.grammar.proofs.Steps.{leads_as, never_stops}
@@ -12,14 +11,14 @@ use Rattle.src_model.specs.declared.program.Cmp.TheVariants.{Eq}
 use Rattle.src_model.specs.declared.program.SrcExpr.{SrcExpr}
 use Rattle.src_model.specs.declared.program.SrcTest.{SrcTest}
 use Rattle.src_model.specs.declared.program.Spot.{roll-Spot}
-use Rattle.src_model.specs.declared.program.Stmt.{Stmt, If as IfMade, If', While as WhileMade, For as ForMade, Held-Stmt-If-2, None', Some', Row_of-Stmt, end_of-Stmt, more_of-Stmt, items-the_row-Stmt, items_hidden-the_row-Stmt-0}
-use Rattle.src_model.specs.declared.program.Stmt.TheBlock.{hidden-the_row-Stmt-0}
+use Rattle.src_model.specs.declared.program.Stmt.{Stmt, If as IfMade, While as WhileMade, For as ForMade}
 use Rattle.src_model.specs.declared.words.Lexed.{Lexed}
 use Rattle.src_model.specs.declared.words.Word.{Word}
 use Rattle.src_model.specs.declared.words.Word.TheVariants.{Name, Compare as Compares, Symbol as Shows}
 use Rattle.src_model.specs.declared.words.Symbol.TheVariants.{LeftBrace, RightBrace, LeftBracket, RightBracket, If, Else, While, For}
-use Rattle.src_model.specs.Written.{Act, act, choice, while, count, otherwise, act_of, acts_in, other_in, acts_of, other_of, test_of, place_of, index_of}
+use Rattle.src_model.specs.Written.{Act, choice, while, count, act_of, acts_of, other_of, test_of, place_of, index_of}
 use Rattle.src_model.specs.Grammar.{Behind, Before, IsNothing, IsIndex, IsInner, IsOuter, IsCmp, IsBlock, IsBody, IsAct, ActBehind}
+use Rattle.src_model.proofs.Views.{act_If, act_While, act_For, else_acts}
 use Rattle.src_parser.specs.declared.statement.Compound.{Compound}
 use Rattle.src_parser.specs.declared.statement.Compound.TheVariants.{If as Chooses, While as Repeats, For as Counts}
 use Rattle.src_parser.specs.Steps.{BeginsWith, BeginsSo, OpensBracket, CompoundBehind, compound_of, act_word, else_word, acts_word, may_follow, after, after_else, after_acts, others_of}
@@ -162,33 +161,13 @@ unfolding roll-Spot denote.Hole.Carrier.roll
 place_Spot name at None = refl
 place_Spot name at (Some b) = refl
 
-row_seen : (n : Count) (row : Row_of-Stmt n) → acts_in row ≡ acts_of (map act_of (items-the_row-Stmt n row))
-row_seen n end_of-Stmt = refl
-row_seen n (more_of-Stmt {n = m} s others) = ap (λ rest. act (act_of s) rest) (row_seen m others)
+-- an else part as it is held is that of the code
+else_same : (o : Option (Vec Stmt Global)) → else_acts o ≡ other_of (others_of o)
+else_same None = refl
+else_same (Some v) = refl
 
-block_seen : (v : Vec Stmt Global) → acts_in (hidden-the_row-Stmt-0 v) ≡ acts_of (map act_of v.items)
-block_seen v = row_seen _ (hidden-the_row-Stmt-0 v) ∙ ap (λ ss. acts_of (map act_of ss)) (items_hidden-the_row-Stmt-0 v)
-
-pub act_While : (test : SrcTest) (v : Vec Stmt Global) → act_of (WhileMade test v) ≡ while (test_of test) (acts_of (map act_of v.items))
-act_While test v = ap (λ b. while (test_of test) b) (block_seen v)
-
-pub act_For : (counter : List ℕ) (at from to : ℕ) (v : Vec Stmt Global) → act_of (ForMade counter at from to v) ≡ count counter at from to (acts_of (map act_of v.items))
-act_For counter at from to v = ap (λ b. count counter at from to b) (block_seen v)
-
-abbrev held_row : Held-Stmt-If-2 → (n : Count) × Row_of-Stmt n
-held_row None' = (_, end_of-Stmt)
-held_row (Some' m row) = (_, row)
-
-abbrev held_of : Stmt → Held-Stmt-If-2
-held_of (If' test n taken other) = other
-held_of _ = None'
-
-other_seen : (test : SrcTest) (v : Vec Stmt Global) (o : Option (Vec Stmt Global)) → other_in (held_of (IfMade test v o)) ≡ other_of (others_of o)
-other_seen test v None = refl
-other_seen test v (Some w) = let row = held_row (held_of (IfMade test v (Some w))) in ap (λ b. otherwise b) (row_seen row.0 row.1 ∙ ap (λ ss. acts_of (map act_of ss)) (items_hidden-the_row-Stmt-0 w))
-
-pub act_If : (test : SrcTest) (v : Vec Stmt Global) (o : Option (Vec Stmt Global)) → act_of (IfMade test v o) ≡ choice (test_of test) (acts_of (map act_of v.items)) (other_of (others_of o))
-act_If test v o = ap (λ b. choice (test_of test) b (other_in (held_of (IfMade test v o)))) (block_seen v) ∙ ap (λ b. choice (test_of test) (acts_of (map act_of v.items)) b) (other_seen test v o)
+act_chosen : (test : SrcTest) (v : Vec Stmt Global) (o : Option (Vec Stmt Global)) → act_of (IfMade test v o) ≡ choice (test_of test) (acts_of (map act_of v.items)) (other_of (others_of o))
+act_chosen test v o = act_If test v o ∙ ap (λ b. choice (test_of test) (acts_of (map act_of v.items)) b) (else_same o)
 
 pub while_reads : {R : List Lexed → Act → Type 0} {more : Lexed → Bool} {ts rest : List Lexed} (test : SrcTest) (v : Vec Stmt Global) → Reads R more ts (while (test_of test) (acts_of (map act_of v.items))) rest → Reads R more ts (act_of (WhileMade test v)) rest
 while_reads {R = R} {more = more} {ts = ts} {rest = rest} test v r = subst (λ (a : Act). Reads R more ts a rest) (sym (act_While test v)) r
@@ -197,4 +176,4 @@ pub for_reads : {R : List Lexed → Act → Type 0} {more : Lexed → Bool} {ts 
 for_reads {R = R} {more = more} {ts = ts} {rest = rest} counter at from to v r = subst (λ (a : Act). Reads R more ts a rest) (sym (act_For counter at from to v)) r
 
 pub if_reads : {R : List Lexed → Act → Type 0} {more : Lexed → Bool} {ts rest : List Lexed} (test : SrcTest) (v : Vec Stmt Global) (o : Option (Vec Stmt Global)) → Reads R more ts (choice (test_of test) (acts_of (map act_of v.items)) (other_of (others_of o))) rest → Reads R more ts (act_of (IfMade test v o)) rest
-if_reads {R = R} {more = more} {ts = ts} {rest = rest} test v o r = subst (λ (a : Act). Reads R more ts a rest) (sym (act_If test v o)) r
+if_reads {R = R} {more = more} {ts = ts} {rest = rest} test v o r = subst (λ (a : Act). Reads R more ts a rest) (sym (act_chosen test v o)) r

@@ -1,24 +1,24 @@
 -- Going over the lines of a memory text.
-use Rattle.std.proofs.Common.{◌≡◌, ◌≢◌, ◌==◌, ◌&&◌, ℕ, zero, suc, ◌+◌, ◌-◌, ◌^◌, ◌<◌, ◌≤◌, List, [], ◌∷◌, ◌++◌, length, get_or, Bool, true, false, cond, Option, Some, None, refl, sym, ap, subst, ◌∙◌, append_assoc, length-append, eqb-true, eq-eqb, arith}
+use Rattle.std.proofs.Common.{◌≡◌, ◌≢◌, ◌==◌, ℕ, zero, suc, ◌+◌, ◌-◌, ◌^◌, ◌<◌, ◌≤◌, List, [], ◌∷◌, ◌++◌, length, get_or, Bool, true, false, cond, Option, Some, None, refl, sym, ap, subst, ◌∙◌, append_assoc, length-append, eqb-true, eq-eqb, arith}
 use Rattle.std.proofs.Math.ListN.{replicate, set}
-use Rattle.std.proofs.lemmas.List.{append-nil, length-replicate, get_or-set_same, get_or-set_other, length-set}
-use Rattle.std.proofs.lemmas.Bool.{ltb-true, eqb-false}
+use Rattle.std.proofs.lemmas.List.{append-nil, length-replicate, get_or-set_other, length-set}
+use Rattle.std.proofs.lemmas.Bool.{ltb-true}
 use Rattle.std.proofs.lemmas.Option.{cond_some, same_Some}
 use Rattle.std.proofs.Math.Nat.{pow-le-pow_right}
-use Rattle.std.specs.Prelude.{slice_get, slice_set, slice_index, nat_lt}
+use Rattle.std.specs.Prelude.{slice_get, nat_lt}
 use Rattle.std.specs.List.{concat}
 use Rattle.net_model.specs.declared.hardware.Netlist.{Netlist}
 use Rattle.net_model.specs.declared.hardware.Storage.{Storage}
 use Rattle.net_model.specs.declared.hardware.Storage.TheVariants.{Register, Memory}
 use Rattle.net_model.specs.declared.states.State.{State}
-use Rattle.net_model.specs.Nets.{counter_of, memory_id, memory_size, memory_width, storage_bits, IsRegister}
-use Rattle.net_model.specs.Widths.{IsState, StateFits}
-use Rattle.text_lines.specs.Fields.{parts_at, number_of}
+use Rattle.net_model.specs.Nets.{counter_of, memory_id, memory_size, memory_width, storage_bits, IsRegister, storage_cells}
+use Rattle.text_lines.specs.Fields.{parts_at, number_of, ◌>>=◌, line_end}
 use Rattle.text_lines.specs.Lines.{lines_of, IsFirstLine}
 use Rattle.state_text.specs.declared.setting.Setting.{Setting}
 use Rattle.state_text.specs.declared.setting.Setting.TheVariants.{Entry, Cell}
-use Rattle.state_text.specs.Settings.{◌>>=◌, line_end, below, number_below, named_at, entry_of, cell_of, setting_at, setting_for, setting_of, with_setting, state_after, blank, IsStateText, IsStateFault, SettingFits, IsWithin, IsStart, size_in}
-use Rattle.state_text.proofs.Storages.{memory_found, memory_wide}
+use Rattle.state_text.specs.Settings.{below, number_below, named_at, entry_of, cell_of, setting_at, setting_for, setting_of, with_setting, state_after, blank, IsStateText, IsStateFault, SettingFits, IsWithin, IsStart}
+use Rattle.net_model.proofs.Memories.{memory_found, memory_wide}
+use Rattle.text_lines.proofs.Steps.{bind_ok}
 
 pub record Progress (netlist : Netlist) (bytes rest : List ℕ) (state : State) : Type 0 where
   pub before : List (List ℕ)
@@ -79,7 +79,7 @@ set_below (x ∷ xs) zero (suc j) v bound h k = h (suc j)
 set_below (x ∷ xs) (suc i) zero v bound h k = h 0
 set_below (x ∷ xs) (suc i) (suc j) v bound h k = set_below xs i j v (λ n. bound (suc n)) (λ n. h (suc n)) k
 
-pub keeps_start : (netlist : Netlist) (s : State) (setting : Setting) → IsStart netlist s → SettingFits netlist setting → IsStart netlist (with_setting s setting)
+keeps_start : (netlist : Netlist) (s : State) (setting : Setting) → IsStart netlist s → SettingFits netlist setting → IsStart netlist (with_setting s setting)
 keeps_start netlist s (Entry id value) h f = record {
   state = record {
     regs = length-set s.regs id value ∙ h.state.regs;
@@ -114,15 +114,6 @@ is_within netlist s (Cell address value) h f = omega (arith, f.0, h.state.cells)
 
 -- ---- what a line sets fits
 
-record Bound (A B : Type 0) (o : Option A) (f : A → Option B) (y : B) : Type 0 where
-  value : A
-  first : o ≡ Some value
-  then : f value ≡ Some y
-
-bind_ok : {A B : Type 0} (o : Option A) (f : A → Option B) (y : B) → (o >>= f) ≡ Some y → Bound A B o f y
-bind_ok None f y e = absurd cc
-bind_ok (Some x) f y e = record { value = x; first = refl; then = e }
-
 below_fits : (width n v : ℕ) → below width n ≡ Some v → v < 2 ^ width
 below_fits width n v e = let p = cond_some (nat_lt n (2 ^ width)) n v e in omega (arith, ltb-true n (2 ^ width) p.0, p.1)
 
@@ -149,7 +140,7 @@ at_fits netlist id (Some (Memory name width size addr_width value addr when)) te
     let p = cond_some_of (id == memory_id netlist.storages) (cell_of size width text) setting e in
     let here : id ≡ memory_id netlist.storages = eqb-true id (memory_id netlist.storages) p.0 in
     let found : slice_get netlist.storages (memory_id netlist.storages) ≡ Some (Memory name width size addr_width value addr when) = ap (slice_get netlist.storages) (sym here) ∙ q in
-    let sized : size ≡ memory_size netlist.storages = sym (ap size_in found) ∙ memory_found netlist.storages in
+    let sized : size ≡ memory_size netlist.storages = sym (ap storage_cells found) ∙ memory_found netlist.storages in
     let wide : width ≡ memory_width netlist.storages = sym (ap storage_bits found) ∙ memory_wide netlist.storages in
     let a = bind_ok (parts_at 32 text) _ setting p.1 in
     let b = bind_ok (number_of a.value.0) _ setting a.then in

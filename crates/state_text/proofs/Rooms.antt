@@ -1,5 +1,5 @@
 -- How long the text of a state is at most.
-use Rattle.std.proofs.Common.{◌≡◌, ℕ, zero, suc, ◌+◌, ◌*◌, ◌^◌, ◌<◌, ◌≤◌, List, [], ◌∷◌, ◌++◌, length, get_or, Option, Some, None, ◌==◌, Bool, true, false, cond, refl, sym, ap, ◌∙◌, append_assoc, length-append, arith}
+use Rattle.std.proofs.Common.{◌≡◌, ℕ, zero, suc, ◌+◌, ◌*◌, ◌^◌, ◌<◌, ◌≤◌, List, [], ◌∷◌, ◌++◌, length, get_or, ◌==◌, Bool, true, false, cond, ap, length-append, arith}
 use Rattle.std.proofs.lemmas.Fmt.{length-decimal-le}
 use Rattle.std.proofs.Math.Nat.{pow-le-pow_right}
 use Rattle.std.specs.Prelude.{slice_get, codes}
@@ -13,7 +13,7 @@ use Rattle.net_model.specs.Nets.{storage_bits, memory_id, memory_size, memory_wi
 use Rattle.net_model.specs.Texts.{memory_name}
 use Rattle.net_model.specs.CheckedRules.{StorageKeeps, KeepsRules}
 use Rattle.net_model.specs.Widths.{IsState}
-use Rattle.state_text.proofs.Storages.{memory_wide, few_cells}
+use Rattle.net_model.proofs.Memories.{few_cells, memory_wide}
 use Rattle.state_text.specs.Shown.{register_line, register_lines, cell_line, cell_lines, state_text, register_room, state_room}
 
 digits_short : (n : ℕ) → n < 2 ^ 64 → length (decimal n) ≤ 20
@@ -23,7 +23,7 @@ line_short : (name : List ℕ) (value : ℕ) → value < 2 ^ 64 → length (regi
 line_short name value h =
     omega (arith, length-append name (32 ∷ (decimal value ++ (10 ∷ []))), length-append (decimal value) (10 ∷ []), digits_short value h)
 
-pub registers_short : (regs : List ℕ) (id : ℕ) (storages : List Storage) → ((k : ℕ) → get_or regs k 0 < 2 ^ 64) → length (register_lines regs id storages) ≤ register_room storages
+registers_short : (regs : List ℕ) (id : ℕ) (storages : List Storage) → ((k : ℕ) → get_or regs k 0 < 2 ^ 64) → length (register_lines regs id storages) ≤ register_room storages
 registers_short regs id [] h = omega arith
 registers_short regs id (Register name width input when ∷ storages) h =
     omega (arith, length-append (register_line name (get_or regs id 0)) (register_lines regs (id + 1) storages), line_short name (get_or regs id 0) (h id), registers_short regs (id + 1) storages h)
@@ -36,7 +36,7 @@ cell_short name address value a h = step (value == 0)
     step true = omega arith
     step false = omega (arith, length-append name (32 ∷ (decimal address ++ (32 ∷ (decimal value ++ (10 ∷ []))))), length-append (decimal address) (32 ∷ (decimal value ++ (10 ∷ []))), length-append (decimal value) (10 ∷ []), digits_short address a, digits_short value h)
 
-pub cells_short : (name : List ℕ) (address : ℕ) (cells : List ℕ) → address + length cells ≤ 2 ^ 63 → ((k : ℕ) → get_or cells k 0 < 2 ^ 64) → length (cell_lines name address cells) ≤ length cells * (length name + 43)
+cells_short : (name : List ℕ) (address : ℕ) (cells : List ℕ) → address + length cells ≤ 2 ^ 63 → ((k : ℕ) → get_or cells k 0 < 2 ^ 64) → length (cell_lines name address cells) ≤ length cells * (length name + 43)
 cells_short name address [] small h = omega arith
 cells_short name address (value ∷ cells) small h =
     let rest = cells_short name (address + 1) cells (omega (arith, small)) (λ k. h (suc k)) in

@@ -1,5 +1,5 @@
 -- What a memory text sets, line by line.
-use Rattle.std.specs.Prelude.{ℕ, ◌+◌, ◌^◌, ◌≡◌, ◌≢◌, ◌<◌, ◌==◌, ◌&&◌, nat_lt, not, if◌then◌else◌, List, [], ◌∷◌, ◌++◌, length, codes, position, Option, Some, None, slice_get, slice_set}
+use Rattle.std.specs.Prelude.{ℕ, ◌+◌, ◌^◌, ◌≡◌, ◌≢◌, ◌<◌, ◌==◌, nat_lt, if◌then◌else◌, List, [], ◌∷◌, ◌++◌, length, codes, position, Option, Some, None, slice_get, slice_set}
 use Rattle.std.proofs.Math.ListN.{replicate}
 use Rattle.std.specs.Str.{bytes_eq}
 use Rattle.std.specs.List.{concat}
@@ -13,22 +13,10 @@ use Rattle.net_model.specs.Nets.{counter_of, memory_id, memory_size, memory_widt
 use Rattle.net_model.specs.CheckedRules.{storage_name}
 use Rattle.net_model.specs.Widths.{IsState}
 use Rattle.net_model.specs.Clock.{counter_in}
-use Rattle.text_lines.specs.Fields.{parts_at, number_of}
+use Rattle.text_lines.specs.Fields.{parts_at, number_of, line_end, ◌>>=◌}
 use Rattle.text_lines.specs.Lines.{lines_of}
 use Rattle.state_text.specs.declared.setting.Setting.{Setting}
 use Rattle.state_text.specs.declared.setting.Setting.TheVariants.{Entry, Cell}
-
-infixl 10 ◌>>=◌
-abbrev pub ◌>>=◌ : {A B : Type 0} → Option A → (A → Option B) → Option B
-None >>= f = None
-(Some x) >>= f = f x
-
--- what stands before the LF, which is the last byte
-abbrev pub only_front : List ℕ × List ℕ → Option (List ℕ)
-only_front parts = if length parts.1 == 0 then Some parts.0 else None
-
-unfoldable pub line_end : List ℕ → Option (List ℕ)
-line_end text = parts_at 10 text >>= only_front
 
 -- a number of so many bits to the end of the line, decimal without leading zeros
 abbrev pub below : ℕ → ℕ → Option ℕ
@@ -111,14 +99,3 @@ IsWithin s (Cell address value) = address < length s.cells
 pub record IsStart (netlist : Netlist) (s : State) : Type 0 where
   pub state : IsState netlist s
   pub counter : counter_in netlist s ≡ 0
-
--- what a setting says of the netlist, if there is one
-abbrev pub MayFit : Netlist → Option Setting → Type 0
-MayFit netlist None = Unit {0}
-MayFit netlist (Some setting) = SettingFits netlist setting
-
--- the cells of a memory
-abbrev pub size_in : Option Storage → ℕ
-size_in None = 0
-size_in (Some (Register name width input when)) = 0
-size_in (Some (Memory name width size addr_width value addr when)) = size

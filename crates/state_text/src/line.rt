@@ -1,24 +1,16 @@
 //! From a line of a memory text to what it sets.
 
-ghost use Rattle.std.specs.Prelude.{◌≡◌, ◌≤◌, option_copied, Some};
+ghost use Rattle.std.specs.Prelude.{◌≡◌, ◌≤◌, Some};
 ghost use Rattle.std.specs.Str.{bytes_eq};
 ghost use Rattle.net_model.specs.Nets.{storage_bits};
 ghost use Rattle.net_model.specs.CheckedRules.{storage_name, IsWidth};
-ghost use Rattle.state_text.specs.Settings.{line_end, number_below, named_at, entry_of, cell_of, setting_at, setting_for, setting_of};
+ghost use Rattle.state_text.specs.Settings.{number_below, named_at, entry_of, cell_of, setting_at, setting_for, setting_of};
+ghost use Rattle.text_lines.specs.Fields.{line_end};
 
 use crate::setting::Setting;
 use net_model::{Checked, Storage};
 use rec_bits::mask;
-use text_lines::{cut, number};
-
-// What stands before the LF, which is the last byte.
-#[tactic(auto, unfolding(crate::specs::Settings::line_end))]
-fn line_end(text: &[u8]) -> Option<&[u8]>
-    ensures { option_copied result ≡ line_end text.now }
-{
-    let (front, rest) = cut(text, b'\n')?;
-    if rest.is_empty() { Some(front) } else { None }
-}
+use text_lines::{cut, line_end, number};
 
 // The number of so many bits to the end of the line.
 #[tactic(auto, unfolding(crate::specs::Settings::number_below))]

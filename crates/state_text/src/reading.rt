@@ -1,9 +1,9 @@
 //! From a memory text to the state that it sets.
 
-ghost use Rattle.std.specs.Prelude.{◌≡◌, ◌<◌, ◌^◌, length, IfOk, IfErr, option_copied};
+ghost use Rattle.std.specs.Prelude.{◌≡◌, ◌<◌, ◌^◌, length, IfOk, IfErr};
 ghost use Rattle.std.proofs.Math.ListN.{replicate};
 ghost use Rattle.net_model.specs.Nets.{memory_size};
-ghost use Rattle.state_text.specs.Settings.{blank, size_in, with_setting, IsWithin, IsStart, IsStateText, IsStateRefusal};
+ghost use Rattle.state_text.specs.Settings.{blank, with_setting, IsWithin, IsStart, IsStateText, IsStateRefusal};
 
 use crate::line::setting_of;
 use crate::setting::Setting;
@@ -11,22 +11,6 @@ use net_model::{Checked, State, Storage};
 use rec_bits::{Items, NoMemory, ParseFault};
 use std::alloc::Global;
 use text_lines::first_line;
-
-fn size_in(storage: Option<&Storage>) -> u32
-    ensures { result ≡ size_in (option_copied storage.entry) }
-{
-    match storage {
-        Some(Storage::Memory { size, .. }) => *size,
-        _ => 0,
-    }
-}
-
-// How many cells the data memory has.
-pub(crate) fn size_of(checked: &Checked) -> u32
-    ensures { result ≡ memory_size checked.now.netlist.storages }
-{
-    size_in(checked.netlist().storage(checked.memory()))
-}
 
 fn zeros(alloc: Global, count: usize) -> Result<Items<u64>, NoMemory>
     ensures { IfOk result (λ list. list ≡ replicate count 0) }
@@ -39,7 +23,7 @@ fn blank(alloc: Global, checked: &Checked) -> Result<State, NoMemory>
 {
     Ok(State {
         regs: zeros(alloc, checked.netlist().storages.len())?,
-        cells: zeros(alloc, size_of(checked) as usize)?,
+        cells: zeros(alloc, checked.memory_size() as usize)?,
     })
 }
 

@@ -6,7 +6,6 @@ ghost use Rattle.net_model.specs.Widths.{IsState};
 ghost use Rattle.state_text.specs.Shown.{register_line, register_lines, cell_line, cell_lines, state_text, register_room, state_room};
 ghost use Rattle.net_model.specs.declared.states.State.{State};
 
-use crate::reading::size_of;
 use cycle_sim::Sim;
 use itoa::Buffer;
 use net_model::{Checked, Storage};
@@ -92,16 +91,6 @@ fn put_cells(out: &mut Vec<u8>, name: &[u8], sim: &Sim<'_>) -> Result<(), NoMemo
     Ok(())
 }
 
-// The data memory's name.
-fn name_of(checked: &Checked) -> &[u8]
-    ensures { result.now ≡ memory_name checked.now.netlist }
-{
-    match checked.netlist().storage(checked.memory()) {
-        Some(Storage::Memory { name, .. } | Storage::Register { name, .. }) => name.as_slice(),
-        None => &[],
-    }
-}
-
 /// Puts the text of the simulator's state after so many cycles behind what `out` holds. It fails only where `out` has no room for all of
 /// it and gets no more.
 pub fn write_state(
@@ -119,7 +108,7 @@ pub fn write_state(
     out.extend_from_slice(b"cycles")?;
     put_register(out, b"", cycles)?;
     put_registers(out, checked.netlist().storages.as_slice(), sim)?;
-    put_cells(out, name_of(checked), sim)?;
+    put_cells(out, checked.memory_name(), sim)?;
     out.extend_from_slice(b"done\n")?;
     Ok(())
 }
@@ -149,8 +138,8 @@ fn room_of(checked: &Checked) -> Option<usize>
     ensures { IfSome result (λ room. room ≡ state_room checked.now.netlist) }
 {
     let registers = register_room(checked.netlist().storages.as_slice())?;
-    let cell = name_of(checked).len().checked_add(CELL)?;
-    let cells = (size_of(checked) as usize).checked_mul(cell)?;
+    let cell = checked.memory_name().len().checked_add(CELL)?;
+    let cells = (checked.memory_size() as usize).checked_mul(cell)?;
     registers.checked_add(cells)?.checked_add(FRAME)
 }
 

@@ -67,7 +67,7 @@ choose_below : (t : Bool) (x y n : ℕ) → x < n → y < n → cond t x y < n
 choose_below true x y n h k = h
 choose_below false x y n h k = k
 
-pub mean_fits : (t : Term) (s : State) (i : ℕ) → TermFits t → Suits t s i → mean t s i < 2 ^ term_width t
+mean_fits : (t : Term) (s : State) (i : ℕ) → TermFits t → Suits t s i → mean t s i < 2 ^ term_width t
 mean_fits (word w) s i h u = u
 mean_fits (reg r w) s i h u = u
 mean_fits (const w v) s i h u = h.2

@@ -18,7 +18,7 @@ grows_trans a b c f g = record {
   longer = omega (arith, f.longer, g.longer);
 }
 
-pub grows_by : (old new : List Node) → ((more : List Node) × (new ≡ old ++ more)) → Grows old new
+grows_by : (old new : List Node) → ((more : List Node) × (new ≡ old ++ more)) → Grows old new
 grows_by old new w = record {
   more = w.0;
   nodes = w.1;

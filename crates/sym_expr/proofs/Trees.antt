@@ -38,11 +38,11 @@ unfolding term_at
 term_at-push nodes node id h = rw reverse-append (newest-here node (reverse nodes) id (rw length-reverse h))
 
 -- a node's expression depends on those of its parts alone
-pub AllSame : (ℕ → Term) → (ℕ → Term) → List ℕ → Type 0
+AllSame : (ℕ → Term) → (ℕ → Term) → List ℕ → Type 0
 AllSame t u [] = Unit {0}
 AllSame t u (i ∷ is) = (t i ≡ u i) × AllSame t u is
 
-pub node_term-same : (t u : ℕ → Term) (node : Node) → AllSame t u (parts_of node) → node_term node t ≡ node_term node u
+node_term-same : (t u : ℕ → Term) (node : Node) → AllSame t u (parts_of node) → node_term node t ≡ node_term node u
 unfolding AllSame
 node_term-same t u (Word w) h = refl
 node_term-same t u (Reg r w) h = refl
@@ -57,7 +57,7 @@ node_term-same t u (Sext a w) h = let e : t a ≡ u a = h.0 in (λ j. sext (e j)
 node_term-same t u (Select c a b) h =
     let d : t c ≡ u c = h.0 in let e : t a ≡ u a = h.1.0 in let f : t b ≡ u b = h.1.1.0 in (λ j. select (d j) (e j) (f j))
 
-pub all_same : (t u : ℕ → Term) (n : ℕ) → ((i : ℕ) → i < n → t i ≡ u i) → (is : List ℕ) → AllBelow n is → AllSame t u is
+all_same : (t u : ℕ → Term) (n : ℕ) → ((i : ℕ) → i < n → t i ≡ u i) → (is : List ℕ) → AllBelow n is → AllSame t u is
 unfolding AllSame
 all_same t u n h [] b = tt
 all_same t u n h (i ∷ is) b = (h i b.0, all_same t u n h is b.1)
@@ -72,7 +72,3 @@ term_at-node nodes id node at below =
     ap (λ l. term_at l id) split ∙ term_at-append (r.before ++ node ∷ []) r.after id within ∙ term_at-push r.before node id (sym r.place)
     ∙ node_term-same (term_at r.before) (term_at nodes) node
     (all_same (term_at r.before) (term_at nodes) id (λ i less. sym (ap (λ l. term_at l i) r.is ∙ term_at-append r.before (node ∷ r.after) i (omega (arith, place, less)))) (parts_of node) below)
-
--- a node that is added
-pub term_at-added : (nodes : List Node) (node : Node) (id : ℕ) → id ≡ length nodes → AllBelow (length nodes) (parts_of node) → term_at (nodes ++ node ∷ []) id ≡ node_term node (term_at nodes)
-term_at-added nodes node id e below = term_at-push nodes node id e

@@ -1,6 +1,6 @@
 //! A pool of expressions that share their parts.
 
-ghost use Rattle.std.specs.Prelude.{◌≡◌, ℕ, ◌+◌, ◌<◌, ◌≤◌, List, [], length, IfOk, OnErr, slice_index};
+ghost use Rattle.std.specs.Prelude.{◌≡◌, ℕ, ◌+◌, ◌<◌, ◌≤◌, max, List, [], length, IfOk, OnErr, slice_index};
 ghost use Rattle.net_model.specs.Meaning.{mean};
 ghost use Rattle.net_model.specs.Terms.{size_of, term_width};
 ghost use Rattle.rec_bits.specs.Operators.{result_width as width_of_result};
@@ -73,13 +73,16 @@ impl Pool {
         })
     }
 
-    /// The id of an expression, of which its parts have ids below the pool's length and the widths that its operator asks for.
+    /// The id of an expression, of which its parts have ids below the pool's length and the widths that its operator asks for. It is the
+    /// pool's length where the expression is new, and no other is added.
     pub fn intern(&mut self, _alloc: Global, node: Node) -> Result<ExprId, NoMemory>
         requires parts { AllBelow (length self.old) (parts_of node) }
         requires fits { HeadFits (node_term node (term_at self.old)) }
         ensures grows { Grows self.old self.new }
         ensures refused { OnErr result (self.new ≡ self.old) }
         ensures within { IfOk result (λ id. id < length self.new) }
+        ensures next { IfOk result (λ id. id ≤ length self.old) }
+        ensures alone { IfOk result (λ id. length self.new ≤ max (length self.old) (id + 1)) }
         ensures term { IfOk result (λ id. term_at self.new id ≡ node_term node (term_at self.old)) }
     {
         if let Some(place) = self.nodes.get_index_of(&node) {

@@ -1,3 +1,4 @@
 mod Values
 pub mod Parts
 pub mod Numbers
+pub mod Steps

@@ -1,15 +1,14 @@
 -- Numbers and names as they are written.
-use Rattle.std.proofs.Common.{◌≡◌, ◌==◌, ◌&&◌, not, ℕ, zero, suc, ◌+◌, ◌-◌, ◌*◌, ◌<◌, ◌≤◌, ◌^◌, List, [], ◌∷◌, ◌++◌, length, get_or, Bool, true, false, cond, Option, Some, None, refl, sym, ap, subst, ◌∙◌, append_assoc, eq-eqb, eqb-true, arith, rules}
-use Rattle.std.proofs.lemmas.Fmt.{decimal-digits_value, digits_decimal, digits_value-decimal, decimal_nonempty, first_decimal, decimal_by_steps, decimal_digit}
-use Rattle.std.proofs.lemmas.Str.Parse.{IsNumeralModel, IsDigitsTest, FoldsDigits, numerals_by_fold}
-use Rattle.std.proofs.lemmas.Option.{cond_some}
+use Rattle.std.proofs.Common.{◌≡◌, ◌==◌, ◌&&◌, not, ℕ, zero, suc, ◌-◌, ◌<◌, ◌^◌, List, [], ◌∷◌, length, get_or, Bool, true, false, cond, Some, None, refl, sym, eq-eqb, eqb-true, arith, rules}
+use Rattle.std.proofs.lemmas.Fmt.{decimal-digits_value, digits_decimal, digits_value-decimal, decimal_nonempty, first_decimal, decimal_digit}
+use Rattle.std.proofs.lemmas.Str.Parse.{IsNumeralModel, numerals_by_fold}
 use Rattle.std.proofs.lemmas.Bool.{ltb-true, lt-ltb}
 use Rattle.std.specs.Fmt.{decimal}
 use Rattle.std.specs.Prelude.{nat_lt, nat_le}
 use Rattle.std.specs.List.{list_all}
 use Rattle.lexing.specs.Bytes.{is_digit, is_letter, is_name_byte, begins_with}
-use Rattle.text_lines.specs.Fields.{number_of, value_from, below_2_64, is_plain, are_digits, is_name, are_name_bytes}
-use Rattle.text_lines.proofs.Parts.{Avoids, avoids-append}
+use Rattle.text_lines.specs.Fields.{number_of, value_from, is_plain, are_digits, is_name, are_name_bytes}
+use Rattle.text_lines.proofs.Parts.{Avoids}
 
 own : IsNumeralModel (λ ds. are_digits ds ≡ true) (value_from 0)
 own = numerals_by_fold _ (search rules) value_from (search rules)
@@ -68,7 +67,7 @@ number_again n h =
     (rw (plain_decimal n h) digits) (rw value (lt-ltb n (2 ^ 64) h)) value
 
 -- no number, name and such has a byte that isn't of its class
-pub avoids-class : (p : ℕ → Bool) (mark : ℕ) → p mark ≡ false → (text : List ℕ) → list_all p text ≡ true → Avoids mark text
+avoids-class : (p : ℕ → Bool) (mark : ℕ) → p mark ≡ false → (text : List ℕ) → list_all p text ≡ true → Avoids mark text
 avoids-class p mark out [] e = tt
 avoids-class p mark out (b ∷ bs) e =
     let q = both (p b) (list_all p bs) e in

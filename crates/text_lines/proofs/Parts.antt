@@ -1,5 +1,5 @@
 -- Cutting a text at a byte, and its lines.
-use Rattle.std.proofs.Common.{◌≡◌, ◌==◌, not, ℕ, zero, suc, ◌+◌, ◌-◌, ◌<◌, ◌≤◌, List, [], ◌∷◌, ◌++◌, length, take, drop, Bool, true, false, cond, Option, Some, None, refl, sym, ap, subst, ◌∙◌, append_assoc, arith}
+use Rattle.std.proofs.Common.{◌≡◌, ◌==◌, not, ℕ, zero, suc, ◌+◌, ◌-◌, ◌<◌, ◌≤◌, List, [], ◌∷◌, ◌++◌, length, take, drop, Bool, true, false, cond, Option, Some, None, refl, sym, ap, ◌∙◌, append_assoc, arith}
 use Rattle.std.proofs.Common.{length-append, eqb-true, eq-eqb, add-one}
 use Rattle.std.proofs.lemmas.List.{take_rest, append-nil}
 use Rattle.std.proofs.Math.Seq.{take-append_seam, drop-append_seam}
@@ -89,7 +89,7 @@ avoids-append mark (b ∷ bs) y h k = (h.0, avoids-append mark bs y h.1 k)
 
 -- ---- lines
 
-pub line_cut : (bs x y : List ℕ) → parts_at 10 bs ≡ Some (x, y) → lines_of bs ≡ (x ++ (10 ∷ [])) ∷ lines_of y
+line_cut : (bs x y : List ℕ) → parts_at 10 bs ≡ Some (x, y) → lines_of bs ≡ (x ++ (10 ∷ [])) ∷ lines_of y
 unfolding parts_at lines_of
 line_cut [] x y e = absurd cc
 line_cut (b ∷ bs) x y e = step (b == 10) refl (parts_at 10 bs) (λ (u : List ℕ × List ℕ). line_cut bs u.0 u.1) e
@@ -115,7 +115,7 @@ unfolding parts_at lines_of
 last_lines b [] e = refl
 last_lines b (c ∷ cs) e = ap (longer_line b) (last_step c cs (c == 10) (parts_at 10 cs) (lines_of cs) (λ f. last_lines c cs f) e)
 
-pub line_last : (b : ℕ) (bs : List ℕ) → parts_at 10 (b ∷ bs) ≡ None → lines_of (b ∷ bs) ≡ (b ∷ bs) ∷ []
+line_last : (b : ℕ) (bs : List ℕ) → parts_at 10 (b ∷ bs) ≡ None → lines_of (b ∷ bs) ≡ (b ∷ bs) ∷ []
 unfolding parts_at lines_of
 line_last b bs e = last_step b bs (b == 10) (parts_at 10 bs) (lines_of bs) (λ f. last_lines b bs f) e
 

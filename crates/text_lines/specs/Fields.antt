@@ -11,6 +11,19 @@ unfoldable pub parts_at : ℕ → List ℕ → Option (List ℕ × List ℕ)
 parts_at mark [] = None
 parts_at mark (b ∷ bs) = if b == mark then Some ([], bs) else option_map (longer_front b) (parts_at mark bs)
 
+-- a step behind another: none, where there is none before
+infixl 10 ◌>>=◌
+abbrev pub ◌>>=◌ : {A B : Type 0} → Option A → (A → Option B) → Option B
+None >>= f = None
+(Some x) >>= f = f x
+
+abbrev pub only_front : List ℕ × List ℕ → Option (List ℕ)
+only_front parts = if length parts.1 == 0 then Some parts.0 else None
+
+-- what stands before the LF, which is the last byte
+unfoldable pub line_end : List ℕ → Option (List ℕ)
+line_end text = parts_at 10 text >>= only_front
+
 -- the value of decimal digits behind those of n
 abbrev pub value_from : ℕ → List ℕ → ℕ
 value_from n [] = n

@@ -1,8 +1,8 @@
 //! What stands in a line.
 
-ghost use Rattle.std.specs.Prelude.{◌≡◌, ◌==◌, not, length, take_while, option_map};
+ghost use Rattle.std.specs.Prelude.{◌≡◌, ◌==◌, not, length, take_while, option_map, option_copied};
 ghost use Rattle.lexing.specs.Bytes.{is_letter, is_name_byte};
-ghost use Rattle.text_lines.specs.Fields.{parts_at, number_of, value_from, below_2_64, is_plain, are_digits, are_name_bytes, is_name};
+ghost use Rattle.text_lines.specs.Fields.{parts_at, line_end, number_of, value_from, below_2_64, is_plain, are_digits, are_name_bytes, is_name};
 
 /// The greatest number of bytes of a name.
 const MAX_NAME: usize = 32;
@@ -24,6 +24,15 @@ pub fn cut(text: &[u8], mark: u8) -> Option<(&[u8], &[u8])>
     } else {
         None
     }
+}
+
+/// What stands before the LF, which is the last byte.
+#[tactic(auto, unfolding(crate::specs::Fields::line_end))]
+pub fn line_end(text: &[u8]) -> Option<&[u8]>
+    ensures { option_copied result ≡ line_end text.now }
+{
+    let (front, rest) = cut(text, b'\n')?;
+    if rest.is_empty() { Some(front) } else { None }
 }
 
 fn value(digits: &[u8]) -> Option<u64>

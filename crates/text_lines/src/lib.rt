@@ -4,5 +4,5 @@
 mod field;
 mod line;
 
-pub use field::{cut, is_name, number};
+pub use field::{cut, is_name, line_end, number};
 pub use line::first_line;

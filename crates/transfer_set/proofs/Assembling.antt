@@ -132,9 +132,6 @@ module _ (netlist : Netlist) (order : List ℕ) (kept : KeepsRules netlist order
   later : Extends mid last
   later = extends_trans mid new last left stepped
 
-  held_new : AreHeld new entries
-  held_new = held_entries_later mid new left entries held
-
   back : (b : ℕ) → b ≡ old.bits → (word : ℕ) → word < 2 ^ b → word < 2 ^ old.bits
   back b e word fits = subst (λ n. word < 2 ^ n) e fits
 

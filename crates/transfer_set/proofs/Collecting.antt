@@ -136,27 +136,11 @@ pub turn : {X Y : Type 0} (f : X → List Y) (x : X) (done more : List X) (befor
 turn f x done more before now after add k b s c d en ec ed ea e em =
     e ∙ (λ j. en j ++ given (k && (ec j && ed j)) (ea j)) ∙ turn_by f x done before k b s ∙ ap (λ l. before ++ given (k && b) (each f l)) (sym em)
 
-pub turn_none : {X Y : Type 0} (f : X → List Y) (x : X) (done more : List X) (before now : List Y) (k b s : Bool)
-    → now ≡ before ++ given (k && b) (each f done)
-    → f x ≡ []
-    → more ≡ done ++ given s (x ∷ [])
-    → now ≡ before ++ given (k && b) (each f more)
-turn_none f x done more before now k b s en ea em =
-    turn f x done more before now now [] k b s b s en refl refl (sym ea) (sym (by (k && (b && s)))) em
-  where
-    by : (v : Bool) → now ++ given v [] ≡ now
-    by true = append-nil now
-    by false = append-nil now
-
 -- nothing is added for no words
 pub nothing : {X : Type 0} (xs ys : List X) (k b : Bool) → b ≡ false → xs ≡ xs ++ given (k && b) ys
 nothing xs ys true true e = absurd (true≢false e)
 nothing xs ys true false e = sym (append-nil xs)
 nothing xs ys false b e = sym (append-nil xs)
-
-pub nothing_new : {X : Type 0} (xs ys : List X) (k : Bool) → ys ≡ [] → xs ≡ xs ++ given k ys
-nothing_new xs ys true e = sym (append-nil xs) ∙ ap (λ l. xs ++ l) (sym e)
-nothing_new xs ys false e = sym (append-nil xs)
 
 pub changed : {X : Type 0} (xs zs : List X) (ys us : List X) (k : Bool) → xs ≡ zs ++ given k ys → ys ≡ us → xs ≡ zs ++ given k us
 changed xs zs ys us k e f = e ∙ ap (λ l. zs ++ given k l) f

@@ -13,7 +13,7 @@ use Rattle.transfer_set.specs.Rows.{AreInOrder, IsNotAfter}
 use Rattle.transfer_set.specs.declared.row.Row.{Row}
 
 -- the derived order: field by field, as the fields stand
-abbrev pub row_cmp : Row → Row → Ordering
+abbrev row_cmp : Row → Row → Ordering
 row_cmp a b =
     ordering_then (nat_cmp a.storage b.storage)
     (ordering_then (slice_cmp nat_cmp a.text.items b.text.items)

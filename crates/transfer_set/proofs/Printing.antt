@@ -5,10 +5,10 @@ use Rattle.std.proofs.lemmas.List.{append-nil, drop_all, length-map}
 use Rattle.std.proofs.Math.Seq.{drop-cons}
 use Rattle.bit_bdd.specs.Diagrams.{Diagrams}
 use Rattle.code_model.specs.ImageText.{bytes_of}
-use Rattle.ctl_bdd.specs.Controls.{word_width}
 use Rattle.net_model.specs.declared.hardware.Netlist.{Netlist}
 use Rattle.net_model.specs.CheckedRules.{KeepsRules}
 use Rattle.net_model.specs.Patterns.{Pattern}
+use Rattle.net_model.specs.Nets.{word_width}
 use Rattle.sym_expr.specs.declared.pool.Node.{Node}
 use Rattle.transfer_set.specs.declared.row.Row.{Row}
 use Rattle.transfer_set.specs.PatternsText.{AreLeastWords, AreLines, IsLeastOf, IsLine, IsPatternsText, line_of, text_of}

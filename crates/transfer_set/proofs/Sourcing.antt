@@ -4,7 +4,7 @@ use Rattle.std.specs.List.{list_any}
 use Rattle.std.proofs.lemmas.Bool.{eq-eqb}
 use Rattle.bit_bdd.specs.Diagrams.{Diagrams, has_word}
 use Rattle.ctl_bdd.specs.Bits.{AreSets}
-use Rattle.ctl_bdd.specs.Controls.{IsControl, word_width}
+use Rattle.ctl_bdd.specs.Controls.{IsControl}
 use Rattle.ctl_bdd.specs.Places.{is_placed}
 use Rattle.ctl_bdd.specs.declared.ControlBits.{ControlBits}
 use Rattle.ctl_bdd.proofs.Alls.{or_left}
@@ -15,6 +15,7 @@ use Rattle.net_model.specs.declared.hardware.Storage.TheVariants.{Register, Memo
 use Rattle.net_model.specs.CheckedRules.{KeepsRules, StorageKeeps, storage_controls, when_controls}
 use Rattle.net_model.specs.Control.{IsStorageControlled, IsWhenStatic}
 use Rattle.net_model.specs.Widths.{WhenFits}
+use Rattle.net_model.specs.Nets.{word_width}
 use Rattle.sym_expr.specs.declared.pool.Node.{Node}
 use Rattle.transfer_set.specs.declared.route.Route.{Route}
 use Rattle.transfer_set.specs.Routes.{AreRoutes}

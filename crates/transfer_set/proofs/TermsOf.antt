@@ -2,7 +2,6 @@
 use Rattle.std.proofs.Common.{lit<, ◌≡◌, ℕ, zero, suc, ◌+◌, ◌^◌, ◌<◌, ◌≤◌, ◌==◌, ◌&&◌, inl, inr, Bool, true, false, cond, List, [], ◌∷◌, length, Option, Some, None, slice_get, sym, ap, arith}
 use Rattle.std.proofs.Math.Nat.{pow-le-pow_right}
 use Rattle.std.proofs.lemmas.Option.{slice_get_cases, slice_get_past}
-use Rattle.ctl_bdd.specs.Controls.{word_width}
 use Rattle.net_model.specs.declared.hardware.Netlist.{Netlist}
 use Rattle.net_model.specs.declared.hardware.Net.{Net}
 use Rattle.net_model.specs.declared.hardware.Gate.{Gate}
@@ -10,7 +9,7 @@ use Rattle.net_model.specs.declared.hardware.Gate.TheVariants.{Word, Reg, Read, 
 use Rattle.net_model.specs.declared.hardware.Storage.{Storage}
 use Rattle.net_model.specs.declared.hardware.Storage.TheVariants.{Register, Memory}
 use Rattle.net_model.specs.CheckedRules.{KeepsRules}
-use Rattle.net_model.specs.Nets.{code_bits, net_width, storage_bits, width_at}
+use Rattle.net_model.specs.Nets.{code_bits, net_width, storage_bits, width_at, word_width}
 use Rattle.net_model.specs.Symbolic.{blank, bus_term, case_term, gate_term, is_static, net_term, sliced, sym_of, sym_within}
 use Rattle.net_model.specs.Terms.{Term, reg, slice, term_width, Move, keep, write, write_at}
 use Rattle.net_model.specs.Transfers.{is_on, move_at, same_reg, storage_move, transfer_of}
@@ -107,7 +106,7 @@ module _ (netlist : Netlist) (typed : IsTyped netlist) (one : length netlist.cod
       net_of (sym_within k netlist i) (value_within k netlist blank i) (is_static netlist) (within i k) (width_is netlist i typed k) (slice_get netlist.nets n) (typed.nets n)
 
 -- the symbolic value of each net under each word; where there is no net it is a constant of no bits
-pub sym_terms : (netlist : Netlist) (order : List ℕ) → KeepsRules netlist order → (i n : ℕ) → IsTermOf netlist (sym_of netlist i n)
+sym_terms : (netlist : Netlist) (order : List ℕ) → KeepsRules netlist order → (i n : ℕ) → IsTermOf netlist (sym_of netlist i n)
 sym_terms netlist order k i n = within netlist (typed_of netlist k.formed k.roles.memory) k.roles.code i (length netlist.nets) n
 
 -- ---- transfers

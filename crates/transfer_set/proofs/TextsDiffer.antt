@@ -17,7 +17,7 @@ use Rattle.net_model.specs.declared.hardware.Storage.TheVariants.{Register, Memo
 use Rattle.net_model.specs.CheckedRules.{NamesDiffer, names_of, storage_name}
 use Rattle.net_model.specs.Terms.{Term, word, reg, const, read, un, bin, slice, cat, zext, sext, select}
 use Rattle.net_model.specs.Nets.{memory_id, storage_bits}
-use Rattle.net_model.specs.Texts.{first_name, memory_name, name_at, op1_text, op2_text, storage_name as name_of, term_text}
+use Rattle.net_model.specs.Texts.{first_name, memory_name, name_of, op1_text, op2_text, name_in, term_text}
 use Rattle.transfer_set.specs.TextMarks.{Closes, HasPlainNames, IsTermOf, Marks, Plain, is_close, is_mark}
 
 -- ---- pieces
@@ -74,7 +74,7 @@ kind_of _ = leaf
 module _ (netlist : Netlist) where
   abbrev head : Term → List ℕ
   head (word w) = first_name netlist.codes
-  head (reg r w) = name_at netlist r
+  head (reg r w) = name_of netlist r
   head (const w v) = decimal v
   head (read a w) = codes "read"
   head (un o a) = op1_text o
@@ -225,7 +225,7 @@ once (x ∷ names) d (suc i) (suc j) s a b = ap suc (once names d.1 i j s a b)
 
 -- ---- what names stand for
 
-registers_at : (storages : List Storage) (more : List (List ℕ)) (r : ℕ) → r < length storages → slice_get (map storage_name storages ++ more) r ≡ Some (name_of (slice_get storages r))
+registers_at : (storages : List Storage) (more : List (List ℕ)) (r : ℕ) → r < length storages → slice_get (map storage_name storages ++ more) r ≡ Some (name_in (slice_get storages r))
 registers_at [] more r lt = absurd (omega (arith, lt))
 registers_at (Register name width input when ∷ storages) more zero lt = refl
 registers_at (Memory name width size addr_width value addr when ∷ storages) more zero lt = refl
@@ -237,13 +237,13 @@ code_at [] (code ∷ codes) e = refl
 code_at (storage ∷ storages) codes e = code_at storages codes e
 
 module _ (netlist : Netlist) (names : NamesDiffer netlist) (one : length netlist.codes ≡ 1) where
-  same_register : (r q : ℕ) → r < length netlist.storages → q < length netlist.storages → name_at netlist r ≡ name_at netlist q → r ≡ q
+  same_register : (r q : ℕ) → r < length netlist.storages → q < length netlist.storages → name_of netlist r ≡ name_of netlist q → r ≡ q
   same_register r q a b e =
-      once (names_of netlist) names r q (name_at netlist q)
+      once (names_of netlist) names r q (name_of netlist q)
       (registers_at netlist.storages (map (λ (code : Code). code.name) netlist.codes) r a ∙ ap Some e)
       (registers_at netlist.storages (map (λ (code : Code). code.name) netlist.codes) q b)
 
-  no_code : (r : ℕ) → r < length netlist.storages → name_at netlist r ≡ first_name netlist.codes → ⊥
+  no_code : (r : ℕ) → r < length netlist.storages → name_of netlist r ≡ first_name netlist.codes → ⊥
   no_code r lt e =
       let same : r ≡ length netlist.storages = once (names_of netlist) names r (length netlist.storages) (first_name netlist.codes)
       (registers_at netlist.storages (map (λ (code : Code). code.name) netlist.codes) r lt ∙ ap Some e)

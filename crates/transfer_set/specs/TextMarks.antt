@@ -1,10 +1,9 @@
 -- When texts of expressions tell the expressions apart.
 use Rattle.std.specs.Prelude.{◌≡◌, ℕ, ◌^◌, ◌<◌, ◌==◌, ◌||◌, Bool, true, false, List, [], ◌∷◌, length, slice_get}
-use Rattle.ctl_bdd.specs.Controls.{word_width}
 use Rattle.net_model.specs.declared.hardware.Netlist.{Netlist}
-use Rattle.net_model.specs.Nets.{memory_width, storage_bits}
+use Rattle.net_model.specs.Nets.{memory_width, storage_bits, word_width}
 use Rattle.net_model.specs.Terms.{Term, word, reg, const, read, un, bin, slice, cat, zext, sext, select, Move, keep, write, write_at}
-use Rattle.net_model.specs.Texts.{first_name, name_at}
+use Rattle.net_model.specs.Texts.{first_name, name_of}
 
 -- a comma, or a bracket that closes
 abbrev pub is_close : ℕ → Bool
@@ -31,7 +30,7 @@ Marks (b ∷ bs) = is_mark b ≡ true
 
 -- the names of a netlist have no marks
 pub record HasPlainNames (netlist : Netlist) : Type 0 where
-  pub storages : (id : ℕ) → Plain (name_at netlist id)
+  pub storages : (id : ℕ) → Plain (name_of netlist id)
   pub code : Plain (first_name netlist.codes)
 
 -- what an expression names is the netlist's, with its width, and its numbers are below 2 to the 64

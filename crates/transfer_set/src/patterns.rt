@@ -2,8 +2,8 @@
 
 ghost use Rattle.std.specs.Prelude.{◌≡◌, ◌==◌, length, option_copied, option_map, slice_get, IfOk};
 ghost use Rattle.bit_bdd.specs.Diagrams.{Extends};
-ghost use Rattle.ctl_bdd.specs.Controls.{IsControl, word_width};
-ghost use Rattle.net_model.specs.Nets.{counter_of, counter_width};
+ghost use Rattle.ctl_bdd.specs.Controls.{IsControl};
+ghost use Rattle.net_model.specs.Nets.{counter_of, counter_width, word_width};
 ghost use Rattle.transfer_set.specs.PatternsText.{IsPatternsText};
 ghost use Rattle.transfer_set.specs.Routes.{AreRoutes};
 ghost use Rattle.transfer_set.specs.Rows.{told_patterns};

@@ -2,7 +2,7 @@
 
 ghost use Rattle.std.specs.Prelude.{◌≡◌, ◌≤◌, All, List, length, IfOk};
 ghost use Rattle.code_model.specs.ImageText.{bytes_of};
-ghost use Rattle.ctl_bdd.specs.Controls.{word_width};
+ghost use Rattle.net_model.specs.Nets.{word_width};
 ghost use Rattle.sym_expr.specs.declared.pool.Node.{Node};
 ghost use Rattle.transfer_set.specs.PatternsText.{AreLines, IsLeastOf, IsLine, IsPatternsText, line_of, text_of};
 ghost use Rattle.transfer_set.specs.Routes.{IsSet};

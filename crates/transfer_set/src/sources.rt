@@ -3,9 +3,9 @@
 ghost use Rattle.std.specs.Prelude.{◌≡◌, ℕ, ◌^◌, ◌==◌, ◌<◌, ◌&&◌, ◌++◌, length, Contains, IfOk, OnOk};
 ghost use Rattle.std.specs.List.{AllByRecursion};
 ghost use Rattle.bit_bdd.specs.Diagrams.{Extends, has_word};
-ghost use Rattle.ctl_bdd.specs.Controls.{word_width};
 ghost use Rattle.net_model.specs.Patterns.{IsPattern, Pattern};
 ghost use Rattle.net_model.specs.Transfers.{move_at};
+ghost use Rattle.net_model.specs.Nets.{word_width};
 ghost use Rattle.transfer_set.specs.Routes.{routes_at};
 ghost use Rattle.transfer_set.specs.Entries.{AreHeld, AreKnown, AreWhole, given, moves_held, patterns_of};
 ghost use Rattle.transfer_set.specs.Sources.{HasSet, IsSource, changes, when_set as set_of_when};

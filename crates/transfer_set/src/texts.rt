@@ -3,7 +3,7 @@
 ghost use Rattle.std.specs.Prelude.{◌≡◌, ◌<◌, ◌∷◌, [], ◌++◌, codes, length, IfOk, OnOk};
 ghost use Rattle.std.specs.Fmt.{decimal};
 ghost use Rattle.std.specs.List.{concat};
-ghost use Rattle.net_model.specs.Texts.{first_name, memory_name, move_text, name_at, op1_text, op2_text, term_text};
+ghost use Rattle.net_model.specs.Texts.{first_name, memory_name, move_text, name_of, op1_text, op2_text, term_text};
 ghost use Rattle.sym_expr.specs.Pools.{term_at};
 ghost use Rattle.transfer_set.specs.Entries.{IsAddrKnown, ids_move};
 
@@ -15,19 +15,12 @@ use sym_expr::{ExprId, Node, Pool};
 
 // The name of the storage of this number, of which there is none past the last.
 fn storage_name(checked: &Checked, id: u32) -> &[u8]
-    ensures { result.now ≡ name_at checked.now.netlist id }
+    ensures { result.now ≡ name_of checked.now.netlist id }
 {
     match checked.netlist().storage(id) {
         Some(Storage::Register { name, .. } | Storage::Memory { name, .. }) => name.as_slice(),
         None => &[],
     }
-}
-
-// The data memory's name.
-fn memory_name(checked: &Checked) -> &[u8]
-    ensures { result.now ≡ memory_name checked.now.netlist }
-{
-    storage_name(checked, checked.memory())
 }
 
 // The name of the instruction word.
@@ -110,7 +103,7 @@ fn add_read(
         ++ concat (codes "read(" ∷ memory_name checked.now.netlist ∷ codes "," ∷ term_text checked.now.netlist (term_at pool.now addr) ∷ codes ")" ∷ [])) }
 {
     text.extend_from_slice(b"read(")?;
-    text.extend_from_slice(memory_name(checked))?;
+    text.extend_from_slice(checked.memory_name())?;
     text.extend_from_slice(b",")?;
     add_term(text, checked, pool, addr)?;
     text.extend_from_slice(b")")?;

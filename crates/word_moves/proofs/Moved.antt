@@ -13,24 +13,8 @@ use Rattle.net_model.specs.Widths.{StorageFits, IsTyped}
 use Rattle.net_model.specs.Symbolic.{blank, sym_of}
 use Rattle.net_model.specs.Transfers.{is_on, same_reg, storage_move, transfer_of, move_at}
 use Rattle.sym_expr.specs.declared.pool.Node.{Node}
-use Rattle.sym_expr.specs.declared.pool.Node.TheVariants.{Word, Reg, Const, Read, Un, Bin, Slice, Cat, Zext, Sext, Select}
-use Rattle.sym_expr.specs.Pools.{node_term}
-use Rattle.word_moves.specs.Gates.{StorageKnown, is_register_node, net_terms}
+use Rattle.word_moves.specs.Gates.{StorageKnown, net_terms}
 use Rattle.word_moves.specs.Moves.{AreIds, IsMoveWithin, move_in}
-
--- a node is a register where its expression is
-pub register_node : (node : Node) (t : ℕ → Term) (id : ℕ) → is_register_node node id ≡ same_reg (node_term node t) id
-register_node (Word w) t id = refl
-register_node (Reg r w) t id = refl
-register_node (Const w v) t id = refl
-register_node (Read a w) t id = refl
-register_node (Un o a) t id = refl
-register_node (Bin o a b) t id = refl
-register_node (Slice a h l) t id = refl
-register_node (Cat a b) t id = refl
-register_node (Zext a w) t id = refl
-register_node (Sext a w) t id = refl
-register_node (Select c a b) t id = refl
 
 module _ (netlist : Netlist) (word : ℕ) (nodes : List Node) (ids : List ℕ) (a : AreIds netlist word nodes ids) where
   pub storage_known : (storage : Storage) → StorageFits netlist storage → StorageKnown nodes ids storage

@@ -5,7 +5,7 @@ ghost use Rattle.net_model.specs.Nets.{width_at};
 ghost use Rattle.net_model.specs.Symbolic.{blank};
 ghost use Rattle.net_model.specs.Value.{bus_value, case_value, gate_value, value_of};
 ghost use Rattle.net_model.specs.Widths.{GateFits, IsTyped, ValuesFit, WordFits};
-ghost use Rattle.word_moves.specs.Choices.{case_target, driver_target, value_there};
+ghost use Rattle.word_moves.specs.Choices.{value_there};
 
 use crate::choices::{driver_of, target_of};
 use net_model::{Checked, Gate, Net, Netlist};

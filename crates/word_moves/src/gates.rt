@@ -3,12 +3,12 @@
 ghost use Rattle.std.specs.Prelude.{◌≡◌, ◌+◌, ◌<◌, ◌≤◌, length, IfOk, IfSome, slice_index};
 ghost use Rattle.std.specs.List.{AllByRecursion};
 ghost use Rattle.net_model.specs.Control.{GateControlled};
-ghost use Rattle.net_model.specs.Nets.{gate_nets, row_nets};
-ghost use Rattle.net_model.specs.Symbolic.{case_term, gate_term, is_static, sliced};
+ghost use Rattle.net_model.specs.Nets.{gate_nets};
+ghost use Rattle.net_model.specs.Symbolic.{gate_term, is_static, sliced};
 ghost use Rattle.net_model.specs.Terms.{select, term_width};
 ghost use Rattle.net_model.specs.Widths.{GateFits};
 ghost use Rattle.sym_expr.specs.Pools.{Grows, term_at};
-ghost use Rattle.word_moves.specs.Choices.{case_target, term_there};
+ghost use Rattle.word_moves.specs.Choices.{term_there};
 ghost use Rattle.word_moves.specs.Gates.{IsKnown, IsWide, net_terms, slice_parts};
 ghost use Rattle.word_moves.specs.Moves.{flag_at};
 

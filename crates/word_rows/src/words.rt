@@ -1,8 +1,8 @@
 //! What words do by themselves, beside what the patterns tell of them.
 
-ghost use Rattle.std.specs.Prelude.{◌≡◌, ◌<◌, ◌≤◌, length, slice_get};
+ghost use Rattle.std.specs.Prelude.{◌≡◌, ◌<◌, ◌≤◌, length};
 ghost use Rattle.net_extract.specs.Traced.{IsTraced};
-ghost use Rattle.net_model.specs.Nets.{code_bits};
+ghost use Rattle.net_model.specs.Nets.{word_width};
 ghost use Rattle.net_model.specs.Widths.{WordFits};
 ghost use Rattle.word_rows.specs.declared.words.TheConstants.{MOST_BITS};
 ghost use Rattle.transfer_set.specs.Tables.{AreSets};
@@ -39,12 +39,9 @@ pub struct Found {
 
 // The bits of an instruction word.
 fn word_bits(checked: &Checked) -> u8
-    ensures { result ≡ code_bits (slice_get checked.now.netlist.codes 0) }
+    ensures { result ≡ word_width checked.now.netlist }
 {
-    match checked.netlist().codes.get(0) {
-        Some(code) => code.bits,
-        None => 0,
-    }
+    checked.netlist().word_width()
 }
 
 // What the patterns tell that a word does to a storage.
@@ -115,7 +112,7 @@ fn compare_all(
     patterns: &Patterns,
     legal: SetId,
 ) -> Result<Compared, NoMemory>
-    requires few { code_bits (slice_get checked.now.netlist.codes 0) ≤ MOST_BITS }
+    requires few { word_width checked.now.netlist ≤ MOST_BITS }
     requires sets { AreSets book.now patterns.now.rows }
     requires legal { legal < length book.now.nodes }
 {

@@ -1,5 +1,5 @@
 -- Whether an expression is a register plus 1, by its nodes.
-use Rattle.std.proofs.Common.{◌≡◌, ℕ, ◌==◌, ◌&&◌, ◌||◌, Bool, true, false, Some, None, refl, ap, ◌∙◌}
+use Rattle.std.proofs.Common.{◌≡◌, ℕ, ◌==◌, ◌&&◌, ◌||◌, Bool, true, false, Some, refl, ap, ◌∙◌}
 use Rattle.rec_bits.specs.declared.operator.Op2.TheVariants.{Add, Sub, Mul, And, Or, Xor, Shl, Shr, Sar, Eq, Ltu, Lts}
 use Rattle.net_model.specs.Terms.{Term, bin}
 use Rattle.code_model.specs.Tests.{is_step_term}
@@ -95,28 +95,3 @@ sum_step (Cat c d) p q t a b id width e x y = absurd (cc)
 sum_step (Zext c w) p q t a b id width e x y = absurd (cc)
 sum_step (Sext c w) p q t a b id width e x y = absurd (cc)
 sum_step (Select c d f) p q t a b id width e x y = absurd (cc)
-
--- what is no sum
-pub no_sum : (node : Node) (t : ℕ → Term) (id width : ℕ) → sum_parts node ≡ None → is_step_term id width (node_term node t) ≡ false
-no_sum (Word w) t id width e = refl
-no_sum (Reg r w) t id width e = refl
-no_sum (Const w v) t id width e = refl
-no_sum (Read a w) t id width e = refl
-no_sum (Un o a) t id width e = refl
-no_sum (Bin Add a b) t id width e = absurd (cc)
-no_sum (Bin Sub a b) t id width e = refl
-no_sum (Bin Mul a b) t id width e = refl
-no_sum (Bin And a b) t id width e = refl
-no_sum (Bin Or a b) t id width e = refl
-no_sum (Bin Xor a b) t id width e = refl
-no_sum (Bin Shl a b) t id width e = refl
-no_sum (Bin Shr a b) t id width e = refl
-no_sum (Bin Sar a b) t id width e = refl
-no_sum (Bin Eq a b) t id width e = refl
-no_sum (Bin Ltu a b) t id width e = refl
-no_sum (Bin Lts a b) t id width e = refl
-no_sum (Slice a h l) t id width e = refl
-no_sum (Cat a b) t id width e = refl
-no_sum (Zext a w) t id width e = refl
-no_sum (Sext a w) t id width e = refl
-no_sum (Select c a b) t id width e = refl

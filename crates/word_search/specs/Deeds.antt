@@ -3,7 +3,7 @@ use Rattle.std.specs.Prelude.{ℕ, ◌≡◌, ◌^◌, ◌==◌, ◌&&◌, ◌||
 use Rattle.rec_bits.specs.declared.operator.Op2.TheVariants.{Add}
 use Rattle.net_model.specs.declared.hardware.Netlist.{Netlist}
 use Rattle.net_model.specs.Terms.{Move, keep, write, write_at}
-use Rattle.net_model.specs.Nets.{code_bits}
+use Rattle.net_model.specs.Nets.{word_width}
 use Rattle.code_model.specs.Tests.{does_assign, does_goto}
 use Rattle.sym_expr.specs.declared.pool.Node.{Node}
 use Rattle.sym_expr.specs.declared.pool.Node.TheVariants.{Reg, Const, Bin}
@@ -34,7 +34,7 @@ IsDeed netlist i deed = (wanted : Wanted) → does_wanted netlist wanted i ≡ d
 
 -- one for each word of the code
 pub record AreDeeds (netlist : Netlist) (deeds : List Deed) : Type 0 where
-  pub long : length deeds ≡ 2 ^ code_bits (slice_get netlist.codes 0)
+  pub long : length deeds ≡ 2 ^ word_width netlist
   pub are : (i : ℕ) (deed : Deed) → slice_get deeds i ≡ Some deed → IsDeed netlist i deed
 
 -- ---- from the transfers

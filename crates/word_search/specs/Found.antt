@@ -1,7 +1,7 @@
 -- The words that a search finds, and what it tells where there are none.
 use Rattle.std.specs.Prelude.{ℕ, ◌≡◌, ◌+◌, ◌<◌, ◌≤◌, ◌^◌, Bool, true, false, List, [], ◌∷◌, length, slice_get, slice_index, Option, Some, None, Result, Ok, Err}
 use Rattle.net_model.specs.declared.hardware.Netlist.{Netlist}
-use Rattle.net_model.specs.Nets.{code_bits}
+use Rattle.net_model.specs.Nets.{word_width}
 use Rattle.code_model.specs.declared.image.Image.{Image}
 use Rattle.code_model.specs.Places.{places_from, words_of}
 use Rattle.word_search.specs.declared.finder.Store.{Store}
@@ -25,7 +25,7 @@ does_at netlist stores k i = does_wanted netlist (wanted_at stores k) i
 
 -- how many words a code of these bits has
 abbrev pub word_count : Netlist → ℕ
-word_count netlist = 2 ^ code_bits (slice_get netlist.codes 0)
+word_count netlist = 2 ^ word_width netlist
 
 -- the least number below a bound that passes a test
 pub record IsLeast (test : ℕ → Bool) (bound i : ℕ) : Type 0 where

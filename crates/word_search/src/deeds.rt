@@ -1,8 +1,8 @@
 // What each word of a code does, as far as a program of assignments needs it.
 
-ghost use Rattle.std.specs.Prelude.{◌≡◌, ◌<◌, ◌≤◌, ◌^◌, IfOk, length, slice_get};
+ghost use Rattle.std.specs.Prelude.{◌≡◌, ◌<◌, ◌≤◌, IfOk, length, slice_get};
 ghost use Rattle.code_model.specs.Tests.{is_step_move, is_step_term};
-ghost use Rattle.net_model.specs.Nets.{code_bits, counter_width};
+ghost use Rattle.net_model.specs.Nets.{counter_width, word_width};
 ghost use Rattle.net_model.specs.Widths.{WordFits};
 ghost use Rattle.sym_expr.specs.Pools.{term_at};
 ghost use Rattle.word_moves.specs.Moves.{IsMoveWithin, move_in};
@@ -66,25 +66,14 @@ fn goes_to(deed: Deed, to: u64) -> bool
     }
 }
 
-// The bits of an instruction word.
-pub(crate) fn word_bits(checked: &Checked) -> u8
-    ensures { result ≡ code_bits (slice_get checked.now.netlist.codes 0) }
-{
-    match checked.netlist().codes.get(0) {
-        Some(code) => code.bits,
-        None => 0,
-    }
-}
-
 // What each word of a code of at most 8 bits does.
 pub(crate) fn deeds_of(alloc: Global, checked: &Checked) -> Result<Items<Deed>, NoMemory>
-    requires { code_bits (slice_get checked.now.netlist.codes 0) ≤ 8 }
+    requires { word_width checked.now.netlist ≤ 8 }
     ensures { IfOk result (λ deeds. AreDeeds checked.now.netlist deeds) }
 {
-    // The netlist is read for what it keeps.
-    let _netlist = checked.netlist();
+    let netlist = checked.netlist();
     let mut deeds = Items::new(alloc);
-    for word in 0..1u64 << word_bits(checked) {
+    for word in 0..1u64 << netlist.word_width() {
         let deed = deed_of(alloc, checked, word)?;
         deeds.push(deed)?;
     }

@@ -1,7 +1,7 @@
 // The least words that do what a program of assignments needs.
 
-ghost use Rattle.std.specs.Prelude.{◌≡◌, ℕ, ◌<◌, ◌≤◌, ◌^◌, IfErr, IfOk, length, position, slice_get};
-ghost use Rattle.net_model.specs.Nets.{code_bits};
+ghost use Rattle.std.specs.Prelude.{◌≡◌, ℕ, ◌<◌, ◌≤◌, ◌^◌, IfErr, IfOk, length, position};
+ghost use Rattle.net_model.specs.Nets.{word_width};
 ghost use Rattle.word_search.specs.Deeds.{deed_fits};
 ghost use Rattle.word_search.specs.Found.{AreFound, Fails, IsMissing, Refuses, wanted_at};
 ghost use Rattle.word_search.specs.declared.finder.SearchFault.{SearchFault};
@@ -47,7 +47,7 @@ impl<T: Drop> From<AllocFailed<T>> for SearchFault {
 /// For each assignment the least word that steps and writes its number to its cell, and behind them the least word that goes to its own
 /// address and keeps the memory, for a code of at most 8 bits. No word clashes. The first thing that no word does is told.
 pub fn search(alloc: Global, checked: &Checked, stores: &[Store]) -> Result<Items<u64>, SearchFault>
-    requires bits { code_bits (slice_get checked.now.netlist.codes 0) ≤ 8 }
+    requires bits { word_width checked.now.netlist ≤ 8 }
     requires few { length stores.now < 2 ^ 32 }
     ensures found { IfOk result (AreFound checked.now.netlist stores.now) }
     ensures fault { IfErr result (Fails checked.now.netlist stores.now) }
@@ -57,7 +57,7 @@ pub fn search(alloc: Global, checked: &Checked, stores: &[Store]) -> Result<Item
 }
 
 fn search_all(alloc: Global, checked: &Checked, stores: &[Store]) -> Result<Items<u64>, SearchFault>
-    requires bits { code_bits (slice_get checked.now.netlist.codes 0) ≤ 8 }
+    requires bits { word_width checked.now.netlist ≤ 8 }
     requires few { length stores.now < 2 ^ 32 }
     ensures found { IfOk result (AreFound checked.now.netlist stores.now) }
     ensures fault { IfErr result (Fails checked.now.netlist stores.now) }

@@ -2,8 +2,9 @@ use Rattle.std.proofs.Common.{◌≡◌, ℕ, ◌<◌, ◌^◌, true, false, Lis
 use Rattle.std.specs.Prelude.{filter}
 use Rattle.std.specs.List.{AllByRecursion}
 use Rattle.net_model.specs.Symbolic.{is_static}
+use Rattle.net_model.specs.Nets.{word_width}
 use Rattle.bit_bdd.specs.Diagrams.{has_word}
-use Rattle.ctl_bdd.specs.Controls.{IsNetBits, word_width}
+use Rattle.ctl_bdd.specs.Controls.{IsNetBits}
 use Rattle.ctl_bdd.specs.Places.{control_places, static_controls}
 use Rattle.ctl_bdd.specs.Tables.{HasControls, sets_at}
 use Rattle.ctl_bdd.proofs.Placed.{static_inside}

@@ -2,7 +2,7 @@ use Rattle.std.proofs.Common.{◌≡◌, slice_index, length, arith, length-set,
 use mathlib.Core.Path.{fun_ext}
 use Rattle.net_model.specs.Order.{IsOrder}
 use Rattle.net_model.proofs.Orders.{all_done}
-use Rattle.cycle_sim.proofs.Turns.{turn_done, turn_fits}
+use Rattle.net_model.proofs.Orders.{turn_done, turn_fits}
 use Rattle.cycle_sim.proofs.evaluate.evaluate.Goals as goal
 
 pub loop-id-preserved : goal.loop-id-preserved

@@ -1,4 +1,4 @@
-use Rattle.std.proofs.Common.{◌≡◌, subst}
+use Rattle.std.proofs.Common.{subst}
 use Rattle.net_model.specs.Nets.{memory_size}
 use Rattle.src_model.specs.Written.{listing_of}
 use Rattle.code_model.specs.declared.image.Places.{Places}

@@ -1,4 +1,4 @@
-use Rattle.std.proofs.Common.{◌≡◌, ℕ, ◌∙◌, sym, subst, arith}
+use Rattle.std.proofs.Common.{ℕ, ◌∙◌, sym, subst, arith}
 use Rattle.std.proofs.lemmas.Result.{IfErr-weaker}
 use Rattle.src_model.specs.Written.{listing_of}
 use Rattle.src_front.proofs.Lengths.{few_variables}
@@ -16,6 +16,6 @@ returns-clause-refused c =
     let typed = c.in_ok-typed.typed in
     let listing = listing_of typed.program in
     IfErr-weaker c.code.result _ _
-    (fault_of_code c.args.net.now c.args.src.now c.in_ok-checked.checked typed.width listing c.in_ok-checked.ensures.found (c.in_ok-typed.ensures.width ∙ c.word_width.ensures.width)
+    (fault_of_code c.args.net.now c.args.src.now c.in_ok-checked.checked typed.width listing c.in_ok-checked.ensures.found (c.in_ok-typed.ensures.width ∙ c.memory_width.ensures.width)
     (subst (λ (n : ℕ). IsSrcFile c.args.src.now n listing) (sym c.in_ok-typed.ensures.width) c.in_ok-typed.ensures.found))
     c.code.ensures.refused

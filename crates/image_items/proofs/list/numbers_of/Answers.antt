@@ -1,8 +1,7 @@
-use Rattle.std.proofs.Common.{◌≡◌, ◌++◌, ◌∷◌, ◌+◌, length, length-append, Some, None, sym, ap, ◌∙◌, arith}
-use Rattle.text_lines.specs.Fields.{parts_at}
+use Rattle.std.proofs.Common.{◌∷◌, length, length-append, sym, ap, arith}
 use Rattle.text_lines.proofs.Parts.{parts_are}
-use Rattle.image_items.specs.Reading.{numbers_from, fields_of}
-use Rattle.image_items.proofs.Lists.{with_front, begins, goes_on, stops, last_stops, last_ends}
+use Rattle.image_items.specs.Reading.{fields_of}
+use Rattle.image_items.proofs.Lists.{begins, goes_on, stops, last_stops, last_ends}
 use Rattle.image_items.proofs.list.numbers_of.Goals as goal
 
 pub loop-field-init : goal.loop-field-init

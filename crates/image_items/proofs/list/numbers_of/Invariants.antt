@@ -1,4 +1,4 @@
-use Rattle.std.proofs.Common.{◌≡◌, ℕ, length}
+use Rattle.std.proofs.Common.{◌≡◌, length}
 use Rattle.image_items.specs.Reading.{numbers_from, fields_of}
 use Rattle.image_items.proofs.Lists.{with_front}
 use Rattle.image_items.proofs.list.numbers_of.Given as goal

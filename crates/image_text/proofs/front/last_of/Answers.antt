@@ -1,4 +1,4 @@
-use Rattle.std.proofs.Common.{◌≡◌, sym, ◌∙◌}
+use Rattle.std.proofs.Common.{sym, ◌∙◌}
 use Rattle.image_text.proofs.Marks.{last_mark-get}
 use Rattle.image_text.proofs.front.last_of.Goals as goal
 

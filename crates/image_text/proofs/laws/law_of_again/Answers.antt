@@ -1,4 +1,4 @@
-use Rattle.std.proofs.Common.{◌<◌, ◌^◌, arith}
+use Rattle.std.proofs.Common.{arith}
 use Rattle.image_text.proofs.Again.{text_again}
 use Rattle.image_text.proofs.laws.law_of_again.Goals as goal
 

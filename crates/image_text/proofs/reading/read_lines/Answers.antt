@@ -1,6 +1,5 @@
-use Rattle.std.proofs.Common.{◌≡◌, Some, sym, ◌∙◌}
-use Rattle.text_lines.specs.Lines.{IsFirstLine}
-use Rattle.image_text.proofs.Progress.{begins, goes_on, stops, ends}
+use Rattle.std.proofs.Common.{sym, ◌∙◌}
+use Rattle.image_text.proofs.Progress.{begins, goes_on, ends}
 use Rattle.image_text.proofs.reading.read_lines.Goals as goal
 
 pub loop-line-init : goal.loop-line-init

@@ -1,4 +1,4 @@
-use Rattle.image_text.proofs.Whole.{Narrow, Answers, answer_whole, answer_stopped}
+use Rattle.image_text.proofs.Whole.{answer_whole, answer_stopped}
 use Rattle.image_text.proofs.reading.read_within.Goals as goal
 
 pub returns-in-Ok-clause-found : goal.returns-in-Ok-clause-found

@@ -3,7 +3,7 @@ use Rattle.net_model.specs.NetFaults.{HasSizes}
 use Rattle.net_check.specs.Roles.{lone_from, IsShape}
 use Rattle.net_check.proofs.Lacks.{no_shape, shape, addr_bits, no_counter, counter_there, bits_wide, sizes_are, sizes_of}
 use Rattle.net_check.proofs.role.lacking_role.Goals as goal
-use Rattle.net_check.proofs.role.lacking_role.Goals.{In-len1, In-Some, In-Some-counter_bits}
+use Rattle.net_check.proofs.role.lacking_role.Goals.{In-len1, In-Some}
 
 one_code : (c : In-len1) → length c.args.netlist.now.codes ≡ 1
 one_code c =

@@ -14,4 +14,4 @@ returns-in-Order c =
     order_is c.args.netlist.now c.requires.formed c.args.graph.now c.requires.graph _ o
 
 pub returns-in_ok-net-in-Cycle : goal.returns-in_ok-net-in-Cycle
-returns-in_ok-net-in-Cycle c = (c.in_ok-net-in-Cycle.net, least_is c.args.netlist.now c.requires.formed c.args.graph.now c.requires.graph _ c.in_ok-net-in-Cycle.ensures, c.name_of.ensures)
+returns-in_ok-net-in-Cycle c = (c.in_ok-net-in-Cycle.net, least_is c.args.netlist.now c.requires.formed c.args.graph.now c.requires.graph _ c.in_ok-net-in-Cycle.ensures, c.name_at.ensures)

@@ -1,5 +1,5 @@
 use Rattle.std.proofs.Common.{◌≡◌, List, [], ◌∷◌, ◌++◌, None, ap, ◌∙◌, refl}
-use Rattle.net_elab.proofs.Rows.{Row, phrase_Case}
+use Rattle.net_model.proofs.Cases.{Row, phrase_Case}
 use Rattle.net_elab.proofs.tests.choice.Goals as goal
 
 pub returns : goal.returns

@@ -1,4 +1,3 @@
-use Rattle.std.proofs.Common.{◌≡◌}
 use Rattle.std.proofs.lemmas.Result.{IfOk-weaker, IfErr-weaker}
 use Rattle.net_run.proofs.FaultLaws.{read_words_fit, shows_of_end, fault_of_end}
 use Rattle.net_run.proofs.machine.run.Goals as goal

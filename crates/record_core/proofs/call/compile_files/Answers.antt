@@ -1,7 +1,7 @@
-use Rattle.std.proofs.Common.{◌≡◌, None, arith, ◌-◌, ◌<◌, length, take, drop, sym, ◌∙◌, subst, inl, inr}
+use Rattle.std.proofs.Common.{None, arith, ◌-◌, ◌<◌, length, take, drop, sym, ◌∙◌, inl, inr}
 use Rattle.std.proofs.lemmas.Grind.{common_steps}
 use Rattle.record_core.specs.Fetch.{contents}
-use Rattle.record_core.specs.Lines.{due_line, IsRefusal}
+use Rattle.record_core.specs.Lines.{due_line}
 use Rattle.record_core.specs.Words.{texts_of}
 use Rattle.record_core.specs.declared.status.Status.TheVariants.{Done}
 use Rattle.record_core.proofs.AnswerLemmas.{compile_passed, refused_by}

@@ -1,4 +1,4 @@
-use Rattle.std.proofs.Common.{arith}
+use Rattle.std.proofs.Common.{◌∙◌, arith}
 use Rattle.std.proofs.lemmas.Result.{err_from_is_err_and}
 use Rattle.record_core.proofs.FetchLemmas.{AreFiles-next, FetchStops-earlier}
 use Rattle.record_core.specs.Words.{texts_of}
@@ -7,6 +7,7 @@ use Rattle.record_core.proofs.fetch.fetch_all.Goals as goal
 pub loop-index-preserved : goal.loop-index-preserved
 loop-index-preserved g c = record {
   later = omega arith;
+  calm = c.in_ok-bytes.ensures.calm ∙ c.loop-index.invariant.calm;
   files = cc;
   got = rw c.in_ok-push.ensures.items (AreFiles-next _ _ _ _ _ (omega arith) c.loop-index.invariant.got (rw c.loop-index.invariant.files at c.in_ok-bytes.ensures.ok));
   passed = λ h. c.in_ok-bytes.ensures.passed;

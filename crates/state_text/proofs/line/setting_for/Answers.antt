@@ -1,8 +1,9 @@
-use Rattle.std.proofs.Common.{◌≡◌, ◌<◌, length, Some, sym, ◌∙◌, arith}
+use Rattle.std.proofs.Common.{◌≡◌, Some, sym, ◌∙◌, arith}
 use Rattle.std.proofs.lemmas.Option.{slice_get_within}
 use Rattle.std.specs.Prelude.{slice_get}
 use Rattle.state_text.specs.Settings.{named_at}
-use Rattle.state_text.proofs.Storages.{found_storage, few_storages, width_of_storage}
+use Rattle.net_model.proofs.KeptRules.{few_storages}
+use Rattle.state_text.proofs.Storages.{found_storage}
 use Rattle.state_text.proofs.line.setting_for.Goals as goal
 
 pub overflow_cast-place : goal.overflow_cast-place

@@ -1,4 +1,4 @@
-use Rattle.std.proofs.Common.{◌≡◌, Some, sym, ◌∙◌}
+use Rattle.std.proofs.Common.{sym, ◌∙◌}
 use Rattle.state_text.proofs.Progress.{begins, goes_on, ends, is_within, setting_fits}
 use Rattle.state_text.proofs.reading.read_state.Goals as goal
 

@@ -1,7 +1,7 @@
-use Rattle.std.proofs.Common.{◌≡◌, ◌+◌, ◌-◌, ◌<◌, ◌≤◌, length, drop, Some, None, sym, ◌∙◌, arith}
+use Rattle.std.proofs.Common.{◌≡◌, ◌-◌, ◌<◌, length, drop, Some, sym, ◌∙◌, arith}
 use Rattle.std.specs.Prelude.{slice_get}
 use Rattle.std.proofs.lemmas.Option.{slice_get_within}
-use Rattle.state_text.specs.Shown.{cell_line, cell_lines}
+use Rattle.state_text.specs.Shown.{cell_lines}
 use Rattle.state_text.proofs.Shown.{cell_next, fits_first, impossible, goes_first, no_more}
 use Rattle.state_text.proofs.writing.put_cells.Goals as goal
 

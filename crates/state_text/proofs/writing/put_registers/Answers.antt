@@ -1,4 +1,4 @@
-use Rattle.std.proofs.Common.{◌≡◌, length, drop, arith}
+use Rattle.std.proofs.Common.{drop, arith}
 use Rattle.state_text.specs.Shown.{register_lines}
 use Rattle.state_text.proofs.Shown.{register_next, fits_first, impossible}
 use Rattle.state_text.proofs.writing.put_registers.Goals as goal

@@ -1,7 +1,5 @@
-use Rattle.std.proofs.Common.{◌≡◌, ◌≤◌, ◌^◌, ◌<◌, ℕ, length, sym, subst, ◌∙◌}
+use Rattle.std.proofs.Common.{◌≡◌, ◌≤◌, ℕ, length, sym, subst, ◌∙◌}
 use Rattle.std.specs.Prelude.{vec_capacity}
-use Rattle.net_model.specs.declared.states.State.{State}
-use Rattle.net_model.specs.Widths.{IsState}
 use Rattle.state_text.specs.Shown.{state_text, state_room}
 use Rattle.state_text.proofs.Rooms.{text_short}
 use Rattle.state_text.proofs.writing.text_room.Goals as goal

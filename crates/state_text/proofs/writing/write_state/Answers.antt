@@ -1,6 +1,7 @@
-use Rattle.std.proofs.Common.{◌≡◌, ◌≤◌, length, arith, subst, sym}
+use Rattle.std.proofs.Common.{arith}
 use Rattle.net_model.specs.Widths.{IsState}
-use Rattle.state_text.proofs.Storages.{few_storages, few_cells}
+use Rattle.net_model.proofs.KeptRules.{few_storages}
+use Rattle.net_model.proofs.Memories.{few_cells}
 use Rattle.state_text.proofs.writing.write_state.Goals as goal
 
 pub put_registers-requires-clause-few : goal.put_registers-requires-clause-few

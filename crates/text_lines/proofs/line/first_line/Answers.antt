@@ -1,6 +1,4 @@
-use Rattle.std.proofs.Common.{◌≡◌, ◌∷◌, length, take, drop, arith, ap, sym, length-append, Some, None}
-use Rattle.text_lines.specs.Fields.{parts_at}
-use Rattle.text_lines.specs.Lines.{IsFirstLine}
+use Rattle.std.proofs.Common.{◌∷◌, length, arith, ap, sym, length-append}
 use Rattle.text_lines.proofs.Parts.{first_with, first_without, parts_are}
 use Rattle.text_lines.proofs.line.first_line.Goals as goal
 

@@ -1,8 +1,8 @@
 use Rattle.std.proofs.Common.{◌≡◌, slice_index, length, arith, length-set, get_or}
 use mathlib.Core.Path.{fun_ext}
 use Rattle.net_model.specs.Order.{IsOrder}
-use Rattle.net_model.proofs.Orders.{all_done}
-use Rattle.word_moves.proofs.Evaluated.{turn_done, turn_fits, blank_fits}
+use Rattle.net_model.proofs.Orders.{all_done, turn_done, turn_fits}
+use Rattle.word_moves.proofs.Evaluated.{blank_fits}
 use Rattle.word_moves.proofs.evaluate.evaluate.Goals as goal
 
 pub loop-id-preserved : goal.loop-id-preserved

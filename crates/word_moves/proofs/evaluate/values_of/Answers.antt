@@ -1,4 +1,4 @@
-use Rattle.word_moves.proofs.Evaluated.{zeros_fit}
+use Rattle.net_model.proofs.Fits.{zeros_fit}
 use Rattle.word_moves.proofs.evaluate.values_of.Goals as goal
 
 pub evaluate-requires-clause-fit : goal.evaluate-requires-clause-fit

@@ -1,4 +1,4 @@
-use Rattle.std.proofs.Common.{◌≡◌, ◌^◌, ◌<◌, ◌≤◌, subst, arith}
+use Rattle.std.proofs.Common.{◌^◌, ◌<◌, ◌≤◌, subst, arith}
 use Rattle.word_search.proofs.Words.{one_shift, word_fits}
 use Rattle.word_rows.proofs.words.compare_all.Goals as goal
 

@@ -1,8 +1,9 @@
-use Rattle.std.proofs.Common.{◌≡◌, slice_index, length, ◌∙◌, sym, Some, None, refl}
+use Rattle.std.proofs.Common.{◌≡◌, slice_index, length, ◌∙◌, sym, Some, None, refl, arith}
 use Rattle.net_model.specs.Value.{value_of}
 use Rattle.net_model.specs.Clock.{clash_in, next_regs, word_at}
 use Rattle.cycle_sim.specs.Ports.{cells_by, cell_by}
-use Rattle.cycle_sim.proofs.Edges.{words_fit_at, few_cells, clocks_clash, clocks_next, next_fits, cell_written}
+use Rattle.net_model.proofs.Memories.{few_cells}
+use Rattle.cycle_sim.proofs.Edges.{words_fit_at, clocks_clash, clocks_next, next_fits, cell_written}
 use Rattle.cycle_sim.proofs.sim.Sim.clock.Goals as goal
 
 pub evaluate-requires-clause-word : goal.evaluate-requires-clause-word
@@ -10,7 +11,8 @@ evaluate-requires-clause-word c =
     rw (c.word_of-word.ensures, c.as_slice-words.ensures) (words_fit_at _ _ c.self.invariant.words_fit _)
 
 pub clock_cells-self-inside-requires : goal.clock_cells-self-inside-requires
-clock_cells-self-inside-requires c = few_cells _ _ _ c.netlist-netlist.ensures.kept c.self.invariant.state
+clock_cells-self-inside-requires c =
+    omega (arith, few_cells c.self.inside.checked.now.netlist c.self.inside.checked.now.order c.self.inside.state c.netlist-netlist.ensures.kept c.self.invariant.state)
 
 pub returns-in-Some-clause-clocks : goal.returns-in-Some-clause-clocks
 returns-in-Some-clause-clocks c =

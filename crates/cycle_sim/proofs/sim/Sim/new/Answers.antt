@@ -1,7 +1,8 @@
 use Rattle.std.proofs.Common.{◌≡◌, ◌∙◌, ap, length, replicate}
 use Rattle.std.proofs.lemmas.List.{length-replicate}
 use Rattle.cycle_sim.specs.Ports.{port_of}
-use Rattle.cycle_sim.proofs.Edges.{has_port_width, zeros_fit}
+use Rattle.net_model.proofs.Fits.{zeros_fit}
+use Rattle.cycle_sim.proofs.Edges.{has_port_width}
 use Rattle.cycle_sim.proofs.sim.Sim.new.Goals as goal
 
 pub invariant_of-result : goal.invariant_of-result

@@ -10,4 +10,4 @@ loop-i-preserved c =
     let parts = seen_from binding_of bindings bindings c.loop-i.i c.index-bindings-i.result refl c.loop-i-test.true c.index-bindings-i.is in
     places_next c.loop-i.table c.enter.new.self c.index-bindings-i.result.0.name c.loop-i.i
     (bound_place (drop c.loop-i.i (map binding_of bindings))) (bound_place (drop (c.loop-i.i + 1) (map binding_of bindings))) (bound_place (map binding_of bindings))
-    c.in_ok-enter.ensures (λ name. ap (λ bs. bound_place bs name) parts) c.loop-i.invariant
+    c.in_ok-enter.ensures.entered (λ name. ap (λ bs. bound_place bs name) parts) c.loop-i.invariant

@@ -11,6 +11,6 @@ loop-i-preserved c =
     let parts = seen_from entry_of items c.as_slice-unit-items.result.now c.loop-i.i c.unit-item.result c.as_slice-unit-items.ensures c.loop-i-test.true c.unit-item.is in
     places_next c.loop-i.table c.enter.new.self c.name_of.result.now.name c.loop-i.i
     (place_named (drop c.loop-i.i (map entry_of items))) (place_named (drop (c.loop-i.i + 1) (map entry_of items))) (place_named (map entry_of items))
-    c.in_ok-enter.ensures
+    c.in_ok-enter.ensures.entered
     (λ name. ap (λ es. place_named es name) parts ∙ ap (λ own. if same_name own name then 0 else place_named (drop (c.loop-i.i + 1) (map entry_of items)) name + 1) (sym (ap (λ o. o.name) c.name_of.ensures)))
     c.loop-i.invariant

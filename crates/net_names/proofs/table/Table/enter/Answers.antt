@@ -5,8 +5,8 @@ use Rattle.net_names.specs.Places.{pairs_of}
 use Rattle.net_names.proofs.Tables.{pairs_lookup, enters_new, none_there}
 use Rattle.net_names.proofs.table.Table.enter.Goals as goal
 
-pub returns-in_ok-insert : goal.returns-in_ok-insert
-returns-in_ok-insert c =
+pub returns-in_ok-insert-clause-entered : goal.returns-in_ok-insert-clause-entered
+returns-in_ok-insert-clause-entered c =
     let old = c.self.inside.first.entries in
     let new = c.insert.new.self.entries in
     let own = c.args.name.now in
