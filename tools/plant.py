@@ -1,8 +1,9 @@
 #!/usr/bin/env python3
-"""Plants the bugs of tools/planted/CRATE.bugs, one at a time, in a copy of the repository, and asks `rt check` of each.
+"""Plants the bugs of tools/planted/CRATE.bugs in a copy of the repository, and asks `rt check` of each.
 
     tools/plant.py CRATE [NAME..]
 
+Bugs in different functions are planted together, and each is judged by its own function's proof; what is not decided so is planted once more, alone.
 For each bug it prints `refused`, `PROVED` (the contracts let it pass) or `stale` (the text that it changes stands no longer there once, or the
 changed text doesn't compile), with the function that was checked. The last line counts them; the exit status is 1 where one was proved.
 
@@ -24,6 +25,9 @@ import sys
 import tempfile
 
 TOP = pathlib.Path(__file__).resolve().parent.parent
+
+# How many bugs are planted together.
+ROUND = 12
 
 
 def bugs_of(path):
@@ -52,30 +56,91 @@ def bugs_of(path):
     return bugs
 
 
-def try_bug(crate, bug):
+def plant(crate, bug, kept):
+    """Makes the edits of a bug, and notes what the files were before; False, and nothing made, where one can't be."""
+    made = {}
+    for file, old, new in bug["edits"]:
+        path = crate / file
+        text = made.get(path) or path.read_text()
+        if text.count(old) != 1:
+            return False
+        made[path] = text.replace(old, new)
+    for path, text in made.items():
+        kept.setdefault(path, path.read_text())
+        path.write_text(text)
+    return True
+
+
+def check(crate, bugs):
+    """What `rt check` prints of the functions of these bugs, and whether all is proved."""
+    asked = [word for bug in bugs for word in ("--only", bug["only"])]
+    run = subprocess.run(["rt", "check", *asked], cwd=crate, stdout=subprocess.PIPE, stderr=subprocess.STDOUT, text=True)
+    return run.stdout, run.returncode == 0
+
+
+def restore(kept):
+    for path, text in kept.items():
+        path.write_text(text)
+
+
+def try_alone(crate, bug):
     """What becomes of one bug; the crate is as it was afterwards."""
     kept = {}
     try:
-        for file, old, new in bug["edits"]:
-            path = crate / file
-            text = path.read_text()
-            kept.setdefault(path, text)
-            if text.count(old) != 1:
-                return "stale"
-            path.write_text(text.replace(old, new))
-        run = subprocess.run(
-            ["rt", "check", "--only", bug["only"]],
-            cwd=crate,
-            stdout=subprocess.PIPE,
-            stderr=subprocess.STDOUT,
-            text=True,
-        )
-        if run.returncode == 0:
+        if not plant(crate, bug, kept):
+            return "stale"
+        told, proved = check(crate, [bug])
+        if proved:
             return "PROVED"
-        return "stale" if re.search(r"src/\S+: error\[", run.stdout) and "not proved" not in run.stdout else "refused"
+        return "stale" if re.search(r"src/\S+: error\[", told) and "not proved" not in told else "refused"
     finally:
-        for path, text in kept.items():
-            path.write_text(text)
+        restore(kept)
+
+
+def try_together(crate, bugs):
+    """The names of those of these bugs, each in another function, whose own proof fails; the crate is as it was afterwards."""
+    kept = {}
+    try:
+        planted = [bug for bug in bugs if plant(crate, bug, kept)]
+        told, _ = check(crate, planted)
+        failed = re.findall(r"^fn (\S+): not proved", told, re.M)
+        refused = set()
+        for bug in planted:
+            own = [name for name in failed if name == bug["only"] or name.endswith("::" + bug["only"])]
+            if own:
+                refused.add(bug["name"])
+        return refused
+    finally:
+        restore(kept)
+
+
+def rounds(bugs):
+    """The bugs in rounds of at most ROUND, no function twice in one."""
+    left = list(bugs)
+    while left:
+        now, later, functions = [], [], set()
+        for bug in left:
+            if bug["only"] in functions or len(now) == ROUND:
+                later.append(bug)
+            else:
+                now.append(bug)
+                functions.add(bug["only"])
+        yield now
+        left = later
+
+
+def judged(crate, bugs):
+    """Each bug with what becomes of it."""
+    undecided = []
+    for now in rounds(bugs):
+        refused = try_together(crate, now) if len(now) > 1 else set()
+        for bug in now:
+            if bug["name"] in refused:
+                yield bug, "refused"
+            else:
+                undecided.append(bug)
+    for bug in undecided:
+        yield bug, try_alone(crate, bug)
 
 
 def main():
@@ -83,14 +148,13 @@ def main():
         sys.exit(__doc__)
     name, wanted = sys.argv[1], sys.argv[2:]
     bugs = bugs_of(TOP / "tools" / "planted" / f"{name}.bugs")
+    if wanted:
+        bugs = [bug for bug in bugs if bug["name"] in wanted]
     counts = {"refused": 0, "PROVED": 0, "stale": 0}
     with tempfile.TemporaryDirectory() as folder:
         copy = pathlib.Path(folder) / "record"
         shutil.copytree(TOP, copy, ignore=shutil.ignore_patterns(".git", "out"))
-        for bug in bugs:
-            if wanted and bug["name"] not in wanted:
-                continue
-            found = try_bug(copy / "crates" / name, bug)
+        for bug, found in judged(copy / "crates" / name, bugs):
             counts[found] += 1
             print(f"{found:8} {bug['name']} in {bug['only']}", flush=True)
     print(f"{counts['refused']} refused, {counts['PROVED']} proved, {counts['stale']} stale")

@@ -9,7 +9,7 @@ use Rattle.bit_bdd.specs.declared.Node.{Node}
 use Rattle.bit_bdd.specs.declared.Node.TheVariants.{Never, Always, Ask}
 use Rattle.bit_bdd.specs.Diagrams.{branch, node_set, set_of, Diagrams, Extends}
 use Rattle.bit_bdd.specs.Shape.{level, IsReduced, IsReducedBook}
-use Rattle.bit_bdd.proofs.Lists.{get_left, pushed_at}
+use Rattle.rec_bits.proofs.Lists.{get_left, pushed_at}
 use Rattle.bit_bdd.proofs.Sets.{set_of-append, set_of-ask, set_of-never, set_of-always, level-append}
 
 -- a node that may be added

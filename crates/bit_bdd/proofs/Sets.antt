@@ -5,7 +5,7 @@ use Rattle.bit_bdd.specs.declared.Node.{Node}
 use Rattle.bit_bdd.specs.declared.Node.TheVariants.{Never, Always, Ask}
 use Rattle.bit_bdd.specs.Diagrams.{branch, node_set, set_of_newest, set_of}
 use Rattle.bit_bdd.specs.Shape.{level_of, level_at, level}
-use Rattle.bit_bdd.proofs.Lists.{get_left, Around, around}
+use Rattle.rec_bits.proofs.Lists.{get_left, Around, around}
 use Rattle.std.proofs.lemmas.Bool.{eq-eqb, ne_eqb}
 
 -- newer nodes do not change the set of an older id

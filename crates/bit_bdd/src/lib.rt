@@ -429,6 +429,3 @@ impl Book {
         Ok(())
     }
 }
-
-#[cfg(test)]
-mod tests;

@@ -1,14 +1,11 @@
 -- Expressions without registers and reads have one value in all states.
-use Rattle.std.proofs.Common.{ℕ, ◌≡◌, ◌&&◌, Bool, true, false, refl, ◌∙◌}
+use Rattle.std.proofs.Common.{ℕ, ◌≡◌, ◌&&◌, true, refl, ◌∙◌}
+use Rattle.rec_bits.proofs.Booleans.{both}
 use Rattle.net_model.specs.declared.states.State.{State}
 use Rattle.net_model.specs.Terms.{Term, word, reg, const, read, un, bin, slice, cat, zext, sext, select}
 use Rattle.net_model.specs.Symbolic.{blank}
 use Rattle.net_model.specs.Meaning.{mean}
 use Rattle.code_model.specs.Words.{is_fixed, IsFixedAt}
-
-both : (a b : Bool) → (a && b) ≡ true → (a ≡ true) × (b ≡ true)
-both true b e = (refl, e)
-both false b e = cc
 
 pub fixed_mean : (e : Term) (s r : State) (i : ℕ) → is_fixed e ≡ true → mean e s i ≡ mean e r i
 fixed_mean (word w) s r i f = refl

@@ -17,7 +17,7 @@ use Rattle.bit_bdd.proofs.CallerLemmas.{same_words}
 use Rattle.ctl_bdd.specs.declared.ControlBits.{ControlBits}
 use Rattle.ctl_bdd.specs.Places.{is_placed, is_static_control, numbers_below, static_controls}
 use Rattle.ctl_bdd.specs.Controls.{IsControl, IsNetBits, IsWithoutClash, bits_in}
-use Rattle.ctl_bdd.proofs.Alls.{or_left}
+use Rattle.rec_bits.proofs.Booleans.{or_left}
 use Rattle.ctl_bdd.proofs.Sets.{sets_later, set_in}
 use Rattle.ctl_bdd.proofs.Numbers.{eqb_turned, number_one}
 use Rattle.ctl_bdd.proofs.Filling.{bits_later}

@@ -17,7 +17,7 @@ use Rattle.bit_bdd.specs.Diagrams.{Diagrams}
 use Rattle.ctl_bdd.specs.Places.{is_placed}
 use Rattle.ctl_bdd.specs.Tables.{AreBits, HasControls, HasEnable, HasEnables, numbers_at, sets_at}
 use Rattle.ctl_bdd.specs.Controls.{IsWithoutClash}
-use Rattle.ctl_bdd.proofs.Alls.{or_left, or_right}
+use Rattle.rec_bits.proofs.Booleans.{or_left, or_right}
 use Rattle.ctl_bdd.proofs.Placed.{all_by_place, placed}
 
 two_true : (a b : Bool) → a ≡ true → b ≡ true → (a && b) ≡ true

@@ -1,8 +1,9 @@
 -- One more net of the order gets its bits.
-use Rattle.std.proofs.Common.{◌≡◌, ℕ, ◌+◌, ◌<◌, ◌^◌, inl, inr, Bool, true, false, List, [], ◌∷◌, Some, length, slice_get, slice_index, slice_set, sym, ap, ◌∙◌, subst, arith}
+use Rattle.std.proofs.Common.{◌≡◌, ℕ, ◌+◌, ◌<◌, ◌^◌, inl, inr, Bool, true, false, List, [], Some, length, slice_get, slice_index, slice_set, sym, ap, ◌∙◌, subst, arith}
 use Rattle.std.specs.List.{AllByRecursion}
 use Rattle.std.proofs.lemmas.Bool.{cases_eq}
 use Rattle.std.proofs.lemmas.List.{get_or-set_same, get_or-set_other}
+use Rattle.rec_bits.proofs.Lists.{all_weaker}
 use Rattle.net_model.specs.declared.hardware.Netlist.{Netlist}
 use Rattle.net_model.specs.declared.hardware.Net.{Net}
 use Rattle.net_model.specs.Nets.{gate_nets, nets_of, net_width, width_at}
@@ -13,14 +14,16 @@ use Rattle.net_model.specs.CheckedRules.{is_control_gate, net_control, is_contro
 use Rattle.net_model.specs.Depends.{named_by}
 use Rattle.net_model.specs.Order.{place_of, IsOrder}
 use Rattle.net_model.proofs.Agree.{same_gate}
-use Rattle.net_model.proofs.Orders.{place_at, at_place, value_is}
+use Rattle.net_model.proofs.Orders.{place_at, at_place, one_more, value_is}
 use Rattle.bit_bdd.specs.Diagrams.{Diagrams, Extends}
 use Rattle.ctl_bdd.specs.Bits.{AreSets}
-use Rattle.ctl_bdd.specs.Flags.{flag_at, IsClosed}
+use Rattle.net_model.specs.Flags.{flag_at}
+use Rattle.ctl_bdd.specs.Flags.{IsClosed}
 use Rattle.ctl_bdd.specs.Tables.{AreBits, AreGateBits, IsTable, numbers_at, sets_at}
-use Rattle.ctl_bdd.proofs.Alls.{both, fact_of, test_of, facts_of}
+use Rattle.rec_bits.proofs.Booleans.{both}
+use Rattle.ctl_bdd.proofs.Alls.{fact_of, test_of, facts_of}
 use Rattle.ctl_bdd.proofs.Sets.{sets_later, number_later}
-use Rattle.ctl_bdd.proofs.Walks.{control_is, one_more}
+use Rattle.ctl_bdd.proofs.Walks.{control_is}
 
 pub bits_later : (netlist : Netlist) (old new : Diagrams) → Extends old new → (n : ℕ) (sets : List ℕ) → AreSets old sets → AreBits netlist old n sets → AreBits netlist new n sets
 bits_later netlist old new e n sets h bits = record {
@@ -61,14 +64,10 @@ module _ (netlist : Netlist) (order : List ℕ) (o : IsOrder netlist order) (nee
         done m (omega (arith, lt, place_at order i within))
         (test_of (flag_at needed) (named_by netlist (slice_index order i)) m (closed.closed (slice_index order i) (o.nets i within) is_needed) a))
 
-    weaken : (P Q : ℕ → Type 0) → ((m : ℕ) → P m → Q m) → (ms : List ℕ) → AllByRecursion P ms → AllByRecursion Q ms
-    weaken P Q f [] h = tt
-    weaken P Q f (m ∷ ms) h = (f m h.0, weaken P Q f ms h.1)
-
     pub named_long : AllByRecursion (λ m. length (sets_at table m) ≡ width_at netlist m) (gate_nets net.gate)
     named_long =
         subst (AllByRecursion (λ m. length (sets_at table m) ≡ width_at netlist m)) names
-        (weaken (λ m. AreBits netlist book m (sets_at table m)) (λ m. length (sets_at table m) ≡ width_at netlist m) (λ m b. b.long) (named_by netlist (slice_index order i)) named_done)
+        (all_weaker (λ m. AreBits netlist book m (sets_at table m)) (λ m. length (sets_at table m) ≡ width_at netlist m) (λ m b. b.long) (named_by netlist (slice_index order i)) named_done)
 
     pub gate_control : is_control_gate net.gate ≡ true
     gate_control =
@@ -89,7 +88,7 @@ module _ (netlist : Netlist) (order : List ℕ) (o : IsOrder netlist order) (nee
           bits.number word below
           ∙ same_gate (numbers_at book table word) (value_of netlist blank word) netlist blank word net.width net.gate
           (subst (AllByRecursion (λ m. numbers_at book table word m ≡ value_of netlist blank word m)) names
-          (weaken (λ m. AreBits netlist book m (sets_at table m)) (λ m. numbers_at book table word m ≡ value_of netlist blank word m) (λ m b. b.number word below) (named_by netlist (slice_index order i)) named_done))
+          (all_weaker (λ m. AreBits netlist book m (sets_at table m)) (λ m. numbers_at book table word m ≡ value_of netlist blank word m) (λ m b. b.number word below) (named_by netlist (slice_index order i)) named_done))
           ∙ sym (value_is netlist blank word order o (slice_index order i) (o.nets i within) ∙ ap (net_value (value_of netlist blank word) netlist blank word) there);
     }
 

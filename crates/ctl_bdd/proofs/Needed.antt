@@ -10,8 +10,9 @@ use Rattle.net_model.specs.CheckedRules.{is_control_gate, net_control, is_contro
 use Rattle.net_model.specs.Depends.{named_by}
 use Rattle.net_model.specs.Order.{place_of, IsOrder}
 use Rattle.net_model.proofs.Orders.{place_at, at_place}
-use Rattle.ctl_bdd.specs.Flags.{flag_at}
-use Rattle.ctl_bdd.proofs.Alls.{both, or_left, or_right, fact_of, test_of, facts_of, tests_of}
+use Rattle.net_model.specs.Flags.{flag_at}
+use Rattle.rec_bits.proofs.Booleans.{both, or_left, or_right}
+use Rattle.ctl_bdd.proofs.Alls.{fact_of, test_of, facts_of, tests_of}
 use Rattle.ctl_bdd.proofs.Walks.{control_is}
 
 parts : (f : ℕ → Bool) (net : Option Net) → net_control f net ≡ true → all_of f (nets_of net) ≡ true

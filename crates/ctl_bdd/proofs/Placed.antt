@@ -3,6 +3,7 @@ use Rattle.std.proofs.Common.{◌≡◌, ℕ, ◌<◌, ◌&&◌, ◌||◌, nat_e
 use Rattle.std.specs.Prelude.{filter}
 use Rattle.std.specs.List.{AllByRecursion, list_any}
 use Rattle.std.proofs.lemmas.Bool.{eqb-true}
+use Rattle.rec_bits.proofs.Lists.{all_append}
 use Rattle.rec_bits.specs.Faults.{gather}
 use Rattle.net_model.specs.declared.hardware.Netlist.{Netlist}
 use Rattle.net_model.specs.declared.hardware.Net.{Net}
@@ -14,7 +15,7 @@ use Rattle.net_model.specs.Widths.{GateFits, NetFits, StorageFits, WhenFits, Dri
 use Rattle.net_model.specs.Symbolic.{is_static}
 use Rattle.net_model.specs.CheckedRules.{is_control, storage_controls, when_controls, gate_controls, net_controls, UsesControlGates, HasPlainControl}
 use Rattle.ctl_bdd.specs.Places.{control_places, is_placed, is_static_control}
-use Rattle.ctl_bdd.proofs.Alls.{or_right}
+use Rattle.rec_bits.proofs.Booleans.{or_right}
 
 -- ---- lists
 
@@ -22,10 +23,6 @@ use Rattle.ctl_bdd.proofs.Alls.{or_right}
 pub all_by_place : {X : Type 0} (P : X → Type 0) (xs : List X) → ((n : ℕ) (x : X) → slice_get xs n ≡ Some x → P x) → AllByRecursion P xs
 all_by_place P [] h = tt
 all_by_place P (x ∷ xs) h = (h 0 x refl, all_by_place P xs (λ n y e. h (suc n) y e))
-
-all_append : (P : ℕ → Type 0) (xs ys : List ℕ) → AllByRecursion P xs → AllByRecursion P ys → AllByRecursion P (xs ++ ys)
-all_append P [] ys h k = k
-all_append P (x ∷ xs) ys h k = (h.0, all_append P xs ys h.1 k)
 
 all_gathered : {X : Type 0} (P : ℕ → Type 0) (f : X → List ℕ) (xs : List X) → AllByRecursion (λ x. AllByRecursion P (f x)) xs → AllByRecursion P (gather f xs)
 all_gathered P f [] h = tt
@@ -51,10 +48,6 @@ all_passed P f (x ∷ xs) h = by (f x) refl (all_passed P f xs h.1)
     by : (b : Bool) → f x ≡ b → AllByRecursion P (filter f xs) → AllByRecursion P (cond b (x ∷ filter f xs) (filter f xs))
     by true e later = (h.0 e, later)
     by false e later = later
-
-pub same_filter : (f g : ℕ → Bool) (xs : List ℕ) → AllByRecursion (λ x. f x ≡ g x) xs → filter f xs ≡ filter g xs
-same_filter f g [] h = refl
-same_filter f g (x ∷ xs) h = (λ j. cond (h.0 j) (x ∷ same_filter f g xs h.1 j) (same_filter f g xs h.1 j))
 
 any_cond : (b c : Bool) (n x : ℕ) (xs : List ℕ) → list_any (nat_eq n) (cond b (x ∷ xs) xs) ≡ ((b && nat_eq n x) || list_any (nat_eq n) xs)
 any_cond true c n x xs = refl

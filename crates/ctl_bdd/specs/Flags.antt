@@ -1,13 +1,10 @@
--- A flag for each net.
-use Rattle.std.specs.Prelude.{◌≡◌, ℕ, ◌<◌, List, length, slice_index_or, Bool, true}
+-- Flags of nets that tell of control.
+use Rattle.std.specs.Prelude.{◌≡◌, ℕ, ◌<◌, List, length, Bool, true}
 use Rattle.net_model.specs.declared.hardware.Netlist.{Netlist}
 use Rattle.net_model.specs.CheckedRules.{is_control}
 use Rattle.net_model.specs.Depends.{named_by}
+use Rattle.net_model.specs.Flags.{flag_at}
 use Rattle.net_model.specs.Symbolic.{all_of}
-
--- the flag of a net, which is set past the last one
-abbrev pub flag_at : List Bool → ℕ → Bool
-flag_at flags n = slice_index_or flags n true
 
 -- what has its flag set is computed by control's gates from nets that have it too
 pub record IsClosed (netlist : Netlist) (flags : List Bool) : Type 0 where

@@ -1,8 +1,6 @@
 -- A list of sets for each net, empty where there are none.
-use Rattle.std.specs.Prelude.{◌≡◌, ℕ, ◌^◌, ◌<◌, Bool, true, false, List, [], length, Option, None, Some, slice_index_or}
+use Rattle.std.specs.Prelude.{◌≡◌, ℕ, ◌^◌, ◌<◌, true, List, [], length, Option, None, Some, slice_index_or}
 use Rattle.std.specs.List.{AllByRecursion}
-use Rattle.rec_bits.specs.declared.operator.Op2.{Op2}
-use Rattle.rec_bits.specs.declared.operator.Op2.TheVariants.{And, Or, Xor, Eq}
 use Rattle.net_model.specs.declared.hardware.Netlist.{Netlist}
 use Rattle.net_model.specs.declared.hardware.Gate.{Gate}
 use Rattle.net_model.specs.declared.hardware.Gate.TheVariants.{Bus}
@@ -31,14 +29,6 @@ pub record AreBits (netlist : Netlist) (book : Diagrams) (n : ℕ) (sets : List 
   pub number : (word : ℕ) → word < 2 ^ book.bits → number_at book sets word ≡ value_of netlist blank word n
 
 -- ---- gates
-
--- the operators of two operands that control may use
-abbrev pub is_control_pair : Op2 → Bool
-is_control_pair And = true
-is_control_pair Or = true
-is_control_pair Xor = true
-is_control_pair Eq = true
-is_control_pair _ = false
 
 -- the sets of each row, and a number for it that a selector of so many bits may have
 abbrev pub HasRows : List (List ℕ) → ℕ → ℕ → List (ℕ × ℕ) → Type 0

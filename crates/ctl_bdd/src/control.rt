@@ -9,14 +9,13 @@ ghost use Rattle.ctl_bdd.specs.Controls.{HasCause, IsControl, IsWithoutClash};
 ghost use Rattle.ctl_bdd.specs.Places.{control_places, static_controls};
 ghost use Rattle.ctl_bdd.specs.Tables.{HasControls, sets_at};
 
-use crate::flags::{is_set, static_flags};
 use crate::gates::sets_of;
 use crate::legal::legal_set;
 use crate::places::{flags_at, needed_flags, places_with_flag};
 use crate::table::table_of;
 use crate::{ControlBits, CtlFault};
 use bit_bdd::{Book, SetId};
-use net_model::{Checked, Netlist};
+use net_model::{Checked, Netlist, is_set};
 use rec_bits::{Items, NoMemory};
 use std::alloc::Global;
 
@@ -24,7 +23,7 @@ use std::alloc::Global;
 fn static_places(alloc: Global, checked: &Checked) -> Result<Items<u32>, NoMemory>
     ensures { IfOk result (λ places. places ≡ filter (is_static checked.now.netlist) (control_places checked.now.netlist)) }
 {
-    let statics = static_flags(alloc, checked)?;
+    let statics = checked.static_flags(alloc)?;
     let places = places_with_flag(alloc, checked.netlist(), statics.as_slice())?;
     Ok(places)
 }

@@ -9,7 +9,8 @@ ghost use Rattle.net_model.specs.Value.{case_value};
 ghost use Rattle.net_model.specs.Widths.{GateFits, IsTyped};
 ghost use Rattle.bit_bdd.specs.Diagrams.{Extends};
 ghost use Rattle.ctl_bdd.specs.Bits.{AreSets, number_at};
-ghost use Rattle.ctl_bdd.specs.Tables.{AreGateBits, HasRows, HasRest, IsTable, is_control_pair, numbers_at, sets_at};
+ghost use Rattle.net_model.specs.Flags.{is_control_pair};
+ghost use Rattle.ctl_bdd.specs.Tables.{AreGateBits, HasRows, HasRest, IsTable, numbers_at, sets_at};
 
 use crate::bits::{
     Pairing, choice_bits, constant_bits, constant_set, equal_set, equals, extend, join, not_bits,

@@ -5,11 +5,12 @@ ghost use Rattle.std.specs.List.{AllByRecursion, list_any};
 ghost use Rattle.rec_bits.specs.Faults.{gather};
 ghost use Rattle.net_model.specs.CheckedRules.{gate_controls, is_control, storage_controls};
 ghost use Rattle.net_model.specs.Nets.{gate_nets};
-ghost use Rattle.ctl_bdd.specs.Flags.{flag_at, IsClosed};
+ghost use Rattle.net_model.specs.Flags.{flag_at};
+ghost use Rattle.ctl_bdd.specs.Flags.{IsClosed};
 ghost use Rattle.ctl_bdd.specs.Places.{control_places};
 
-use crate::flags::{is_set, named_of, new_flags, set_all};
-use net_model::{Checked, Gate, Netlist, Storage};
+use crate::flags::{new_flags, set_all};
+use net_model::{Checked, Gate, Netlist, Storage, is_set};
 use rec_bits::{Items, NoMemory};
 use std::alloc::Global;
 
@@ -109,7 +110,7 @@ fn set_named(alloc: Global, flags: &mut Items<bool>, gate: &Gate, net: u32) -> R
         flag_at flags.new n ≡ (flag_at flags.old n || (flag_at flags.old net && list_any (nat_eq n) (gate_nets gate.now)))) }
 {
     if is_set(flags.as_slice(), net) {
-        let named = named_of(alloc, gate)?;
+        let named = gate.named(alloc)?;
         set_all(flags, named.as_slice());
     }
     Ok(())

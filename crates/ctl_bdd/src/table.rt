@@ -4,13 +4,13 @@ ghost use Rattle.std.specs.Prelude.{◌≡◌, ℕ, ◌<◌, ◌∷◌, [], repl
 ghost use Rattle.net_model.specs.CheckedRules.{is_control};
 ghost use Rattle.net_model.specs.Nets.{word_width};
 ghost use Rattle.bit_bdd.specs.Diagrams.{Extends};
-ghost use Rattle.ctl_bdd.specs.Flags.{flag_at, IsClosed};
+ghost use Rattle.net_model.specs.Flags.{flag_at};
+ghost use Rattle.ctl_bdd.specs.Flags.{IsClosed};
 ghost use Rattle.ctl_bdd.specs.Tables.{AreBits, IsTable, sets_at};
 
-use crate::flags::is_set;
 use crate::gates::gate_bits;
 use bit_bdd::{Book, SetId};
-use net_model::Checked;
+use net_model::{Checked, is_set};
 use rec_bits::{Items, NoMemory};
 use std::alloc::Global;
 

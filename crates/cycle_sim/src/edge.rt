@@ -1,10 +1,10 @@
 // A clock edge, from the values of all nets: whether a bus clashes, and what the storages become.
 
-ghost use Rattle.std.specs.Prelude.{◌≡◌, ◌<◌, ◌^◌, length, slice_index};
+ghost use Rattle.std.specs.Prelude.{◌≡◌, ◌<◌, ◌^◌, IfSome, length, slice_index};
 ghost use Rattle.net_model.specs.Clock.{clash_in, enabled_count, gate_clashes, is_enabled, next_reg, next_regs};
 ghost use Rattle.cycle_sim.specs.Ports.{cell_by, cells_by, port_of};
 
-use crate::evaluate::value_at;
+use crate::values::value_at;
 use net_model::{Gate, Net, Storage};
 use rec_bits::Items;
 
@@ -44,9 +44,10 @@ pub(crate) fn find_port(storages: &[Storage]) -> Option<Port>
     None
 }
 
-// The first bus that clashes.
-pub(crate) fn find_clash(values: &[u64], nets: &[Net]) -> Option<usize>
-    ensures { result ≡ clash_in (slice_index values.now) nets.now }
+/// The first bus that clashes, by the values of all nets: more than one of its drivers is enabled.
+pub fn find_clash(values: &[u64], nets: &[Net]) -> Option<usize>
+    ensures within { IfSome result (λ bus. bus < length nets.now) }
+    ensures first { result ≡ clash_in (slice_index values.now) nets.now }
 {
     nets.iter().position(|net| clashes(values, &net.gate))
 }

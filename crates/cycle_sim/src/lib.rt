@@ -2,7 +2,9 @@
 #![tactic(auto)]
 
 mod edge;
-mod evaluate;
 mod sim;
+mod values;
 
+pub use edge::find_clash;
 pub use sim::{Clocked, Sim};
+pub use values::{evaluate, value_at, zeros};

@@ -10,7 +10,7 @@ ghost use Rattle.cycle_sim.specs.Clocks.{Clocks, register_in};
 ghost use Rattle.cycle_sim.specs.Ports.{HasPortWidth, port_width};
 
 use crate::edge::{Port, clock_cells, clock_registers, find_clash, find_port};
-use crate::evaluate::{evaluate, number_at, room_for, value_at};
+use crate::values::{evaluate, number_at, value_at, zeros};
 use net_model::{Checked, Netlist, State, Storage};
 use rec_bits::{Items, NoMemory, mask};
 use std::alloc::Global;
@@ -62,7 +62,7 @@ impl<'a> Sim<'a> {
     {
         let netlist = checked.netlist();
         let port = find_port(netlist.storages.as_slice());
-        let values = room_for(alloc, netlist.nets.len())?;
+        let values = zeros(alloc, netlist.nets.len())?;
         Ok(Sim {
             checked,
             words,

@@ -5,6 +5,7 @@ use Rattle.std.proofs.lemmas.Option.{cond_some, same_Some}
 use Rattle.std.proofs.lemmas.Bool.{ltb-true, leb-true}
 use Rattle.std.specs.Prelude.{nat_le, nat_lt}
 use Rattle.std.specs.List.{AllByRecursion}
+use Rattle.rec_bits.proofs.Booleans.{both}
 use Rattle.code_model.specs.declared.image.Image.{Image}
 use Rattle.code_model.specs.declared.image.Mark.{Mark}
 use Rattle.code_model.specs.declared.image.Place.{Place}
@@ -49,12 +50,8 @@ nil_of : {A : Type 0} (xs : List A) → no_items xs ≡ true → xs ≡ []
 nil_of [] e = refl
 nil_of (x ∷ xs) e = absurd (omega (arith, eqb-true (length (x ∷ xs)) 0 e))
 
-two : (a b : Bool) → (a && b) ≡ true → (a ≡ true) × (b ≡ true)
-two true b e = (refl, e)
-two false b e = absurd cc
-
 three : (a b c : Bool) → (a && b && c) ≡ true → (a ≡ true) × (b ≡ true) × (c ≡ true)
-three true b c e = let p = two b c e in (refl, p.0, p.1)
+three true b c e = let p = both b c e in (refl, p.0, p.1)
 three false b c e = absurd cc
 
 -- the items of the lists, with one more at an end
@@ -116,7 +113,7 @@ unfolding with_cost
 cost_goes limits count image cost next h f e =
     let more : Image = record image { costs = image.costs ++ (cost ∷ []) } in
     let p = cond_some (no_items image.marks && no_items image.words) (Open count more) next e in
-    let t = two (no_items image.marks) (no_items image.words) p.0 in
+    let t = both (no_items image.marks) (no_items image.words) p.0 in
     let old = h.2 in
     subst (Goes limits (Open count image) (Tree cost)) p.1 (record {
       items = ap (λ r. Size limits.bits count ∷ Temps image.temps ∷ r) (more_costs image.places image.costs cost image.marks image.words (nil_of image.marks t.0) (nil_of image.words t.1));
@@ -128,7 +125,7 @@ unfolding with_mark
 mark_goes limits count image mark next h f e =
     let more : Image = record image { marks = image.marks ++ (mark ∷ []) } in
     let p = cond_some (no_items image.words && may_follow (last_mark None image.marks) mark) (Open count more) next e in
-    let t = two (no_items image.words) (may_follow (last_mark None image.marks) mark) p.0 in
+    let t = both (no_items image.words) (may_follow (last_mark None image.marks) mark) p.0 in
     let old = h.2 in
     subst (Goes limits (Open count image) (Label mark)) p.1 (record {
       items = ap (λ r. Size limits.bits count ∷ Temps image.temps ∷ r) (more_marks image.places image.costs image.marks mark image.words (nil_of image.words t.0));
@@ -162,7 +159,7 @@ size_goes : (limits : Limits) (bits count : ℕ) (next : Front) → with_size li
 unfolding with_size
 size_goes limits bits count next e =
     let p = cond_some (bits == limits.bits && nat_le count limits.words) (Sized count) next e in
-    let t = two (bits == limits.bits) (nat_le count limits.words) p.0 in
+    let t = both (bits == limits.bits) (nat_le count limits.words) p.0 in
     subst (Goes limits Nothing (Size bits count)) p.1 (record { items = ap (λ n. Size n count ∷ []) (sym (eqb-true bits limits.bits t.0)); fits = leb-true count limits.words t.1 })
 
 temps_goes : (limits : Limits) (count temps : ℕ) (next : Front) → FrontFits limits (Sized count) → temps < 2 ^ 32 → Some (Open count (opened limits temps)) ≡ Some next → Goes limits (Sized count) (Temps temps) next

@@ -1,7 +1,8 @@
 -- The order of marks.
-use Rattle.std.proofs.Common.{◌≡◌, ◌&&◌, ℕ, ◌+◌, ◌-◌, List, [], ◌∷◌, ◌++◌, length, Bool, true, false, Option, Some, None, refl, ap, ◌∙◌, arith}
+use Rattle.std.proofs.Common.{◌≡◌, ℕ, ◌+◌, ◌-◌, List, [], ◌∷◌, ◌++◌, length, true, Option, Some, None, refl, ap, ◌∙◌, arith}
 use Rattle.std.proofs.lemmas.Bool.{ltb-true, lt-ltb}
 use Rattle.std.specs.Prelude.{nat_lt, slice_get}
+use Rattle.rec_bits.proofs.Booleans.{both}
 use Rattle.code_model.specs.declared.image.Mark.{Mark}
 use Rattle.image_text.specs.Lines.{MayFollow, HasNumber, AreMarksAfter}
 use Rattle.image_text.specs.Fronts.{has_number, may_follow, last_mark}
@@ -21,10 +22,6 @@ number_true (Some n) e = tt
 number_again : (label : Option ℕ) → HasNumber label → has_number label ≡ true
 number_again None h = absurd h
 number_again (Some n) h = refl
-
-both : (a b : Bool) → (a && b) ≡ true → (a ≡ true) × (b ≡ true)
-both true b e = (refl, e)
-both false b e = absurd cc
 
 pub follow_true : (last : Option Mark) (mark : Mark) → may_follow last mark ≡ true → MayFollow last mark
 follow_true None mark e = tt

@@ -2,6 +2,7 @@
 use Rattle.std.proofs.Common.{◌≡◌, ℕ, ◌+◌, ◌-◌, List, [], ◌∷◌, ◌++◌, length, Option, Some, None, refl, sym, ap, ◌∙◌, append_assoc, length-append, arith}
 use Rattle.std.proofs.lemmas.List.{append-nil}
 use Rattle.std.specs.List.{concat}
+use Rattle.text_lines.proofs.Joined.{concat-snoc}
 use Rattle.text_lines.specs.Lines.{lines_of, IsFirstLine}
 use Rattle.image_text.specs.declared.limits.Limits.{Limits}
 use Rattle.image_text.specs.declared.front.Front.{Front}
@@ -28,10 +29,6 @@ reads-append limits f (x ∷ xs) ys = step (step_line limits f x) (λ g. reads-a
     step : (o : Option Front) → ((g : Front) → reads limits g (xs ++ ys) ≡ (reads limits g xs >>= λ g. reads limits g ys)) → (o >>= λ g. reads limits g (xs ++ ys)) ≡ ((o >>= λ g. reads limits g xs) >>= λ g. reads limits g ys)
     step None ih = refl
     step (Some g) ih = ih g
-
-concat-snoc : (xs : List (List ℕ)) (line : List ℕ) → length (concat (xs ++ (line ∷ []))) ≡ length (concat xs) + length line
-concat-snoc [] line = ap length (append-nil line) ∙ omega arith
-concat-snoc (x ∷ xs) line = length-append x (concat (xs ++ (line ∷ []))) ∙ omega (arith, concat-snoc xs line, length-append x (concat xs))
 
 one_more : (limits : Limits) (f g : Front) (xs : List (List ℕ)) (line : List ℕ) → reads limits Nothing xs ≡ Some f → step_line limits f line ≡ Some g → reads limits Nothing (xs ++ (line ∷ [])) ≡ Some g
 unfolding reads

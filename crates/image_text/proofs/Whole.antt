@@ -5,6 +5,7 @@ use Rattle.std.proofs.lemmas.Option.{same_Some}
 use Rattle.std.proofs.lemmas.Bool.{lt-ltb, le-leb}
 use Rattle.std.proofs.lemmas.Nat.{pow-add}
 use Rattle.std.proofs.Math.Nat.{pow-le-pow_right}
+use Rattle.rec_bits.proofs.Lists.{all_append}
 use Rattle.text_lines.proofs.Parts.{joined-lines}
 use Rattle.std.specs.Prelude.{slice_get, Result, Ok, Err, IfOk, IfErr, MatchResult}
 use Rattle.rec_bits.specs.declared.fault.ParseFault.{ParseFault}
@@ -212,10 +213,6 @@ fill_fits bits (suc n) =
     let p : 2 ^ 0 ≤ 2 ^ bits = pow-le-pow_right {n = 2} (omega arith) {i = 0} {j = bits} (omega arith) in
     (record { word = p; patterns = tt }, fill_fits bits n)
 
-all_both : {A : Type 0} (P : A → Type 0) (xs ys : List A) → AllByRecursion P xs → AllByRecursion P ys → AllByRecursion P (xs ++ ys)
-all_both P [] ys h k = k
-all_both P (x ∷ xs) ys h k = (h.0, all_both P xs ys h.1 k)
-
 begin_less : (limits : Limits) (xs ys : List (List ℕ)) → Begin limits (xs ++ ys) → Begin limits xs
 begin_less limits xs ys (more, image, e, f) = (ys ++ more, image, sym (append_assoc xs ys more) ∙ e, f)
 
@@ -231,7 +228,7 @@ open_begins limits count image (c, l, f) =
       map (line_in limits) rest,
       full,
       sym (map-append (line_in limits) (front_items limits (Open count image)) rest) ∙ ap (map (line_in limits)) (sym items) ∙ sym (end_last limits full f.bits),
-      record { bits = f.bits; few = omega (arith, long); temps = f.temps; places = f.places; costs = f.costs; marks = f.marks; in_order = f.in_order; words = all_both (CodeFits limits.bits) image.words (fill k) f.words (fill_fits limits.bits k) },
+      record { bits = f.bits; few = omega (arith, long); temps = f.temps; places = f.places; costs = f.costs; marks = f.marks; in_order = f.in_order; words = all_append (CodeFits limits.bits) image.words (fill k) f.words (fill_fits limits.bits k) },
     )
 
 sized_begins : (limits : Limits) (count : ℕ) → count ≤ limits.words → Begin limits (map (line_in limits) (front_items limits (Sized count)))

@@ -5,6 +5,7 @@ use Rattle.std.proofs.lemmas.Bool.{eqb-false}
 use Rattle.std.specs.Prelude.{take_while, nat_eq, codes, nat_lt, nat_le, max}
 use Rattle.std.specs.List.{starts_with, prefix_len, fold}
 use Rattle.std.specs.Cmp.Lexicographic.{pointwise}
+use Rattle.rec_bits.proofs.Booleans.{or_left, right_false}
 use Rattle.lexing.specs.declared.token.Token.{Token}
 use Rattle.lexing.specs.declared.token.Kind.{Kind}
 use Rattle.lexing.specs.declared.token.Kind.TheVariants.{Name, Reserved, Number, Sign, Bad}
@@ -33,14 +34,6 @@ run_some : (p : ℕ → Bool) (b : ℕ) (bs : List ℕ) → p b ≡ true → 1 �
 run_some p b bs h =
     let q : prefix_len p (b ∷ bs) ≡ 1 + prefix_len p bs = rw h refl in
     omega (arith, length-take (prefix_len p (b ∷ bs)) (b ∷ bs), q)
-
-or_right : (a b : Bool) → (a || b) ≡ false → b ≡ false
-or_right true b e = absurd cc
-or_right false b e = e
-
-or_left : (a b : Bool) → a ≡ true → (a || b) ≡ true
-or_left true b e = refl
-or_left false b e = absurd cc
 
 pub and_left : (a b : Bool) → (a && b) ≡ true → a ≡ true
 and_left true b e = refl
@@ -106,7 +99,7 @@ piece_within table b bs =
     let xs = b ∷ bs in
     let end = length xs in
     within_if end (is_blank b) (Blank 1) _ (λ e. (omega arith, omega arith)) (λ e.
-    let in_comment : is_comment_byte b ≡ true = ap not (or_right (nat_eq b 32 || nat_eq b 9 || nat_eq b 13) (nat_eq b 10) e) in
+    let in_comment : is_comment_byte b ≡ true = ap not (right_false (nat_eq b 32 || nat_eq b 9 || nat_eq b 13) (nat_eq b 10) e) in
     within_if end (starts_with nat_eq xs (codes "//")) (Blank (length (take_while is_comment_byte xs))) _ (λ s. (run_some is_comment_byte b bs in_comment, run_le is_comment_byte xs)) (λ s.
     within_if end (is_letter b) _ _ (λ l. name_within table end (take_while is_name_byte xs) (run_some is_name_byte b bs (or_left (is_letter b) (is_digit b) l)) (run_le is_name_byte xs)) (λ l.
     within_if end (is_digit b) _ _ (λ d. let bounds = number_length-bounds b bs d in number_within end xs bounds.0 bounds.1) (λ d. sign_within table xs))))

@@ -11,7 +11,7 @@ value_from-grows : (base n : ℕ) (ds : List ℕ) → 0 < base → n ≤ value_f
 value_from-grows base n [] h = omega arith
 value_from-grows base n (d ∷ ds) h = omega (arith, scaled base n h, value_from-grows base (base * n + digit_value d) ds h)
 
-below_2_64-at : (n : ℕ) (test : Bool) → nat_lt n 18446744073709551616 ≡ test → below_2_64 n ≡ cond test (Some n) None
+pub below_2_64-at : (n : ℕ) (test : Bool) → nat_lt n 18446744073709551616 ≡ test → below_2_64 n ≡ cond test (Some n) None
 below_2_64-at n test e = ap (λ t. cond t (Some n) None) e
 
 -- where the next digit makes the number too great

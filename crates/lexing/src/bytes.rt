@@ -9,6 +9,7 @@ pub fn blank(byte: u8) -> bool
     matches!(byte, b' ' | b'\t' | b'\r' | b'\n')
 }
 
+/// Whether a byte is a decimal digit.
 pub fn digit(byte: u8) -> bool
     ensures { result ≡ is_digit byte }
 {
@@ -21,6 +22,7 @@ fn hex_digit(byte: u8) -> bool
     byte.is_ascii_hexdigit()
 }
 
+/// Whether a byte is a letter that a name may begin with: `A` to `Z`, `a` to `z`, or `_`.
 pub fn letter(byte: u8) -> bool
     ensures { result ≡ is_letter byte }
 {

@@ -8,6 +8,7 @@ mod piece;
 mod scan;
 mod token;
 
+pub use bytes::{digit, letter};
 pub use language::Language;
 pub use number::number_of;
 pub use scan::tokens;

@@ -8,7 +8,7 @@ use Rattle.rec_bits.specs.Faults.{sooner, least}
 use Rattle.net_model.specs.NetFaults.{failing, name_at, enables, selectors, is_plain, is_selector, enable_offsets, control_offsets, selector_offsets}
 use Rattle.rec_bits.proofs.Faults.{least_append}
 use Rattle.net_model.proofs.Offsets.{failing_append}
-use Rattle.net_check.specs.Flags.{flag_at}
+use Rattle.net_model.specs.Flags.{flag_at}
 use Rattle.net_check.specs.Control.{passes, HasFlags}
 use Rattle.net_check.specs.declared.control.Flags.{Flags}
 use Rattle.net_check.specs.declared.control.Rule.TheVariants.{Enable, ControlOp, WideSelect}

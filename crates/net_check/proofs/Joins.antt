@@ -4,7 +4,7 @@ use Rattle.std.specs.List.{AllByRecursion}
 use Rattle.std.proofs.lemmas.Bool.{cases_lt, cases_eq}
 use Rattle.std.proofs.lemmas.List.{length-set}
 use Rattle.net_model.specs.Depends.{Among, direct}
-use Rattle.net_model.proofs.Orders.{all_weaker}
+use Rattle.rec_bits.proofs.Lists.{all_weaker}
 use Rattle.net_check.specs.Graphs.{named_in}
 use Rattle.net_check.specs.Components.{mark_at, MetAt, IsDone, Reaches, Uncut, SeenFrom, IsSearch, IsMerged, Later, work}
 use Rattle.net_check.specs.declared.cycle.Mark.{Mark}

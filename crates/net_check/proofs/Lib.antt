@@ -1,7 +1,6 @@
 pub mod Walks
 pub mod Steps
 pub mod Ends
-pub mod Told
 pub mod Broken
 pub mod Lacks
 pub mod Netlists

@@ -5,7 +5,7 @@ use Rattle.std.proofs.lemmas.Bool.{cases_eq, eq-eqb, ne_eqb}
 use Rattle.std.proofs.lemmas.List.{get_or-set_same, get_or-set_other, length-set, length_push, get_or_push}
 use Rattle.net_model.specs.Order.{place_of}
 use Rattle.net_model.specs.Depends.{Depends}
-use Rattle.net_model.proofs.Orders.{all_weaker}
+use Rattle.rec_bits.proofs.Lists.{all_weaker}
 use Rattle.net_model.specs.Depends.{Among}
 use Rattle.net_check.specs.Graphs.{named_in, InRange}
 use Rattle.net_check.specs.Walk.{stage_at, IsWalk, GoesOn}

@@ -3,7 +3,7 @@ use Rattle.std.proofs.Common.{slice_set, slice_get, slice_index, add-one, inl, i
 use Rattle.std.specs.List.{AllByRecursion}
 use Rattle.std.proofs.lemmas.Bool.{cases_eq}
 use Rattle.std.proofs.lemmas.List.{get_or-set_same, get_or-set_other, length-set}
-use Rattle.net_model.proofs.Orders.{all_weaker}
+use Rattle.rec_bits.proofs.Lists.{all_weaker}
 use Rattle.net_model.specs.Depends.{Among, Depends, direct, via}
 use Rattle.net_check.specs.Graphs.{named_in}
 use Rattle.net_check.specs.Walk.{stage_at, Linked, unplaced, IsWalk, left, work}

@@ -4,7 +4,7 @@ use Rattle.net_model.specs.declared.hardware.Netlist.{Netlist}
 use Rattle.net_model.specs.Nets.{width_at}
 use Rattle.net_model.specs.Symbolic.{is_static}
 use Rattle.net_model.specs.CheckedRules.{is_control, HasStaticEnables, HasPlainControl, HasNarrowSelectors}
-use Rattle.net_check.specs.Flags.{flag_at}
+use Rattle.net_model.specs.Flags.{flag_at}
 use Rattle.net_check.specs.declared.control.Flags.{Flags}
 use Rattle.net_check.specs.declared.control.Rule.{Rule}
 use Rattle.net_check.specs.declared.control.Rule.TheVariants.{Enable, ControlOp, WideSelect}

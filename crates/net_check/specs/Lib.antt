@@ -1,6 +1,5 @@
 pub mod Graphs
 pub mod Walk
-pub mod Flags
 pub mod Control
 pub mod Roles
 pub mod Worked

@@ -1,18 +1,16 @@
 // The rules on the nets that stand in control places.
 
-ghost use Rattle.std.specs.Prelude.{◌≡◌, ◌++◌, IfOk, MatchOption, Some};
+ghost use Rattle.std.specs.Prelude.{◌≡◌, IfOk, MatchOption, Some};
 ghost use Rattle.net_model.specs.CheckedRules.{HasRoles};
-ghost use Rattle.net_model.specs.Depends.{IsAcyclic, named_by};
+ghost use Rattle.net_model.specs.Depends.{IsAcyclic};
 ghost use Rattle.rec_bits.specs.Faults.{least, sooner};
 ghost use Rattle.net_model.specs.NetFaults.{FaultOf, enables, failing, name_at, selectors};
 ghost use Rattle.net_model.specs.Nets.{width_at};
 ghost use Rattle.net_model.specs.Order.{IsOrder};
 ghost use Rattle.net_check.specs.Control.{HasFlags, KeepsControl, passes};
-ghost use Rattle.net_check.specs.Graphs.{named_in};
 
-use crate::flags::{Property, flags_of, is_set};
 use crate::places::{enables_of, selectors_of};
-use net_model::{NetFault, Netlist};
+use net_model::{NetFault, Netlist, Property, flags_of, is_set};
 use rec_bits::{Items, NoMemory};
 use std::alloc::Global;
 
@@ -122,16 +120,14 @@ fn first_broken(
 pub(crate) fn control_fault(
     alloc: Global,
     netlist: &Netlist,
-    graph: &[Items<u32>],
     order: &[u32],
 ) -> Result<Option<NetFault>, NoMemory>
     requires roles { HasRoles netlist.now }
-    requires graph { named_in graph.now ≡ named_by netlist.now }
     requires order { IsOrder netlist.now order.now }
     ensures { IfOk result (λ found. MatchOption found (KeepsControl netlist.now) (FaultOf netlist.now)) }
 {
-    let statics = flags_of(alloc, Property::Static, netlist, graph, order)?;
-    let controls = flags_of(alloc, Property::Control, netlist, graph, order)?;
+    let statics = flags_of(alloc, Property::Static, netlist, order)?;
+    let controls = flags_of(alloc, Property::Control, netlist, order)?;
     let flags = Flags { statics, controls };
     let enable_nets = enables_of(alloc, netlist)?;
     let selector_nets = selectors_of(alloc, netlist)?;

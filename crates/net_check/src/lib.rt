@@ -3,14 +3,11 @@
 
 mod control;
 mod cycle;
-mod flags;
 mod graph;
 mod places;
 mod role;
 mod rules;
 mod stack;
-#[cfg(test)]
-mod tests;
 mod walk;
 
 pub use rules::check;

@@ -46,7 +46,7 @@ fn checked_order(alloc: Global, netlist: &Netlist) -> Result<Items<u32>, CheckFa
     if let Some(role) = lacking_role(netlist) {
         return Err(CheckFault::Fault(NetFault::Role(role)));
     }
-    if let Some(fault) = control_fault(alloc, netlist, graph.as_slice(), order.as_slice())? {
+    if let Some(fault) = control_fault(alloc, netlist, order.as_slice())? {
         return Err(CheckFault::Fault(fault));
     }
     Ok(order)

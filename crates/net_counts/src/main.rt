@@ -10,7 +10,7 @@
 #![tactic(auto)]
 
 use anyhow::{Result, bail};
-use net_front::read_net;
+use net_front::{NetRefusal, read_net};
 use std::alloc::Global;
 
 // The line that is printed of a netlist.
@@ -19,8 +19,10 @@ fn line(alloc: Global, name: &str, text: &str) -> Result<String> {
     if bytes.len() > 1_048_576 {
         bail!("{name} is too long");
     }
-    let Ok((_, checked)) = read_net(alloc, bytes) else {
-        bail!("{name} is no netlist");
+    let (_, checked) = match read_net(alloc, bytes) {
+        Ok(read) => read,
+        Err(NetRefusal::Memory) => bail!("out of memory"),
+        Err(_) => bail!("{name} is no netlist"),
     };
     let nets = checked.netlist().nets.len();
     let storages = checked.netlist().storages.len();

@@ -25,8 +25,9 @@ use Rattle.net_model.specs.Numbering.{Site, of_text, scope_at, bound, count, cou
 use Rattle.net_model.specs.Elaborated.{bound_out, codes_from, count_codes, driver_nets, driver_pairs, equation_nets, equations_nets, input_nets, inputs_nets, inside, item_codes, item_nets, item_storages, nets_from, nets_if, nets_of, netlist_of, out_if, out_of, output_wire, output_wires, plain_net, storages_from}
 use Rattle.net_elab.proofs.Standing.{Stands, stands_left, stands_right, length_equation, length_input, length_items, length_nets}
 use Rattle.net_elab.proofs.ItemNames.{names_differ}
-use Rattle.net_elab.proofs.Booleans.{and_left, and_right}
-use Rattle.net_elab.proofs.Kept.{SiteSound, all_append, keeps, out_has, width_range}
+use Rattle.rec_bits.proofs.Booleans.{and_left, and_right}
+use Rattle.rec_bits.proofs.Lists.{all_append}
+use Rattle.net_elab.proofs.Kept.{SiteSound, keeps, out_has, width_range}
 use Rattle.net_elab.proofs.Places.{AllLocated, Located, first_located, others_located, stands_else, stands_then}
 use Rattle.net_elab.proofs.Sounds.{all_located, found, inside_sound, module_of, part_stands, text_sound}
 

@@ -11,7 +11,7 @@ use Rattle.net_model.specs.NameRules.{is_among}
 use Rattle.net_model.specs.DriverRules.{names_new}
 use Rattle.net_model.specs.Numbering.{count_item}
 use Rattle.net_model.specs.Elaborated.{codes_from, netlist_of, storages_from}
-use Rattle.net_elab.proofs.Booleans.{and_left, and_right, not_true, or_left, or_right}
+use Rattle.rec_bits.proofs.Booleans.{and_left, and_right, not_true, left_false, right_false}
 
 abbrev code_name : Code → List ℕ
 code_name made = made.name
@@ -33,7 +33,7 @@ fresh_from : (name : List ℕ) (before names : List (List ℕ)) → ((m : List �
 fresh_from name before [] f h = tt
 fresh_from name before (n ∷ names) f h = (
   f n (not_true (is_among before n) (and_left (not (is_among before n)) (names_new (n ∷ before) names) h)),
-  fresh_from name (n ∷ before) names (λ m e. f m (or_right (same_name n m) (is_among before m) e)) (and_right (not (is_among before n)) (names_new (n ∷ before) names) h),
+  fresh_from name (n ∷ before) names (λ m e. f m (right_false (same_name n m) (is_among before m) e)) (and_right (not (is_among before n)) (names_new (n ∷ before) names) h),
 )
 
 fresh_append : (name : List ℕ) (xs ys : List (List ℕ)) → Fresh name xs → Fresh name ys → Fresh name (xs ++ ys)
@@ -88,7 +88,7 @@ module _ (text : List Entry) where
   distinct_names start before [] h = distinct_none
   distinct_names start before (e ∷ entries) h =
       let k = and_right (not (is_among before (own_name e).name)) (names_new ((own_name e).name ∷ before) (item_names entries)) h in
-      let f = fresh_from (own_name e).name ((own_name e).name ∷ before) (item_names entries) (λ m o. or_left (same_name (own_name e).name m) (is_among before m) o) k in
+      let f = fresh_from (own_name e).name ((own_name e).name ∷ before) (item_names entries) (λ m o. left_false (same_name (own_name e).name m) (is_among before m) o) k in
       more e start entries f (distinct_names (start + count_item text e) ((own_name e).name ∷ before) entries k)
     where
       more : (e : Entry) (start : ℕ) (entries : List Entry) → Fresh (own_name e).name (item_names entries) → IsDistinct same_name (stored (start + count_item text e) entries ++ coded entries)

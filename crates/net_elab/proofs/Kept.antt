@@ -2,6 +2,7 @@
 use Rattle.std.proofs.Common.{ℕ, ◌≡◌, ◌+◌, ◌-◌, ◌^◌, ◌<◌, ◌≤◌, ◌==◌, ◌&&◌, Bool, true, false, if◌then◌else◌, List, [], ◌∷◌, ◌++◌, length, map, Option, Some, None, slice_get, refl, sym, ap, subst, arith, IsTrue, nat_le, lit≤, length-append}
 use Rattle.std.specs.List.{AllByRecursion}
 use Rattle.std.proofs.lemmas.Bool.Decides.{nat_tests}
+use Rattle.rec_bits.proofs.Lists.{all_append}
 use Rattle.rec_bits.specs.declared.operator.Op2.{Op2}
 use Rattle.rec_bits.specs.declared.operator.Op2.TheVariants.{Add, Sub, Mul, And, Or, Xor, Shl, Shr, Sar, Eq, Ltu, Lts}
 use Rattle.rec_bits.specs.Operators.{result_width}
@@ -17,14 +18,10 @@ use Rattle.net_model.specs.TextWidths.{wide, is_width, is_below, named_width, me
 use Rattle.net_model.specs.DriverRules.{covers, covers_rows, covers_rest, is_covered}
 use Rattle.net_model.specs.Numbering.{Site, scope_at, count, count_rows, count_rest, net_named, memory_at}
 use Rattle.net_model.specs.Elaborated.{width_or_none, net_of, nets_of, nets_of_rows, nets_of_rest, out_of, row_pairs, rest_out}
-use Rattle.net_elab.proofs.Booleans.{and_left, and_right}
+use Rattle.rec_bits.proofs.Booleans.{and_left, and_right}
 use Rattle.net_elab.proofs.Cases.{RowsHave, RestHas, case_has, no_arms}
 use Rattle.net_elab.proofs.Standing.{Stands, stands_left, stands_right, has_at, length_nets, length_rows, length_rest}
 use Rattle.net_elab.proofs.RowNumbers.{rows_apart, rows_whole}
-
-pub all_append : {A : Type 0} (P : A → Type 0) (xs ys : List A) → AllByRecursion P xs → AllByRecursion P ys → AllByRecursion P (xs ++ ys)
-all_append P [] ys h k = k
-all_append P (x ∷ xs) ys h k = (h.0, all_append P xs ys h.1 k)
 
 pub width_range : (width : ℕ) → IsTrue (is_width width) → IsWidth width
 width_range width h = (grind (arith, nat_tests), grind (arith, nat_tests))

@@ -1,4 +1,3 @@
-pub mod Booleans
 pub mod Cases
 pub mod Drivers
 pub mod Emits

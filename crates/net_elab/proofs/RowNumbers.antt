@@ -11,7 +11,7 @@ use Rattle.net_model.specs.TextWidths.{is_below, numbers_fit}
 use Rattle.net_model.specs.DriverRules.{is_covered, is_rest, are_all, are_new, row_numbers as numbers_of}
 use Rattle.net_model.specs.Numbering.{Site, count}
 use Rattle.net_model.specs.Elaborated.{out_of, row_pairs, rest_out}
-use Rattle.net_elab.proofs.Booleans.{and_left, and_right, not_true, or_left, or_right}
+use Rattle.rec_bits.proofs.Booleans.{and_left, and_right, not_true, left_false, right_false}
 use Rattle.net_elab.proofs.Cases.{RowsHave}
 
 -- the numbers of the rows are those that are written
@@ -29,12 +29,12 @@ same_numbers site start (row numbers a rows) =
 any_left : (m : ℕ) (xs ys : List ℕ) → list_any (nat_eq m) (xs ++ ys) ≡ false → list_any (nat_eq m) xs ≡ false
 any_left m [] ys h = refl
 any_left m (x ∷ xs) ys h =
-    let r = any_left m xs ys (or_right (nat_eq m x) (list_any (nat_eq m) (xs ++ ys)) h) in
-    rw (or_left (nat_eq m x) (list_any (nat_eq m) (xs ++ ys)) h, r) refl
+    let r = any_left m xs ys (right_false (nat_eq m x) (list_any (nat_eq m) (xs ++ ys)) h) in
+    rw (left_false (nat_eq m x) (list_any (nat_eq m) (xs ++ ys)) h, r) refl
 
 any_last : (m n : ℕ) (xs : List ℕ) → list_any (nat_eq m) (xs ++ n ∷ []) ≡ false → nat_eq n m ≡ false
-any_last m n [] h = let k : nat_eq m n ≡ false = or_left (nat_eq m n) false h in grind (arith, nat_tests)
-any_last m n (x ∷ xs) h = any_last m n xs (or_right (nat_eq m x) (list_any (nat_eq m) (xs ++ n ∷ [])) h)
+any_last m n [] h = let k : nat_eq m n ≡ false = left_false (nat_eq m n) false h in grind (arith, nat_tests)
+any_last m n (x ∷ xs) h = any_last m n xs (right_false (nat_eq m x) (list_any (nat_eq m) (xs ++ n ∷ [])) h)
 
 apart_from : (b : ℕ) (before numbers : List ℕ) → ((m : ℕ) → list_any (nat_eq m) before ≡ false → nat_eq b m ≡ false) → IsTrue (are_new before numbers) → AllByRecursion (λ m. nat_eq b m ≡ false) numbers
 apart_from b before [] f h = tt
@@ -61,7 +61,7 @@ member k ks = list_any (nat_eq k) ks
 
 none_is : (k : ℕ) (ks : List ℕ) → member k ks ≡ false → AllByRecursion (λ y. nat_eq k y ≡ false) ks
 none_is k [] h = tt
-none_is k (x ∷ xs) h = (or_left (nat_eq k x) _ h, none_is k xs (or_right (nat_eq k x) _ h))
+none_is k (x ∷ xs) h = (left_false (nat_eq k x) _ h, none_is k xs (right_false (nat_eq k x) _ h))
 
 distinct_more : (k : ℕ) (ks : List ℕ) → member k ks ≡ false → IsDistinct nat_eq ks → IsDistinct nat_eq (k ∷ ks)
 unfolding IsDistinct

@@ -15,7 +15,7 @@ use Rattle.net_model.specs.DriverRules.{covers_binding, drives_once}
 use Rattle.net_model.specs.Numbering.{Site, of_text, count, count_inputs, count_outputs, count_item, equations_of, item_net, item_wires, list_or_none, port_place, port_wires, storage_named, wires_named}
 use Rattle.net_model.specs.Elaborated.{codes_from, driver_nets, equations_nets, inputs_nets, inside, nets_from, nets_if, nets_of, netlist_of, out_of, output_wires, part_nets, storages_from}
 use Rattle.net_elab.proofs.Standing.{Stands, stands_left, stands_right, stands_self, length_drivers, length_if, length_inputs, length_nets, length_outputs}
-use Rattle.net_elab.proofs.Booleans.{and_right}
+use Rattle.rec_bits.proofs.Booleans.{and_right}
 use Rattle.net_elab.proofs.Kept.{SiteSound, width_range}
 use Rattle.net_elab.proofs.Ports.{port_keeps}
 use Rattle.net_elab.proofs.Places.{AllLocated, FoundItem, Located, locate, plain_at, wire_in, wire_out}

@@ -1,4 +1,3 @@
 pub mod Emissions
 pub mod Found
-pub mod Nodes
 pub mod Sites

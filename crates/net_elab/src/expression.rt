@@ -1,7 +1,6 @@
 //! The nets of expressions.
 
 ghost use Rattle.std.specs.Prelude.{◌≡◌, ◌+◌, ◌<◌, ◌^◌, ◌++◌, IfOk, IsSome, OnOk, Some, length, map, option_map, option_copied, ℕ};
-ghost use Rattle.rec_bits.specs.Operators.{result_width};
 ghost use Rattle.net_model.specs.declared.hardware.Gate.TheVariants.{Slice};
 ghost use Rattle.net_model.specs.Numbering.{count, count_if, count_rest, count_rows, net_named, scope_at};
 ghost use Rattle.net_model.specs.TextWidths.{named_width, sliced, wide};
@@ -11,7 +10,7 @@ ghost use Rattle.net_elab.specs.Sites.{site_of};
 
 use crate::site::{Site, Spot};
 use net_model::{Gate, Ident, Net, NetExpr};
-use rec_bits::{Items, NoMemory, Op2};
+use rec_bits::{Items, NoMemory, result_width};
 use std::alloc::Global;
 
 /// One more net, of the item whose name has the offset `at`.
@@ -61,24 +60,6 @@ fn emit_name(
     match bits {
         None => Ok(spot),
         Some((hi, lo)) => push_slice(nets, at, spot, *hi, *lo),
-    }
-}
-
-/// The width of an operator's value, at operands of a width.
-fn result_width(op: Op2, width: u8) -> u8
-    ensures { result ≡ result_width op width }
-{
-    match op {
-        Op2::Eq | Op2::Ltu | Op2::Lts => 1,
-        Op2::Add
-        | Op2::Sub
-        | Op2::Mul
-        | Op2::And
-        | Op2::Or
-        | Op2::Xor
-        | Op2::Shl
-        | Op2::Shr
-        | Op2::Sar => width,
     }
 }
 

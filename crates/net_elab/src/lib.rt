@@ -8,8 +8,6 @@ mod item;
 mod numbers;
 mod part;
 mod site;
-#[cfg(test)]
-mod tests;
 mod whole;
 
 pub use whole::elaborate;

@@ -11,7 +11,7 @@ use Rattle.net_model.specs.Clock.{clash_in, enabled_count, gate_clashes, is_enab
 use Rattle.net_model.specs.Symbolic.{blank, is_static, sym_of}
 use Rattle.net_model.specs.Meaning.{mean}
 use Rattle.net_model.specs.Control.{EnablesStatic, NetControlled, GateControlled, IsWhenStatic, IsStorageControlled, IsSound}
-use Rattle.net_model.specs.Transfers.{same_reg, is_on, storage_move, transfer_of, IsClean, Moved, reg_moved, cells_moved}
+use Rattle.net_model.specs.Transfers.{same_reg, storage_move, transfer_of, IsClean, Moved, reg_moved, cells_moved}
 use Rattle.net_model.specs.declared.hardware.Netlist.{Netlist}
 use Rattle.net_model.specs.declared.hardware.Net.{Net}
 use Rattle.net_model.specs.declared.hardware.Gate.{Gate}
@@ -64,7 +64,7 @@ IsAtControlled netlist (Some storage) = IsStorageControlled netlist storage
 
 -- whether a storage's `when` is on, by the values of static nets
 module _ (netlist : Netlist) (s : State) (i : ℕ) (t : ℕ → Term) (u v : ℕ → ℕ) (h : (m : ℕ) → mean (t m) s i ≡ v m) (hu : (m : ℕ) → is_static netlist m ≡ true → u m ≡ v m) where
-  on_same : (when : Option ℕ) → IsWhenStatic netlist when → is_enabled v when ≡ is_on u when
+  on_same : (when : Option ℕ) → IsWhenStatic netlist when → is_enabled v when ≡ is_enabled u when
   on_same None c = refl
   on_same (Some when) c = rw (hu when c) refl
 
@@ -82,7 +82,7 @@ module _ (netlist : Netlist) (s : State) (i : ℕ) (t : ℕ → Term) (u v : ℕ
   reg_law None id r c = absurd r
   reg_law (Some (Memory name width size addr_width value addr when)) id r c = absurd r
   reg_law (Some (Register name width input when)) id r c =
-      rw (on_same when c) (pick_reg (is_on u when) (same_reg (t input) id) input id (λ e. sym (h input) ∙ same_mean (t input) id e))
+      rw (on_same when c) (pick_reg (is_enabled u when) (same_reg (t input) id) input id (λ e. sym (h input) ∙ same_mean (t input) id e))
 
   pick_cells : (a : Bool) (addr value : ℕ) → cond a (slice_set s.cells (v addr) (v value)) s.cells ≡ cells_moved (cond a (write_at (t addr) (t value)) keep) s i
   pick_cells true addr value = rw (h addr, h value) refl
@@ -91,7 +91,7 @@ module _ (netlist : Netlist) (s : State) (i : ℕ) (t : ℕ → Term) (u v : ℕ
   cells_law : (storages : List Storage) (id : ℕ) → AllByRecursion (IsStorageControlled netlist) storages → next_cells v storages s.cells ≡ cells_moved (option_move t u (slice_get storages (memory_id storages)) id) s i
   cells_law [] id c = refl
   cells_law (Register name width input when ∷ storages) id c = cells_law storages id c.1
-  cells_law (Memory name width size addr_width value addr when ∷ storages) id c = rw (on_same when c.0) (pick_cells (is_on u when) addr value)
+  cells_law (Memory name width size addr_width value addr when ∷ storages) id c = rw (on_same when c.0) (pick_cells (is_enabled u when) addr value)
 
 length-next_cells : (v : ℕ → ℕ) (storages : List Storage) (cells : List ℕ) → length (next_cells v storages cells) ≡ length cells
 length-next_cells v [] cells = refl

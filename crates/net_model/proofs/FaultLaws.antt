@@ -26,7 +26,8 @@ use Rattle.rec_bits.specs.Faults.{least, gather}
 use Rattle.net_model.specs.NetFaults.{name_at, gate_enables, gate_selectors, enables, selectors, enable_offsets, control_offsets, selector_offsets, is_plain, is_selector, LacksRole, FaultOf, Refuses, IsFaultOrMemory}
 use Rattle.net_model.proofs.Acyclic.{acyclic_of}
 use Rattle.rec_bits.proofs.Faults.{least_none}
-use Rattle.net_model.proofs.Offsets.{all_append, all_parts, all_gather, gather_all, kept_of, none_of}
+use Rattle.rec_bits.proofs.Lists.{all_append}
+use Rattle.net_model.proofs.Offsets.{all_parts, all_gather, gather_all, kept_of, none_of}
 
 -- ---- each of a list, by its place
 

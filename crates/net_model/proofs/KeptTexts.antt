@@ -3,6 +3,7 @@ use Rattle.std.proofs.Common.{ℕ, zero, suc, ◌≡◌, ◌^◌, ◌<◌, ◌�
 use Rattle.std.proofs.lemmas.Bool.Decides.{nat_tests}
 use Rattle.std.specs.Cmp.Lexicographic.{bytes_decides}
 use Rattle.std.specs.List.{AllByRecursion, list_all}
+use Rattle.rec_bits.proofs.Booleans.{and_left, and_right, left_false, right_false}
 use Rattle.rec_bits.specs.Faults.{least, gather, broken}
 use Rattle.rec_bits.proofs.Faults.{least_none}
 use Rattle.net_model.specs.declared.fault.NetFault.{NetFault}
@@ -57,30 +58,14 @@ rule_kept rule offsets h = least_none offsets (at_none rule (least offsets) h)
 
 -- ---- tests
 
-left_holds : (a b : Bool) → IsTrue (a && b) → IsTrue a
-left_holds true b h = refl
-left_holds false b h = absurd (cc h)
-
-right_holds : (a b : Bool) → IsTrue (a && b) → IsTrue b
-right_holds true b h = h
-right_holds false b h = absurd (cc h)
-
 both_hold : (a b : Bool) → a ≡ false → IsTrue b → IsTrue (not a && b)
 both_hold true b h k = absurd (cc h)
 both_hold false b h k = k
 
-left_fails : (a b : Bool) → a || b ≡ false → a ≡ false
-left_fails true b h = absurd (cc h)
-left_fails false b h = refl
-
-right_fails : (a b : Bool) → a || b ≡ false → b ≡ false
-right_fails true b h = absurd (cc h)
-right_fails false b h = h
-
 all_pass : {A : Type 0} (test : A → Bool) (P : A → Type 0) → ((x : A) → IsTrue (test x) → P x) → (xs : List A) → IsTrue (list_all test xs) → AllByRecursion P xs
 all_pass test P f [] h = tt
 all_pass test P f (x ∷ xs) h =
-    (f x (left_holds (test x) (list_all test xs) h), all_pass test P f xs (right_holds (test x) (list_all test xs) h))
+    (f x (and_left (test x) (list_all test xs) h), all_pass test P f xs (and_right (test x) (list_all test xs) h))
 
 all_both : {A : Type 0} (P Q R : A → Type 0) → ((x : A) → P x → Q x → R x) → (xs : List A) → AllByRecursion P xs → AllByRecursion Q xs → AllByRecursion R xs
 all_both P Q R f [] h k = tt
@@ -113,7 +98,7 @@ ports_differ name before (p ∷ ports) f h =
     let offsets = broken (is_among before p.name.name) p.name.at in
     let later = repeated (p.name.name ∷ before) (map port_name ports) in (
       f p.name.name (not_broken (is_among before p.name.name) p.name.at (left_none offsets later h)),
-      ports_differ name (p.name.name ∷ before) ports (λ m e. f m (right_fails (same_name p.name.name m) (is_among before m) e)) (right_none offsets later h),
+      ports_differ name (p.name.name ∷ before) ports (λ m e. f m (right_false (same_name p.name.name m) (is_among before m) e)) (right_none offsets later h),
     )
 
 -- a port is the one of its direction and name
@@ -151,7 +136,7 @@ own_ports output before (p ∷ ports) h =
     let others = right_none offsets later h in (
       own_first output p ports,
       all_both (Differs p.name.name) (OwnPort output ports) (OwnPort output (p ∷ ports)) (own_later output p ports) ports
-          (ports_differ p.name.name (p.name.name ∷ before) ports (λ m e. left_fails (same_name p.name.name m) (is_among before m) e) others)
+          (ports_differ p.name.name (p.name.name ∷ before) ports (λ m e. left_false (same_name p.name.name m) (is_among before m) e) others)
           (own_ports output (p.name.name ∷ before) ports others),
     )
 
@@ -170,8 +155,8 @@ enables_is s (Some a) h = feeds_is s 1 a h
 
 driver_is : (s : Scope) (width : ℕ) (driver : Phrase × Phrase) → IsTrue (driver_feeds s width driver) → DriverFeeds s width driver
 driver_is s width driver h = (
-  feeds_is s width driver.0 (left_holds (feeds s width driver.0) (feeds s 1 driver.1) h),
-  feeds_is s 1 driver.1 (right_holds (feeds s width driver.0) (feeds s 1 driver.1) h),
+  feeds_is s width driver.0 (and_left (feeds s width driver.0) (feeds s 1 driver.1) h),
+  feeds_is s 1 driver.1 (and_right (feeds s width driver.0) (feeds s 1 driver.1) h),
 )
 
 -- ---- bindings
@@ -191,8 +176,8 @@ module _ (output : Bool) (ports : List Port) (s : Scope) (p : Port) (own : port_
   bound_is : (bindings : List (Ident × Phrase)) → IsTrue (list_all (binding_feeds output ports s) bindings) → IsTrue (is_some (bound bindings p.name.name)) → IsBound s p.width (bound bindings p.name.name)
   bound_is [] h k = absurd (cc k)
   bound_is (binding ∷ bindings) h k =
-      let here = left_holds (binding_feeds output ports s binding) (list_all (binding_feeds output ports s) bindings) h in
-      let later = right_holds (binding_feeds output ports s binding) (list_all (binding_feeds output ports s) bindings) h in
+      let here = and_left (binding_feeds output ports s binding) (list_all (binding_feeds output ports s) bindings) h in
+      let later = and_right (binding_feeds output ports s binding) (list_all (binding_feeds output ports s) bindings) h in
       by_name (same_name binding.0.name p.name.name) binding (bound bindings p.name.name) refl here (bound_is bindings later) k
 
 second_of : (a b : Bool) → a ≡ false → IsTrue (a || b) → IsTrue b
@@ -213,7 +198,7 @@ port_fed false ports s bindings h p driven own =
 ports_fed : (output : Bool) (ports : List Port) (s : Scope) (bindings : List (Ident × Phrase)) → repeated [] (map port_name ports) ≡ []
     → IsTrue (list_all (binding_feeds output ports s) bindings) → IsTrue (drives_once output ports bindings) → AllByRecursion (PortFed output s bindings) ports
 ports_fed output ports s bindings apart h once =
-    let driven = left_holds (list_all (is_driven output bindings) ports) (names_new [] (map binding_name bindings)) once in
+    let driven = and_left (list_all (is_driven output bindings) ports) (names_new [] (map binding_name bindings)) once in
     all_both (λ p. IsTrue (is_driven output bindings p)) (OwnPort output ports) (PortFed output s bindings) (port_fed output ports s bindings h) ports
     (all_pass (is_driven output bindings) (λ p. IsTrue (is_driven output bindings p)) (λ p d. d) ports driven)
     (own_ports output [] ports apart)
@@ -239,10 +224,10 @@ module _ (text : List Entry) (apart : AllByRecursion (λ e. repeated_ports e ≡
   item_keeps (code name bits size counter) own known fit driven cells words =
       (fit, words, register_item (item_named text counter.name) (kept (is_register (item_named text counter.name)) counter.at known))
   item_keeps (register name width input when) own known fit driven cells words =
-      let a = left_holds (is_width width && feeds (in_text text) width input) (enables (in_text text) when) fit in (
-        left_holds (is_width width) (feeds (in_text text) width input) a,
-        feeds_is (in_text text) width input (right_holds (is_width width) (feeds (in_text text) width input) a),
-        enables_is (in_text text) when (right_holds (is_width width && feeds (in_text text) width input) (enables (in_text text) when) fit),
+      let a = and_left (is_width width && feeds (in_text text) width input) (enables (in_text text) when) fit in (
+        and_left (is_width width) (feeds (in_text text) width input) a,
+        feeds_is (in_text text) width input (and_right (is_width width) (feeds (in_text text) width input) a),
+        enables_is (in_text text) when (and_right (is_width width && feeds (in_text text) width input) (enables (in_text text) when) fit),
       )
   item_keeps (memory name width size addr_width value addr when) own known fit driven cells words =
       let s = in_text text in
@@ -250,36 +235,36 @@ module _ (text : List Entry) (apart : AllByRecursion (λ e. repeated_ports e ≡
       let y = is_width addr_width in
       let v = feeds s width value in
       let w = feeds s addr_width addr in
-      let a = left_holds (x && y && v && w) (enables s when) fit in
-      let b = left_holds (x && y && v) w a in
-      let c = left_holds (x && y) v b in (
-        left_holds x y c,
-        right_holds x y c,
+      let a = and_left (x && y && v && w) (enables s when) fit in
+      let b = and_left (x && y && v) w a in
+      let c = and_left (x && y) v b in (
+        and_left x y c,
+        and_right x y c,
         cells,
-        feeds_is s width value (right_holds (x && y) v b),
-        feeds_is s addr_width addr (right_holds (x && y && v) w a),
-        enables_is s when (right_holds (x && y && v && w) (enables s when) fit),
+        feeds_is s width value (and_right (x && y) v b),
+        feeds_is s addr_width addr (and_right (x && y && v) w a),
+        enables_is s when (and_right (x && y && v && w) (enables s when) fit),
       )
   item_keeps (net name width value) own known fit driven cells words = (
-    left_holds (is_width width) (feeds (in_text text) width value) fit,
-    feeds_is (in_text text) width value (right_holds (is_width width) (feeds (in_text text) width value) fit),
+    and_left (is_width width) (feeds (in_text text) width value) fit,
+    feeds_is (in_text text) width value (and_right (is_width width) (feeds (in_text text) width value) fit),
   )
   item_keeps (bus name width drivers) own known fit driven cells words = (
-    left_holds (is_width width) (list_all (driver_feeds (in_text text) width) drivers) fit,
+    and_left (is_width width) (list_all (driver_feeds (in_text text) width) drivers) fit,
     all_pass (driver_feeds (in_text text) width) (DriverFeeds (in_text text) width) (driver_is (in_text text) width) drivers
-        (right_holds (is_width width) (list_all (driver_feeds (in_text text) width) drivers) fit),
+        (and_right (is_width width) (list_all (driver_feeds (in_text text) width) drivers) fit),
   )
   item_keeps (module_item name ports equations) own known fit driven cells words =
       let widths = list_all port_keeps ports in
       let feeding = list_all (binding_feeds true ports (in_module ports)) equations in (
-        all_pass port_keeps PortKeeps (λ p h. h) ports (left_holds widths feeding fit),
-        ports_fed true ports (in_module ports) equations own (right_holds widths feeding fit)
-            (left_holds (drives_once true ports equations) (list_all (covers_binding (in_module ports)) equations) driven),
+        all_pass port_keeps PortKeeps (λ p h. h) ports (and_left widths feeding fit),
+        ports_fed true ports (in_module ports) equations own (and_right widths feeding fit)
+            (and_left (drives_once true ports equations) (list_all (covers_binding (in_module ports)) equations) driven),
       )
   item_keeps (part name of links) own known fit driven cells words =
       let ports = ports_of (item_named text of.name) in
       ports_fed false ports (in_text text) links (ports_apart_at text (place_named text of.name) apart) fit
-      (left_holds (drives_once false ports links) (list_all (covers_binding (in_text text)) links) driven)
+      (and_left (drives_once false ports links) (list_all (covers_binding (in_text text)) links) driven)
 
   items_keep : (entries : List Entry) → AllByRecursion (λ e. repeated_ports e ≡ []) entries → AllByRecursion (λ e. unknown_in_item text e ≡ []) entries
       → AllByRecursion (λ e. misfit text e ≡ []) entries → AllByRecursion (λ e. undriven text e ≡ []) entries

@@ -7,6 +7,7 @@ pub mod NextStates
 pub mod WorkedTexts
 pub mod WorkedElaborable
 pub mod Orders
+pub mod Told
 pub mod KeptRules
 pub mod KeptTexts
 pub mod WorkedRules

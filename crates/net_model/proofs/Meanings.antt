@@ -4,6 +4,7 @@ use Rattle.std.proofs.Math.Pow.{mod-mod-pow}
 use Rattle.std.proofs.lemmas.Nat.{field_of, shr-shr}
 use Rattle.std.proofs.lemmas.Bool.{cases_eq, eq-eqb, ne_eqb, eqb-true}
 use Rattle.std.proofs.Math.Nat.{mod-eq_of_lt}
+use Rattle.rec_bits.proofs.Booleans.{both}
 use Rattle.rec_bits.specs.Operators.{slice_of}
 use Rattle.net_model.specs.Terms.{Term, slice, select, term_width}
 use Rattle.net_model.specs.Nets.{width_at, net_width, gate_nets}
@@ -20,10 +21,6 @@ use Rattle.net_model.specs.declared.hardware.Gate.TheVariants.{Word, Reg, Read, 
 use Rattle.net_model.specs.declared.states.State.{State}
 use Rattle.net_model.proofs.Agree.{Agree, same_gate}
 use Rattle.net_model.proofs.Fits.{value_fits}
-
-both : (a b : Bool) → (a && b) ≡ true → (a ≡ true) × (b ≡ true)
-both true b e = (refl, e)
-both false b e = cc
 
 is_true : (b : Bool) → IsTrue b → b ≡ true
 is_true b h = h

@@ -1,14 +1,11 @@
 -- The offsets at which a test fails, and the least of them.
 use Rattle.std.proofs.Common.{ℕ, ◌≡◌, ◌++◌, Bool, true, false, if◌then◌else◌, List, [], ◌∷◌, refl, ap}
 use Rattle.std.specs.List.{AllByRecursion}
+use Rattle.rec_bits.proofs.Lists.{all_append}
 use Rattle.rec_bits.specs.Faults.{least, gather}
 use Rattle.net_model.specs.NetFaults.{failing}
 
 -- ---- what all of a list keeps
-
-pub all_append : (P : ℕ → Type 0) (xs ys : List ℕ) → AllByRecursion P xs → AllByRecursion P ys → AllByRecursion P (xs ++ ys)
-all_append P [] ys h k = k
-all_append P (x ∷ xs) ys h k = (h.0, all_append P xs ys h.1 k)
 
 pub all_parts : (P : ℕ → Type 0) (xs ys : List ℕ) → AllByRecursion P (xs ++ ys) → AllByRecursion P xs × AllByRecursion P ys
 all_parts P [] ys h = (tt, h)

@@ -1,9 +1,9 @@
 -- The value of a net of a netlist with an order is its gate's at the values of the nets before it.
 use Rattle.std.proofs.Common.{get_or, ◌^◌, slice_set, add-one, inl, inr, ◌≡◌, ℕ, ◌+◌, ◌<◌, ◌≤◌, ◌==◌, List, [], ◌∷◌, Some, None, length, sym, ◌∙◌, ap, arith, subst, refl, Bool, true, false, cond, slice_get, slice_index, zero, suc}
-use Rattle.std.specs.List.{AllByRecursion}
 use Rattle.std.proofs.lemmas.Bool.{cases_eq, eq-eqb, ne_eqb}
 use Rattle.std.proofs.lemmas.Option.{slice_get_cases, slice_get_read}
 use Rattle.std.proofs.lemmas.List.{get_or-set_same, get_or-set_other, get_or_past}
+use Rattle.rec_bits.proofs.Lists.{all_weaker}
 use Rattle.net_model.specs.declared.hardware.Netlist.{Netlist}
 use Rattle.net_model.specs.declared.hardware.Net.{Net}
 use Rattle.net_model.specs.declared.states.State.{State}
@@ -13,11 +13,6 @@ use Rattle.net_model.specs.Widths.{IsTyped, StateFits, WordFits, ValuesFit}
 use Rattle.net_model.specs.Order.{place_of, IsOrder}
 use Rattle.net_model.proofs.Agree.{same_net}
 use Rattle.net_model.proofs.Fits.{value_fits}
-
--- what holds of each element by another fact that holds of it
-pub all_weaker : (P Q : ℕ → Type 0) → ((m : ℕ) → P m → Q m) → (ms : List ℕ) → AllByRecursion P ms → AllByRecursion Q ms
-all_weaker P Q f [] h = tt
-all_weaker P Q f (m ∷ ms) h = (f m h.0, all_weaker P Q f ms h.1)
 
 module _ (netlist : Netlist) (s : State) (word : ℕ) (order : List ℕ) (o : IsOrder netlist order) where
   -- more depth than a net's place changes nothing
@@ -62,6 +57,22 @@ at_place (x ∷ xs) m h =
           subst (λ k. slice_index (x ∷ xs) k ≡ m) (sym q) (at_place xs m (omega (arith, q, h)))
     ]
 
+-- one more net of the order
+pub one_more : (netlist : Netlist) (order : List ℕ) → IsOrder netlist order → {A : Type 0} (P : ℕ → A → Type 0) (values : List A) (d x : A) (i : ℕ) → i < length order → length values ≡ length netlist.nets → ((m : ℕ) → place_of order m < i → P m (get_or values m d)) → P (slice_index order i) x → (m : ℕ) → place_of order m < i + 1 → P m (get_or (slice_set values (slice_index order i) x) m d)
+one_more netlist order o P values d x i lt long before here m h =
+    elim (cases_eq m (slice_index order i)) as (λ _. P m (get_or (slice_set values (slice_index order i) x) m d)) [
+      | inl q ↦
+          let within : slice_index order i < length values = omega (arith, o.nets i lt, long) in
+          subst (λ k. P k (get_or (slice_set values (slice_index order i) x) k d)) (sym q)
+          (subst (P (slice_index order i)) (sym (get_or-set_same values (slice_index order i) x d within)) here)
+      | inr q ↦
+          subst (P m) (sym (get_or-set_other values (slice_index order i) m x d q))
+          (before m (elim (cases_eq (place_of order m) i) as (λ _. place_of order m < i) [
+            | inl p ↦ absurd (q (sym (at_place order m (omega (arith, p, lt))) ∙ ap (slice_index order) p))
+            | inr p ↦ omega (arith, p, h)
+          ]))
+    ]
+
 module _ (netlist : Netlist) (s : State) (word : ℕ) (order : List ℕ) (o : IsOrder netlist order) (values : List ℕ) (i : ℕ) (within : i < length order) (done : (m : ℕ) → place_of order m < i → slice_index values m ≡ value_of netlist s word m) where
   -- the gate of the next net in order, at the values so far
   pub next_value : net_value (slice_index values) netlist s word (slice_get netlist.nets (slice_index order i)) ≡ value_of netlist s word (slice_index order i)
@@ -75,19 +86,7 @@ module _ (netlist : Netlist) (s : State) (word : ℕ) (order : List ℕ) (o : Is
 
   -- one more net is done
   pub more_done : (x : ℕ) → length values ≡ length netlist.nets → x ≡ value_of netlist s word (slice_index order i) → (m : ℕ) → place_of order m < i + 1 → slice_index (slice_set values (slice_index order i) x) m ≡ value_of netlist s word m
-  more_done x long e m h =
-      elim (cases_eq m (slice_index order i)) as (λ _. slice_index (slice_set values (slice_index order i) x) m ≡ value_of netlist s word m) [
-        | inl q ↦
-            let lt : slice_index order i < length values = omega (arith, o.nets i within, long) in
-            subst (λ k. slice_index (slice_set values (slice_index order i) x) k ≡ value_of netlist s word k) (sym q)
-            (get_or-set_same values (slice_index order i) x 0 lt ∙ e)
-        | inr q ↦
-            get_or-set_other values (slice_index order i) m x 0 q
-            ∙ done m (elim (cases_eq (place_of order m) i) as (λ _. place_of order m < i) [
-              | inl p ↦ absurd (q (sym (at_place order m (omega (arith, p, within))) ∙ ap (slice_index order) p))
-              | inr p ↦ omega (arith, p, h)
-            ])
-      ]
+  more_done x long e = one_more netlist order o (λ (m v : ℕ). v ≡ value_of netlist s word m) values 0 x i within long done e
 
 -- no value past the nets
 past_zero : (netlist : Netlist) (s : State) (word k n : ℕ) → slice_get netlist.nets n ≡ None → value_within k netlist s word n ≡ 0

@@ -9,7 +9,8 @@ use Rattle.net_model.specs.declared.hardware.Gate.TheVariants.{Word, Reg, Read, 
 use Rattle.net_model.specs.Value.{value_within, value_of}
 use Rattle.net_model.specs.Nets.{driver_nets, row_nets, gate_nets, nets_of}
 use Rattle.net_model.specs.Order.{place_of, IsOrder}
-use Rattle.net_model.proofs.Orders.{all_weaker, stable}
+use Rattle.rec_bits.proofs.Lists.{all_weaker}
+use Rattle.net_model.proofs.Orders.{stable}
 use Rattle.net_model.specs.Symbolic.{sliced, blank, is_static, case_term, bus_term, gate_term, net_term, sym_within, sym_of}
 
 -- two terms and values that agree at these nets

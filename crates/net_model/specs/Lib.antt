@@ -11,6 +11,7 @@ pub mod Texts
 pub mod Patterns
 pub mod Worked
 pub mod Written
+pub mod Nodes
 pub mod Grammar
 pub mod TextNames
 pub mod TextWidths
@@ -27,4 +28,5 @@ pub mod WorkedFaults
 pub mod Order
 pub mod CheckedRules
 pub mod Depends
+pub mod Flags
 pub mod NetFaults

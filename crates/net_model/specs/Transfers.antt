@@ -8,7 +8,7 @@ use Rattle.net_model.specs.Terms.{Term, reg, Move, keep, write, write_at, next_o
 use Rattle.net_model.specs.Nets.{IsRegister, memory_id, counter_of, counter_width}
 use Rattle.net_model.specs.Value.{value_of}
 use Rattle.net_model.specs.Widths.{IsState, WordFits}
-use Rattle.net_model.specs.Clock.{clock, clash_in, Next}
+use Rattle.net_model.specs.Clock.{clock, clash_in, Next, is_enabled}
 use Rattle.net_model.specs.Symbolic.{blank, sym_of}
 use Rattle.net_model.specs.Meaning.{mean}
 
@@ -21,11 +21,6 @@ pub record IsClean (netlist : Netlist) (i : ℕ) : Type 0 where
 
 -- ---- transfers
 
--- whether a `when` is on, where u gives the values of static nets
-abbrev pub is_on : (ℕ → ℕ) → Option ℕ → Bool
-is_on u None = true
-is_on u (Some when) = u when == 1
-
 -- whether an expression is a register as it stands
 abbrev pub same_reg : Term → ℕ → Bool
 same_reg (reg r w) id = r == id
@@ -34,9 +29,9 @@ same_reg _ id = false
 -- a storage whose `when` is 0 keeps, and so does a register that would take its own value
 abbrev pub storage_move : (ℕ → Term) → (ℕ → ℕ) → ℕ → Storage → Move
 storage_move t u id (Register name width input when) =
-    if is_on u when then (if same_reg (t input) id then keep else write (t input)) else keep
+    if is_enabled u when then (if same_reg (t input) id then keep else write (t input)) else keep
 storage_move t u id (Memory name width size addr_width value addr when) =
-    if is_on u when then write_at (t addr) (t value) else keep
+    if is_enabled u when then write_at (t addr) (t value) else keep
 
 abbrev pub transfer_of : Netlist → ℕ → ℕ → Option Storage → Move
 transfer_of netlist i id None = keep

@@ -4,8 +4,10 @@
 mod checked;
 mod expression;
 mod fault;
+mod flags;
 mod hardware;
 mod laws;
+mod named;
 mod states;
 mod units;
 mod words;
@@ -13,6 +15,7 @@ mod words;
 pub use checked::Checked;
 pub use expression::{Expr, Transfer};
 pub use fault::{CheckFault, NetFault, NetKind, Role};
+pub use flags::{Property, flags_of, is_set};
 pub use hardware::{Code, Gate, Net, Netlist, Storage};
 pub use laws::{law_of_transfers, law_of_values};
 pub use states::State;

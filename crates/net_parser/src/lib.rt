@@ -6,8 +6,6 @@ mod item;
 mod leaf;
 mod parts;
 mod step;
-#[cfg(test)]
-mod tests;
 mod text;
 mod whole;
 mod words;

@@ -1,5 +1,4 @@
 pub mod Modules
-pub mod Nodes
 pub mod Scopes
 pub mod Scans
 pub mod Widths

@@ -14,6 +14,3 @@ mod unknowns;
 mod widths;
 
 pub use fault::first_fault;
-
-#[cfg(test)]
-mod tests;

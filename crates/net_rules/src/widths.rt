@@ -3,7 +3,6 @@
 ghost use Rattle.std.specs.Prelude.{◌≡◌, ◌<◌, ◌≤◌, ◌^◌, ◌&&◌, map, option_copied, option_map, if◌then◌else◌, true, false};
 ghost use Rattle.std.specs.List.{list_all};
 ghost use Rattle.rec_bits.specs.Faults.{gather, least};
-ghost use Rattle.rec_bits.specs.Operators.{result_width};
 ghost use Rattle.net_model.specs.TextNames.{item_named, in_module, in_text, port_named};
 ghost use Rattle.net_model.specs.TextWidths.{bits_of, extended, is_below, is_width, joined_width, memory_of, memory_widths, named_width, numbers_fit, paired, port_width, ports_of, read_width, row_seen, seen_first, seen_more, seen_rest, seen_rows, seen_width, sliced, value_width, wide};
 ghost use Rattle.net_model.specs.WidthRules.{binding_feeds, driver_feeds, enables, feeds, feeds_port, has_width, misfit, misfits, port_keeps, widths_fit};
@@ -16,7 +15,7 @@ use crate::least::{broken, sooner};
 use crate::text::{Place, Text};
 use net_model::{Ident, NetExpr, Port, Unit};
 use net_names::{Ports, name_of};
-use rec_bits::{Name, Op2};
+use rec_bits::{Name, Op2, written_result_width};
 
 const LEAST_WIDTH: u64 = 1;
 
@@ -144,20 +143,11 @@ fn bits_of(bits: &Option<(u64, u64)>, width: Option<u64>) -> Option<u64>
     }
 }
 
-fn result_width(op: Op2, width: u64) -> u64
-    ensures { result ≡ result_width op width }
-{
-    match op {
-        Op2::Eq | Op2::Ltu | Op2::Lts => 1,
-        _ => width,
-    }
-}
-
 fn paired(op: Op2, a: Option<u64>, b: Option<u64>) -> Option<u64>
     ensures { result ≡ paired op a b }
 {
     match (a, b) {
-        (Some(a), Some(b)) if a == b => Some(result_width(op, a)),
+        (Some(a), Some(b)) if a == b => Some(written_result_width(op, a)),
         _ => None,
     }
 }

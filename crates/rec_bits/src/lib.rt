@@ -10,5 +10,7 @@ mod tests;
 
 pub use fault::{NoMemory, ParseFault};
 pub use list::{Items, Name};
-pub use operator::{Op1, Op2, apply1, apply2, cat, mask, sext, slice};
+pub use operator::{
+    Op1, Op2, apply1, apply2, cat, mask, result_width, sext, slice, written_result_width,
+};
 pub use ranges::{Range, range_add, range_mul, range_sub};

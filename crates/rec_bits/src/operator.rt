@@ -1,7 +1,7 @@
 // Operators on numbers of 1 to 64 bits.
 
 ghost use Rattle.std.specs.Prelude.{◌≡◌, ℕ, ◌+◌, ◌-◌, ◌*◌, ◌%◌, ◌^◌, ◌<◌, ◌≤◌, if◌then◌else◌, nat_le};
-ghost use Rattle.rec_bits.specs.Operators.{apply1_of, apply2_of, cat_of, sext_of, slice_of};
+ghost use Rattle.rec_bits.specs.Operators.{apply1_of, apply2_of, cat_of, result_width, sext_of, slice_of};
 
 /// An operator of two operands.
 #[derive(Clone, Copy, Debug, PartialEq, Eq, Hash)]
@@ -44,6 +44,26 @@ fn low_bits(width: u8, x: u64) -> u64
     ensures { result ≡ x % 2 ^ width }
 {
     x & mask(width)
+}
+
+/// The width of the value of `op` at operands of `width` bits.
+pub fn result_width(op: Op2, width: u8) -> u8
+    ensures { result ≡ result_width op width }
+{
+    match op {
+        Op2::Eq | Op2::Ltu | Op2::Lts => 1,
+        _ => width,
+    }
+}
+
+/// The same for a width that a text gives, which may be of any size.
+pub fn written_result_width(op: Op2, width: u64) -> u64
+    ensures { result ≡ result_width op width }
+{
+    match op {
+        Op2::Eq | Op2::Ltu | Op2::Lts => 1,
+        _ => width,
+    }
 }
 
 /// The value of `op` at two operands of `width` bits.

@@ -1,42 +1,24 @@
 -- What the routes of a net say, from the expressions that they give each word.
-use Rattle.std.proofs.Common.{◌≡◌, ◌≢◌, ◌⊎◌, inl, inr, ℕ, suc, ◌^◌, ◌<◌, Bool, true, false, if◌then◌else◌, List, [], ◌∷◌, ◌++◌, map, length, Some, slice_get, refl, sym, ap, subst, ◌∙◌, arith}
-use Rattle.std.proofs.lemmas.List.{map-append}
+use Rattle.std.proofs.Common.{◌≡◌, ◌⊎◌, inl, inr, ℕ, suc, ◌^◌, ◌<◌, true, if◌then◌else◌, List, [], ◌∷◌, ◌++◌, length, refl, sym, ap, subst, ◌∙◌}
 use Rattle.bit_bdd.specs.Diagrams.{Diagrams, has_word}
 use Rattle.net_model.specs.Terms.{Term, term_width}
 use Rattle.sym_expr.specs.declared.pool.Node.{Node}
 use Rattle.sym_expr.specs.Pools.{term_at, IsOneEach}
 use Rattle.transfer_set.specs.declared.route.Route.{Route}
-use Rattle.transfer_set.specs.Routes.{row, held, held_terms, Fresh, NoRepeat, AllSets, AllExprs, IsTable, only, Gives, RouteIs}
+use Rattle.transfer_set.specs.Routes.{row, held, held_terms, Fresh, NoRepeat, AllSets, AllExprs, IsTable, only, Gives}
 use Rattle.route_trace.specs.Gates.{AllWide, AllLegal, HasValues}
 use Rattle.route_trace.specs.Limits.{Differ, AllDiffer}
-use Rattle.sym_expr.proofs.Lists.{around}
 use Rattle.route_trace.proofs.Loops.{no_terms}
-use Rattle.route_trace.proofs.Merging.{held-append, nil_left, nil_right}
-use Rattle.route_trace.proofs.Products.{expr_at}
-
--- lists with at most one element
-single : {X : Type 0} (before after : List X) (x : X) (b : Bool) (y : X) → before ++ ((x ∷ []) ++ after) ≡ (if b then y ∷ [] else []) → (b ≡ true) × (x ≡ y)
-single [] after x true y e = (refl, cc)
-single [] after x false y e = absurd (cc)
-single (z ∷ before) after x false y e = absurd (cc)
-single (z ∷ []) after x true y e = absurd (cc)
-single (z ∷ w ∷ before) after x true y e = absurd (cc)
+use Rattle.transfer_set.proofs.Exact.{held-append, holds_right, one_of}
+use Rattle.route_trace.proofs.Merging.{nil_left, nil_right}
 
 module _ (book : Diagrams) (pool : List Node) (legal : ℕ) (f : ℕ → Term) where
-  -- a route that holds a word gives it its expression
-  holds_right : (before after : List Route) (route : Route) (word : ℕ) → held_terms book pool (before ++ route ∷ after) word ≡ only book legal word (f word)
-      → has_word book route.set word ≡ true → (has_word book legal word ≡ true) × (term_at pool route.expr ≡ f word)
-  holds_right before after route word e h =
-      single (map (term_at pool) (held book before word)) (map (term_at pool) (held book after word)) (term_at pool route.expr) (has_word book legal word) (f word)
-      (sym (ap (map (term_at pool)) (held-append book before (route ∷ after) word ∙ ap (λ b. held book before word ++ ((if b then route.expr ∷ [] else []) ++ held book after word)) h)
-      ∙ map-append (term_at pool) (held book before word) ((route.expr ∷ []) ++ held book after word)) ∙ e)
-
   -- widths, by a word of each route
   wide : (width : ℕ) → ((word : ℕ) → word < 2 ^ book.bits → term_width (f word) ≡ width) → (before routes : List Route) → AllSets book routes
       → ((word : ℕ) → word < 2 ^ book.bits → held_terms book pool (before ++ routes) word ≡ only book legal word (f word)) → AllWide pool width routes
   wide width w before [] s g = tt
   wide width w before (route ∷ routes) s g =
-      let r = holds_right before routes route s.0.word (g s.0.word s.0.fits) s.0.holds in (
+      let r = holds_right book pool legal f before routes route s.0.word (g s.0.word s.0.fits) s.0.holds in (
         ap term_width r.1 ∙ w s.0.word s.0.fits,
         wide width w (before ++ route ∷ []) routes s.1 (λ word fits. ap (λ l. held_terms book pool l word) (assoc before route routes) ∙ g word fits),
       )
@@ -47,63 +29,6 @@ module _ (book : Diagrams) (pool : List Node) (legal : ℕ) (f : ℕ → Term) w
 
   pub all_wide : (width : ℕ) → ((word : ℕ) → word < 2 ^ book.bits → term_width (f word) ≡ width) → (routes : List Route) → AllSets book routes → Gives book pool legal f routes → AllWide pool width routes
   all_wide width w routes s g = wide width w [] routes s g
-
-  -- a word whose expression is that of a route is in its set
-  held_some : (routes : List Route) (word e : ℕ) → held book routes word ≡ e ∷ [] → (before after : List Route) (route : Route) → routes ≡ before ++ route ∷ after → NoRepeat routes → route.expr ≡ e → has_word book route.set word ≡ true
-  held_some routes word e h before after route is apart same =
-      by before (subst (λ l. NoRepeat l) is apart) (sym (ap (λ l. held book l word) is) ∙ h)
-    where
-      none_of : (x : ℕ) (rs : List Route) → Fresh x rs → (ys : List ℕ) → held book rs word ≡ x ∷ ys → ⊥
-      none_of x [] q ys k = absurd (cc)
-      none_of x (r ∷ rs) q ys k = step (has_word book r.set word) (λ z. none_of x rs q.1 ys z) k
-        where
-          step : (b : Bool) → (held book rs word ≡ x ∷ ys → ⊥) → (if b then r.expr ∷ [] else []) ++ held book rs word ≡ x ∷ ys → ⊥
-          step true rest k = q.0 (cc)
-          step false rest k = rest k
-
-      by : (before : List Route) → NoRepeat (before ++ route ∷ after) → held book (before ++ route ∷ after) word ≡ e ∷ [] → has_word book route.set word ≡ true
-      by [] q k = step (has_word book route.set word) refl k
-        where
-          step : (b : Bool) → has_word book route.set word ≡ b → (if b then route.expr ∷ [] else []) ++ held book after word ≡ e ∷ [] → has_word book route.set word ≡ true
-          step true eb k = eb
-          step false eb k = absurd (none_of route.expr after q.0 [] (k ∙ ap (λ x. x ∷ []) (sym same)))
-      by (z ∷ before) q k = step (has_word book z.set word) (λ k. by before q.1 k) k
-        where
-          fresh_at : (xs : List Route) → Fresh z.expr (xs ++ route ∷ after) → route.expr ≢ z.expr
-          fresh_at [] g = g.0
-          fresh_at (x ∷ xs) g = fresh_at xs g.1
-
-          step : (b : Bool) → (held book (before ++ route ∷ after) word ≡ e ∷ [] → has_word book route.set word ≡ true)
-              → (if b then z.expr ∷ [] else []) ++ held book (before ++ route ∷ after) word ≡ e ∷ [] → has_word book route.set word ≡ true
-          step true rest k = absurd (fresh_at before q.0 (same ∙ sym (cc)))
-          step false rest k = rest k
-
--- an expression that some route gives is one of the pool
-held_in : (book : Diagrams) (size word : ℕ) (routes : List Route) → AllExprs size routes → (e : ℕ) (es : List ℕ) → held book routes word ≡ e ∷ es → e < size
-held_in book size word [] h e es k = absurd (cc)
-held_in book size word (r ∷ routes) h e es k = by (has_word book r.set word) (λ q. held_in book size word routes h.1 e es q) k
-  where
-    by : (b : Bool) → (held book routes word ≡ e ∷ es → e < size) → (if b then r.expr ∷ [] else []) ++ held book routes word ≡ e ∷ es → e < size
-    by true rest q = (let s : r.expr ≡ e = cc in omega (arith, s, h.0))
-    by false rest q = rest q
-
-one_of : (t : ℕ → Term) (xs : List ℕ) (y : Term) → map t xs ≡ y ∷ [] → (e : ℕ) × (xs ≡ e ∷ []) × (t e ≡ y)
-one_of t [] y k = absurd (cc)
-one_of t (x ∷ []) y k = (x, refl, cc)
-one_of t (x ∷ z ∷ xs) y k = absurd (cc)
-
--- the set of each route is all legal words with its expression
-pub exact : (book : Diagrams) (pool : List Node) (legal : ℕ) (f : ℕ → Term) (routes : List Route) → IsOneEach pool → IsTable book pool routes → Gives book pool legal f routes
-    → (place : ℕ) (route : Route) → slice_get routes place ≡ Some route → RouteIs book pool legal f route
-exact book pool legal f routes one table g place route at word fits =
-    let r = around routes place route at in
-    let in_pool = expr_at (length pool) routes place route at table.exprs in (
-      λ h. holds_right book pool legal f r.before r.after route word (ap (λ l. held_terms book pool l word) (sym r.is) ∙ g word fits) h,
-      λ q.
-          let w = one_of (term_at pool) (held book routes word) (f word) (g word fits ∙ ap (λ b. if b then f word ∷ [] else []) q.0) in
-          held_some book pool legal f routes word w.0 w.1 r.before r.after route r.is table.right.apart
-          (sym ((one w.0 route.expr (held_in book (length pool) word routes table.exprs w.0 [] w.1) in_pool).0 (w.2 ∙ sym q.1))),
-    )
 
 -- each legal word has a route
 pub every : (book : Diagrams) (pool : List Node) (legal : ℕ) (f : ℕ → Term) (routes : List Route) → Gives book pool legal f routes → (word : ℕ) → word < 2 ^ book.bits → has_word book legal word ≡ true

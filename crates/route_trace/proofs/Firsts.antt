@@ -6,7 +6,7 @@ use Rattle.net_model.specs.Terms.{Term}
 use Rattle.sym_expr.specs.declared.pool.Node.{Node}
 use Rattle.sym_expr.specs.Pools.{term_at, Grows}
 use Rattle.sym_expr.proofs.CallerLemmas.{grows_refl}
-use Rattle.sym_expr.proofs.Lists.{around}
+use Rattle.rec_bits.proofs.Lists.{around}
 use Rattle.transfer_set.specs.declared.route.Route.{Route}
 use Rattle.route_trace.specs.declared.heads.Head.TheVariants.{Same}
 use Rattle.transfer_set.specs.Routes.{IsTable, held_terms, routes_at}

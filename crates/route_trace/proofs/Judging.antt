@@ -23,7 +23,8 @@ use Rattle.route_trace.specs.declared.RouteFault.TheVariants.{PatternLarge, TooM
 use Rattle.route_trace.specs.Verdicts.{HasBroken, HasLarge, IsFound, IsJudged, fault_of, first_fault, is_kept, kept_at, or_else, verdict_at}
 use Rattle.route_trace.specs.declared.verdict.Verdict.{Verdict}
 use Rattle.route_trace.specs.declared.verdict.Verdict.TheVariants.{Kept, Large, Many, Skipped}
-use Rattle.route_trace.proofs.Exact.{GivesPart, as_many, every, exact}
+use Rattle.transfer_set.proofs.Exact.{exact}
+use Rattle.route_trace.proofs.Exact.{GivesPart, as_many, every}
 use Rattle.route_trace.proofs.Merging.{set_at}
 
 -- ---- no more different values than routes

@@ -4,6 +4,7 @@ use Rattle.std.specs.List.{AllByRecursion, list_any}
 use Rattle.std.proofs.lemmas.Bool.{cases_eq, eqb-true, eq-eqb, ne_eqb}
 use Rattle.std.proofs.lemmas.List.Folds.{list_any-append}
 use Rattle.std.proofs.lemmas.Map.Views.{any-filter_same}
+use Rattle.rec_bits.proofs.Booleans.{or_left, or_right}
 use Rattle.rec_bits.specs.Faults.{gather}
 use Rattle.bit_bdd.specs.Diagrams.{Diagrams, Extends}
 use Rattle.net_model.specs.declared.hardware.Netlist.{Netlist}
@@ -22,14 +23,6 @@ use Rattle.ctl_bdd.specs.declared.ControlBits.{ControlBits}
 use Rattle.ctl_bdd.proofs.Filling.{bits_later}
 use Rattle.ctl_bdd.proofs.Sets.{sets_later}
 use Rattle.route_trace.specs.Tests.{HasBits, IsDecided, IsSelector, sets_in}
-
-or_right : (a b : Bool) → b ≡ true → (a || b) ≡ true
-or_right true b e = refl
-or_right false b e = e
-
-or_left : (a b : Bool) → a ≡ true → (a || b) ≡ true
-or_left true b e = refl
-or_left false b e = absurd (true≢false (sym e))
 
 any_left : (p : ℕ → Bool) (xs ys : List ℕ) → list_any p xs ≡ true → list_any p (xs ++ ys) ≡ true
 any_left p xs ys h = list_any-append p xs ys ∙ or_left (list_any p xs) (list_any p ys) h

@@ -1,13 +1,14 @@
 -- Routes that are added and merged.
-use Rattle.std.proofs.Common.{◌≡◌, ◌≢◌, ℕ, suc, ◌+◌, ◌^◌, ◌<◌, ◌≤◌, ◌==◌, ◌||◌, Bool, true, false, not, if◌then◌else◌, cond, List, [], ◌∷◌, ◌++◌, length, None, Some, slice_get, slice_set, nat_lt, refl, sym, ap, subst, ◌∙◌, append_assoc, arith}
+use Rattle.std.proofs.Common.{◌≡◌, ◌≢◌, ℕ, suc, ◌+◌, ◌^◌, ◌<◌, ◌≤◌, ◌==◌, ◌||◌, Bool, true, false, not, if◌then◌else◌, cond, List, [], ◌∷◌, ◌++◌, length, None, Some, slice_get, slice_set, nat_lt, refl, sym, ap, subst, ◌∙◌, arith}
 use Rattle.std.proofs.lemmas.List.{append-nil}
 use Rattle.std.specs.List.{position, position_or_len, slice_index_or}
 use Rattle.std.proofs.lemmas.Option.{get_or_from_slice_get}
 use Rattle.std.proofs.lemmas.Bool.{ltb-true, ltb-false}
 use borrow.Author.Tests.{eqb-true, eqb-false}
+use Rattle.transfer_set.proofs.Exact.{held-append}
 use Rattle.bit_bdd.specs.Diagrams.{Diagrams, has_word, Extends}
 use Rattle.bit_bdd.proofs.CallerLemmas.{same_words}
-use Rattle.sym_expr.proofs.Lists.{Around, around}
+use Rattle.rec_bits.proofs.Lists.{Around, around}
 use Rattle.transfer_set.specs.declared.route.Route.{Route}
 use Rattle.transfer_set.specs.Routes.{row, held, Fresh, NoRepeat, IsSet, AllSets, AllExprs, IsRoutes}
 use Rattle.route_trace.specs.Routing.{Finds}
@@ -48,10 +49,6 @@ finds_len expr routes = by (nat_lt (position_or_len (λ route. route.expr == exp
 or_true : (b : Bool) → (b || true) ≡ true
 or_true true = refl
 or_true false = refl
-
-pub held-append : (book : Diagrams) (xs ys : List Route) (word : ℕ) → held book (xs ++ ys) word ≡ held book xs word ++ held book ys word
-held-append book [] ys word = refl
-held-append book (x ∷ xs) ys word = ap (λ l. row book x word ++ l) (held-append book xs ys word) ∙ sym (append_assoc (row book x word) (held book xs word) (held book ys word))
 
 set_around : (before after : List Route) (x y : Route) → slice_set (before ++ x ∷ after) (length before) y ≡ before ++ y ∷ after
 set_around [] after x y = refl

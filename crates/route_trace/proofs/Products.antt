@@ -7,14 +7,15 @@ use Rattle.net_model.specs.Symbolic.{sliced}
 use Rattle.sym_expr.specs.declared.pool.Node.{Node}
 use Rattle.sym_expr.specs.Pools.{AllBelow, Grows, term_at}
 use Rattle.sym_expr.proofs.CallerLemmas.{same_term}
-use Rattle.sym_expr.proofs.Lists.{around}
+use Rattle.rec_bits.proofs.Lists.{around}
 use Rattle.transfer_set.specs.declared.route.Route.{Route}
 use Rattle.route_trace.specs.declared.heads.Head.{Head}
 use Rattle.route_trace.specs.declared.heads.Head.TheVariants.{Same, Read, Un, Slice, Zext, Sext, Bin, Cat, Select}
 use Rattle.route_trace.specs.Heads.{LastFits, head_parts, head_term}
 use Rattle.transfer_set.specs.Routes.{row, held, held_terms, AllExprs, IsTable}
 use Rattle.route_trace.specs.Routing.{AllFit}
-use Rattle.route_trace.proofs.Merging.{held-append, held_later, routes_later}
+use Rattle.transfer_set.proofs.Exact.{held-append}
+use Rattle.route_trace.proofs.Merging.{held_later, routes_later}
 
 -- ---- a pool that grows
 

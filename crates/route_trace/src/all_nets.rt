@@ -11,7 +11,6 @@ ghost use Rattle.route_trace.specs.Limits.{IsRefusal, KeepsLimits};
 ghost use Rattle.route_trace.specs.Verdicts.{IsFound, kept_at, verdict_at};
 
 use crate::RouteFault;
-use crate::named::named_of;
 use crate::stop::Stop;
 use crate::verdict::{Verdict, all_kept, first_refusal, give_up, judge, new_verdicts};
 use crate::whole::net_routes;
@@ -62,7 +61,7 @@ fn collect(
     for id in order {
         let at = *id as usize;
         let net = &nets[at];
-        let named = named_of(alloc, &net.gate)?;
+        let named = net.gate.named(alloc)?;
         if all_kept(verdicts.as_slice(), named.as_slice()) {
             match net_routes(alloc, netlist, controls, book, pool, routes.as_slice(), net) {
                 Ok(out) => {

@@ -9,7 +9,6 @@ mod gates;
 mod heads;
 mod laws;
 mod merge;
-mod named;
 mod pairs;
 mod product;
 mod selects;

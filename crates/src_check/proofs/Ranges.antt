@@ -2,12 +2,9 @@
 use Rattle.std.proofs.Common.{◌≡◌, arith, ◌^◌, ℕ, ℤ, pos, Bool, true, false, ◌&&◌, if◌then◌else◌, Option, Some, None, IfSome, refl, sym, subst}
 use Rattle.std.proofs.lemmas.Int.{ints}
 use Rattle.std.specs.Prelude.{int_le, ◌-ℤ◌, ◌+ℤ◌, ◌*ℤ◌}
+use Rattle.rec_bits.proofs.Booleans.{both}
 use Rattle.rec_bits.specs.declared.ranges.Range.{Range}
 use Rattle.rec_bits.specs.Ranges.{IsEnd, HasEnds, is_end, range_of, sums_of, differences_of, products_of}
-
-both : (a b : Bool) → a && b ≡ true → (a ≡ true) × (b ≡ true)
-both true b h = (refl, h)
-both false b h = absurd (cc h)
 
 end_is : (z : ℤ) → is_end z ≡ true → IsEnd z
 end_is z h = let k = both (int_le (pos 0 -ℤ pos (2 ^ 64)) z) (int_le z (pos (2 ^ 64))) h in (omega (arith, ints, k), omega (arith, ints, k))

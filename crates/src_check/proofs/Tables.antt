@@ -3,29 +3,18 @@ use Rattle.std.proofs.Common.{◌≡◌, ℕ, ◌+◌, ◌<◌, ◌≤◌, Bool,
 use Rattle.std.specs.Map.{lookup}
 use Rattle.std.proofs.lemmas.List.{take_more, drop_all}
 use Rattle.std.proofs.lemmas.Slice.Eq.{bytes_eq-Decides}
+use Rattle.src_model.proofs.LookupLemmas.{later, later_none, later_there, lookup_append}
 use Rattle.rec_bits.specs.Faults.{sooner, least, broken}
 use Rattle.rec_bits.proofs.Faults.{drop_item, least_append, sooner_assoc, sooner_none}
 use Rattle.src_model.specs.declared.program.Var.{Var as Declared}
 use Rattle.src_model.specs.Names.{same_name, declared, repeats}
 use Rattle.src_check.specs.Tables.{Finds}
 
-abbrev later : {A : Type 0} → Option A → Option A → Option A
-later None o = o
-later (Some a) o = Some a
-
 declared_append : (vars : List Declared) (v : Declared) (name : List ℕ) → declared (vars ++ v ∷ []) name ≡ later (declared vars name) (if same_name name v.name then Some v else None)
 declared_append [] v name = refl
 declared_append (w ∷ vars) v name = by (declared_append vars v name) (same_name name w.name)
   where
     by : declared (vars ++ v ∷ []) name ≡ later (declared vars name) (if same_name name v.name then Some v else None) → (b : Bool) → (if b then Some w else declared (vars ++ v ∷ []) name) ≡ later (if b then Some w else declared vars name) (if same_name name v.name then Some v else None)
-    by more true = refl
-    by more false = more
-
-lookup_append : {K X : Type 0} (test : K → Bool) (entries : List (K × X)) (e : K × X) → lookup test (entries ++ e ∷ []) ≡ later (lookup test entries) (cond (test e.0) (Some e.1) None)
-lookup_append test [] e = refl
-lookup_append test (d ∷ entries) e = by (lookup_append test entries e) (test d.0)
-  where
-    by : lookup test (entries ++ e ∷ []) ≡ later (lookup test entries) (cond (test e.0) (Some e.1) None) → (b : Bool) → cond b (Some d.1) (lookup test (entries ++ e ∷ [])) ≡ later (cond b (Some d.1) (lookup test entries)) (cond (test e.0) (Some e.1) None)
     by more true = refl
     by more false = more
 
@@ -44,10 +33,6 @@ finds_new entries vars key v same finds name =
     ∙ ap (λ n. later (declared vars name) (if same_name name n then Some v.now else None)) same
     ∙ sym (declared_append vars v.now name)
 
-later_there : {A : Type 0} (a b : Option A) → is_some a ≡ true → later a b ≡ a
-later_there (Some a) b e = refl
-later_there None b e = absurd (cc e)
-
 -- a name that is there already is found as before
 finds_old : (entries : List (Bor (List ℕ) × Bor Declared)) (vars : List Declared) (v : Declared) → is_some (declared vars v.name) ≡ true
     → Finds entries vars → Finds entries (vars ++ v ∷ [])
@@ -55,11 +40,7 @@ finds_old entries vars v there finds name = finds name ∙ by (same_name name v.
   where
     by : (b : Bool) → same_name name v.name ≡ b → declared vars name ≡ later (declared vars name) (if b then Some v else None)
     by true e = sym (later_there (declared vars name) (Some v) (ap (λ n. is_some (declared vars n)) ((bytes_eq-Decides name v.name).0 e) ∙ there))
-    by false e = none_later (declared vars name)
-      where
-        none_later : {A : Type 0} (a : Option A) → a ≡ later a None
-        none_later None = refl
-        none_later (Some x) = refl
+    by false e = sym (later_none (declared vars name))
 
 -- what is repeated so far, one declaration further
 pub repeats_next : (vars : List Declared) (i : ℕ) (v : Declared) (found all : Option ℕ) → i < length vars → v ≡ get_or vars i v

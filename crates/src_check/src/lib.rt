@@ -5,8 +5,6 @@ mod indexes;
 mod least;
 mod names;
 mod rounds;
-#[cfg(test)]
-mod tests;
 mod walk;
 mod whole;
 mod widths;

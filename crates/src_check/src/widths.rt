@@ -4,7 +4,8 @@ ghost use Rattle.std.specs.Prelude.{◌≡◌, ◌^◌, ℕ, nat_lt};
 ghost use Rattle.src_model.specs.Written.{shape_of, spot_shape, phrase_of};
 ghost use Rattle.src_model.specs.Widths.{wide, whole, alike, extended, lowered, sides};
 
-use src_model::{Spot, SrcExpr, SrcNode, is_literal, result_width};
+use rec_bits::written_result_width;
+use src_model::{Spot, SrcExpr, SrcNode, is_literal};
 
 /// Whether a number has no more than so many bits.
 pub fn fits(n: u64, width: u64) -> bool
@@ -70,7 +71,7 @@ pub fn wide(word: u64, asked: u64, e: &SrcExpr) -> Result<u64, u64>
         }
         SrcNode::Var(spot) => spot_wide(word, spot),
         SrcNode::Un(_, x) => wide(word, asked, x),
-        SrcNode::Bin(op, x, y) => Ok(result_width(*op, sides(word, x, y)?)),
+        SrcNode::Bin(op, x, y) => Ok(written_result_width(*op, sides(word, x, y)?)),
         SrcNode::Zext(x, to) | SrcNode::Sext(x, to) => extended(*to, e.at, wide(word, word, x)),
         SrcNode::Low(x, to) => lowered(*to, e.at, wide(word, word, x)),
     }

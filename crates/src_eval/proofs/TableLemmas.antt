@@ -1,16 +1,13 @@
 -- Tables of names, one declaration further.
-use Rattle.std.proofs.Common.{◌≡◌, ℕ, ◌+◌, ◌<◌, Bool, true, false, cond, if◌then◌else◌, is_some, unwrap_or, List, [], ◌∷◌, ◌++◌, length, take, get_or, Option, Some, None, option_copied, Bor, refl, sym, ap, ◌∙◌, arith}
+use Rattle.std.proofs.Common.{◌≡◌, ℕ, ◌+◌, ◌<◌, Bool, true, false, if◌then◌else◌, is_some, unwrap_or, List, [], ◌∷◌, ◌++◌, length, take, get_or, Option, Some, None, option_copied, Bor, refl, sym, ap, ◌∙◌, arith}
 use Rattle.std.specs.Map.{lookup}
 use Rattle.std.proofs.lemmas.List.{take_more}
 use Rattle.std.proofs.lemmas.Slice.Eq.{bytes_eq-Decides}
+use Rattle.src_model.proofs.LookupLemmas.{later, later_none, later_there, lookup_append}
 use Rattle.src_model.specs.declared.program.Var.{Var as Declared}
 use Rattle.src_model.specs.Names.{same_name}
 use Rattle.src_model.specs.Meaning.{cells_in, cell_count, first_cell}
 use Rattle.src_eval.specs.Tables.{behind, cell_in}
-
-abbrev later : {A : Type 0} → Option A → Option A → Option A
-later None o = o
-later (Some a) o = Some a
 
 behind_later : (n : ℕ) (a : Option ℕ) (b : Bool) (k : ℕ) → behind n (later a (if b then Some k else None)) ≡ later (behind n a) (if b then Some (n + k) else None)
 behind_later n (Some x) b k = refl
@@ -29,22 +26,6 @@ cell_in_append (u ∷ vars) v name = by (cell_in_append vars v name) (same_name 
 count_append : (vars : List Declared) (v : Declared) → cell_count (vars ++ v ∷ []) ≡ cell_count vars + cells_in v
 count_append [] v = omega arith
 count_append (u ∷ vars) v = omega (arith, count_append vars v)
-
-lookup_append : {K X : Type 0} (test : K → Bool) (entries : List (K × X)) (e : K × X) → lookup test (entries ++ e ∷ []) ≡ later (lookup test entries) (cond (test e.0) (Some e.1) None)
-lookup_append test [] e = refl
-lookup_append test (d ∷ entries) e = by (lookup_append test entries e) (test d.0)
-  where
-    by : lookup test (entries ++ e ∷ []) ≡ later (lookup test entries) (cond (test e.0) (Some e.1) None) → (b : Bool) → cond b (Some d.1) (lookup test (entries ++ e ∷ [])) ≡ later (cond b (Some d.1) (lookup test entries)) (cond (test e.0) (Some e.1) None)
-    by more true = refl
-    by more false = more
-
-later_there : {A : Type 0} (a b : Option A) → is_some a ≡ true → later a b ≡ a
-later_there (Some a) b e = refl
-later_there None b e = absurd (cc e)
-
-later_none : {A : Type 0} (a : Option A) → later a None ≡ a
-later_none None = refl
-later_none (Some x) = refl
 
 abbrev pub Finds : List (Bor (List ℕ) × ℕ) → List Declared → Type 0
 Finds entries vars = (name : List ℕ) → lookup (λ key. same_name name key.now) entries ≡ cell_in vars name

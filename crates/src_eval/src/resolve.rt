@@ -1,7 +1,6 @@
 //! Expressions of a program as formulas.
 
 ghost use Rattle.std.specs.Prelude.{◌≡◌, List, IfOk};
-ghost use Rattle.rec_bits.specs.Operators.{result_width};
 ghost use Rattle.src_model.specs.Written.{shape_of, spot_shape, place_of, test_of};
 ghost use Rattle.src_model.specs.Meaning.{width_of, operand_width, holds};
 ghost use Rattle.src_model.specs.Fitting.{Fitting, FitsSides};
@@ -10,18 +9,9 @@ ghost use Rattle.src_eval.specs.Resolved.{Resolves, ResolvesIndex, ResolvesTest,
 
 use crate::formula::{Comparison, Formula};
 use crate::table::Table;
-use rec_bits::{NoMemory, Op2};
+use rec_bits::{NoMemory, result_width};
 use src_model::{Spot, SrcExpr, SrcNode, SrcTest, is_literal};
 use std::alloc::Global;
-
-fn result_width(op: Op2, width: u8) -> u8
-    ensures { result ≡ result_width op width }
-{
-    match op {
-        Op2::Eq | Op2::Ltu | Op2::Lts => 1,
-        _ => width,
-    }
-}
 
 // The width of an expression; a literal has the width `asked`.
 fn written_width(word: u8, asked: u8, e: &SrcExpr) -> u8

@@ -13,7 +13,7 @@ mod words;
 pub use checkpoint::Checkpoint;
 pub use fault::{SrcFault, SrcKind};
 pub use program::{Cmp, Program, Spot, SrcExpr, SrcNode, SrcTest, Stmt, Var};
-pub use sizes::{Sizes, block_sizes, is_literal, number_of, result_width};
+pub use sizes::{Sizes, block_sizes, is_literal, number_of};
 pub use store::Store;
 pub use typed::{SrcFault2, Typed};
 pub use words::{Call, Lexed, Symbol, Word};

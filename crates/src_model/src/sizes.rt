@@ -1,14 +1,13 @@
 //! The sizes of programs: their statements, the nodes of their trees, and the temporary cells.
 
 ghost use Rattle.std.specs.Prelude.{◌≡◌, [], ◌∷◌, map};
-ghost use Rattle.rec_bits.specs.Operators.{result_width};
 ghost use Rattle.src_model.specs.Written.{shape_of, spot_shape, place_of, test_of, act_of, acts_of};
 ghost use Rattle.src_model.specs.Widths.{is_literal};
 ghost use Rattle.src_model.specs.Indexes.{number_of};
 ghost use Rattle.src_model.specs.Sizes.{nodes, is_word, all_of, paired, part, side_parts, assigned_root, tested_roots, roots, roots_in, statements, statements_in, capped, capped_part, measured, together};
 
 use crate::{Cmp, Spot, SrcExpr, SrcNode, SrcTest, Stmt};
-use rec_bits::Op2;
+use rec_bits::written_result_width;
 
 // What a tree tells: its width, and how many nodes of a word's width there are, at its root and below it. Reads at literal addresses are
 // left out.
@@ -37,16 +36,6 @@ pub fn number_of(e: &SrcExpr) -> Option<u64>
     match &e.node {
         SrcNode::Num(n) => Some(*n),
         _ => None,
-    }
-}
-
-/// The width of an operator's value at operands of this width.
-pub fn result_width(op: Op2, width: u64) -> u64
-    ensures { result ≡ result_width op width }
-{
-    match op {
-        Op2::Eq | Op2::Ltu | Op2::Lts => 1,
-        _ => width,
     }
 }
 
@@ -126,7 +115,11 @@ fn part(word: u64, asked: u64, e: &SrcExpr) -> Subtree
         }
         SrcNode::Bin(op, x, y) => {
             let operands = sides(word, x, y);
-            node(word, result_width(*op, operands.width), operands.below)
+            node(
+                word,
+                written_result_width(*op, operands.width),
+                operands.below,
+            )
         }
         SrcNode::Zext(x, width) | SrcNode::Sext(x, width) | SrcNode::Low(x, width) => {
             node(word, *width, all_of(part(word, word, x)))

@@ -5,8 +5,6 @@ mod declaration;
 mod expression;
 mod statement;
 mod step;
-#[cfg(test)]
-mod tests;
 mod text;
 mod whole;
 mod words;

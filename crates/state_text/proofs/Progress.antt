@@ -7,6 +7,7 @@ use Rattle.std.proofs.lemmas.Option.{cond_some, same_Some}
 use Rattle.std.proofs.Math.Nat.{pow-le-pow_right}
 use Rattle.std.specs.Prelude.{slice_get, nat_lt}
 use Rattle.std.specs.List.{concat}
+use Rattle.text_lines.proofs.Joined.{concat-snoc}
 use Rattle.net_model.specs.declared.hardware.Netlist.{Netlist}
 use Rattle.net_model.specs.declared.hardware.Storage.{Storage}
 use Rattle.net_model.specs.declared.hardware.Storage.TheVariants.{Register, Memory}
@@ -65,10 +66,6 @@ after-append netlist s (x ∷ xs) ys = step (setting_of netlist x) (λ t. after-
 one_more : (netlist : Netlist) (s t : State) (xs : List (List ℕ)) (line : List ℕ) (setting : Setting) → state_after netlist s xs ≡ Some t → setting_of netlist line ≡ Some setting → state_after netlist s (xs ++ (line ∷ [])) ≡ Some (with_setting t setting)
 unfolding state_after
 one_more netlist s t xs line setting p q = after-append netlist s xs (line ∷ []) ∙ rw (p, q) refl
-
-concat-snoc : (xs : List (List ℕ)) (line : List ℕ) → length (concat (xs ++ (line ∷ []))) ≡ length (concat xs) + length line
-concat-snoc [] line = ap length (append-nil line) ∙ omega arith
-concat-snoc (x ∷ xs) line = length-append x (concat (xs ++ (line ∷ []))) ∙ omega (arith, concat-snoc xs line, length-append x (concat xs))
 
 -- ---- what a setting keeps
 

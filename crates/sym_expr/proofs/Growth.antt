@@ -4,7 +4,7 @@ use Rattle.std.proofs.lemmas.List.{append-nil}
 use Rattle.std.proofs.lemmas.Bool.{cases_lt}
 use Rattle.sym_expr.specs.declared.pool.Node.{Node}
 use Rattle.sym_expr.specs.Pools.{node_term, parts_of, AllBelow, term_at, TermFits, HeadFits, IsPool, Grows, KeepsTerms}
-use Rattle.sym_expr.proofs.Lists.{pushed_at}
+use Rattle.rec_bits.proofs.Lists.{pushed_at}
 use Rattle.sym_expr.proofs.Trees.{term_at-append, term_at-push}
 use Rattle.sym_expr.proofs.Fits.{all_fit, whole_fits}
 

@@ -1,6 +1,7 @@
 -- The derived `==` of nodes tells all values apart.
-use Rattle.std.proofs.Common.{◌≡◌, ℕ, Bool, true, false, ◌&&◌, true≢false, refl, sym, nat_eq}
+use Rattle.std.proofs.Common.{◌≡◌, ℕ, true, false, ◌&&◌, true≢false, refl, sym, nat_eq}
 use borrow.Author.Tests.{eqb-true, eq-eqb}
+use Rattle.rec_bits.proofs.Booleans.{both}
 use Rattle.rec_bits.specs.declared.operator.Op1.{Op1}
 use Rattle.rec_bits.specs.declared.operator.Op1.TheVariants.{Not, Neg}
 use Rattle.rec_bits.specs.declared.operator.Op2.{Op2}
@@ -10,10 +11,6 @@ use Rattle.rec_bits.specs.contracts.operator.Op2PartialEq.TheImpl.{ghosts as op2
 use Rattle.sym_expr.specs.declared.pool.Node.{Node}
 use Rattle.sym_expr.specs.declared.pool.Node.TheVariants.{Word, Reg, Const, Read, Un, Bin, Slice, Cat, Zext, Sext, Select}
 use Rattle.sym_expr.specs.contracts.pool.NodePartialEq.TheImpl.{ghosts as node_eq}
-
-and_both : (a b : Bool) → (a && b) ≡ true → (a ≡ true) × (b ≡ true)
-and_both true b h = (refl, h)
-and_both false b h = absurd (true≢false (sym h))
 
 exact_op1 : (a b : Op1) → op1_eq.eq a b ≡ true → a ≡ b
 exact_op1 Not Not h = refl
@@ -61,15 +58,15 @@ one f a a' h = let e : a ≡ a' = eqb-true a a' h in (λ j. f (e j))
 
 two : {X : Type 0} (f : ℕ → ℕ → X) (a b a' b' : ℕ) → (nat_eq a a' && nat_eq b b') ≡ true → f a b ≡ f a' b'
 two f a b a' b' h =
-    let p = and_both (nat_eq a a') (nat_eq b b') h in
+    let p = both (nat_eq a a') (nat_eq b b') h in
     let ea : a ≡ a' = eqb-true a a' p.0 in
     let eb : b ≡ b' = eqb-true b b' p.1 in
     (λ j. f (ea j) (eb j))
 
 three : {X : Type 0} (f : ℕ → ℕ → ℕ → X) (a b c a' b' c' : ℕ) → (nat_eq a a' && (nat_eq b b' && nat_eq c c')) ≡ true → f a b c ≡ f a' b' c'
 three f a b c a' b' c' h =
-    let p = and_both (nat_eq a a') (nat_eq b b' && nat_eq c c') h in
-    let q = and_both (nat_eq b b') (nat_eq c c') p.1 in
+    let p = both (nat_eq a a') (nat_eq b b' && nat_eq c c') h in
+    let q = both (nat_eq b b') (nat_eq c c') p.1 in
     let ea : a ≡ a' = eqb-true a a' p.0 in
     let eb : b ≡ b' = eqb-true b b' q.0 in
     let ec : c ≡ c' = eqb-true c c' q.1 in
@@ -81,13 +78,13 @@ exact_node (Reg r w) (Reg r' w') h = two Reg r w r' w' h
 exact_node (Const w v) (Const w' v') h = two Const w v w' v' h
 exact_node (Read a w) (Read a' w') h = two Read a w a' w' h
 exact_node (Un o a) (Un o' a') h =
-    let p = and_both (op1_eq.eq o o') (nat_eq a a') h in
+    let p = both (op1_eq.eq o o') (nat_eq a a') h in
     let eo : o ≡ o' = exact_op1 o o' p.0 in
     let ea : a ≡ a' = eqb-true a a' p.1 in
     (λ j. Un (eo j) (ea j))
 exact_node (Bin o a b) (Bin o' a' b') h =
-    let p = and_both (op2_eq.eq o o') (nat_eq a a' && nat_eq b b') h in
-    let q = and_both (nat_eq a a') (nat_eq b b') p.1 in
+    let p = both (op2_eq.eq o o') (nat_eq a a' && nat_eq b b') h in
+    let q = both (nat_eq a a') (nat_eq b b') p.1 in
     let eo : o ≡ o' = exact_op2 o o' p.0 in
     let ea : a ≡ a' = eqb-true a a' q.0 in
     let eb : b ≡ b' = eqb-true b b' q.1 in

@@ -1,41 +1,11 @@
--- Elements of a list that grows.
-use Rattle.std.proofs.Common.{get_or, not, Bool, true, false, cond, nat_lt, position, None, sym, ◌∙◌, ◌≡◌, ℕ, zero, suc, ◌<◌, List, [], ◌∷◌, ◌++◌, length, slice_get, Some, ◌⊎◌, inl, inr, refl, ap, subst, arith}
+-- The first place at which a test passes.
+use Rattle.std.proofs.Common.{get_or, not, Bool, true, false, cond, nat_lt, position, None, sym, ◌∙◌, ◌≡◌, ℕ, ◌<◌, List, length, slice_get, Some, refl, ap, subst, arith}
 use Rattle.std.specs.List.{position_or_len}
 use Rattle.std.proofs.lemmas.Bool.{ltb-true, ltb-false, not-true, not-false}
 use Rattle.std.proofs.lemmas.List.Sums.{prefix_len-le-length, prefix_len_passes, prefix_len_stops}
 use Rattle.std.proofs.lemmas.Option.{slice_get-get_or, slice_get_within, get_or_from_slice_get}
 
 module _ {X : Type 0} where
-  pub get_left : (xs ys : List X) (i : ℕ) → i < length xs → slice_get (xs ++ ys) i ≡ slice_get xs i
-  get_left [] ys i h = absurd (omega arith)
-  get_left (x ∷ xs) ys zero h = refl
-  get_left (x ∷ xs) ys (suc i) h = get_left xs ys i (omega arith)
-
-  pub get_seam : (xs : List X) (y : X) (ys : List X) → slice_get (xs ++ y ∷ ys) (length xs) ≡ Some y
-  get_seam [] y ys = refl
-  get_seam (x ∷ xs) y ys = get_seam xs y ys
-
-  -- a list around its element at a place
-  pub record Around (xs : List X) (i : ℕ) (x : X) : Type 0 where
-    pub before : List X
-    pub after : List X
-    pub is : xs ≡ before ++ x ∷ after
-    pub place : length before ≡ i
-
-  pub around : (xs : List X) (i : ℕ) (x : X) → slice_get xs i ≡ Some x → Around xs i x
-  around [] i x h = absurd (cc)
-  around (y ∷ ys) zero x h = record { before = []; after = ys; is = (let e : y ≡ x = cc in ap (λ z. z ∷ ys) e); place = refl }
-  around (y ∷ ys) (suc i) x h =
-      let r = around ys i x h in
-      record { before = y ∷ r.before; after = r.after; is = ap (λ l. y ∷ l) r.is; place = omega (arith, r.place) }
-
-  -- where an element of a list with one more stands
-  pub pushed_at : (xs : List X) (y : X) (i : ℕ) (x : X) → slice_get (xs ++ y ∷ []) i ≡ Some x → ((i < length xs) × (slice_get xs i ≡ Some x)) ⊎ ((i ≡ length xs) × (y ≡ x))
-  pushed_at [] y zero x h = inr (refl, cc)
-  pushed_at [] y (suc i) x h = absurd (cc)
-  pushed_at (z ∷ xs) y zero x h = inl (omega arith, h)
-  pushed_at (z ∷ xs) y (suc i) x h = elim (pushed_at xs y i x h) [ inl w ↦ inl (omega (arith, w.0), w.1) | inr w ↦ inr (omega (arith, w.0), w.1) ]
-
   -- the item at the first place at which a test passes
   pub position_some : (test : X → Bool) (xs : List X) (d : X) (i : ℕ) → position test xs ≡ Some i → (x : X) × (slice_get xs i ≡ Some x) × (test x ≡ true)
   position_some test xs d i h = by (nat_lt n (length xs)) refl h

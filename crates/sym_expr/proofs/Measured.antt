@@ -7,7 +7,7 @@ use Rattle.sym_expr.specs.declared.pool.Node.{Node}
 use Rattle.sym_expr.specs.declared.pool.Measure.{Measure}
 use Rattle.sym_expr.specs.Pools.{node_term, parts_of, AllBelow, term_at, HeadFits, IsPool}
 use Rattle.sym_expr.specs.Measures.{IsMeasure, IsMeasuredPool}
-use Rattle.sym_expr.proofs.Lists.{pushed_at}
+use Rattle.rec_bits.proofs.Lists.{pushed_at}
 use Rattle.sym_expr.proofs.Trees.{term_at-append, term_at-push}
 use Rattle.sym_expr.proofs.Growth.{push_pool}
 

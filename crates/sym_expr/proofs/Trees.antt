@@ -5,7 +5,7 @@ use Rattle.net_model.specs.Terms.{Term, read, un, bin, slice, cat, zext, sext, s
 use Rattle.sym_expr.specs.declared.pool.Node.{Node}
 use Rattle.sym_expr.specs.declared.pool.Node.TheVariants.{Word, Reg, Const, Read, Un, Bin, Slice, Cat, Zext, Sext, Select}
 use Rattle.sym_expr.specs.Pools.{node_term, parts_of, AllBelow, term_of_newest, term_at}
-use Rattle.sym_expr.proofs.Lists.{around}
+use Rattle.rec_bits.proofs.Lists.{around}
 use borrow.Author.Tests.{eqb-true, eq-eqb}
 
 not_equal : (i n : ℕ) → i < n → (i == n) ≡ false

@@ -3,14 +3,13 @@
 ghost use Rattle.std.specs.Prelude.{◌≡◌, ℕ, ◌+◌, ◌<◌, ◌≤◌, max, List, [], length, IfOk, OnErr, slice_index};
 ghost use Rattle.net_model.specs.Meaning.{mean};
 ghost use Rattle.net_model.specs.Terms.{size_of, term_width};
-ghost use Rattle.rec_bits.specs.Operators.{result_width as width_of_result};
 ghost use Rattle.sym_expr.specs.Pools.{AllBelow, Grows, HeadFits, IsOneEach, KeepsTerms, Suits, TermFits, capped, node_term, parts_of, term_at};
 ghost use Rattle.sym_expr.specs.Measures.{IsMeasure};
 ghost use Rattle.sym_expr.specs.declared.pool.Node.{Node as TheNode};
 
 use indexmap::IndexMap;
 use net_model::State;
-use rec_bits::{NoMemory, Op1, Op2, apply1, apply2, cat, sext, slice};
+use rec_bits::{NoMemory, Op1, Op2, apply1, apply2, cat, result_width, sext, slice};
 use std::alloc::Global;
 use std::marker::Model;
 
@@ -245,23 +244,5 @@ fn number_at(values: &[u64], place: u64) -> u64
     match values.get(place as usize) {
         Some(value) => *value,
         None => 0,
-    }
-}
-
-// The width of an operator's value at operands of this width.
-fn result_width(op: Op2, width: u8) -> u8
-    ensures { result ≡ width_of_result op width }
-{
-    match op {
-        Op2::Eq | Op2::Ltu | Op2::Lts => 1,
-        Op2::Add
-        | Op2::Sub
-        | Op2::Mul
-        | Op2::And
-        | Op2::Or
-        | Op2::Xor
-        | Op2::Shl
-        | Op2::Shr
-        | Op2::Sar => width,
     }
 }

@@ -2,3 +2,4 @@ mod Values
 pub mod Parts
 pub mod Numbers
 pub mod Steps
+pub mod Joined

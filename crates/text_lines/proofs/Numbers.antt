@@ -6,6 +6,7 @@ use Rattle.std.proofs.lemmas.Bool.{ltb-true, lt-ltb}
 use Rattle.std.specs.Fmt.{decimal}
 use Rattle.std.specs.Prelude.{nat_lt, nat_le}
 use Rattle.std.specs.List.{list_all}
+use Rattle.rec_bits.proofs.Booleans.{both}
 use Rattle.lexing.specs.Bytes.{is_digit, is_letter, is_name_byte, begins_with}
 use Rattle.text_lines.specs.Fields.{number_of, value_from, is_plain, are_digits, is_name, are_name_bytes}
 use Rattle.text_lines.proofs.Parts.{Avoids}
@@ -30,10 +31,6 @@ is_plain_when (d ∷ c ∷ ds) some h = step (d == 48) refl
     step : (t : Bool) → (d == 48) ≡ t → not t ≡ true
     step true e = absurd (omega (arith, eqb-true d 48 e))
     step false e = refl
-
-both : (a b : Bool) → (a && b) ≡ true → (a ≡ true) × (b ≡ true)
-both true b e = (refl, e)
-both false b e = absurd cc
 
 guarded : (a b : Bool) (v n : ℕ) → cond a (cond b (Some v) None) None ≡ Some n → (a ≡ true) × (b ≡ true) × (v ≡ n)
 guarded false b v n e = absurd cc

@@ -1,6 +1,7 @@
 -- What stands in a line.
-use Rattle.std.specs.Prelude.{ℕ, ◌+◌, ◌-◌, ◌*◌, ◌^◌, ◌==◌, ◌&&◌, not, nat_lt, nat_le, if◌then◌else◌, List, [], ◌∷◌, length, Bool, true, false, Option, Some, None, option_map}
+use Rattle.std.specs.Prelude.{ℕ, ◌+◌, ◌-◌, ◌*◌, ◌^◌, ◌==◌, ◌&&◌, not, nat_le, if◌then◌else◌, List, [], ◌∷◌, length, Bool, true, false, Option, Some, None, option_map}
 use Rattle.std.specs.List.{list_all}
+use Rattle.lexing.specs.Numbers.{below_2_64}
 use Rattle.lexing.specs.Bytes.{is_letter, is_digit, is_name_byte, begins_with}
 
 -- what stands before the first such byte, and behind it
@@ -28,9 +29,6 @@ line_end text = parts_at 10 text >>= only_front
 abbrev pub value_from : ℕ → List ℕ → ℕ
 value_from n [] = n
 value_from n (d ∷ ds) = value_from (10 * n + (d - 48)) ds
-
-abbrev pub below_2_64 : ℕ → Option ℕ
-below_2_64 n = if nat_lt n (2 ^ 64) then Some n else None
 
 -- a digit or more, without a zero before another
 abbrev pub is_plain : List ℕ → Bool

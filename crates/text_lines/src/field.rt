@@ -1,8 +1,11 @@
 //! What stands in a line.
 
 ghost use Rattle.std.specs.Prelude.{◌≡◌, ◌==◌, not, length, take_while, option_map, option_copied};
-ghost use Rattle.lexing.specs.Bytes.{is_letter, is_name_byte};
-ghost use Rattle.text_lines.specs.Fields.{parts_at, line_end, number_of, value_from, below_2_64, is_plain, are_digits, are_name_bytes, is_name};
+ghost use Rattle.lexing.specs.Bytes.{is_name_byte};
+ghost use Rattle.lexing.specs.Numbers.{below_2_64};
+ghost use Rattle.text_lines.specs.Fields.{parts_at, line_end, number_of, value_from, is_plain, are_digits, are_name_bytes, is_name};
+
+use lexing::{digit, letter};
 
 /// The greatest number of bytes of a name.
 const MAX_NAME: usize = 32;
@@ -60,7 +63,7 @@ fn plain(digits: &[u8]) -> bool
 fn all_digits(text: &[u8]) -> bool
     ensures { result ≡ are_digits text.now }
 {
-    text.iter().all(|byte| byte.is_ascii_digit())
+    text.iter().all(|byte| digit(*byte))
 }
 
 #[tactic(auto, unfolding(crate::specs::Fields::number_of))]
@@ -75,16 +78,10 @@ pub fn number(text: &[u8]) -> Option<u64>
     }
 }
 
-fn letter(byte: u8) -> bool
-    ensures { result ≡ is_letter byte }
-{
-    byte.is_ascii_alphabetic() || byte == b'_'
-}
-
 fn name_byte(byte: u8) -> bool
     ensures { result ≡ is_name_byte byte }
 {
-    letter(byte) || byte.is_ascii_digit()
+    letter(byte) || digit(byte)
 }
 
 fn all_name_bytes(text: &[u8]) -> bool

@@ -5,12 +5,12 @@ use Rattle.bit_bdd.specs.Diagrams.{Diagrams, has_word}
 use Rattle.net_model.specs.Terms.{Term}
 use Rattle.sym_expr.specs.declared.pool.Node.{Node}
 use Rattle.sym_expr.specs.Pools.{term_at, IsOneEach}
-use Rattle.sym_expr.proofs.Lists.{around}
+use Rattle.rec_bits.proofs.Lists.{around}
 use Rattle.transfer_set.specs.declared.route.Route.{Route}
 use Rattle.transfer_set.specs.Routes.{row, held, held_terms, Fresh, NoRepeat, AllExprs, IsTable, only, Gives, RouteIs}
 use Rattle.transfer_set.proofs.Collecting.{expr_at}
 
-held-append : (book : Diagrams) (xs ys : List Route) (word : ℕ) → held book (xs ++ ys) word ≡ held book xs word ++ held book ys word
+pub held-append : (book : Diagrams) (xs ys : List Route) (word : ℕ) → held book (xs ++ ys) word ≡ held book xs word ++ held book ys word
 held-append book [] ys word = refl
 held-append book (x ∷ xs) ys word = ap (λ l. row book x word ++ l) (held-append book xs ys word) ∙ sym (append_assoc (row book x word) (held book xs word) (held book ys word))
 
@@ -24,7 +24,7 @@ single (z ∷ w ∷ before) after x true y e = absurd (cc)
 
 module _ (book : Diagrams) (pool : List Node) (legal : ℕ) (f : ℕ → Term) where
   -- a route that holds a word gives it its expression
-  holds_right : (before after : List Route) (route : Route) (word : ℕ) → held_terms book pool (before ++ route ∷ after) word ≡ only book legal word (f word)
+  pub holds_right : (before after : List Route) (route : Route) (word : ℕ) → held_terms book pool (before ++ route ∷ after) word ≡ only book legal word (f word)
       → has_word book route.set word ≡ true → (has_word book legal word ≡ true) × (term_at pool route.expr ≡ f word)
   holds_right before after route word e h =
       single (map (term_at pool) (held book before word)) (map (term_at pool) (held book after word)) (term_at pool route.expr) (has_word book legal word) (f word)
@@ -70,7 +70,7 @@ held_in book size word (r ∷ routes) h e es k = by (has_word book r.set word) (
     by true rest q = (let s : r.expr ≡ e = cc in omega (arith, s, h.0))
     by false rest q = rest q
 
-one_of : (t : ℕ → Term) (xs : List ℕ) (y : Term) → map t xs ≡ y ∷ [] → (e : ℕ) × (xs ≡ e ∷ []) × (t e ≡ y)
+pub one_of : (t : ℕ → Term) (xs : List ℕ) (y : Term) → map t xs ≡ y ∷ [] → (e : ℕ) × (xs ≡ e ∷ []) × (t e ≡ y)
 one_of t [] y k = absurd (cc)
 one_of t (x ∷ []) y k = (x, refl, cc)
 one_of t (x ∷ z ∷ xs) y k = absurd (cc)

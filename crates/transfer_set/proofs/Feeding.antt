@@ -1,9 +1,10 @@
 -- What feeds a storage gives its transfers.
-use Rattle.std.proofs.Common.{◌≡◌, ℕ, zero, suc, ◌+◌, ◌^◌, ◌<◌, ◌≤◌, ◌==◌, ◌&&◌, nat_lt, Bool, true, false, true≢false, if◌then◌else◌, List, [], ◌∷◌, ◌++◌, length, Option, None, Some, slice_get, refl, sym, ap, subst, ◌∙◌, arith}
+use Rattle.std.proofs.Common.{◌≡◌, ℕ, zero, suc, ◌+◌, ◌^◌, ◌<◌, ◌≤◌, ◌==◌, ◌&&◌, nat_lt, Bool, true, false, if◌then◌else◌, List, [], ◌∷◌, ◌++◌, length, Option, None, Some, slice_get, refl, sym, ap, subst, ◌∙◌, arith}
 use Rattle.std.specs.List.{AllByRecursion}
 use Rattle.std.proofs.lemmas.List.{append-nil}
 use Rattle.std.proofs.lemmas.Bool.{ltb-true, ltb-false}
 use borrow.Author.Tests.{eqb-true, eqb-false}
+use Rattle.rec_bits.proofs.Booleans.{both}
 use Rattle.bit_bdd.specs.Diagrams.{Diagrams, has_word, Extends}
 use Rattle.bit_bdd.proofs.CallerLemmas.{same_words}
 use Rattle.ctl_bdd.specs.declared.ControlBits.{ControlBits}
@@ -12,7 +13,8 @@ use Rattle.net_model.specs.declared.hardware.Storage.{Storage}
 use Rattle.net_model.specs.declared.hardware.Storage.TheVariants.{Register, Memory}
 use Rattle.net_model.specs.Symbolic.{blank, sym_of}
 use Rattle.net_model.specs.Terms.{Term, Move, keep, write, write_at}
-use Rattle.net_model.specs.Transfers.{is_on, move_at, same_reg, transfer_of}
+use Rattle.net_model.specs.Clock.{is_enabled}
+use Rattle.net_model.specs.Transfers.{move_at, same_reg, transfer_of}
 use Rattle.net_model.specs.Value.{value_of}
 use Rattle.net_model.specs.Widths.{StorageFits}
 use Rattle.sym_expr.specs.declared.pool.Node.{Node}
@@ -28,10 +30,6 @@ pub all_at : {X : Type 0} (P : X → Type 0) (xs : List X) (i : ℕ) (x : X) →
 all_at P [] i x at h = absurd (cc)
 all_at P (y ∷ xs) zero x at h = (let e : y ≡ x = cc in subst P e h.0)
 all_at P (y ∷ xs) (suc i) x at h = all_at P xs i x at h.1
-
-both : (a b : Bool) → (a && b) ≡ true → (a ≡ true) × (b ≡ true)
-both true b e = (refl, e)
-both false b e = absurd (true≢false (sym e))
 
 -- ---- a book that grows
 
@@ -77,7 +75,7 @@ module _ (netlist : Netlist) (book : Diagrams) (pool : List Node) (controls : Co
     on : IsOnSet netlist book (when_set controls.bits when) when
     on = (subst (IsStorageKnown netlist book controls.bits) at (source.storages id)).1
 
-    register_is : (word : ℕ) → move_at netlist word id ≡ (if is_on (value_of netlist blank word) when then (if same_reg (sym_of netlist word input) id then keep else write (sym_of netlist word input)) else keep)
+    register_is : (word : ℕ) → move_at netlist word id ≡ (if is_enabled (value_of netlist blank word) when then (if same_reg (sym_of netlist word input) id then keep else write (sym_of netlist word input)) else keep)
     register_is word = ap (transfer_of netlist word id) at
 
     pub register_whole : AreWrites netlist pool book id (when_set controls.bits when) (routes_at nets input)
@@ -92,7 +90,7 @@ module _ (netlist : Netlist) (book : Diagrams) (pool : List Node) (controls : Co
                 ∙ ap (λ t. if same_reg t id then keep else write t) (sym r.1)
                 ∙ ap (λ s. if s then keep else write (term_at pool route.expr)) other;
           },
-      λ q. back (is_on (value_of netlist blank word) when) (same_reg (sym_of netlist word input) id) (on.words word fits) ((source.legal word fits).1 q.clean) (sym (register_is word) ∙ q.gives),
+      λ q. back (is_enabled (value_of netlist blank word) when) (same_reg (sym_of netlist word input) id) (on.words word fits) ((source.legal word fits).1 q.clean) (sym (register_is word) ∙ q.gives),
     )
       where
         back : (o s : Bool) → has_word book (when_set controls.bits when) word ≡ o → has_word book controls.legal word ≡ true
@@ -110,7 +108,7 @@ module _ (netlist : Netlist) (book : Diagrams) (pool : List Node) (controls : Co
     on_memory : IsOnSet netlist book (when_set controls.bits when) when
     on_memory = (subst (IsStorageKnown netlist book controls.bits) at (source.storages id)).1
 
-    memory_is : (word : ℕ) → move_at netlist word id ≡ (if is_on (value_of netlist blank word) when then write_at (sym_of netlist word addr) (sym_of netlist word value) else keep)
+    memory_is : (word : ℕ) → move_at netlist word id ≡ (if is_enabled (value_of netlist blank word) when then write_at (sym_of netlist word addr) (sym_of netlist word value) else keep)
     memory_is word = ap (transfer_of netlist word id) at
 
     pub memory_whole : ArePairs netlist pool book id (when_set controls.bits when) (routes_at nets addr) (routes_at nets value)
@@ -126,7 +124,7 @@ module _ (netlist : Netlist) (book : Diagrams) (pool : List Node) (controls : Co
                 ∙ ap (λ o. if o then write_at (sym_of netlist word addr) (sym_of netlist word value) else keep) (sym (on_memory.words word fits) ∙ d.0)
                 ∙ (λ j. write_at (sym r.1 j) (sym s.1 j));
           },
-      λ q. back (is_on (value_of netlist blank word) when) (on_memory.words word fits) ((source.legal word fits).1 q.clean) (sym (memory_is word) ∙ q.gives),
+      λ q. back (is_enabled (value_of netlist blank word) when) (on_memory.words word fits) ((source.legal word fits).1 q.clean) (sym (memory_is word) ∙ q.gives),
     )
       where
         back : (o : Bool) → has_word book (when_set controls.bits when) word ≡ o → has_word book controls.legal word ≡ true
@@ -148,7 +146,7 @@ module _ (netlist : Netlist) (book : Diagrams) (pool : List Node) (controls : Co
         let f = source.routes.gives addr fit.1.0 word fits in
         let g = source.routes.gives value fit.0.0 word fits in
         λ j. given ((id == n) && o j) (each (λ (a : Term). each (memory_moves a) (g j)) (f j)))
-        ∙ by (id == n) (is_on (value_of netlist blank word) when) (has_word book controls.legal word)
+        ∙ by (id == n) (is_enabled (value_of netlist blank word) when) (has_word book controls.legal word)
         ∙ ap (λ m. given ((id == n) && has_word book controls.legal word) (changes m)) (sym (memory_is word))
       where
         f : Term

@@ -7,7 +7,7 @@ use Rattle.ctl_bdd.specs.Bits.{AreSets}
 use Rattle.ctl_bdd.specs.Controls.{IsControl}
 use Rattle.ctl_bdd.specs.Places.{is_placed}
 use Rattle.ctl_bdd.specs.declared.ControlBits.{ControlBits}
-use Rattle.ctl_bdd.proofs.Alls.{or_left}
+use Rattle.rec_bits.proofs.Booleans.{or_left}
 use Rattle.ctl_bdd.proofs.CallerLemmas.{bits_found, clean_is, one_set, when_placed}
 use Rattle.net_model.specs.declared.hardware.Netlist.{Netlist}
 use Rattle.net_model.specs.declared.hardware.Storage.{Storage}

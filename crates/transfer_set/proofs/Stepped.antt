@@ -2,6 +2,7 @@
 use Rattle.std.proofs.Common.{◌≡◌, ◌↔◌, ◌⊎◌, inl, inr, true≢false, ℕ, zero, suc, ◌+◌, ◌<◌, ◌==◌, ◌&&◌, ◌||◌, ◌++◌, Bool, true, false, List, [], ◌∷◌, take, Some, slice_get, add-one, refl, sym, ap, subst, ◌∙◌}
 use Rattle.std.specs.List.{list_any}
 use Rattle.std.proofs.lemmas.Bool.{eqb-true, eq-eqb}
+use Rattle.rec_bits.proofs.Booleans.{both}
 use Rattle.rec_bits.specs.declared.operator.Op2.TheVariants.{Add}
 use Rattle.bit_bdd.specs.Diagrams.{Diagrams, has_word}
 use Rattle.net_model.specs.Terms.{Move, Term, keep, write, write_at, reg, const, bin, next_of, swapped_next_of}
@@ -69,10 +70,6 @@ any_moves book pool counter word (x ∷ entries) =
     one p m true true = and_true (p m) ∙ sym (or_none (p m))
     one p m true false = and_false (p m)
     one p m false h = refl
-
-both : (a b : Bool) → (a && b) ≡ true → (a ≡ true) × (b ≡ true)
-both true b e = (refl, e)
-both false b e = absurd (true≢false (sym e))
 
 either : (a b : Bool) → (a || b) ≡ true → (a ≡ true) ⊎ (b ≡ true)
 either true b e = inl refl

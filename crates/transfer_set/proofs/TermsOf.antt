@@ -12,7 +12,8 @@ use Rattle.net_model.specs.CheckedRules.{KeepsRules}
 use Rattle.net_model.specs.Nets.{code_bits, net_width, storage_bits, width_at, word_width}
 use Rattle.net_model.specs.Symbolic.{blank, bus_term, case_term, gate_term, is_static, net_term, sliced, sym_of, sym_within}
 use Rattle.net_model.specs.Terms.{Term, reg, slice, term_width, Move, keep, write, write_at}
-use Rattle.net_model.specs.Transfers.{is_on, move_at, same_reg, storage_move, transfer_of}
+use Rattle.net_model.specs.Clock.{is_enabled}
+use Rattle.net_model.specs.Transfers.{move_at, same_reg, storage_move, transfer_of}
 use Rattle.net_model.specs.Value.{value_of, value_within}
 use Rattle.net_model.specs.Widths.{GateFits, IsTyped, NetFits}
 use Rattle.net_model.proofs.KeptRules.{typed_of}
@@ -117,9 +118,9 @@ choose netlist false m n h k = k
 
 storage_of : (netlist : Netlist) (t : ℕ → Term) (u : ℕ → ℕ) (id : ℕ) → ((m : ℕ) → IsTermOf netlist (t m)) → (storage : Storage) → IsMoveOf netlist (storage_move t u id storage)
 storage_of netlist t u id h (Register name width input when) =
-    choose netlist (is_on u when) _ keep (choose netlist (same_reg (t input) id) keep (write (t input)) tt (h input)) tt
+    choose netlist (is_enabled u when) _ keep (choose netlist (same_reg (t input) id) keep (write (t input)) tt (h input)) tt
 storage_of netlist t u id h (Memory name width size addr_width value addr when) =
-    choose netlist (is_on u when) (write_at (t addr) (t value)) keep (h addr, h value) tt
+    choose netlist (is_enabled u when) (write_at (t addr) (t value)) keep (h addr, h value) tt
 
 -- what each storage does under each word
 pub move_terms : (netlist : Netlist) (order : List ℕ) → KeepsRules netlist order → (i id : ℕ) → IsMoveOf netlist (move_at netlist i id)

@@ -6,6 +6,7 @@ use Rattle.std.specs.Fmt.{decimal}
 use Rattle.std.proofs.lemmas.Fmt.{decimal_by_steps}
 use Rattle.std.specs.List.{AllByRecursion, IsDistinct, list_all}
 use Rattle.std.proofs.lemmas.Bool.{eqb-true, eq-eqb}
+use Rattle.rec_bits.proofs.Booleans.{or_left}
 use Rattle.rec_bits.specs.declared.operator.Op1.{Op1}
 use Rattle.rec_bits.specs.declared.operator.Op1.TheVariants.{Not, Neg}
 use Rattle.rec_bits.specs.declared.operator.Op2.{Op2}
@@ -21,10 +22,6 @@ use Rattle.net_model.specs.Texts.{first_name, memory_name, name_of, op1_text, op
 use Rattle.transfer_set.specs.TextMarks.{Closes, HasPlainNames, IsTermOf, Marks, Plain, is_close, is_mark}
 
 -- ---- pieces
-
-or_left : (a b : Bool) → a ≡ true → (a || b) ≡ true
-or_left true b e = refl
-or_left false b e = absurd (true≢false (sym e))
 
 marked : (x : List ℕ) → Closes x → Marks x
 marked [] c = tt

@@ -9,7 +9,8 @@ use Rattle.net_model.specs.declared.hardware.Storage.{Storage}
 use Rattle.net_model.specs.declared.hardware.Storage.TheVariants.{Register, Memory}
 use Rattle.net_model.specs.Symbolic.{blank}
 use Rattle.net_model.specs.Terms.{Move, keep, write, write_at}
-use Rattle.net_model.specs.Transfers.{IsClean, is_on}
+use Rattle.net_model.specs.Clock.{is_enabled}
+use Rattle.net_model.specs.Transfers.{IsClean}
 use Rattle.net_model.specs.Value.{value_of}
 use Rattle.sym_expr.specs.declared.pool.Node.{Node}
 use Rattle.transfer_set.specs.declared.route.Route.{Route}
@@ -39,7 +40,7 @@ HasSet bits (Some when) = (set : ℕ) × (bits_in bits when ≡ Some (set ∷ []
 -- the words of this set are those under which a storage is on
 pub record IsOnSet (netlist : Netlist) (book : Diagrams) (set : ℕ) (when : Option ℕ) : Type 0 where
   pub within : set < length book.nodes
-  pub words : (word : ℕ) → word < 2 ^ book.bits → has_word book set word ≡ is_on (value_of netlist blank word) when
+  pub words : (word : ℕ) → word < 2 ^ book.bits → has_word book set word ≡ is_enabled (value_of netlist blank word) when
 
 -- it is known when a storage is on
 abbrev pub IsWhenKnown : Netlist → Diagrams → List (ℕ × List ℕ) → Option ℕ → Type 0

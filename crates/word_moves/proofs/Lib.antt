@@ -1,5 +1,4 @@
 pub mod Evaluated
-pub mod Flags
 pub mod Targets
 pub mod Wide
 pub mod Traced

@@ -1,7 +1,7 @@
 -- A storage's transfer depends on the nets that feed it alone.
 use Rattle.std.proofs.Common.{◌≡◌, ℕ, zero, suc, ◌<◌, if◌then◌else◌, Some, List, [], ◌∷◌, ◌++◌, length, get_or, slice_get, inl, inr, refl, sym, ap, subst, ◌∙◌}
 use Rattle.std.proofs.lemmas.Option.{slice_get_read}
-use Rattle.sym_expr.proofs.Lists.{pushed_at}
+use Rattle.rec_bits.proofs.Lists.{pushed_at}
 use Rattle.word_moves.specs.declared.moves.StorageMove.{StorageMove}
 use Rattle.std.specs.List.{AllByRecursion}
 use Rattle.net_model.specs.declared.hardware.Netlist.{Netlist}
@@ -11,7 +11,8 @@ use Rattle.net_model.specs.Terms.{Term, keep, write, write_at}
 use Rattle.net_model.specs.Value.{value_of}
 use Rattle.net_model.specs.Widths.{StorageFits, IsTyped}
 use Rattle.net_model.specs.Symbolic.{blank, sym_of}
-use Rattle.net_model.specs.Transfers.{is_on, same_reg, storage_move, transfer_of, move_at}
+use Rattle.net_model.specs.Clock.{is_enabled}
+use Rattle.net_model.specs.Transfers.{same_reg, storage_move, transfer_of, move_at}
 use Rattle.sym_expr.specs.declared.pool.Node.{Node}
 use Rattle.word_moves.specs.Gates.{StorageKnown, net_terms}
 use Rattle.word_moves.specs.Moves.{AreIds, IsMoveWithin, move_in}
@@ -23,11 +24,11 @@ module _ (netlist : Netlist) (word : ℕ) (nodes : List Node) (ids : List ℕ) (
 
   pub storage_same : (u : ℕ → ℕ) (id : ℕ) (storage : Storage) → StorageFits netlist storage → storage_move (net_terms nodes ids) u id storage ≡ storage_move (sym_of netlist word) u id storage
   storage_same u id (Register name width input when) f =
-      ap (λ (e : Term). if is_on u when then (if same_reg e id then keep else write e) else keep) (a.terms input f.0.0)
+      ap (λ (e : Term). if is_enabled u when then (if same_reg e id then keep else write e) else keep) (a.terms input f.0.0)
   storage_same u id (Memory name width size addr_width value addr when) f =
       let x = a.terms addr f.1.0 in
       let y = a.terms value f.0.0 in
-      (λ j. if is_on u when then write_at (x j) (y j) else keep)
+      (λ j. if is_enabled u when then write_at (x j) (y j) else keep)
 
 all_at : {X : Type 0} (P : X → Type 0) (xs : List X) (i : ℕ) (x : X) → AllByRecursion P xs → slice_get xs i ≡ Some x → P x
 all_at P [] i x h e = absurd (cc)

@@ -4,28 +4,16 @@ use Rattle.std.specs.List.{AllByRecursion}
 use Rattle.net_model.specs.declared.hardware.Netlist.{Netlist}
 use Rattle.net_model.specs.Terms.{Term}
 use Rattle.net_model.specs.Nets.{row_nets, driver_nets, width_at}
-use Rattle.net_model.specs.Value.{case_value, bus_value}
 use Rattle.net_model.specs.Symbolic.{case_term, bus_term}
 use Rattle.net_model.specs.Widths.{RowsFit, RestFits, DriversFit}
 use Rattle.sym_expr.specs.declared.pool.Node.{Node}
-use Rattle.word_moves.specs.Choices.{case_target, driver_target, value_there, term_there}
+use Rattle.word_moves.specs.Choices.{case_target, driver_target, term_there}
 use Rattle.word_moves.specs.Gates.{IsWide, IsKnown}
 
 module _ {X : Type 0} (there : Option ℕ → X) where
   choose : (b : Bool) (n : ℕ) (rest : Option ℕ) (x : X) → there rest ≡ x → there (if b then Some n else rest) ≡ (if b then there (Some n) else x)
   choose true n rest x e = refl
   choose false n rest x e = e
-
--- ---- values
-
-pub case_value_there : (v : ℕ → ℕ) (key : ℕ) (rows : List (ℕ × ℕ)) (rest : Option ℕ) → value_there v (case_target key rows rest) ≡ case_value v key rows rest
-case_value_there v key [] None = refl
-case_value_there v key [] (Some n) = refl
-case_value_there v key (row ∷ rows) rest = choose (value_there v) (row.0 == key) row.1 (case_target key rows rest) _ (case_value_there v key rows rest)
-
-pub bus_value_there : (v : ℕ → ℕ) (drivers : List (ℕ × ℕ)) → value_there v (driver_target v drivers) ≡ bus_value v drivers
-bus_value_there v [] = refl
-bus_value_there v (driver ∷ drivers) = choose (value_there v) (v driver.1 == 1) driver.0 (driver_target v drivers) _ (bus_value_there v drivers)
 
 -- ---- symbolic values
 

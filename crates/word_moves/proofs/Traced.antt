@@ -14,7 +14,8 @@ use Rattle.net_model.specs.Order.{place_of, IsOrder}
 use Rattle.net_model.specs.Symbolic.{blank, is_static, gate_term, net_term, sym_of}
 use Rattle.net_model.proofs.Meanings.{width_is}
 use Rattle.net_model.proofs.Syms.{same_gate, sym_is}
-use Rattle.net_model.proofs.Orders.{all_weaker, place_at, at_place}
+use Rattle.rec_bits.proofs.Lists.{all_weaker}
+use Rattle.net_model.proofs.Orders.{place_at, at_place}
 use Rattle.sym_expr.specs.declared.pool.Node.{Node}
 use Rattle.sym_expr.specs.Pools.{Grows, term_at}
 use Rattle.sym_expr.proofs.CallerLemmas.{same_term}

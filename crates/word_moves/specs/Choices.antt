@@ -12,11 +12,7 @@ abbrev pub driver_target : (ℕ → ℕ) → List (ℕ × ℕ) → Option ℕ
 driver_target u [] = None
 driver_target u (driver ∷ drivers) = if u driver.1 == 1 then Some driver.0 else driver_target u drivers
 
--- what stands at a net, and 0 where there is none
-abbrev pub value_there : (ℕ → ℕ) → Option ℕ → ℕ
-value_there v None = 0
-value_there v (Some n) = v n
-
+-- the symbolic value of a net, and 0 where there is none
 abbrev pub term_there : (ℕ → Term) → ℕ → Option ℕ → Term
 term_there t width None = const width 0
 term_there t width (Some n) = t n

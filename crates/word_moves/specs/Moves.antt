@@ -1,9 +1,10 @@
 -- What a netlist does under one instruction word, in the ids of a pool.
-use Rattle.std.specs.Prelude.{ℕ, ◌≡◌, ◌<◌, List, Some, length, slice_get, slice_index, slice_index_or, Bool, true}
+use Rattle.std.specs.Prelude.{ℕ, ◌≡◌, ◌<◌, List, Some, length, slice_get, slice_index}
 use Rattle.net_model.specs.declared.hardware.Netlist.{Netlist}
 use Rattle.net_model.specs.Terms.{Move, keep, write, write_at}
 use Rattle.net_model.specs.Value.{value_of}
 use Rattle.net_model.specs.Clock.{clash_in}
+use Rattle.net_model.specs.Flags.{flag_at}
 use Rattle.net_model.specs.Symbolic.{blank, is_static, sym_of}
 use Rattle.net_model.specs.Transfers.{move_at}
 use Rattle.sym_expr.specs.declared.pool.Node.{Node}
@@ -11,10 +12,6 @@ use Rattle.sym_expr.specs.Pools.{term_at}
 use Rattle.word_moves.specs.declared.moves.StorageMove.{StorageMove}
 use Rattle.word_moves.specs.declared.moves.StorageMove.TheVariants.{Keep, Write, WriteAt}
 use Rattle.word_moves.specs.declared.moves.WordMoves.{WordMoves}
-
--- the flag of a net, which is set past the last one
-abbrev pub flag_at : List Bool → ℕ → Bool
-flag_at flags n = slice_index_or flags n true
 
 -- an id of the pool for each net, whose expression is the net's symbolic value
 pub record AreIds (netlist : Netlist) (word : ℕ) (nodes : List Node) (ids : List ℕ) : Type 0 where

@@ -3,7 +3,7 @@
 ghost use Rattle.std.specs.Prelude.{◌≡◌, slice_index};
 ghost use Rattle.word_moves.specs.Choices.{case_target, driver_target};
 
-use crate::evaluate::value_at;
+use cycle_sim::value_at;
 
 // The net of the row with this number, or the rest.
 pub(crate) fn target_of(key: u64, rows: &[(u64, u32)], rest: Option<u32>) -> Option<u32>

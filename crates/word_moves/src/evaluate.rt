@@ -1,32 +1,23 @@
-// The values of all nets in the blank state under an instruction word, one net after the other.
+// The values of all nets in the blank state under an instruction word.
 
-ghost use Rattle.std.specs.Prelude.{◌≡◌, ◌≤◌, IfOk, length, replicate, slice_index};
-ghost use Rattle.net_model.specs.Nets.{width_at};
+ghost use Rattle.std.specs.Prelude.{◌≡◌, IfOk, length, slice_index};
 ghost use Rattle.net_model.specs.Symbolic.{blank};
-ghost use Rattle.net_model.specs.Value.{bus_value, case_value, gate_value, value_of};
-ghost use Rattle.net_model.specs.Widths.{GateFits, IsTyped, ValuesFit, WordFits};
-ghost use Rattle.word_moves.specs.Choices.{value_there};
+ghost use Rattle.net_model.specs.Value.{value_of};
+ghost use Rattle.net_model.specs.Widths.{WordFits};
 
-use crate::choices::{driver_of, target_of};
-use net_model::{Checked, Gate, Net, Netlist};
-use rec_bits::{Items, NoMemory, apply1, apply2, cat, sext, slice};
+use cycle_sim::{evaluate, zeros};
+use net_model::{Checked, State};
+use rec_bits::{Items, NoMemory};
 use std::alloc::Global;
 
-// The value of a net.
-pub(crate) fn value_at(values: &[u64], net: u32) -> u64
-    ensures { result ≡ slice_index values.now net }
+// The state in which all storages hold 0.
+fn blank_state(alloc: Global) -> State
+    ensures { result ≡ blank }
 {
-    match values.get(net as usize) {
-        Some(value) => *value,
-        None => 0,
+    State {
+        regs: Items::new(alloc),
+        cells: Items::new(alloc),
     }
-}
-
-// Room for a number of each of so many nets.
-pub(crate) fn room_for(alloc: Global, nets: usize) -> Result<Items<u64>, NoMemory>
-    ensures { IfOk result (λ values. values ≡ replicate nets 0) }
-{
-    Ok(Items::from_vec(vec![in alloc; 0; nets]?))
 }
 
 // The value of each net.
@@ -35,93 +26,8 @@ pub(crate) fn values_of(alloc: Global, checked: &Checked, word: u64) -> Result<I
     ensures long { IfOk result (λ values. length values ≡ length checked.now.netlist.nets) }
     ensures values { IfOk result (λ values. slice_index values ≡ value_of checked.now.netlist blank word) }
 {
-    let mut values = room_for(alloc, checked.netlist().nets.len())?;
-    evaluate(checked, word, &mut values);
+    let state = blank_state(alloc);
+    let mut values = zeros(alloc, checked.netlist().nets.len())?;
+    evaluate(checked, &state, word, &mut values);
     Ok(values)
-}
-
-// Evaluates each net once, in order.
-fn evaluate(checked: &Checked, word: u64, values: &mut Items<u64>)
-    requires long { length values.old ≡ length checked.now.netlist.nets }
-    requires fit { ValuesFit checked.now.netlist (slice_index values.old) }
-    requires word { WordFits checked.now.netlist word }
-    ensures values { slice_index values.new ≡ value_of checked.now.netlist blank word }
-    ensures long { length values.new ≡ length checked.now.netlist.nets }
-{
-    let netlist = checked.netlist();
-    let nets = netlist.nets.as_slice();
-    let order = checked.order().as_slice();
-    for id in order {
-        let at = *id as usize;
-        let current = values.as_slice();
-        let value = gate_of(netlist, word, current, &nets[at]);
-        values.set(at, value);
-    }
-}
-
-// The value of a net's gate, from the values of the nets that it names. The storages hold 0.
-fn gate_of(netlist: &Netlist, word: u64, values: &[u64], net: &Net) -> u64
-    requires typed { IsTyped netlist.now }
-    requires fit { ValuesFit netlist.now (slice_index values.now) }
-    requires low { 1 ≤ net.now.width }
-    requires high { net.now.width ≤ 64 }
-    requires gate { GateFits netlist.now net.now.width net.now.gate }
-    ensures { result ≡ gate_value (slice_index values.now) netlist.now blank word net.now.width net.now.gate }
-{
-    match &net.gate {
-        Gate::Word(_) => word,
-        Gate::Reg(_) | Gate::Read { .. } => 0,
-        Gate::Const(value) => *value,
-        Gate::Wire(a) | Gate::Zext(a) => value_at(values, *a),
-        Gate::Un(op, a) => apply1(*op, net.width, value_at(values, *a)),
-        Gate::Bin(op, a, b) => {
-            let width = net_width(netlist, *a);
-            apply2(*op, width, value_at(values, *a), value_at(values, *b))
-        }
-        Gate::Slice { of, hi, lo } => slice(value_at(values, *of), *hi, *lo),
-        Gate::Cat(a, b) => {
-            let low_width = net_width(netlist, *b);
-            cat(value_at(values, *a), value_at(values, *b), low_width)
-        }
-        Gate::Sext(a) => {
-            let from = net_width(netlist, *a);
-            sext(value_at(values, *a), from, net.width)
-        }
-        Gate::Case { sel, rows, rest } => {
-            case_of(values, value_at(values, *sel), rows.as_slice(), *rest)
-        }
-        Gate::Bus(drivers) => bus_of(values, drivers.as_slice()),
-    }
-}
-
-fn net_width(netlist: &Netlist, id: u32) -> u8
-    ensures { result ≡ width_at netlist.now id }
-{
-    match netlist.net(id) {
-        Some(net) => net.width,
-        None => 0,
-    }
-}
-
-// The value of the row with this number, or of the rest.
-fn case_of(values: &[u64], key: u64, rows: &[(u64, u32)], rest: Option<u32>) -> u64
-    ensures { result ≡ case_value (slice_index values.now) key rows.now rest }
-{
-    value_or_zero(values, target_of(key, rows, rest))
-}
-
-// The value of the first enabled driver, and 0 where none is enabled.
-fn bus_of(values: &[u64], drivers: &[(u32, u32)]) -> u64
-    ensures { result ≡ bus_value (slice_index values.now) drivers.now }
-{
-    value_or_zero(values, driver_of(values, drivers))
-}
-
-fn value_or_zero(values: &[u64], net: Option<u32>) -> u64
-    ensures { result ≡ value_there (slice_index values.now) net }
-{
-    match net {
-        Some(net) => value_at(values, net),
-        None => 0,
-    }
 }

@@ -10,12 +10,11 @@ ghost use Rattle.net_model.specs.Widths.{GateFits};
 ghost use Rattle.sym_expr.specs.Pools.{Grows, term_at};
 ghost use Rattle.word_moves.specs.Choices.{term_there};
 ghost use Rattle.word_moves.specs.Gates.{IsKnown, IsWide, net_terms, slice_parts};
-ghost use Rattle.word_moves.specs.Moves.{flag_at};
+ghost use Rattle.net_model.specs.Flags.{flag_at};
 
 use crate::choices::{driver_of, target_of};
-use crate::evaluate::value_at;
-use crate::statics::is_set;
-use net_model::{Gate, Net, Netlist};
+use cycle_sim::value_at;
+use net_model::{Gate, Net, Netlist, is_set};
 use rec_bits::NoMemory;
 use std::alloc::Global;
 use sym_expr::{ExprId, Node, Pool};

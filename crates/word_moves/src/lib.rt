@@ -6,7 +6,6 @@ mod choices;
 mod evaluate;
 mod gates;
 mod moves;
-mod statics;
 mod trace;
 
 pub use moves::{StorageMove, WordMoves, word_moves};

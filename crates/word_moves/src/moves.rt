@@ -1,25 +1,22 @@
 // What the storages and the buses do under an instruction word.
 
-ghost use Rattle.std.specs.Prelude.{◌≡◌, ◌<◌, ◌^◌, IfOk, IfSome, length, slice_index};
-ghost use Rattle.net_model.specs.Clock.{clash_in, enabled_count, gate_clashes};
+ghost use Rattle.std.specs.Prelude.{◌≡◌, ◌<◌, ◌^◌, IfOk, length, slice_index};
+ghost use Rattle.net_model.specs.Clock.{clash_in, is_enabled};
 ghost use Rattle.net_model.specs.Symbolic.{blank};
-ghost use Rattle.net_model.specs.Transfers.{is_on, same_reg, storage_move};
+ghost use Rattle.net_model.specs.Transfers.{same_reg, storage_move};
 ghost use Rattle.net_model.specs.Value.{value_of};
 ghost use Rattle.net_model.specs.Widths.{WordFits};
 ghost use Rattle.sym_expr.specs.Pools.{Grows, term_at};
 ghost use Rattle.word_moves.specs.Gates.{StorageKnown, is_register_node, net_terms};
 ghost use Rattle.word_moves.specs.Moves.{AreIds, AreMoves, IsMoveWithin, IsWordMoves, move_in};
 
-use crate::evaluate::{value_at, values_of};
-use crate::statics::statics_of;
+use crate::evaluate::values_of;
 use crate::trace::ids_of;
-use net_model::{Checked, Gate, Net, Storage};
+use cycle_sim::{find_clash, value_at};
+use net_model::{Checked, Net, Storage};
 use rec_bits::{Items, NoMemory};
 use std::alloc::Global;
 use sym_expr::{ExprId, Node, Pool};
-
-// How many drivers of a bus may be enabled.
-const ENABLED_AT_MOST: usize = 1;
 
 /// What a storage does at a clock, in the ids of a pool.
 #[derive(Clone, Copy, Debug, PartialEq, Eq)]
@@ -59,7 +56,7 @@ pub fn word_moves(
     ensures moves { IfOk result (λ moves. IsWordMoves checked.now.netlist word pool.new moves) }
 {
     let values = values_of(alloc, checked, word)?;
-    let statics = statics_of(alloc, checked)?;
+    let statics = checked.static_flags(alloc)?;
     let ids = ids_of(
         alloc,
         checked,
@@ -69,7 +66,7 @@ pub fn word_moves(
         statics.as_slice(),
     )?;
     let netlist = checked.netlist();
-    let clash = find_clash(values.as_slice(), netlist.nets.as_slice());
+    let clash = first_clash(values.as_slice(), netlist.nets.as_slice());
     let moves = moves_of(
         alloc,
         checked,
@@ -88,42 +85,14 @@ pub fn word_moves(
 }
 
 // The first bus that clashes.
-fn find_clash(values: &[u64], nets: &[Net]) -> Option<u32>
+fn first_clash(values: &[u64], nets: &[Net]) -> Option<u32>
     requires { length nets.now < 2 ^ 32 }
     ensures { result ≡ clash_in (slice_index values.now) nets.now }
 {
-    match first_clash(values, nets) {
+    match find_clash(values, nets) {
         Some(bus) => Some(bus as u32),
         None => None,
     }
-}
-
-fn first_clash(values: &[u64], nets: &[Net]) -> Option<usize>
-    ensures within { IfSome result (λ bus. bus < length nets.now) }
-    ensures first { result ≡ clash_in (slice_index values.now) nets.now }
-{
-    nets.iter().position(|net| clashes(values, &net.gate))
-}
-
-fn clashes(values: &[u64], gate: &Gate) -> bool
-    ensures { result ≡ gate_clashes (slice_index values.now) gate.now }
-{
-    match gate {
-        Gate::Bus(drivers) => count_enabled(values, drivers.as_slice()) > ENABLED_AT_MOST,
-        _ => false,
-    }
-}
-
-fn count_enabled(values: &[u64], drivers: &[(u32, u32)]) -> usize
-    ensures { result ≡ enabled_count (slice_index values.now) drivers.now }
-{
-    let mut count = 0;
-    for driver in drivers {
-        if value_at(values, driver.1) == 1 {
-            count += 1;
-        }
-    }
-    count
 }
 
 // What each storage does.
@@ -181,7 +150,7 @@ fn move_of(pool: &Pool, ids: &[ExprId], values: &[u64], id: usize, storage: &Sto
 }
 
 fn enables(values: &[u64], when: Option<u32>) -> bool
-    ensures { result ≡ is_on (slice_index values.now) when }
+    ensures { result ≡ is_enabled (slice_index values.now) when }
 {
     match when {
         Some(net) => value_at(values, net) == 1,

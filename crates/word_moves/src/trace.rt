@@ -4,10 +4,11 @@ ghost use Rattle.std.specs.Prelude.{◌≡◌, IfOk, slice_index};
 ghost use Rattle.net_model.specs.Symbolic.{blank, is_static};
 ghost use Rattle.net_model.specs.Value.{value_of};
 ghost use Rattle.sym_expr.specs.Pools.{Grows};
-ghost use Rattle.word_moves.specs.Moves.{AreIds, flag_at};
+ghost use Rattle.net_model.specs.Flags.{flag_at};
+ghost use Rattle.word_moves.specs.Moves.{AreIds};
 
-use crate::evaluate::room_for;
 use crate::gates::gate_id;
+use cycle_sim::zeros;
 use net_model::Checked;
 use rec_bits::{Items, NoMemory};
 use std::alloc::Global;
@@ -30,7 +31,7 @@ pub(crate) fn ids_of(
     let netlist = checked.netlist();
     let nets = netlist.nets.as_slice();
     let order = checked.order().as_slice();
-    let mut ids = room_for(alloc, nets.len())?;
+    let mut ids = zeros(alloc, nets.len())?;
     for id in order {
         let at = *id as usize;
         let current = ids.as_slice();

@@ -1,6 +1,7 @@
 -- What the tests of words say.
-use Rattle.std.proofs.Common.{inl, inr, ℕ, ◌≡◌, ◌⊎◌, ◌==◌, ◌&&◌, Bool, true, false, refl, Option, Some, None, is_none, slice_get}
+use Rattle.std.proofs.Common.{inl, inr, ℕ, ◌≡◌, ◌⊎◌, ◌==◌, ◌&&◌, true, refl, Option, Some, None, is_none, slice_get}
 use Rattle.std.proofs.lemmas.Bool.{eqb-true}
+use Rattle.rec_bits.proofs.Booleans.{both}
 use Rattle.rec_bits.specs.declared.operator.Op2.TheVariants.{Add}
 use Rattle.net_model.specs.Terms.{Term, reg, const, bin, Move, keep, write, write_at, next_of, swapped_next_of}
 use Rattle.net_model.specs.declared.hardware.Netlist.{Netlist}
@@ -17,10 +18,6 @@ use Rattle.code_model.specs.Tests.{is_step_term, is_step_move, is_fixed_at, stor
 -- a move by which a register becomes itself plus 1
 abbrev IsStepMove : ℕ → ℕ → Move → Type 0
 IsStepMove id width m = (m ≡ write (next_of id width)) ⊎ (m ≡ write (swapped_next_of id width))
-
-both : (a b : Bool) → (a && b) ≡ true → (a ≡ true) × (b ≡ true)
-both true b e = (refl, e)
-both false b e = cc
 
 -- four numbers are equal to four others
 four : (r id w width v n : ℕ) → ((r == id) && ((w == width) && ((v == width) && (n == 1)))) ≡ true → (r ≡ id) × (w ≡ width) × (v ≡ width) × (n ≡ 1)

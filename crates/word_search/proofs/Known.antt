@@ -11,7 +11,7 @@ use Rattle.sym_expr.specs.declared.pool.Node.{Node}
 use Rattle.sym_expr.specs.Pools.{Suits, TermFits, term_at}
 use Rattle.rec_bits.proofs.Fits.{room_above}
 use Rattle.sym_expr.proofs.Fits.{value_below}
-use Rattle.sym_expr.proofs.Lists.{get_left, get_seam}
+use Rattle.rec_bits.proofs.Lists.{get_left, get_seam}
 use Rattle.word_search.specs.Fixed.{word_value, of_two, of_three, choice_of, known_value, AreKnown, WordsFit}
 
 -- ---- a value that is known is the one in the blank state

@@ -2,7 +2,7 @@
 use Rattle.std.proofs.Common.{◌≡◌, ℕ, ◌==◌, ◌&&◌, Bool, true, false, true≢false, if◌then◌else◌, List, [], ◌∷◌, ◌++◌, length, slice_get, Option, Some, None, is_some, is_none, inl, inr, refl, sym, ap, ◌∙◌, subst, arith}
 use Rattle.std.proofs.lemmas.Option.{slice_get_cases, slice_get_past}
 use Rattle.sym_expr.specs.declared.pool.Node.{Node}
-use Rattle.sym_expr.proofs.Lists.{pushed_at}
+use Rattle.rec_bits.proofs.Lists.{pushed_at}
 use Rattle.word_moves.specs.declared.moves.StorageMove.{StorageMove}
 use Rattle.word_moves.specs.declared.moves.WordMoves.{WordMoves}
 use Rattle.word_moves.specs.Moves.{IsWordMoves, move_in}

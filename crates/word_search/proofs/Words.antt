@@ -13,7 +13,8 @@ use Rattle.net_model.specs.Nets.{code_bits}
 use Rattle.net_model.specs.Value.{value_within, value_of}
 use Rattle.net_model.specs.Widths.{GateFits, NetFits, IsTyped, WordFits}
 use Rattle.net_model.specs.Symbolic.{sliced, blank, is_static, case_term, bus_term, gate_term, net_term, sym_within, sym_of}
-use Rattle.net_model.specs.Transfers.{is_on, same_reg, storage_move, transfer_of, move_at}
+use Rattle.net_model.specs.Clock.{is_enabled}
+use Rattle.net_model.specs.Transfers.{same_reg, storage_move, transfer_of, move_at}
 use Rattle.word_search.specs.Fixed.{WordsFit}
 
 pick : (b : Bool) (a c : Term) (i : ℕ) → WordsFit a i → WordsFit c i → WordsFit (cond b a c) i
@@ -81,9 +82,9 @@ choose false m n i h k = k
 
 storage_fits : (t : ℕ → Term) (u : ℕ → ℕ) (i id : ℕ) → ((m : ℕ) → WordsFit (t m) i) → (storage : Storage) → MoveFits (storage_move t u id storage) i
 storage_fits t u i id h (Register name width input when) =
-    choose (is_on u when) _ keep i (choose (same_reg (t input) id) keep (write (t input)) i tt (h input)) tt
+    choose (is_enabled u when) _ keep i (choose (same_reg (t input) id) keep (write (t input)) i tt (h input)) tt
 storage_fits t u i id h (Memory name width size addr_width value addr when) =
-    choose (is_on u when) (write_at (t addr) (t value)) keep i (h addr, h value) tt
+    choose (is_enabled u when) (write_at (t addr) (t value)) keep i (h addr, h value) tt
 
 pub move_fits : (netlist : Netlist) (i : ℕ) → WordFits netlist i → IsTyped netlist → (id : ℕ) → MoveFits (move_at netlist i id) i
 move_fits netlist i w t id = by (slice_get netlist.storages id)

@@ -1,6 +1,6 @@
 use Rattle.std.proofs.Common.{◌≡◌, nat_eq, true, ◌∙◌}
 use Rattle.std.specs.List.{list_any}
-use Rattle.ctl_bdd.specs.Flags.{flag_at}
+use Rattle.net_model.specs.Flags.{flag_at}
 use Rattle.ctl_bdd.proofs.Placed.{static_inside, static_control, static_any}
 use Rattle.ctl_bdd.proofs.control.control_table.Goals as goal
 

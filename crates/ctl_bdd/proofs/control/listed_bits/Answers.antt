@@ -1,6 +1,6 @@
 use Rattle.std.proofs.Common.{◌≡◌, ℕ, ◌<◌, ◌++◌, ◌∷◌, [], nat_eq, length, sym, ◌∙◌}
 use Rattle.std.specs.List.{list_any}
-use Rattle.ctl_bdd.specs.Flags.{flag_at}
+use Rattle.net_model.specs.Flags.{flag_at}
 use Rattle.ctl_bdd.specs.Places.{is_static_control}
 use Rattle.ctl_bdd.specs.Tables.{sets_at}
 use Rattle.ctl_bdd.proofs.Placed.{static_any}

@@ -1,6 +1,6 @@
 use Rattle.std.proofs.Common.{◌≡◌, ℕ, ◌||◌, ◌<◌, nat_eq, length, drop}
 use Rattle.std.specs.List.{AllByRecursion, list_any}
-use Rattle.ctl_bdd.specs.Flags.{flag_at}
+use Rattle.net_model.specs.Flags.{flag_at}
 use Rattle.ctl_bdd.proofs.flags.set_all.Given as goal
 
 abbrev pub invariant-loop-net : goal.invariant-loop-net

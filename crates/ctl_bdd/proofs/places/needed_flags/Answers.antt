@@ -5,7 +5,7 @@ use Rattle.net_model.specs.Nets.{gate_nets}
 use Rattle.net_model.specs.CheckedRules.{is_control}
 use Rattle.net_model.specs.Depends.{named_by}
 use Rattle.net_model.specs.Order.{IsOrder}
-use Rattle.ctl_bdd.specs.Flags.{flag_at}
+use Rattle.net_model.specs.Flags.{flag_at}
 use Rattle.ctl_bdd.proofs.Alls.{fact_of}
 use Rattle.ctl_bdd.proofs.Walks.{named_inside}
 use Rattle.ctl_bdd.proofs.Needed.{kept, control_kept, closed_kept}

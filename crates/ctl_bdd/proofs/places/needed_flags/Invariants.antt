@@ -4,7 +4,7 @@ use Rattle.net_model.specs.CheckedRules.{is_control}
 use Rattle.net_model.specs.Depends.{named_by}
 use Rattle.net_model.specs.Order.{place_of}
 use Rattle.net_model.specs.Symbolic.{all_of}
-use Rattle.ctl_bdd.specs.Flags.{flag_at}
+use Rattle.net_model.specs.Flags.{flag_at}
 use Rattle.ctl_bdd.proofs.places.needed_flags.Given as goal
 
 abbrev pub decreases-loop-left : goal.decreases-loop-left

@@ -1,6 +1,6 @@
 use Rattle.std.proofs.Common.{◌≡◌, ◌++◌, drop}
 use Rattle.std.specs.Prelude.{filter}
-use Rattle.ctl_bdd.specs.Flags.{flag_at}
+use Rattle.net_model.specs.Flags.{flag_at}
 use Rattle.ctl_bdd.proofs.places.with_flag.Given as goal
 
 abbrev pub invariant-loop-net : goal.invariant-loop-net

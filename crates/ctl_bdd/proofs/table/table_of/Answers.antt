@@ -5,7 +5,7 @@ use Rattle.net_model.specs.Nets.{gate_nets, width_at}
 use Rattle.net_model.specs.Order.{IsOrder}
 use Rattle.net_model.specs.Widths.{NetFits}
 use Rattle.bit_bdd.proofs.CallerLemmas.{extends_trans}
-use Rattle.ctl_bdd.specs.Flags.{flag_at}
+use Rattle.net_model.specs.Flags.{flag_at}
 use Rattle.ctl_bdd.specs.Tables.{AreGateBits, sets_at}
 use Rattle.ctl_bdd.proofs.Filling.{skipped, named_long, gate_control, net_fits, filled, table_later, table_set}
 use Rattle.ctl_bdd.proofs.table.table_of.Goals as goal

@@ -1,7 +1,7 @@
 use Rattle.std.proofs.Common.{◌≡◌, ◌<◌, ℕ, true, length}
 use Rattle.net_model.specs.Order.{place_of}
 use Rattle.bit_bdd.specs.Diagrams.{Extends}
-use Rattle.ctl_bdd.specs.Flags.{flag_at}
+use Rattle.net_model.specs.Flags.{flag_at}
 use Rattle.ctl_bdd.specs.Tables.{AreBits, IsTable, sets_at}
 use Rattle.ctl_bdd.proofs.table.table_of.Given as goal
 

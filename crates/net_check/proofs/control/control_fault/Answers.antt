@@ -5,4 +5,4 @@ pub first_broken-requires-clause-acyclic : goal.first_broken-requires-clause-acy
 first_broken-requires-clause-acyclic c = acyclic_of _ _ c.requires.order
 
 pub first_broken-requires-clause-flags : goal.first_broken-requires-clause-flags
-first_broken-requires-clause-flags c = record { statics = c.in_ok-statics.ensures; controls = c.in_ok-controls.ensures }
+first_broken-requires-clause-flags c = record { statics = c.in_ok-statics.ensures.told; controls = c.in_ok-controls.ensures.told }

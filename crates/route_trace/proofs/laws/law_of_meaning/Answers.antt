@@ -3,7 +3,7 @@ use Rattle.net_model.specs.Symbolic.{sym_of}
 use Rattle.net_model.specs.Meaning.{mean}
 use Rattle.net_model.proofs.Meanings.{value_is_mean}
 use Rattle.transfer_set.specs.Routes.{routes_at}
-use Rattle.route_trace.proofs.Exact.{exact}
+use Rattle.transfer_set.proofs.Exact.{exact}
 use Rattle.route_trace.proofs.laws.law_of_meaning.Goals as goal
 
 pub returns : goal.returns

@@ -1,6 +1,6 @@
 use Rattle.net_model.specs.Symbolic.{sym_of}
 use Rattle.transfer_set.specs.Routes.{routes_at}
-use Rattle.route_trace.proofs.Exact.{exact}
+use Rattle.transfer_set.proofs.Exact.{exact}
 use Rattle.route_trace.proofs.laws.law_of_sets.Goals as goal
 
 pub returns : goal.returns

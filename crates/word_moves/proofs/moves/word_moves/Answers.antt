@@ -13,8 +13,8 @@ returns-clause-moves c =
       values_long = c.in_ok-values.ensures.long;
       values = c.in_ok-values.ensures.values;
       statics_long = c.in_ok-statics.ensures.long;
-      statics = c.in_ok-statics.ensures.flags;
+      statics = c.in_ok-statics.ensures.told;
       ids = c.in_ok-ids.ensures.ids;
-      clash = c.find_clash-clash.ensures ∙ (λ j. clash_in (values j) (nets j));
+      clash = c.first_clash-clash.ensures ∙ (λ j. clash_in (values j) (nets j));
       moves = c.in_ok-moves.ensures;
     }

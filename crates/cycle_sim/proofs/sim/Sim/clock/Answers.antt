@@ -17,7 +17,7 @@ clock_cells-self-inside-requires c =
 pub returns-in-Some-clause-clocks : goal.returns-in-Some-clause-clocks
 returns-in-Some-clause-clocks c =
     let all : slice_index c.evaluate.new.values ≡ value_of c.self.inside.checked.now.netlist c.self.inside.state (word_at c.self.inside.checked.now.netlist c.self.inside.words c.self.inside.state) = rw (c.word_of-word.ensures, c.as_slice-words.ensures) at c.evaluate.ensures.values in
-    let found : Some c.in-Some.bus ≡ clash_in (slice_index c.as_slice-values.result.now) c.as_slice-nets.result.now = sym c.in-Some.is ∙ c.find_clash.ensures in
+    let found : Some c.in-Some.bus ≡ clash_in (slice_index c.as_slice-values.result.now) c.as_slice-nets.result.now = sym c.in-Some.is ∙ c.find_clash.ensures.first in
     let clash : Some c.in-Some.bus ≡ clash_in (slice_index c.evaluate.new.values) c.self.inside.checked.now.netlist.nets = rw (c.as_slice-values.ensures, c.as_slice-nets.ensures, c.netlist-netlist.ensures.value) at found in
     rw (← c.self.view_is) (clocks_clash _ _ _ _ all _ clash, refl, refl)
 
@@ -38,7 +38,7 @@ invariant_of-self-in-None c =
 pub returns-in-None-clause-clocks : goal.returns-in-None-clause-clocks
 returns-in-None-clause-clocks c =
     let all : slice_index c.evaluate.new.values ≡ value_of c.self.inside.checked.now.netlist c.self.inside.state (word_at c.self.inside.checked.now.netlist c.self.inside.words c.self.inside.state) = rw (c.word_of-word.ensures, c.as_slice-words.ensures) at c.evaluate.ensures.values in
-    let found : None ≡ clash_in (slice_index c.as_slice-values.result.now) c.as_slice-nets.result.now = sym c.in-None.is ∙ c.find_clash.ensures in
+    let found : None ≡ clash_in (slice_index c.as_slice-values.result.now) c.as_slice-nets.result.now = sym c.in-None.is ∙ c.find_clash.ensures.first in
     let clash : None ≡ clash_in (slice_index c.evaluate.new.values) c.self.inside.checked.now.netlist.nets = rw (c.as_slice-values.ensures, c.as_slice-nets.ensures, c.netlist-netlist.ensures.value) at found in
     let regs : c.clock_registers.new.regs ≡ next_regs (slice_index c.evaluate.new.values) c.self.inside.checked.now.netlist.storages c.self.inside.state.regs = rw (c.as_slice-values.ensures, c.as_slice-storages.ensures, c.netlist-netlist.ensures.value) at c.clock_registers.ensures in
     let cells : c.clock_cells-self-inside.new.cells ≡ cells_by (slice_index c.evaluate.new.values) c.self.inside.port c.self.inside.state.cells = rw c.as_slice-values.ensures at c.clock_cells-self-inside.ensures.cells in
