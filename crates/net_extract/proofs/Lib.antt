@@ -1,3 +1,4 @@
+pub mod Cleans
 pub mod Extracting
 pub mod PlainNames
 pub mod RoutedLaws

@@ -13,6 +13,7 @@ use Rattle.net_front.specs.Fronts.{BreaksRule, IsCheckedOf, IsNetFile}
 use Rattle.net_front.specs.declared.front.NetRefusal.{NetRefusal}
 use Rattle.net_front.specs.declared.front.NetRefusal.TheVariants.{Text, Fault, Memory}
 use Rattle.transfer_set.specs.PatternsText.{IsPatternsText}
+use Rattle.transfer_set.specs.TextMarks.{HasPlainNames}
 use Rattle.route_trace.specs.Limits.{IsCleanWord, IsRefusal, KeepsLimits}
 use Rattle.route_trace.specs.declared.RouteFault.TheVariants.{PatternLarge as RouteLarge, TooMany as RoutesMany}
 
@@ -74,6 +75,12 @@ pub record IsRoutedNet (bytes : List ℕ) (checked : Ordered) : Type 0 where
   pub entries : List Entry
   pub file : IsRoutedFile bytes entries
   pub netlist : IsCheckedOf entries checked
+
+-- the text is that of the netlist's patterns, where no name of the netlist has a mark in it
+pub record WritesPatterns (netlist : Netlist) (text : List ℕ) : Type 0 where
+  pub patterns : List Pattern
+  pub are : HasPlainNames netlist → ArePatterns netlist patterns
+  pub written : IsPatternsText netlist patterns text
 
 -- the bytes are a netlist text that keeps all rules, and the text is that of its patterns
 pub record IsExtracted (bytes text : List ℕ) : Type 0 where

@@ -7,13 +7,13 @@ use Rattle.net_front.specs.declared.front.NetRefusal.TheVariants.{Text, Fault, M
 use Rattle.ctl_bdd.specs.Controls.{IsControl}
 use Rattle.transfer_set.specs.Routes.{AreRoutes}
 use Rattle.net_extract.specs.Extracts.{BreaksRoutes}
-use Rattle.net_extract.specs.declared.routed.Routed.{Routed}
+use Rattle.net_extract.specs.declared.routed.Traced.{Traced}
 
 -- the control bits and the routes are the netlist's, and the book's words are the code's
-pub record IsTraced (routed : Routed) : Type 0 where
-  pub word : routed.book.bits ≡ word_width routed.checked.netlist
-  pub control : IsControl routed.checked.netlist routed.book routed.controls
-  pub routes : AreRoutes routed.checked.netlist routed.book routed.pool routed.controls.legal routed.routes.of
+pub record IsTraced (netlist : Netlist) (traced : Traced) : Type 0 where
+  pub word : traced.book.bits ≡ word_width netlist
+  pub control : IsControl netlist traced.book traced.controls
+  pub routes : AreRoutes netlist traced.book traced.pool traced.controls.legal traced.routes.of
 
 -- why nothing is traced of a netlist; nothing is said where memory ran out
 abbrev pub IsTraceRefusal : Netlist → NetRefusal → Type 0

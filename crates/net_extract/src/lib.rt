@@ -4,5 +4,5 @@
 mod routed;
 mod texts;
 
-pub use routed::{Routed, read_traced};
+pub use routed::{Traced, read_traced};
 pub use texts::{extract, read_routed};

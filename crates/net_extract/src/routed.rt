@@ -18,10 +18,9 @@ use std::alloc::Global;
 use sym_expr::Pool;
 use transfer_set::Routes;
 
-/// A netlist, its control bits, and the routes of its nets, whose sets are of the book and whose expressions are of the pool.
+/// The control bits of a netlist, and the routes of its nets, whose sets are of the book and whose expressions are of the pool.
 #[derive(Drop)]
-pub struct Routed {
-    pub checked: Checked,
+pub struct Traced {
     pub book: Book,
     pub pool: Pool,
     pub controls: ControlBits,
@@ -72,19 +71,35 @@ fn routes_of(
     }
 }
 
+// The control bits and the routes of a netlist that keeps N10, N12 and N13, over a book of its words and a pool.
+fn controls_and_routes(
+    alloc: Global,
+    checked: &Checked,
+    book: &mut Book,
+    pool: &mut Pool,
+) -> Result<(ControlBits, Routes), NetRefusal>
+    requires { book.old.bits ≡ word_width checked.now.netlist }
+    ensures grows { Extends book.old book.new }
+    ensures control { IfOk result (λ both. IsControl checked.now.netlist book.new both.0) }
+    ensures routes { IfOk result (λ both. AreRoutes checked.now.netlist book.new pool.new both.0.legal both.1.of) }
+    ensures kept { IfOk result (λ _. IsRouted checked.now.netlist) }
+    ensures refused { IfErr result (IsTraceRefusal checked.now.netlist) }
+{
+    let controls = controls_of(alloc, checked, book)?;
+    let routes = routes_of(alloc, checked, &controls, book, pool)?;
+    Ok((controls, routes))
+}
+
 // What is traced of a netlist, where it keeps N10, N12 and N13.
-fn traced(alloc: Global, checked: Checked) -> Result<Routed, NetRefusal>
-    ensures netlist { IfOk result (λ routed. routed.checked ≡ checked) }
-    ensures traced { IfOk result IsTraced }
-    ensures kept { IfOk result (λ _. IsRouted checked.netlist) }
-    ensures refused { IfErr result (IsTraceRefusal checked.netlist) }
+fn trace_netlist(alloc: Global, checked: &Checked) -> Result<Traced, NetRefusal>
+    ensures traced { IfOk result (IsTraced checked.now.netlist) }
+    ensures kept { IfOk result (λ _. IsRouted checked.now.netlist) }
+    ensures refused { IfErr result (IsTraceRefusal checked.now.netlist) }
 {
     let mut book = Book::new(alloc, checked.netlist().word_width())?;
-    let controls = controls_of(alloc, &checked, &mut book)?;
     let mut pool = Pool::new(alloc)?;
-    let routes = routes_of(alloc, &checked, &controls, &mut book, &mut pool)?;
-    Ok(Routed {
-        checked,
+    let (controls, routes) = controls_and_routes(alloc, checked, &mut book, &mut pool)?;
+    Ok(Traced {
         book,
         pool,
         controls,
@@ -95,13 +110,13 @@ fn traced(alloc: Global, checked: Checked) -> Result<Routed, NetRefusal>
 /// The netlist of a text with its control bits and routes, where it keeps all rules, N10, N12 and N13 among them. `Text` comes exactly where
 /// the bytes are no netlist text, and `Fault` exactly where they are one that breaks a rule, with the first: N10, and then N12 and N13, come
 /// after all others. `Memory` is want of memory.
-pub fn read_traced(alloc: Global, bytes: &[u8]) -> Result<Routed, NetRefusal>
+pub fn read_traced(alloc: Global, bytes: &[u8]) -> Result<(Checked, Traced), NetRefusal>
     requires { length bytes.now < 2 ^ 32 }
-    ensures netlist { IfOk result (λ routed. IsRoutedNet bytes.now routed.checked) }
-    ensures traced { IfOk result IsTraced }
+    ensures netlist { IfOk result (λ both. IsRoutedNet bytes.now both.0) }
+    ensures traced { IfOk result (λ both. IsTraced both.0.netlist both.1) }
     ensures refused { IfErr result (IsRoutedRefusal bytes.now) }
 {
     let (_, checked) = read_net(alloc, bytes)?;
-    let routed = traced(alloc, checked)?;
-    Ok(routed)
+    let traced = trace_netlist(alloc, &checked)?;
+    Ok((checked, traced))
 }

@@ -1,11 +1,13 @@
 //! From the text of a netlist to that of its patterns.
 
 ghost use Rattle.std.specs.Prelude.{◌<◌, ◌^◌, length, IfOk, IfErr};
-ghost use Rattle.net_extract.specs.Extracts.{IsExtracted, IsRoutedNet, IsRoutedRefusal};
+ghost use Rattle.net_extract.specs.Extracts.{IsExtracted, IsRoutedNet, IsRoutedRefusal, WritesPatterns};
+ghost use Rattle.net_extract.specs.Traced.{IsTraced};
 
-use crate::routed::{Routed, read_traced};
+use crate::routed::{Traced, read_traced};
 use net_front::NetRefusal;
 use net_model::Checked;
+use rec_bits::NoMemory;
 use std::alloc::Global;
 use transfer_set::collect_patterns;
 
@@ -15,8 +17,24 @@ pub fn read_routed(alloc: Global, bytes: &[u8]) -> Result<Checked, NetRefusal>
     ensures found { IfOk result (IsRoutedNet bytes.now) }
     ensures refused { IfErr result (IsRoutedRefusal bytes.now) }
 {
-    let routed = read_traced(alloc, bytes)?;
-    Ok(routed.checked)
+    let (checked, _) = read_traced(alloc, bytes)?;
+    Ok(checked)
+}
+
+// The text of the patterns of a netlist of which this is traced.
+fn patterns_text(alloc: Global, checked: &Checked, traced: Traced) -> Result<Vec<u8>, NoMemory>
+    requires { IsTraced checked.now.netlist traced }
+    ensures { IfOk result (λ text. WritesPatterns checked.now.netlist text.items) }
+{
+    let Traced {
+        mut book,
+        pool,
+        controls,
+        routes,
+    } = traced;
+    let patterns = collect_patterns(alloc, checked, &controls, &routes, &mut book, &pool)?;
+    let text = patterns.print(alloc, &book, &pool, checked)?;
+    Ok(text)
 }
 
 /// The text of the patterns of a netlist's text: how many there are, and for each a line with its number, its transfer, and the least
@@ -26,14 +44,7 @@ pub fn extract(alloc: Global, bytes: &[u8]) -> Result<Vec<u8>, NetRefusal>
     ensures text { IfOk result (λ text. IsExtracted bytes.now text.items) }
     ensures refused { IfErr result (IsRoutedRefusal bytes.now) }
 {
-    let Routed {
-        checked,
-        mut book,
-        pool,
-        controls,
-        routes,
-    } = read_traced(alloc, bytes)?;
-    let patterns = collect_patterns(alloc, &checked, &controls, &routes, &mut book, &pool)?;
-    let text = patterns.print(alloc, &book, &pool, &checked)?;
+    let (checked, traced) = read_traced(alloc, bytes)?;
+    let text = patterns_text(alloc, &checked, traced)?;
     Ok(text)
 }

@@ -24,10 +24,10 @@ fn line(alloc: Global, name: &str, text: &str) -> Result<String> {
     if bytes.len() > 1_048_576 {
         bail!("{name} is too long");
     }
-    let Ok(routed) = read_traced(alloc, bytes) else {
+    let Ok((checked, traced)) = read_traced(alloc, bytes) else {
         bail!("{name} is no netlist");
     };
-    let Ok(found) = compare_words(alloc, routed) else {
+    let Ok(found) = compare_words(alloc, &checked, traced) else {
         bail!("{name} needs more memory than there is");
     };
     let (patterns, nodes, expressions) = (found.patterns, found.nodes, found.expressions);

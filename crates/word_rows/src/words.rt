@@ -8,7 +8,7 @@ ghost use Rattle.word_rows.specs.declared.words.TheConstants.{MOST_BITS};
 ghost use Rattle.transfer_set.specs.Tables.{AreSets};
 
 use bit_bdd::{Book, SetId};
-use net_extract::Routed;
+use net_extract::Traced;
 use net_model::Checked;
 use rec_bits::NoMemory;
 use std::alloc::Global;
@@ -133,23 +133,22 @@ fn compare_all(
 }
 
 /// The patterns of a netlist, and what its words do one by one.
-pub fn compare_words(alloc: Global, routed: Routed) -> Result<Found, NoMemory>
-    requires { IsTraced routed }
+pub fn compare_words(alloc: Global, checked: &Checked, traced: Traced) -> Result<Found, NoMemory>
+    requires { IsTraced checked.now.netlist traced }
 {
-    let Routed {
-        checked,
+    let Traced {
         mut book,
         mut pool,
         controls,
         routes,
-    } = routed;
-    let patterns = collect_patterns(alloc, &checked, &controls, &routes, &mut book, &pool)?;
+    } = traced;
+    let patterns = collect_patterns(alloc, checked, &controls, &routes, &mut book, &pool)?;
     let nodes = book.size();
     let expressions = pool.len();
-    let words = if word_bits(&checked) > MOST_BITS {
+    let words = if word_bits(checked) > MOST_BITS {
         None
     } else {
-        Some(compare_all(alloc, &checked, &book, &mut pool, &patterns, controls.legal)?)
+        Some(compare_all(alloc, checked, &book, &mut pool, &patterns, controls.legal)?)
     };
     Ok(Found {
         patterns: patterns.len(),
