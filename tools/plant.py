@@ -5,7 +5,8 @@
 
 Bugs in different functions are planted together, and each is judged by its own function's proof; what is not decided so is planted once more, alone.
 For each bug it prints `refused`, `PROVED` (the contracts let it pass) or `stale` (the text that it changes stands no longer there once, or the
-changed text doesn't compile), with the function that was checked. The last line counts them; the exit status is 1 where one was proved.
+changed text doesn't compile), with the function that was checked, and what was not proved of it. The last line counts them; the exit status is 1
+where one was proved. Libraries that `./record` has built are not built again.
 
 A file of bugs has for each bug the lines
 
@@ -17,6 +18,7 @@ A file of bugs has for each bug the lines
 
 where `file`, `old` and `new` may come several times.
 """
+import os
 import pathlib
 import re
 import shutil
@@ -78,37 +80,52 @@ def check(crate, bugs):
     return run.stdout, run.returncode == 0
 
 
+def unproved(told):
+    """The functions that a check did not prove, each with the goals that it names."""
+    found, goals = {}, []
+    for line in told.split("\n"):
+        goals += re.findall(r"^note: \S+: .* \(`(\S+)`\)", line)
+        if line.startswith("fn "):
+            function, _, words = line[3:].partition(": ")
+            if words.startswith(("not proved", "no proof")):
+                found[function] = goals
+            goals = []
+    return found
+
+
 def restore(kept):
     for path, text in kept.items():
         path.write_text(text)
 
 
 def try_alone(crate, bug):
-    """What becomes of one bug; the crate is as it was afterwards."""
+    """What becomes of one bug, and the goals that fell; the crate is as it was afterwards."""
     kept = {}
     try:
         if not plant(crate, bug, kept):
-            return "stale"
+            return "stale", []
         told, proved = check(crate, [bug])
         if proved:
-            return "PROVED"
-        return "stale" if re.search(r"src/\S+: error\[", told) and "not proved" not in told else "refused"
+            return "PROVED", []
+        fallen = unproved(told)
+        if not fallen and re.search(r"src/\S+: error\[", told):
+            return "stale", []
+        return "refused", [f"{function}: {goal}" for function, goals in fallen.items() for goal in goals]
     finally:
         restore(kept)
 
 
 def try_together(crate, bugs):
-    """The names of those of these bugs, each in another function, whose own proof fails; the crate is as it was afterwards."""
+    """Those of these bugs, each in another function, whose own proof fails, by name with the goals that fell; the crate is as it was afterwards."""
     kept = {}
     try:
         planted = [bug for bug in bugs if plant(crate, bug, kept)]
-        told, _ = check(crate, planted)
-        failed = re.findall(r"^fn (\S+): not proved", told, re.M)
-        refused = set()
+        fallen = unproved(check(crate, planted)[0])
+        refused = {}
         for bug in planted:
-            own = [name for name in failed if name == bug["only"] or name.endswith("::" + bug["only"])]
+            own = [goals for name, goals in fallen.items() if name == bug["only"] or name.endswith("::" + bug["only"])]
             if own:
-                refused.add(bug["name"])
+                refused[bug["name"]] = own[0]
         return refused
     finally:
         restore(kept)
@@ -130,17 +147,27 @@ def rounds(bugs):
 
 
 def judged(crate, bugs):
-    """Each bug with what becomes of it."""
+    """Each bug with what becomes of it, and the goals that fell."""
     undecided = []
     for now in rounds(bugs):
-        refused = try_together(crate, now) if len(now) > 1 else set()
+        refused = try_together(crate, now) if len(now) > 1 else {}
         for bug in now:
             if bug["name"] in refused:
-                yield bug, "refused"
+                yield bug, "refused", refused[bug["name"]]
             else:
                 undecided.append(bug)
     for bug in undecided:
-        yield bug, try_alone(crate, bug)
+        yield bug, *try_alone(crate, bug)
+
+
+def copied(one, other):
+    """Copies a file, and of a library that was built only its name: `rt` replaces such files, and changes none."""
+    if "/out/rlib/" in one:
+        try:
+            return os.link(one, other)
+        except OSError:
+            pass
+    return shutil.copy2(one, other)
 
 
 def main():
@@ -153,10 +180,10 @@ def main():
     counts = {"refused": 0, "PROVED": 0, "stale": 0}
     with tempfile.TemporaryDirectory() as folder:
         copy = pathlib.Path(folder) / "record"
-        shutil.copytree(TOP, copy, ignore=shutil.ignore_patterns(".git", "out"))
-        for bug, found in judged(copy / "crates" / name, bugs):
+        shutil.copytree(TOP, copy, symlinks=True, ignore=shutil.ignore_patterns(".git"), copy_function=copied)
+        for bug, found, fallen in judged(copy / "crates" / name, bugs):
             counts[found] += 1
-            print(f"{found:8} {bug['name']} in {bug['only']}", flush=True)
+            print(f"{found:8} {bug['name']} in {bug['only']}{': ' * bool(fallen)}{', '.join(fallen)}", flush=True)
     print(f"{counts['refused']} refused, {counts['PROVED']} proved, {counts['stale']} stale")
     sys.exit(1 if counts["PROVED"] else 0)
 

@@ -3,7 +3,7 @@
 use crate::store::store_of;
 use anyhow::{Context, Result, bail};
 use src_eval::Runner;
-use src_model::{Checkpoint, Store};
+use src_model::{Checkpoint, Store, Typed};
 use std::alloc::{AllocError, Global};
 
 /// A program and what is asked of it.
@@ -55,51 +55,56 @@ impl Row {
     }
 
     /// Runs the program. The text has the row's name, and a line for each checkpoint that is shown, with the store.
-    pub fn call(self, alloc: Global) -> Result<String> {
-        let Row {
-            name,
-            width,
-            given,
-            text,
-            skip,
-            show,
-        } = self;
-        if width == 0 || width > 64 || text.len() > 1_048_576 {
+    pub fn call(&self, alloc: Global) -> Result<String> {
+        let typed = self.program(alloc)?;
+        let store = store_of(alloc, &typed, self.given.as_slice()).map_err(|_| AllocError)?;
+        let mut run = Runner::new(alloc, &typed, store).map_err(|_| AllocError)?;
+        self.told(alloc, &mut run)
+    }
+
+    // The program, which keeps the rules.
+    fn program(&self, alloc: Global) -> Result<Typed> {
+        let name = self.name.as_str();
+        if self.width == 0 || self.width > 64 || self.text.len() > 1_048_576 {
             bail!("no program: {name}");
         }
-        let Ok(program) = src_parser::read(alloc, text.as_slice()) else {
+        let Ok(program) = src_parser::read(alloc, self.text.as_slice()) else {
             bail!("no text of a program: {name}");
         };
-        let Ok(typed) = src_check::check(alloc, program, width) else {
+        let Ok(typed) = src_check::check(alloc, program, self.width) else {
             bail!("a rule is broken: {name}");
         };
-        let store = store_of(alloc, &typed, given.as_slice()).map_err(|_| AllocError)?;
-        let mut run = Runner::new(alloc, &typed, store).map_err(|_| AllocError)?;
-        for _ in 0..skip {
+        Ok(typed)
+    }
+
+    // The row's name, and the checkpoints that the program passes.
+    fn told(&self, alloc: Global, run: &mut Runner<'_>) -> Result<String> {
+        for _ in 0..self.skip {
             run.next();
         }
+        let name = self.name.as_str();
         let mut told = format!(in alloc; "row {name}\n")?;
-        for _ in 0..show {
+        for _ in 0..self.show {
             let label = run.next();
-            told.push_str(line(alloc, label, run.store())?.as_str())?;
+            push_line(alloc, &mut told, label, run.store())?;
         }
         told.push_str("\n")?;
         Ok(told)
     }
 }
 
-// A checkpoint with the store.
-fn line(alloc: Global, label: Checkpoint, store: &Store) -> Result<String> {
-    let mut told = match label {
-        Checkpoint::At(tree) => format!(in alloc; "at {tree}")?,
-        Checkpoint::End => format!(in alloc; "end")?,
-    };
+// A line more, of a checkpoint with the store.
+fn push_line(alloc: Global, told: &mut String, label: Checkpoint, store: &Store) -> Result<()> {
+    match label {
+        Checkpoint::At(tree) => told.push_str(format!(in alloc; "at {tree}")?.as_str())?,
+        Checkpoint::End => told.push_str("end")?,
+    }
     for cell in store.cells.as_slice() {
         let value = *cell;
         told.push_str(format!(in alloc; " {value}")?.as_str())?;
     }
     told.push_str("\n")?;
-    Ok(told)
+    Ok(())
 }
 
 fn number(text: &str) -> Result<u64> {

@@ -1,6 +1,6 @@
-//! Prints, for the netlists on standard input, how many patterns they have, how many diagram nodes and expressions stand behind these, and,
-//! where instruction words have at most 16 bits, how many words there are, how many of them clash, and for how many what the word does by
-//! itself isn't what the patterns tell of it.
+//! Prints, for the netlists on standard input, how many nets, storages and patterns they have, how many diagram nodes and expressions stand
+//! behind these, and, where instruction words have at most 16 bits, how many words there are, how many of them clash, and for how many what
+//! the word does by itself isn't what the patterns tell of it.
 //!
 //! A netlist is some of these lines, and is looked at at its `compare`:
 //!
@@ -16,10 +16,10 @@ mod words;
 use anyhow::{Result, bail};
 use net_extract::read_traced;
 use std::alloc::Global;
-use words::compare_words;
+use words::{Found, compare_words};
 
-// The line that is printed of a netlist.
-fn line(alloc: Global, name: &str, text: &str) -> Result<String> {
+// What is found of a netlist's text.
+fn found_in(alloc: Global, name: &str, text: &str) -> Result<Found> {
     let bytes = text.as_bytes();
     if bytes.len() > 1_048_576 {
         bail!("{name} is too long");
@@ -30,9 +30,16 @@ fn line(alloc: Global, name: &str, text: &str) -> Result<String> {
     let Ok(found) = compare_words(alloc, &checked, traced) else {
         bail!("{name} needs more memory than there is");
     };
+    Ok(found)
+}
+
+// The line that is printed of a netlist.
+fn line(alloc: Global, name: &str, text: &str) -> Result<String> {
+    let found = found_in(alloc, name, text)?;
+    let (nets, storages) = (found.nets, found.storages);
     let (patterns, nodes, expressions) = (found.patterns, found.nodes, found.expressions);
     let mut line = format!(in alloc;
-        "{name}: {patterns} patterns, {nodes} nodes, {expressions} expressions"
+        "{name}: {nets} nets, {storages} storages; {patterns} patterns, {nodes} nodes, {expressions} expressions"
     )?;
     if let Some(words) = found.words {
         let (all, clashes, differ) = (words.words, words.clashes, words.differ);

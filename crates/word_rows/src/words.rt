@@ -1,19 +1,22 @@
 //! What words do by themselves, beside what the patterns tell of them.
 
 ghost use Rattle.std.specs.Prelude.{◌≡◌, ◌<◌, ◌≤◌, length};
+ghost use Rattle.ctl_bdd.specs.Controls.{IsControl};
 ghost use Rattle.net_extract.specs.Traced.{IsTraced};
 ghost use Rattle.net_model.specs.Nets.{word_width};
 ghost use Rattle.net_model.specs.Widths.{WordFits};
 ghost use Rattle.word_rows.specs.declared.words.TheConstants.{MOST_BITS};
+ghost use Rattle.transfer_set.specs.Routes.{AreRoutes};
 ghost use Rattle.transfer_set.specs.Tables.{AreSets};
 
 use bit_bdd::{Book, SetId};
+use ctl_bdd::ControlBits;
 use net_extract::Traced;
 use net_model::Checked;
 use rec_bits::NoMemory;
 use std::alloc::Global;
 use sym_expr::Pool;
-use transfer_set::{Patterns, collect_patterns};
+use transfer_set::{Patterns, Routes, collect_patterns};
 use word_moves::{StorageMove, word_moves};
 
 // The most bits of the words that are gone through.
@@ -27,10 +30,12 @@ pub struct Compared {
     pub differ: u64,
 }
 
-/// How many patterns a netlist has, how many nodes and expressions stand behind them, and, where its words have at most 16 bits, what they do
-/// one by one.
+/// How many nets and storages a netlist has, how many patterns, how many nodes and expressions stand behind these, and, where its words have
+/// at most 16 bits, what they do one by one.
 #[derive(Clone, Copy)]
 pub struct Found {
+    pub nets: usize,
+    pub storages: usize,
     pub patterns: u32,
     pub nodes: u64,
     pub expressions: u64,
@@ -132,6 +137,38 @@ fn compare_all(
     Ok(found)
 }
 
+// The same, of the values of a netlist that was traced.
+fn compare(
+    alloc: Global,
+    checked: &Checked,
+    book: &mut Book,
+    pool: &mut Pool,
+    controls: &ControlBits,
+    routes: &Routes,
+) -> Result<Found, NoMemory>
+    requires word { book.old.bits ≡ word_width checked.now.netlist }
+    requires control { IsControl checked.now.netlist book.old controls.now }
+    requires routes { AreRoutes checked.now.netlist book.old pool.old controls.now.legal routes.now.of }
+{
+    let patterns = collect_patterns(alloc, checked, controls, routes, book, pool)?;
+    let nodes = book.size();
+    let expressions = pool.len();
+    let words = if word_bits(checked) > MOST_BITS {
+        None
+    } else {
+        Some(compare_all(alloc, checked, book, pool, &patterns, controls.legal)?)
+    };
+    let netlist = checked.netlist();
+    Ok(Found {
+        nets: netlist.nets.len(),
+        storages: netlist.storages.len(),
+        patterns: patterns.len(),
+        nodes,
+        expressions,
+        words,
+    })
+}
+
 /// The patterns of a netlist, and what its words do one by one.
 pub fn compare_words(alloc: Global, checked: &Checked, traced: Traced) -> Result<Found, NoMemory>
     requires { IsTraced checked.now.netlist traced }
@@ -142,18 +179,5 @@ pub fn compare_words(alloc: Global, checked: &Checked, traced: Traced) -> Result
         controls,
         routes,
     } = traced;
-    let patterns = collect_patterns(alloc, checked, &controls, &routes, &mut book, &pool)?;
-    let nodes = book.size();
-    let expressions = pool.len();
-    let words = if word_bits(checked) > MOST_BITS {
-        None
-    } else {
-        Some(compare_all(alloc, checked, &book, &mut pool, &patterns, controls.legal)?)
-    };
-    Ok(Found {
-        patterns: patterns.len(),
-        nodes,
-        expressions,
-        words,
-    })
+    compare(alloc, checked, &mut book, &mut pool, &controls, &routes)
 }
