@@ -5,8 +5,8 @@
 
 Bugs in different functions are planted together, and each is judged by its own function's proof; what is not decided so is planted once more, alone.
 For each bug it prints `refused`, `PROVED` (the contracts let it pass) or `stale` (the text that it changes stands no longer there once, or the
-changed text doesn't compile), with the function that was checked, and what was not proved of it. The last line counts them; the exit status is 1
-where one was proved. Libraries that `./record` has built are not built again.
+changed text doesn't compile), with the function that was checked, and what was not proved of it; nothing stands there where a proof by hand failed.
+The last line counts them; the exit status is 1 where one was proved. Libraries that `./record` has built are not built again.
 
 A file of bugs has for each bug the lines
 

@@ -2,6 +2,7 @@
 
 ghost use Rattle.std.specs.Prelude.{◌≡◌, ◌+◌, ◌<◌, ◌≤◌, ◌^◌, ℕ, length, slice_index, IfOk, OnOk};
 ghost use Rattle.src_model.specs.Meaning.{FitsStore};
+ghost use Rattle.eval_rows.specs.Stores.{AreGiven};
 
 use rec_bits::{Items, NoMemory, mask};
 use src_model::{Store, Typed};
@@ -23,8 +24,10 @@ fn push_cells(cells: &mut Items<u64>, width: u8, given: &[u64], count: u64) -> R
     requires low { 1 ≤ width }
     requires high { width ≤ 64 }
     requires words { (cell : ℕ) → slice_index cells.old cell < 2 ^ width }
+    requires given { AreGiven width given.now cells.old }
     ensures longer { OnOk result (length cells.new ≡ length cells.old + count) }
     ensures words { OnOk result ((cell : ℕ) → slice_index cells.new cell < 2 ^ width) }
+    ensures given { OnOk result (AreGiven width given.now cells.new) }
 {
     for _ in 0..count {
         let value = given.get(cells.len()).copied().unwrap_or(0);
@@ -33,9 +36,10 @@ fn push_cells(cells: &mut Items<u64>, width: u8, given: &[u64], count: u64) -> R
     Ok(())
 }
 
-/// The store of a program whose first cells hold these values. The other cells hold 0.
+/// The store of a program whose first cells hold these values. The other cells hold 0, and so do those whose value is no word.
 pub fn store_of(alloc: Global, typed: &Typed, given: &[u64]) -> Result<Store, NoMemory>
-    ensures { IfOk result (λ store. FitsStore typed.now.width typed.now.program.vars store.cells) }
+    ensures fits { IfOk result (λ store. FitsStore typed.now.width typed.now.program.vars store.cells) }
+    ensures given { IfOk result (λ store. AreGiven typed.now.width given.now store.cells) }
 {
     let width = typed.width();
     let vars = typed.program().vars.as_slice();
