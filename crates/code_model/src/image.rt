@@ -1,5 +1,8 @@
 //! Compiled code: its words, where the variables stand, and which addresses are marked.
 
+ghost use Rattle.std.specs.Prelude.{◌≡◌};
+ghost use Rattle.code_model.specs.ImageText.{bytes_of};
+
 use rec_bits::{Items, Name};
 
 /// The cells of a variable: `len` of them from `address` on.
@@ -30,6 +33,13 @@ pub struct Mark {
 pub struct Word {
     pub word: u64,
     pub patterns: Items<u32>,
+}
+
+/// How many bytes a word of so many bits fills.
+pub fn bytes_of(bits: u8) -> usize
+    ensures { result ≡ bytes_of bits }
+{
+    (usize::from(bits) + 7) / 8
 }
 
 /// An image: the bits of a word, the number of temporary cells, the variables' places in order of declaration, the cost of each tree

@@ -4,5 +4,5 @@
 mod image;
 mod laws;
 
-pub use image::{Image, Mark, Place, Places, Word};
+pub use image::{Image, Mark, Place, Places, Word, bytes_of};
 pub use laws::law_of_straight;

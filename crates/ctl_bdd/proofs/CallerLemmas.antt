@@ -18,11 +18,12 @@ use Rattle.ctl_bdd.specs.declared.ControlBits.{ControlBits}
 use Rattle.ctl_bdd.specs.Places.{is_placed, is_static_control, numbers_below, static_controls}
 use Rattle.ctl_bdd.specs.Controls.{IsControl, IsNetBits, IsWithoutClash, bits_in}
 use Rattle.rec_bits.proofs.Booleans.{or_left}
+use Rattle.rec_bits.proofs.Lists.{all_weaker}
 use Rattle.ctl_bdd.proofs.Sets.{sets_later, set_in}
 use Rattle.ctl_bdd.proofs.Numbers.{eqb_turned, number_one}
 use Rattle.ctl_bdd.proofs.Filling.{bits_later}
 use Rattle.ctl_bdd.proofs.Listing.{bit_is}
-use Rattle.ctl_bdd.proofs.Placed.{weaken, any_filtered, any_append, any_front}
+use Rattle.ctl_bdd.proofs.Placed.{any_filtered, any_append, any_front}
 pub use Rattle.ctl_bdd.proofs.Placed.{placed}
 pub use Rattle.ctl_bdd.proofs.Sets.{bools_later, number_later}
 
@@ -108,7 +109,7 @@ net_later netlist old new e net b = record {
 pub control_later : (netlist : Netlist) (old new : Diagrams) → Extends old new → (controls : ControlBits) → IsControl netlist old controls → IsControl netlist new controls
 control_later netlist old new e controls c = record {
   nets = c.nets;
-  bits = weaken (IsNetBits netlist old) (IsNetBits netlist new) (net_later netlist old new e) controls.bits c.bits;
+  bits = all_weaker (IsNetBits netlist old) (IsNetBits netlist new) (net_later netlist old new e) controls.bits c.bits;
   within = omega (arith, c.within, e.longer);
   legal = λ word lt.
       let same : has_word new controls.legal word ≡ has_word old controls.legal word = same_words old new e controls.legal c.within word in

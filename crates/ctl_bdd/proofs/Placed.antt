@@ -3,7 +3,7 @@ use Rattle.std.proofs.Common.{◌≡◌, ℕ, ◌<◌, ◌&&◌, ◌||◌, nat_e
 use Rattle.std.specs.Prelude.{filter}
 use Rattle.std.specs.List.{AllByRecursion, list_any}
 use Rattle.std.proofs.lemmas.Bool.{eqb-true}
-use Rattle.rec_bits.proofs.Lists.{all_append}
+use Rattle.rec_bits.proofs.Lists.{all_append, all_weaker}
 use Rattle.rec_bits.specs.Faults.{gather}
 use Rattle.net_model.specs.declared.hardware.Netlist.{Netlist}
 use Rattle.net_model.specs.declared.hardware.Net.{Net}
@@ -27,10 +27,6 @@ all_by_place P (x ∷ xs) h = (h 0 x refl, all_by_place P xs (λ n y e. h (suc n
 all_gathered : {X : Type 0} (P : ℕ → Type 0) (f : X → List ℕ) (xs : List X) → AllByRecursion (λ x. AllByRecursion P (f x)) xs → AllByRecursion P (gather f xs)
 all_gathered P f [] h = tt
 all_gathered P f (x ∷ xs) h = all_append P (f x) (gather f xs) h.0 (all_gathered P f xs h.1)
-
-pub weaken : {X : Type 0} (P Q : X → Type 0) → ((x : X) → P x → Q x) → (xs : List X) → AllByRecursion P xs → AllByRecursion Q xs
-weaken P Q f [] h = tt
-weaken P Q f (x ∷ xs) h = (f x h.0, weaken P Q f xs h.1)
 
 pub all_filtered : (P : ℕ → Type 0) (f : ℕ → Bool) (xs : List ℕ) → AllByRecursion P xs → AllByRecursion P (filter f xs)
 all_filtered P f [] h = tt
@@ -121,7 +117,7 @@ module _ (netlist : Netlist) where
   places_inside t =
       all_append (λ n. n < length netlist.nets) (gather storage_controls netlist.storages) _
       (all_gathered (λ n. n < length netlist.nets) storage_controls netlist.storages
-      (weaken (StorageFits netlist) (λ storage. AllByRecursion (λ n. n < length netlist.nets) (storage_controls storage)) storage_inside netlist.storages t.storages))
+      (all_weaker (StorageFits netlist) (λ storage. AllByRecursion (λ n. n < length netlist.nets) (storage_controls storage)) storage_inside netlist.storages t.storages))
       (all_gathered (λ n. n < length netlist.nets) (λ (net : Net). gate_controls net.gate) netlist.nets
       (all_by_place (λ (net : Net). AllByRecursion (λ n. n < length netlist.nets) (gate_controls net.gate)) netlist.nets
       (λ k net there. let fits : NetFits netlist (Some net) = subst (NetFits netlist) there (t.nets k) in gate_inside net.width net.gate fits.2)))

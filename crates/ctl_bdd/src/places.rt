@@ -1,47 +1,17 @@
 //! The nets that stand in control places, and all that they depend on.
 
-ghost use Rattle.std.specs.Prelude.{◌≡◌, ℕ, ◌<◌, ◌++◌, ◌&&◌, ◌||◌, map, filter, nat_eq, true, length, option_to_list, IfOk, OnOk};
+ghost use Rattle.std.specs.Prelude.{◌≡◌, ℕ, ◌<◌, ◌++◌, ◌&&◌, ◌||◌, filter, nat_eq, true, length, IfOk, OnOk};
 ghost use Rattle.std.specs.List.{AllByRecursion, list_any};
-ghost use Rattle.rec_bits.specs.Faults.{gather};
-ghost use Rattle.net_model.specs.CheckedRules.{gate_controls, is_control, storage_controls};
+ghost use Rattle.net_model.specs.CheckedRules.{gate_controls, is_control};
 ghost use Rattle.net_model.specs.Nets.{gate_nets};
 ghost use Rattle.net_model.specs.Flags.{flag_at};
 ghost use Rattle.ctl_bdd.specs.Flags.{IsClosed};
 ghost use Rattle.ctl_bdd.specs.Places.{control_places};
 
 use crate::flags::{new_flags, set_all};
-use net_model::{Checked, Gate, Netlist, Storage, is_set};
+use net_model::{Checked, Gate, Netlist, is_set};
 use rec_bits::{Items, NoMemory};
 use std::alloc::Global;
-
-fn when_of(storage: &Storage) -> Option<u32>
-    ensures { option_to_list result ≡ storage_controls storage.now }
-{
-    match storage {
-        Storage::Register { when, .. } | Storage::Memory { when, .. } => *when,
-    }
-}
-
-fn write_enables(alloc: Global, storages: &[Storage]) -> Result<Items<u32>, NoMemory>
-    ensures { IfOk result (λ nets. nets ≡ gather storage_controls storages.now) }
-{
-    let mut nets = Items::new(alloc);
-    for storage in storages {
-        if let Some(when) = when_of(storage) {
-            nets.push(when)?;
-        }
-    }
-    Ok(nets)
-}
-
-fn push_driver_enables(nets: &mut Items<u32>, drivers: &[(u32, u32)]) -> Result<(), NoMemory>
-    ensures { OnOk result (nets.new ≡ nets.old ++ map (λ driver. driver.1) drivers.now) }
-{
-    for driver in drivers {
-        nets.push(driver.1)?;
-    }
-    Ok(())
-}
 
 fn push_controls(nets: &mut Items<u32>, gate: &Gate) -> Result<(), NoMemory>
     ensures { OnOk result (nets.new ≡ nets.old ++ gate_controls gate.now) }
@@ -51,8 +21,7 @@ fn push_controls(nets: &mut Items<u32>, gate: &Gate) -> Result<(), NoMemory>
             nets.push(*sel)?;
             Ok(())
         }
-        Gate::Bus(drivers) => push_driver_enables(nets, drivers.as_slice()),
-        _ => Ok(()),
+        _ => gate.push_enables(nets),
     }
 }
 
@@ -60,7 +29,7 @@ fn push_controls(nets: &mut Items<u32>, gate: &Gate) -> Result<(), NoMemory>
 fn places_of(alloc: Global, netlist: &Netlist) -> Result<Items<u32>, NoMemory>
     ensures { IfOk result (λ places. places ≡ control_places netlist.now) }
 {
-    let mut places = write_enables(alloc, netlist.storages.as_slice())?;
+    let mut places = netlist.write_enables(alloc)?;
     for net in netlist.nets.as_slice() {
         push_controls(&mut places, &net.gate)?;
     }

@@ -4,7 +4,7 @@ ghost use Rattle.std.specs.Prelude.{◌≡◌, ◌≤◌, IfOk, None};
 ghost use Rattle.image_text.specs.Fronts.{may_follow, last_mark, with_size, with_place, with_cost, with_mark, with_word, whole, opened, with_item, after_nothing, after_size, step, step_line};
 
 use crate::limits::Limits;
-use code_model::{Image, Mark, Place, Word};
+use code_model::{Image, Mark, Place, Word, bytes_of};
 use image_items::{Item, item_of};
 use rec_bits::{Items, NoMemory, mask};
 use std::alloc::Global;
@@ -197,7 +197,7 @@ pub fn step_line(
     requires narrow { limits.bits ≤ 64 }
     ensures { IfOk result (λ next. next ≡ step_line limits front line.now) }
 {
-    let bytes = (usize::from(limits.bits) + 7) / 8;
+    let bytes = bytes_of(limits.bits);
     match item_of(alloc, line, bytes)? {
         Some(item) => {
             let next = step(alloc, limits, front, item)?;

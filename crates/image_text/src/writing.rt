@@ -4,7 +4,7 @@ ghost use Rattle.std.specs.Prelude.{◌≡◌, ◌++◌, ◌≤◌, ℕ, IfOk, O
 ghost use Rattle.std.specs.List.{flat_map};
 ghost use Rattle.code_model.specs.ImageText.{head_text, place_line, cost_line, mark_line, hex_of, after_comma, numbers_text, word_line, word_lines, image_text};
 
-use code_model::{Image, Mark, Place, Word};
+use code_model::{Image, Mark, Place, Word, bytes_of};
 use rec_bits::NoMemory;
 use std::alloc::Global;
 
@@ -142,7 +142,7 @@ pub fn write(alloc: Global, image: &Image) -> Result<Vec<u8>, NoMemory>
     requires { image.now.bits ≤ 64 }
     ensures { IfOk result (λ text. text.items ≡ image_text image.now) }
 {
-    let bytes = (usize::from(image.bits) + 7) / 8;
+    let bytes = bytes_of(image.bits);
     let mut out = Vec::new(alloc);
     out.extend_from_slice(head_lines(alloc, image)?.as_bytes())?;
     put_places(alloc, &mut out, image.places.as_slice())?;

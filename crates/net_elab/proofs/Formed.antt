@@ -1,5 +1,5 @@
 -- The netlist of a text that keeps the rules is well formed.
-use Rattle.std.proofs.Common.{ℕ, zero, suc, ◌≡◌, ◌+◌, ◌≤◌, ◌&&◌, Bool, true, false, if◌then◌else◌, List, [], ◌∷◌, ◌++◌, Option, Some, None, slice_get, refl, ap, arith, IsTrue, nat_le, length-append}
+use Rattle.std.proofs.Common.{ℕ, zero, suc, ◌≡◌, ◌+◌, ◌≤◌, ◌&&◌, Bool, true, false, if◌then◌else◌, List, [], ◌∷◌, ◌++◌, Option, Some, None, slice_get, refl, sym, ap, ◌∙◌, subst, arith, IsTrue, nat_le, length-append, Result, Ok, Err, IfOk}
 use Rattle.std.specs.List.{AllByRecursion, list_all}
 use Rattle.std.proofs.lemmas.Bool.Decides.{nat_tests}
 use Rattle.std.proofs.lemmas.Option.{slice_get_within}
@@ -364,3 +364,13 @@ module _ (text : List Entry) (keep : IsElaborable text) where
         codes = a.codes_keep;
         limits = within_limits;
       }
+
+-- ---- answers that are the netlist of a text, where the text is seen as another that is the same
+
+pub answer_same : {E : Type 0} (text seen : List Entry) → seen ≡ text → (r : Result Netlist E) → IfOk r (λ made. made ≡ netlist_of seen) → IfOk r (λ made. made ≡ netlist_of text)
+answer_same text seen same (Ok made) is = is ∙ ap netlist_of same
+answer_same text seen same (Err e) is = tt
+
+pub answer_formed : {E : Type 0} (text seen : List Entry) → IsElaborable text → seen ≡ text → (r : Result Netlist E) → IfOk r (λ made. made ≡ netlist_of seen) → IfOk r IsWellFormed
+answer_formed text seen keep same (Ok made) is = subst IsWellFormed (sym (is ∙ ap netlist_of same)) (formed text keep)
+answer_formed text seen keep same (Err e) is = tt

@@ -1,6 +1,6 @@
 //! The numbers of nets, storages and wires.
 
-ghost use Rattle.std.specs.Prelude.{◌≡◌, ◌+◌, ◌<◌, ◌^◌, IfOk, if◌then◌else◌, length, map, slice_get, slice_index};
+ghost use Rattle.std.specs.Prelude.{◌≡◌, ◌+◌, ◌<◌, ◌^◌, ◌++◌, ◌∷◌, [], IfOk, OnOk, if◌then◌else◌, length, map, slice_get, slice_index};
 ghost use Rattle.net_model.specs.Numbering.{count_input, count_inputs, count_item, count_output, count_outputs, count_storages, item_wires, last_nets, list_or_none, port_wires, storage_numbers, wires_from};
 ghost use Rattle.net_model.specs.Written.{binding_of, entry_of};
 ghost use Rattle.net_elab.specs.Found.{IsNumbered};
@@ -98,22 +98,43 @@ pub struct Numbers {
     pub wires: Items<Items<u32>>,
 }
 
+impl Numbers {
+    /// The numbers of no item.
+    fn new(alloc: Global) -> Numbers
+        ensures nets { result.nets ≡ [] }
+        ensures storages { result.storages ≡ [] }
+        ensures wires { result.wires ≡ [] }
+    {
+        Numbers {
+            nets: Items::new(alloc),
+            storages: Items::new(alloc),
+            wires: Items::new(alloc),
+        }
+    }
+
+    /// Adds those of one more item.
+    fn push(&mut self, net: u32, storage: u32, wires: Items<u32>) -> Result<(), NoMemory>
+        ensures nets { OnOk result (self.new.nets ≡ self.old.nets ++ net ∷ []) }
+        ensures storages { OnOk result (self.new.storages ≡ self.old.storages ++ storage ∷ []) }
+        ensures wires { OnOk result (self.new.wires ≡ self.old.wires ++ wires ∷ []) }
+    {
+        self.nets.push(net)?;
+        self.storages.push(storage)?;
+        self.wires.push(wires)
+    }
+}
+
 /// The numbers of a text.
 pub fn numbered(alloc: Global, declared: &Declared) -> Result<Numbers, NoMemory>
     ensures { IfOk result (λ made. IsNumbered (map entry_of declared.now) made.nets made.storages made.wires) }
 {
-    let mut made = Numbers {
-        nets: Items::new(alloc),
-        storages: Items::new(alloc),
-        wires: Items::new(alloc),
-    };
+    let mut made = Numbers::new(alloc);
     let mut start = 0u32;
     let mut storage = 0u32;
     for unit in declared.units() {
         let next = start + declared.count_item(unit);
-        made.nets.push(next.saturating_sub(1))?;
-        made.storages.push(storage)?;
-        made.wires.push(item_wires(alloc, declared, start, unit)?)?;
+        let wires = item_wires(alloc, declared, start, unit)?;
+        made.push(next.saturating_sub(1), storage, wires)?;
         start = next;
         storage += count_storages(unit);
     }

@@ -122,9 +122,9 @@ plain_behind : (word : ItemWord) (ts : List Lexed) (entry : Entry) → ArePlain 
 plain_behind Code ts entry plain is =
     subst PlainEntry (sym is.second.second.second.same) (plain_sized is.front is.value (plain_front is plain) is.first)
 plain_behind Register ts entry plain is =
-    subst PlainEntry (sym is.second.second.second.same) (plain_sized is.front is.value (plain_front is plain) is.first)
+    subst PlainEntry (sym is.second.second.same) (plain_sized is.front is.value (plain_front is plain) is.first)
 plain_behind Memory ts entry plain is =
-    subst PlainEntry (sym is.second.second.second.second.second.second.same) (plain_sized is.front is.value (plain_front is plain) is.first)
+    subst PlainEntry (sym is.second.second.second.second.same) (plain_sized is.front is.value (plain_front is plain) is.first)
 plain_behind Net ts entry plain is =
     subst PlainEntry (sym is.second.second.same) (plain_sized is.front is.value (plain_front is plain) is.first)
 plain_behind Bus ts entry plain is =

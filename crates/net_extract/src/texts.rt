@@ -21,20 +21,31 @@ pub fn read_routed(alloc: Global, bytes: &[u8]) -> Result<Checked, NetRefusal>
     Ok(checked)
 }
 
-// The text of the patterns of a netlist of which this is traced.
-fn patterns_text(alloc: Global, checked: &Checked, traced: Traced) -> Result<Vec<u8>, NoMemory>
-    requires { IsTraced checked.now.netlist traced }
+// The text of the patterns of a netlist of which this is traced. The book grows by their sets.
+fn write_patterns(
+    alloc: Global,
+    checked: &Checked,
+    traced: &mut Traced,
+) -> Result<Vec<u8>, NoMemory>
+    requires { IsTraced checked.now.netlist traced.old }
     ensures { IfOk result (λ text. WritesPatterns checked.now.netlist text.items) }
 {
     let Traced {
-        mut book,
+        book,
         pool,
         controls,
         routes,
     } = traced;
-    let patterns = collect_patterns(alloc, checked, &controls, &routes, &mut book, &pool)?;
-    let text = patterns.print(alloc, &book, &pool, checked)?;
+    let patterns = collect_patterns(alloc, checked, controls, routes, book, pool)?;
+    let text = patterns.print(alloc, book, pool, checked)?;
     Ok(text)
+}
+
+fn patterns_text(alloc: Global, checked: &Checked, mut traced: Traced) -> Result<Vec<u8>, NoMemory>
+    requires { IsTraced checked.now.netlist traced }
+    ensures { IfOk result (λ text. WritesPatterns checked.now.netlist text.items) }
+{
+    write_patterns(alloc, checked, &mut traced)
 }
 
 /// The text of the patterns of a netlist's text: how many there are, and for each a line with its number, its transfer, and the least

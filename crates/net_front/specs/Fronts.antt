@@ -1,11 +1,16 @@
 -- Which bytes are a netlist's, and why others are refused.
 use Rattle.std.specs.Prelude.{◌≡◌, ◌⊎◌, ℕ, List, Some, None}
 use Rattle.net_model.specs.declared.fault.NetFault.{NetFault}
-use Rattle.net_model.specs.CheckedRules.{KeepsRules, Ordered}
+use Rattle.net_model.specs.declared.fault.CheckFault.{CheckFault}
+use Rattle.net_model.specs.declared.fault.CheckFault.TheVariants.{Fault as Broken, Memory as CheckMemory}
+use Rattle.net_model.specs.declared.hardware.Netlist.{Netlist}
+use Rattle.net_model.specs.CheckedRules.{IsWellFormed, KeepsRules, Ordered}
 use Rattle.net_model.specs.Elaborated.{netlist_of}
 use Rattle.net_model.specs.NetFaults.{FaultOf}
 use Rattle.net_model.specs.TextRules.{first_fault}
 use Rattle.net_model.specs.Written.{Entry}
+use Rattle.rec_bits.specs.declared.fault.ParseFault.{ParseFault}
+use Rattle.rec_bits.specs.declared.fault.ParseFault.TheVariants.{Text as NoText, Memory as ParseMemory}
 use Rattle.net_parser.specs.Texts.{IsNetText, IsNoNetText}
 use Rattle.net_front.specs.declared.front.NetRefusal.{NetRefusal}
 use Rattle.net_front.specs.declared.front.NetRefusal.TheVariants.{Text, Fault, Memory}
@@ -55,3 +60,25 @@ abbrev pub IsNetRefusal : List ℕ → NetRefusal → Type 0
 IsNetRefusal bytes (Text at) = IsNoNetText bytes at
 IsNetRefusal bytes (Fault fault) = BreaksRule bytes fault
 IsNetRefusal bytes Memory = Unit {0}
+
+-- the items keep N1 to N4 and N11, and this is their netlist
+pub record IsElaboratedOf (entries : List Entry) (netlist : Netlist) : Type 0 where
+  pub kept : first_fault entries ≡ None
+  pub exact : netlist ≡ netlist_of entries
+  pub formed : IsWellFormed netlist
+
+-- why the items are refused by N1 to N4 and N11
+abbrev pub IsTextRefusal : List Entry → NetRefusal → Type 0
+IsTextRefusal entries (Text at) = ⊥
+IsTextRefusal entries (Fault fault) = first_fault entries ≡ Some fault
+IsTextRefusal entries Memory = Unit {0}
+
+-- what a fault of the reading is told as
+abbrev pub parse_refusal : ParseFault → NetRefusal
+parse_refusal (NoText at) = Text at
+parse_refusal ParseMemory = Memory
+
+-- what a fault of the check is told as
+abbrev pub check_refusal : CheckFault → NetRefusal
+check_refusal (Broken fault) = Fault fault
+check_refusal CheckMemory = Memory

@@ -2,11 +2,11 @@
 
 ghost use Rattle.std.specs.Prelude.{◌≡◌, ◌^◌, ◌<◌, length, map, IfOk, IfErr};
 ghost use Rattle.net_model.specs.Written.{entry_of};
-ghost use Rattle.net_front.specs.Fronts.{SaysNet, IsCheckedOf, IsNetFile, IsNetRefusal, IsRuleRefusal};
+ghost use Rattle.net_front.specs.Fronts.{SaysNet, IsCheckedOf, IsElaboratedOf, IsNetFile, IsNetRefusal, IsRuleRefusal, IsTextRefusal};
 
 use net_check::check;
 use net_elab::elaborate;
-use net_model::{CheckFault, Checked, NetFault, Units};
+use net_model::{CheckFault, Checked, NetFault, Netlist, Units};
 use net_names::Names;
 use net_rules::first_fault;
 use rec_bits::{NoMemory, ParseFault};
@@ -34,17 +34,66 @@ impl From<NoMemory> for NetRefusal {
     }
 }
 
+impl From<ParseFault> for NetRefusal {
+    ghost from_gives = { λ fault refusal. refusal ≡ parse_refusal fault };
+
+    ghost use Rattle.std.specs.Prelude.{◌≡◌};
+    ghost use Rattle.net_front.specs.Fronts.{parse_refusal};
+
+    fn from(fault: ParseFault) -> NetRefusal {
+        match fault {
+            ParseFault::Text(at) => NetRefusal::Text(at),
+            ParseFault::Memory => NetRefusal::Memory,
+        }
+    }
+}
+
+impl From<CheckFault> for NetRefusal {
+    ghost from_gives = { λ fault refusal. refusal ≡ check_refusal fault };
+
+    ghost use Rattle.std.specs.Prelude.{◌≡◌};
+    ghost use Rattle.net_front.specs.Fronts.{check_refusal};
+
+    fn from(fault: CheckFault) -> NetRefusal {
+        match fault {
+            CheckFault::Fault(fault) => NetRefusal::Fault(fault),
+            CheckFault::Memory => NetRefusal::Memory,
+        }
+    }
+}
+
 // The items that the bytes say.
 fn items(alloc: Global, bytes: &[u8]) -> Result<Units, NetRefusal>
     requires { length bytes.now < 2 ^ 32 }
     ensures found { IfOk result (λ units. SaysNet bytes.now (map entry_of units.items)) }
     ensures refused { IfErr result (IsNetRefusal bytes.now) }
 {
-    match net_parser::read(alloc, bytes) {
-        Ok(units) => Ok(units),
-        Err(ParseFault::Text(at)) => Err(NetRefusal::Text(at)),
-        Err(ParseFault::Memory) => Err(NetRefusal::Memory),
+    let units = net_parser::read(alloc, bytes)?;
+    Ok(units)
+}
+
+// The netlist of the items, where they keep N1 to N4 and N11.
+fn elaborated(alloc: Global, units: &Units) -> Result<Netlist, NetRefusal>
+    requires { length units.now.items < 2 ^ 32 }
+    ensures found { IfOk result (IsElaboratedOf (map entry_of units.now.items)) }
+    ensures refused { IfErr result (IsTextRefusal (map entry_of units.now.items)) }
+{
+    let names = Names::new(alloc, units)?;
+    elaborated_by(alloc, units, &names)
+}
+
+// The same, by the items' names.
+fn elaborated_by(alloc: Global, units: &Units, names: &Names) -> Result<Netlist, NetRefusal>
+    requires few { length units.now.items < 2 ^ 32 }
+    requires names { names.now ≡ units.now.items }
+    ensures found { IfOk result (IsElaboratedOf (map entry_of units.now.items)) }
+    ensures refused { IfErr result (IsTextRefusal (map entry_of units.now.items)) }
+{
+    if let Some(fault) = first_fault(alloc, units, names)? {
+        return Err(NetRefusal::Fault(fault));
     }
+    let netlist = elaborate(alloc, units, names)?;
+    Ok(netlist)
 }
 
 // The netlist of the items, where it keeps the rules.
@@ -53,16 +102,9 @@ fn checked(alloc: Global, units: &Units) -> Result<Checked, NetRefusal>
     ensures found { IfOk result (IsCheckedOf (map entry_of units.now.items)) }
     ensures refused { IfErr result (IsRuleRefusal (map entry_of units.now.items)) }
 {
-    let names = Names::new(alloc, units)?;
-    if let Some(fault) = first_fault(alloc, units, &names)? {
-        return Err(NetRefusal::Fault(fault));
-    }
-    let netlist = elaborate(alloc, units, &names)?;
-    match check(alloc, netlist) {
-        Ok(checked) => Ok(checked),
-        Err(CheckFault::Fault(fault)) => Err(NetRefusal::Fault(fault)),
-        Err(CheckFault::Memory) => Err(NetRefusal::Memory),
-    }
+    let netlist = elaborated(alloc, units)?;
+    let checked = check(alloc, netlist)?;
+    Ok(checked)
 }
 
 /// The items of a netlist's text, which keep the rules, and their netlist. `Text` comes exactly where the bytes are no netlist text, with

@@ -1,9 +1,6 @@
 //! The tokens of netlists.
 #![tactic(auto)]
 
-#[cfg(test)]
-mod tests;
-
 ghost use Rattle.std.specs.Prelude.{◌≡◌, ◌^◌, ◌<◌, length, IfOk};
 ghost use Rattle.lexing.specs.Laws.{AreTokens};
 ghost use Rattle.net_lexer.specs.Netlists.{netlists, net_tokens};

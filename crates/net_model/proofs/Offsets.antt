@@ -2,7 +2,7 @@
 use Rattle.std.proofs.Common.{ℕ, ◌≡◌, ◌++◌, Bool, true, false, if◌then◌else◌, List, [], ◌∷◌, refl, ap}
 use Rattle.std.specs.List.{AllByRecursion}
 use Rattle.rec_bits.proofs.Lists.{all_append}
-use Rattle.rec_bits.specs.Faults.{least, gather}
+use Rattle.rec_bits.specs.Faults.{gather}
 use Rattle.net_model.specs.NetFaults.{failing}
 
 -- ---- what all of a list keeps

@@ -227,6 +227,20 @@ IsSized = do
 abbrev pub IsWhen : List Lexed → Option Phrase → Type 0
 IsWhen = Maybe (Behind When IsOuter)
 
+-- Expr [ 'when' Expr ] ';' behind a symbol: what a storage takes, or where, and when
+abbrev pub IsFed : Symbol → List Lexed → Phrase × Option Phrase → Type 0
+IsFed symbol = do
+  input ← Behind symbol IsOuter
+  when ← Before IsWhen Semicolon
+  Return (input, when)
+
+-- 'write' Expr 'at' Expr [ 'when' Expr ] ';'
+abbrev pub IsWrite : List Lexed → Phrase × (Phrase × Option Phrase) → Type 0
+IsWrite = do
+  value ← Behind Write IsOuter
+  fed ← IsFed At
+  Return (value, fed)
+
 -- Expr 'when' Expr ';'
 abbrev pub IsDriver : List Lexed → Phrase × Phrase → Type 0
 IsDriver = do
@@ -302,18 +316,15 @@ ItemBehind Code = do
 -- 'register' name ':' number 'in' Expr [ 'when' Expr ] ';'
 ItemBehind Register = do
   sized ← IsSized
-  input ← Behind In IsOuter
-  when ← Before IsWhen Semicolon
-  Return (register sized.0 sized.1 input when)
+  fed ← IsFed In
+  Return (register sized.0 sized.1 fed.0 fed.1)
 -- 'memory' name ':' number 'size' number 'addr' number 'write' Expr 'at' Expr [ 'when' Expr ] ';'
 ItemBehind Memory = do
   sized ← IsSized
   size ← Behind Size IsNumber
   addr_width ← Behind Addr IsNumber
-  value ← Behind Write IsOuter
-  addr ← Behind At IsOuter
-  when ← Before IsWhen Semicolon
-  Return (memory sized.0 sized.1 size addr_width value addr when)
+  write ← IsWrite
+  Return (memory sized.0 sized.1 size addr_width write.0 write.1.0 write.1.1)
 -- 'net' name ':' number '=' Expr ';'
 ItemBehind Net = do
   sized ← IsSized

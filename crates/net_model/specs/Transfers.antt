@@ -1,5 +1,5 @@
 -- What each storage does under one instruction word.
-use Rattle.std.specs.Prelude.{ℕ, ◌==◌, ◌≡◌, ◌⊎◌, if◌then◌else◌, List, Option, Some, None, slice_get, slice_index, slice_set, Bool, true, false}
+use Rattle.std.specs.Prelude.{ℕ, ◌==◌, ◌≡◌, ◌⊎◌, if◌then◌else◌, List, Option, Some, None, slice_get, slice_index, slice_set, Bool, false}
 use Rattle.net_model.specs.declared.hardware.Netlist.{Netlist}
 use Rattle.net_model.specs.declared.hardware.Storage.{Storage}
 use Rattle.net_model.specs.declared.hardware.Storage.TheVariants.{Register, Memory}

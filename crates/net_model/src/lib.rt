@@ -2,6 +2,7 @@
 #![tactic(auto)]
 
 mod checked;
+mod controls;
 mod expression;
 mod fault;
 mod flags;

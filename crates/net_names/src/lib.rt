@@ -5,8 +5,6 @@ mod bindings;
 mod names;
 mod ports;
 mod table;
-#[cfg(test)]
-mod tests;
 
 pub use bindings::Bindings;
 pub use names::{Names, name_of};

@@ -1,7 +1,8 @@
 //! The ports of a module by their names.
 
-ghost use Rattle.std.specs.Prelude.{◌≡◌, IfOk, option_copied, true, false};
+ghost use Rattle.std.specs.Prelude.{◌≡◌, [], IfOk, OnOk, length, option_copied, true, false};
 ghost use Rattle.net_model.specs.TextNames.{port_named};
+ghost use Rattle.net_names.specs.Places.{HasPortPlaces};
 
 use crate::table::{Table, item_at};
 use net_model::Port;
@@ -29,6 +30,26 @@ impl<'a> Model for Ports<'a> {
     ghost invariant = { λ table. HasPortPlaces table.inputs table.outputs table.ports.now (length table.ports.now) };
 }
 
+/// Gives the names of ports their first places, each in the table of its direction. The tables are empty before.
+fn enter_ports<'a>(
+    inputs: &mut Table<'a>,
+    outputs: &mut Table<'a>,
+    ports: &'a [Port],
+) -> Result<(), NoMemory>
+    requires inputs { inputs.old ≡ [] }
+    requires outputs { outputs.old ≡ [] }
+    ensures { OnOk result (HasPortPlaces inputs.new outputs.new ports.now (length ports.now)) }
+{
+    for (i, port) in ports.iter().enumerate() {
+        if port.output {
+            outputs.enter(&port.name.name, i)?;
+        } else {
+            inputs.enter(&port.name.name, i)?;
+        }
+    }
+    Ok(())
+}
+
 impl<'a> Ports<'a> {
     /// The names of some ports.
     pub fn new(alloc: Global, ports: &'a [Port]) -> Result<Ports<'a>, NoMemory>
@@ -36,13 +57,7 @@ impl<'a> Ports<'a> {
     {
         let mut inputs = Table::new(alloc);
         let mut outputs = Table::new(alloc);
-        for (i, port) in ports.iter().enumerate() {
-            if port.output {
-                outputs.enter(&port.name.name, i)?;
-            } else {
-                inputs.enter(&port.name.name, i)?;
-            }
-        }
+        enter_ports(&mut inputs, &mut outputs, ports)?;
         Ok(Ports {
             ports,
             inputs,

@@ -12,9 +12,10 @@ use Rattle.net_model.specs.declared.words.Word.{Word}
 use Rattle.net_model.specs.declared.words.Word.TheVariants.{Name, Number, Item as Begins, Operator as Operates, Symbol as Shows}
 use Rattle.net_model.specs.declared.words.ItemWord.{ItemWord}
 use Rattle.net_model.specs.declared.words.ItemWord.TheVariants.{Code}
+use Rattle.net_model.specs.declared.words.Symbol.{Symbol}
 use Rattle.net_model.specs.declared.words.Symbol.TheVariants.{Semicolon, Comma, In, Out, When}
 use Rattle.net_model.specs.Written.{Phrase, Entry}
-use Rattle.net_model.specs.Grammar.{Behind, Before, ByWord, IsName, LeafBehind, ExprBehind, IsExpr, IsSized, IsWhen, IsDirection, IsDriver, IsDrivers, IsBinding, IsBindings, IsEquation, IsLinks, IsPort, IsPorts, ItemByWord, IsItem, direction}
+use Rattle.net_model.specs.Grammar.{Behind, Before, ByWord, IsName, LeafBehind, ExprBehind, IsExpr, IsSized, IsWhen, IsFed, IsWrite, IsDirection, IsDriver, IsDrivers, IsBinding, IsBindings, IsEquation, IsLinks, IsPort, IsPorts, ItemByWord, IsItem, direction}
 use Rattle.net_parser.specs.Steps.{BeginsSo, HasNoItem, expr_word, first_word, name_word, when_word, link_word, item_word, after_expr, after_when, after_drivers, after_equations, after_links, after_list, after_items}
 use Rattle.net_parser.proofs.Tokens.{Shown, begun, there_name, there_number, there_behind, there_before, there_word}
 use Rattle.net_parser.proofs.Expressions.{there_expr}
@@ -24,6 +25,12 @@ there_sized = there_bind there_name (λ n. there_bind (there_behind there_number
 
 pub there_when_end : There (Before IsWhen Semicolon)
 there_when_end = there_before there_maybe
+
+pub there_fed : {s : Symbol} → There (IsFed s)
+there_fed = there_bind (there_behind (there_expr 64)) (λ i. there_bind there_when_end (λ w. there_return))
+
+pub there_write : There IsWrite
+there_write = there_bind (there_behind (there_expr 64)) (λ v. there_bind there_fed (λ f. there_return))
 
 pub there_driver : There IsDriver
 there_driver = there_bind (there_expr 64) (λ v. there_bind (there_before (there_behind (there_expr 64))) (λ e. there_return))

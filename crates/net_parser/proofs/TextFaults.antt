@@ -1,5 +1,5 @@
 -- Texts as bytes: what is a text has no fault, a fault is at one place, and a text has no more items than bytes.
-use Rattle.std.proofs.Common.{◌≡◌, ◌≤◌, ◌-◌, ℕ, List, length, sym, ap, ◌∙◌, arith, length-append}
+use Rattle.std.proofs.Common.{◌≡◌, ◌≤◌, ℕ, List, length, sym, ap, ◌∙◌, arith, length-append}
 use Rattle.std.proofs.lemmas.List.{length-map}
 use Rattle.grammar.proofs.Faults.{no_fault_of_text, one_fault}
 use Rattle.grammar.specs.Reading.{ListOf, none, some}

@@ -163,8 +163,8 @@ fn pair(
     ensures { Gives (λ x. ((phrase_of x.0.0.value, phrase_of x.0.1.value), x.1.now)) (IsPair (IsExpr depth)) never ts.now result }
 {
     let (a, rest) = expr_behind(alloc, Symbol::LeftParen, depth, ts)?;
-    let (b, rest) = enclosed(alloc, Symbol::Comma, Symbol::RightParen, depth, rest)?;
     let a = Box::new(alloc, a)?;
+    let (b, rest) = enclosed(alloc, Symbol::Comma, Symbol::RightParen, depth, rest)?;
     let b = Box::new(alloc, b)?;
     Ok(((a, b), rest))
 }
@@ -175,8 +175,8 @@ fn widened(alloc: Global, depth: u8, ts: &[Lexed]) -> Result<((Box<NetExpr>, u64
     ensures { Gives (λ x. ((phrase_of x.0.0.value, x.0.1), x.1.now)) (IsWidened (IsExpr depth)) never ts.now result }
 {
     let (a, rest) = expr_behind(alloc, Symbol::LeftParen, depth, ts)?;
-    let (width, rest) = last_number(rest)?;
     let a = Box::new(alloc, a)?;
+    let (width, rest) = last_number(rest)?;
     Ok(((a, width), rest))
 }
 
@@ -190,9 +190,9 @@ fn sliced(
     ensures { Gives (λ x. ((phrase_of x.0.0.value, x.0.1, x.0.2), x.1.now)) (IsSliced (IsExpr depth)) never ts.now result }
 {
     let (a, rest) = expr_behind(alloc, Symbol::LeftParen, depth, ts)?;
+    let a = Box::new(alloc, a)?;
     let (high, rest) = number_behind(Symbol::Comma, rest)?;
     let (low, rest) = last_number(rest)?;
-    let a = Box::new(alloc, a)?;
     Ok(((a, high, low), rest))
 }
 
@@ -217,8 +217,8 @@ fn choice(alloc: Global, depth: u8, ts: &[Lexed]) -> Result<(NetExpr, &[Lexed]),
     ensures { Gives (λ x. (phrase_of x.0, x.1.now)) (IsOperated (IsExpr depth) Case) after_expr ts.now result }
 {
     let (sel, rest) = expr(alloc, depth, ts)?;
-    let ((rows, other), after) = braced(alloc, depth, rest)?;
     let sel = Box::new(alloc, sel)?;
+    let ((rows, other), after) = braced(alloc, depth, rest)?;
     Ok((
         NetExpr::Case {
             sel,

@@ -3,8 +3,9 @@
 ghost use Rattle.std.specs.Prelude.{◌≡◌, MatchOption, map};
 ghost use Rattle.grammar.specs.Reading.{Gives, never};
 ghost use Rattle.net_model.specs.declared.words.ItemWord.TheVariants.{Bus, Code, Memory as Holds, Module, Net, Part, Register};
-ghost use Rattle.net_model.specs.Grammar.{IsItem, IsText, ItemBehind};
-ghost use Rattle.net_model.specs.Written.{entry_of};
+ghost use Rattle.net_model.specs.declared.words.Symbol.TheVariants.{At, Semicolon};
+ghost use Rattle.net_model.specs.Grammar.{Before, Behind, IsFed, IsItem, IsName, IsText, IsWrite, ItemBehind};
+ghost use Rattle.net_model.specs.Written.{entry_of, phrase_of, when_of};
 ghost use Rattle.net_parser.specs.Steps.{HasNoItem, OpensItem, after_items};
 
 use crate::expression::{enclosed, expr_behind};
@@ -13,7 +14,7 @@ use crate::parts::{
 };
 use crate::step::{expect, front, name, name_behind, number_behind};
 use grammar::Stop;
-use net_model::{ItemWord, Lexed, Symbol, Unit, Word};
+use net_model::{Ident, ItemWord, Lexed, NetExpr, Symbol, Unit, Word};
 use rec_bits::Items;
 use std::alloc::Global;
 
@@ -30,14 +31,22 @@ fn item_at(ts: &[Lexed]) -> Option<(ItemWord, &[Lexed])>
     }
 }
 
+/// The name of what counts through an instruction memory, and the end of the item.
+fn counter(alloc: Global, ts: &[Lexed]) -> Result<(Ident, &[Lexed]), Stop>
+    ensures { Gives (λ x. (x.0, x.1.now)) (Before (Behind At IsName) Semicolon) never ts.now result }
+{
+    let (name, rest) = name_behind(alloc, Symbol::At, ts)?;
+    let rest = expect(Symbol::Semicolon, rest)?;
+    Ok((name, rest))
+}
+
 /// An instruction memory, behind its word.
 fn code(alloc: Global, ts: &[Lexed]) -> Result<(Unit, &[Lexed]), Stop>
     ensures { Gives (λ x. (entry_of x.0, x.1.now)) (ItemBehind Code) never ts.now result }
 {
     let ((name, bits), rest) = sized_name(alloc, ts)?;
     let (size, rest) = number_behind(Symbol::Size, rest)?;
-    let (counter, rest) = name_behind(alloc, Symbol::At, rest)?;
-    let rest = expect(Symbol::Semicolon, rest)?;
+    let (counter, rest) = counter(alloc, rest)?;
     let unit = Unit::Code {
         name,
         bits,
@@ -47,13 +56,24 @@ fn code(alloc: Global, ts: &[Lexed]) -> Result<(Unit, &[Lexed]), Stop>
     Ok((unit, rest))
 }
 
+/// What a storage takes, or where, behind a symbol, with its enable.
+type Fed = (NetExpr, Option<NetExpr>);
+
+/// An expression behind a symbol, an enable, if there is one, and the end of the item.
+fn fed(alloc: Global, symbol: Symbol, ts: &[Lexed]) -> Result<(Fed, &[Lexed]), Stop>
+    ensures { Gives (λ x. ((phrase_of x.0.0, when_of x.0.1), x.1.now)) (IsFed symbol) never ts.now result }
+{
+    let (input, rest) = expr_behind(alloc, symbol, LEVELS, ts)?;
+    let (when, rest) = when_end(alloc, rest)?;
+    Ok(((input, when), rest))
+}
+
 /// A register, behind its word.
 fn register(alloc: Global, ts: &[Lexed]) -> Result<(Unit, &[Lexed]), Stop>
     ensures { Gives (λ x. (entry_of x.0, x.1.now)) (ItemBehind Register) never ts.now result }
 {
     let ((name, width), rest) = sized_name(alloc, ts)?;
-    let (input, rest) = expr_behind(alloc, Symbol::In, LEVELS, rest)?;
-    let (when, rest) = when_end(alloc, rest)?;
+    let ((input, when), rest) = fed(alloc, Symbol::In, rest)?;
     let unit = Unit::Register {
         name,
         width,
@@ -63,6 +83,15 @@ fn register(alloc: Global, ts: &[Lexed]) -> Result<(Unit, &[Lexed]), Stop>
     Ok((unit, rest))
 }
 
+/// What is written to a memory, where and when, and the end of the item.
+fn written(alloc: Global, ts: &[Lexed]) -> Result<((NetExpr, Fed), &[Lexed]), Stop>
+    ensures { Gives (λ x. ((phrase_of x.0.0, (phrase_of x.0.1.0, when_of x.0.1.1)), x.1.now)) IsWrite never ts.now result }
+{
+    let (value, rest) = expr_behind(alloc, Symbol::Write, LEVELS, ts)?;
+    let (fed, rest) = fed(alloc, Symbol::At, rest)?;
+    Ok(((value, fed), rest))
+}
+
 /// A memory, behind its word.
 fn memory(alloc: Global, ts: &[Lexed]) -> Result<(Unit, &[Lexed]), Stop>
     ensures { Gives (λ x. (entry_of x.0, x.1.now)) (ItemBehind Holds) never ts.now result }
@@ -70,9 +99,7 @@ fn memory(alloc: Global, ts: &[Lexed]) -> Result<(Unit, &[Lexed]), Stop>
     let ((name, width), rest) = sized_name(alloc, ts)?;
     let (size, rest) = number_behind(Symbol::Size, rest)?;
     let (addr_width, rest) = number_behind(Symbol::Addr, rest)?;
-    let (value, rest) = expr_behind(alloc, Symbol::Write, LEVELS, rest)?;
-    let (addr, rest) = expr_behind(alloc, Symbol::At, LEVELS, rest)?;
-    let (when, rest) = when_end(alloc, rest)?;
+    let ((value, (addr, when)), rest) = written(alloc, rest)?;
     let unit = Unit::Memory {
         name,
         width,

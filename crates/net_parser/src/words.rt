@@ -128,32 +128,20 @@ fn symbol_of(text: &[u8]) -> Option<Symbol>
 fn sign_of(text: &[u8]) -> Option<Symbol>
     ensures { result ≡ sign_of text.now }
 {
-    if text == b":".as_slice() {
-        Some(Symbol::Colon)
-    } else if text == b";".as_slice() {
-        Some(Symbol::Semicolon)
-    } else if text == b",".as_slice() {
-        Some(Symbol::Comma)
-    } else if text == b"=".as_slice() {
-        Some(Symbol::Equals)
-    } else if text == b".".as_slice() {
-        Some(Symbol::Dot)
-    } else if text == b"#".as_slice() {
-        Some(Symbol::Hash)
-    } else if text == b"(".as_slice() {
-        Some(Symbol::LeftParen)
-    } else if text == b")".as_slice() {
-        Some(Symbol::RightParen)
-    } else if text == b"{".as_slice() {
-        Some(Symbol::LeftBrace)
-    } else if text == b"}".as_slice() {
-        Some(Symbol::RightBrace)
-    } else if text == b"[".as_slice() {
-        Some(Symbol::LeftBracket)
-    } else if text == b"]".as_slice() {
-        Some(Symbol::RightBracket)
-    } else {
-        None
+    match text {
+        b":" => Some(Symbol::Colon),
+        b";" => Some(Symbol::Semicolon),
+        b"," => Some(Symbol::Comma),
+        b"=" => Some(Symbol::Equals),
+        b"." => Some(Symbol::Dot),
+        b"#" => Some(Symbol::Hash),
+        b"(" => Some(Symbol::LeftParen),
+        b")" => Some(Symbol::RightParen),
+        b"{" => Some(Symbol::LeftBrace),
+        b"}" => Some(Symbol::RightBrace),
+        b"[" => Some(Symbol::LeftBracket),
+        b"]" => Some(Symbol::RightBracket),
+        _ => None,
     }
 }
 

@@ -3,8 +3,8 @@
 ghost use Rattle.std.specs.Prelude.{◌≡◌, ◌&&◌, IfOk, [], map};
 ghost use Rattle.std.specs.List.{list_all};
 ghost use Rattle.rec_bits.specs.Faults.{least};
-ghost use Rattle.net_model.specs.DriverRules.{binding_name, covers_binding, covers_driver, covers_if, drives_once, is_driven, is_driven_item, names_new, undriven, undrivens};
-ghost use Rattle.net_model.specs.Written.{binding_of, driver_of, entry_of, when_of};
+ghost use Rattle.net_model.specs.DriverRules.{binding_name, covers_binding, covers_driver, covers, covers_if, drives_once, is_driven, is_driven_item, names_new, undriven, undrivens};
+ghost use Rattle.net_model.specs.Written.{binding_of, driver_of, entry_of, phrase_of, when_of};
 ghost use Rattle.net_rules.specs.Modules.{item_ports};
 ghost use Rattle.net_rules.specs.Scopes.{scope_of};
 
@@ -60,9 +60,9 @@ fn drives_once(
 ) -> Result<bool, NoMemory>
     ensures { IfOk result (λ once. once ≡ drives_once output ports.now (map binding_of bindings.now)) }
 {
+    let new = are_names_new(alloc, bindings)?;
     let table = Bindings::new(alloc, bindings)?;
-    let driven = are_driven(output, &table, ports);
-    Ok(driven & are_names_new(alloc, bindings)?)
+    Ok(are_driven(output, &table, ports) & new)
 }
 
 // ---- items
@@ -115,6 +115,45 @@ fn covers_bindings(
     Ok(true)
 }
 
+fn covers_register(
+    alloc: Global,
+    place: &Place,
+    input: &NetExpr,
+    when: &Option<NetExpr>,
+) -> Result<bool, NoMemory>
+    ensures { IfOk result (λ covered. covered ≡ (covers (scope_of place.now) (phrase_of input.now) && covers_if (scope_of place.now) (when_of when.now))) }
+{
+    let input = covers(alloc, place, input)?;
+    Ok(input & covers_if(alloc, place, when)?)
+}
+
+fn covers_memory(
+    alloc: Global,
+    place: &Place,
+    value: &NetExpr,
+    addr: &NetExpr,
+    when: &Option<NetExpr>,
+) -> Result<bool, NoMemory>
+    ensures { IfOk result (λ covered. covered ≡ (covers_driver (scope_of place.now) (driver_of (value.now, addr.now)) && covers_if (scope_of place.now) (when_of when.now))) }
+{
+    let written = covers_two(alloc, place, value, addr)?;
+    Ok(written & covers_if(alloc, place, when)?)
+}
+
+// Whether ports are driven once, and cases in what drives them cover every number.
+fn covers_ports(
+    alloc: Global,
+    place: &Place,
+    output: bool,
+    ports: &[Port],
+    bindings: &[(Ident, NetExpr)],
+) -> Result<bool, NoMemory>
+    ensures { IfOk result (λ covered. covered ≡ (drives_once output ports.now (map binding_of bindings.now) && list_all (covers_binding (scope_of place.now)) (map binding_of bindings.now))) }
+{
+    let once = drives_once(alloc, output, ports, bindings)?;
+    Ok(once & covers_bindings(alloc, place, bindings)?)
+}
+
 fn is_driven_item(alloc: Global, text: &Text, ports: &Ports, unit: &Unit) -> Result<bool, NoMemory>
     requires { ports.now ≡ item_ports unit.now }
     ensures { IfOk result (λ driven. driven ≡ is_driven_item (map entry_of text.now) (entry_of unit.now)) }
@@ -122,30 +161,22 @@ fn is_driven_item(alloc: Global, text: &Text, ports: &Ports, unit: &Unit) -> Res
     let place = Place::Items(text);
     match unit {
         Unit::Code { .. } => Ok(true),
-        Unit::Register { input, when, .. } => {
-            let input = covers(alloc, &place, input)?;
-            Ok(input & covers_if(alloc, &place, when)?)
-        }
+        Unit::Register { input, when, .. } => covers_register(alloc, &place, input, when),
         Unit::Memory {
             value,
             addr,
             when,
             ..
-        } => {
-            let written = covers_two(alloc, &place, value, addr)?;
-            Ok(written & covers_if(alloc, &place, when)?)
-        }
+        } => covers_memory(alloc, &place, value, addr, when),
         Unit::Net { value, .. } => covers(alloc, &place, value),
         Unit::Bus { drivers, .. } => covers_drivers(alloc, &place, drivers.as_slice()),
         Unit::Module { equations, .. } => {
-            let equations = equations.as_slice();
-            let once = drives_once(alloc, true, ports.as_slice(), equations)?;
-            Ok(once & covers_bindings(alloc, &Place::Ports(ports), equations)?)
+            let inside = Place::Ports(ports);
+            covers_ports(alloc, &inside, true, ports.as_slice(), equations.as_slice())
         }
         Unit::Part { module, links, .. } => {
-            let links = links.as_slice();
-            let once = drives_once(alloc, false, text.ports_at(&module.name), links)?;
-            Ok(once & covers_bindings(alloc, &place, links)?)
+            let ports = text.ports_at(&module.name);
+            covers_ports(alloc, &place, false, ports, links.as_slice())
         }
     }
 }

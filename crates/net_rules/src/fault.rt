@@ -1,6 +1,8 @@
 //! The first rule that is broken.
 
-ghost use Rattle.std.specs.Prelude.{◌≡◌, IfOk, map};
+ghost use Rattle.std.specs.Prelude.{◌≡◌, IfOk, None, map};
+ghost use Rattle.rec_bits.specs.Faults.{least};
+ghost use Rattle.net_model.specs.NameRules.{duplicates};
 ghost use Rattle.net_model.specs.TextRules.{first_fault};
 ghost use Rattle.net_model.specs.Written.{entry_of};
 
@@ -10,7 +12,7 @@ use crate::limits::first_limit;
 use crate::text::Text;
 use crate::unknowns::first_unknown;
 use crate::widths::first_misfit;
-use net_model::{NetFault, Units};
+use net_model::{NetFault, Unit, Units};
 use net_names::Names;
 use rec_bits::NoMemory;
 use std::alloc::Global;
@@ -29,15 +31,27 @@ pub fn first_fault(
         return Ok(Some(NetFault::Duplicate(at)));
     }
     let text = Text::new(alloc, units, names)?;
-    let items = units.items.as_slice();
-    if let Some(at) = first_unknown(&text, items) {
+    fault_behind_names(alloc, &text, units.items.as_slice())
+}
+
+// The first of the rules N2, N3, N4 and N11 that a text breaks, where no name stands there twice.
+fn fault_behind_names(
+    alloc: Global,
+    text: &Text,
+    items: &[Unit],
+) -> Result<Option<NetFault>, NoMemory>
+    requires text { text.now ≡ items.now }
+    requires names { None ≡ least (duplicates (map entry_of items.now)) }
+    ensures { IfOk result (λ fault. fault ≡ first_fault (map entry_of items.now)) }
+{
+    if let Some(at) = first_unknown(text, items) {
         return Ok(Some(NetFault::Unknown(at)));
     }
-    if let Some(at) = first_misfit(&text, items) {
+    if let Some(at) = first_misfit(text, items) {
         return Ok(Some(NetFault::Width(at)));
     }
-    if let Some(at) = first_undriven(alloc, &text, items)? {
+    if let Some(at) = first_undriven(alloc, text, items)? {
         return Ok(Some(NetFault::Driver(at)));
     }
-    first_limit(alloc, &text, items)
+    first_limit(alloc, text, items)
 }

@@ -44,6 +44,12 @@ pub record IsNetRead (net : List ℕ) (checked : Ordered) : Type 0 where
   pub file : IsNetFile net entries
   pub netlist : checked.netlist ≡ netlist_of entries
 
+-- the words of the image that the bytes are
+pub record AreImageWords (netlist : Netlist) (image words : List ℕ) : Type 0 where
+  pub said : Image
+  pub image_text : IsImageText (limits_of netlist) image said
+  pub words_are : words ≡ words_of said
+
 -- ---- clocks
 
 -- so many clocks of the netlist on the image's words, from the state

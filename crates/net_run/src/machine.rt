@@ -7,7 +7,7 @@ ghost use Rattle.net_model.specs.Widths.{IsState, WordFits};
 ghost use Rattle.code_model.specs.Places.{words_of};
 ghost use Rattle.image_text.specs.Lines.{IsImageText, limits_of};
 ghost use Rattle.state_text.specs.Settings.{IsStart, IsStateText};
-ghost use Rattle.net_run.specs.Runs.{IsEndFault, IsEndText, IsImageFault, IsNetFault, IsNetRead, IsRunFault, IsStateFaultOf, ShowsState};
+ghost use Rattle.net_run.specs.Runs.{AreImageWords, IsEndFault, IsEndText, IsImageFault, IsNetFault, IsNetRead, IsRunFault, IsStateFaultOf, ShowsState};
 ghost use Rattle.net_run.specs.declared.machine.RunFault.{RunFault};
 
 use crate::clocks::{Clash, clock_all};
@@ -96,6 +96,17 @@ fn words_of(alloc: Global, image: &Image) -> Result<Items<u64>, NoMemory>
     Ok(words)
 }
 
+// The words of the image that the bytes are.
+fn words_in(alloc: Global, bytes: &[u8], checked: &Checked) -> Result<Items<u64>, RunFault>
+    requires { length bytes.now < 2 ^ 32 }
+    ensures found { IfOk result (AreImageWords checked.now.netlist bytes.now) }
+    ensures refused { IfErr result (IsImageFault checked.now.netlist bytes.now) }
+{
+    let image = image_of(alloc, bytes, checked)?;
+    let words = words_of(alloc, &image)?;
+    Ok(words)
+}
+
 // Clocks the netlist so often, and writes the state.
 fn clocked(
     alloc: Global,
@@ -110,8 +121,8 @@ fn clocked(
     ensures refused { IfErr result (IsEndFault checked.now.netlist words start clocks) }
 {
     // nothing is asked for once the first clock has passed
-    let mut text = text_room(alloc, checked)?;
     let mut sim = Sim::new(alloc, checked, words, start)?;
+    let mut text = text_room(alloc, checked)?;
     if let Err(Clash { cycle, bus }) = clock_all(&mut sim, clocks) {
         let at = checked.netlist().name_at(bus);
         return Err(RunFault::Clash { cycle, bus, at });
@@ -139,8 +150,7 @@ pub fn run(
     ensures refused { IfErr result (IsRunFault net.now image.now memory.now clocks) }
 {
     let checked = netlist(alloc, net)?;
-    let image = image_of(alloc, image, &checked)?;
+    let words = words_in(alloc, image, &checked)?;
     let start = start_of(alloc, memory, &checked)?;
-    let words = words_of(alloc, &image)?;
     clocked(alloc, &checked, words, start, clocks)
 }

@@ -6,7 +6,8 @@ ghost use Rattle.src_model.specs.Written.{act_of, acts_of, listing_of};
 ghost use Rattle.src_model.specs.Widths.{empty_array};
 ghost use Rattle.src_model.specs.Loops.{breaks_in};
 ghost use Rattle.src_model.specs.Sizes.{longest};
-ghost use Rattle.src_model.specs.Rules.{above, limits, bad_widths, first_fault};
+ghost use Rattle.src_model.specs.Rules.{above, limits, bad_widths, fault_at, first_fault, or_else};
+ghost use Rattle.src_model.specs.declared.fault.SrcFault.TheVariants.{Duplicate};
 ghost use Rattle.src_check.specs.Questions.{rule_of};
 ghost use Rattle.src_check.specs.Refusals.{listing, behind_duplicates, IsRefusal};
 
@@ -109,15 +110,29 @@ fn behind_duplicates(table: &Table<'_>, vars: &[Var], word: u64, body: &[Stmt]) 
     limits(vars, word, body)
 }
 
+// The first fault of a program, given the least offset of a name that is declared twice.
+fn first_of(
+    table: &Table<'_>,
+    repeated: Option<u64>,
+    vars: &[Var],
+    word: u64,
+    body: &[Stmt],
+) -> Option<SrcFault>
+    requires { table.now ≡ vars.now }
+    ensures { result ≡ or_else (fault_at Duplicate repeated) (behind_duplicates word (listing vars.now body.now)) }
+{
+    match repeated {
+        Some(at) => Some(SrcFault::Duplicate(at)),
+        None => behind_duplicates(table, vars, word, body),
+    }
+}
+
 fn first_fault(alloc: Global, program: &Program, word: u64) -> Result<Option<SrcFault>, NoMemory>
     ensures { IfOk result (λ found. found ≡ first_fault word (listing_of program.now)) }
 {
     let vars = program.vars.as_slice();
     let (table, repeated) = declare(alloc, vars)?;
-    if let Some(at) = repeated {
-        return Ok(Some(SrcFault::Duplicate(at)));
-    }
-    Ok(behind_duplicates(&table, vars, word, &program.body))
+    Ok(first_of(&table, repeated, vars, word, &program.body))
 }
 
 /// Checks a program against the rules S1 to S6, for words of `width` bits, 1 to 64.

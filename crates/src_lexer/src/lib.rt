@@ -1,9 +1,6 @@
 //! The tokens of programs.
 #![tactic(auto)]
 
-#[cfg(test)]
-mod tests;
-
 ghost use Rattle.std.specs.Prelude.{◌≡◌, ◌^◌, ◌<◌, length, IfOk};
 ghost use Rattle.lexing.specs.Laws.{AreTokens};
 ghost use Rattle.src_lexer.specs.Programs.{programs, src_tokens};

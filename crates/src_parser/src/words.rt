@@ -13,20 +13,14 @@ use std::alloc::Global;
 fn compare_of(text: &[u8]) -> Option<Cmp>
     ensures { result ≡ compare_of text.now }
 {
-    if text == b"==".as_slice() {
-        Some(Cmp::Eq)
-    } else if text == b"!=".as_slice() {
-        Some(Cmp::Ne)
-    } else if text == b"<".as_slice() {
-        Some(Cmp::Lt)
-    } else if text == b"<=".as_slice() {
-        Some(Cmp::Le)
-    } else if text == b">".as_slice() {
-        Some(Cmp::Gt)
-    } else if text == b">=".as_slice() {
-        Some(Cmp::Ge)
-    } else {
-        None
+    match text {
+        b"==" => Some(Cmp::Eq),
+        b"!=" => Some(Cmp::Ne),
+        b"<" => Some(Cmp::Lt),
+        b"<=" => Some(Cmp::Le),
+        b">" => Some(Cmp::Gt),
+        b">=" => Some(Cmp::Ge),
+        _ => None,
     }
 }
 
@@ -51,26 +45,17 @@ fn signed_of(text: &[u8]) -> Option<Cmp>
 fn operator_of(text: &[u8]) -> Option<Op2>
     ensures { result ≡ operator_of text.now }
 {
-    if text == b"|".as_slice() {
-        Some(Op2::Or)
-    } else if text == b"^".as_slice() {
-        Some(Op2::Xor)
-    } else if text == b"&".as_slice() {
-        Some(Op2::And)
-    } else if text == b"<<".as_slice() {
-        Some(Op2::Shl)
-    } else if text == b">>".as_slice() {
-        Some(Op2::Shr)
-    } else if text == b">>>".as_slice() {
-        Some(Op2::Sar)
-    } else if text == b"+".as_slice() {
-        Some(Op2::Add)
-    } else if text == b"-".as_slice() {
-        Some(Op2::Sub)
-    } else if text == b"*".as_slice() {
-        Some(Op2::Mul)
-    } else {
-        None
+    match text {
+        b"|" => Some(Op2::Or),
+        b"^" => Some(Op2::Xor),
+        b"&" => Some(Op2::And),
+        b"<<" => Some(Op2::Shl),
+        b">>" => Some(Op2::Shr),
+        b">>>" => Some(Op2::Sar),
+        b"+" => Some(Op2::Add),
+        b"-" => Some(Op2::Sub),
+        b"*" => Some(Op2::Mul),
+        _ => None,
     }
 }
 
@@ -114,28 +99,18 @@ fn symbol_of(text: &[u8]) -> Option<Symbol>
 fn sign_of(text: &[u8]) -> Option<Symbol>
     ensures { result ≡ sign_of text.now }
 {
-    if text == b"=".as_slice() {
-        Some(Symbol::Equals)
-    } else if text == b";".as_slice() {
-        Some(Symbol::Semicolon)
-    } else if text == b",".as_slice() {
-        Some(Symbol::Comma)
-    } else if text == b"~".as_slice() {
-        Some(Symbol::Tilde)
-    } else if text == b"(".as_slice() {
-        Some(Symbol::LeftParen)
-    } else if text == b")".as_slice() {
-        Some(Symbol::RightParen)
-    } else if text == b"{".as_slice() {
-        Some(Symbol::LeftBrace)
-    } else if text == b"}".as_slice() {
-        Some(Symbol::RightBrace)
-    } else if text == b"[".as_slice() {
-        Some(Symbol::LeftBracket)
-    } else if text == b"]".as_slice() {
-        Some(Symbol::RightBracket)
-    } else {
-        None
+    match text {
+        b"=" => Some(Symbol::Equals),
+        b";" => Some(Symbol::Semicolon),
+        b"," => Some(Symbol::Comma),
+        b"~" => Some(Symbol::Tilde),
+        b"(" => Some(Symbol::LeftParen),
+        b")" => Some(Symbol::RightParen),
+        b"{" => Some(Symbol::LeftBrace),
+        b"}" => Some(Symbol::RightBrace),
+        b"[" => Some(Symbol::LeftBracket),
+        b"]" => Some(Symbol::RightBracket),
+        _ => None,
     }
 }
 

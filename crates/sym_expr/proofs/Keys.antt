@@ -1,5 +1,5 @@
 -- The derived `==` of nodes tells all values apart.
-use Rattle.std.proofs.Common.{◌≡◌, ℕ, true, false, ◌&&◌, true≢false, refl, sym, nat_eq}
+use Rattle.std.proofs.Common.{◌≡◌, ℕ, true, ◌&&◌, true≢false, refl, sym, nat_eq}
 use borrow.Author.Tests.{eqb-true, eq-eqb}
 use Rattle.rec_bits.proofs.Booleans.{both}
 use Rattle.rec_bits.specs.declared.operator.Op1.{Op1}

@@ -2,6 +2,7 @@
 use Rattle.std.proofs.Common.{◌≡◌, ℕ, zero, suc, ◌<◌, ◌≤◌, max, List, [], ◌∷◌, length, map, slice_get, slice_index, Some, refl, sym, ap, ◌∙◌, arith}
 use Rattle.std.proofs.lemmas.Option.{slice_get-get_or}
 use Rattle.std.specs.List.{slice_index_or}
+use Rattle.rec_bits.proofs.Lists.{all_weaker}
 use Rattle.net_model.specs.Terms.{Term, word, reg, const, read, un, bin, slice, cat, zext, sext, select}
 use Rattle.sym_expr.specs.declared.pool.Node.{Node}
 use Rattle.sym_expr.specs.declared.pool.Node.TheVariants.{Word, Reg, Const, Read, Un, Bin, Slice, Cat, Zext, Sext, Select}
@@ -100,9 +101,8 @@ same_parts t n known (i ∷ is) (j ∷ js) b c e =
     let q : is ≡ js = same_parts t n known is js b.1 c.1 y in
     (λ k. p k ∷ q k)
 
-pub weaken : (m n : ℕ) → m ≤ n → (is : List ℕ) → AllBelow m is → AllBelow n is
-weaken m n h [] b = tt
-weaken m n h (i ∷ is) b = (omega (arith, h, b.0), weaken m n h is b.1)
+all_below : (m n : ℕ) → m ≤ n → (is : List ℕ) → AllBelow m is → AllBelow n is
+all_below m n h is b = all_weaker (λ i. i < m) (λ i. i < n) (λ i l. omega (arith, h, l)) is b
 
 same_node : (t : ℕ → Term) (n : ℕ) → ((i j : ℕ) → i < n → j < n → t i ≡ t j → i ≡ j) → (a b : Node) → AllBelow n (parts_of a) → AllBelow n (parts_of b) → node_term a t ≡ node_term b t → a ≡ b
 same_node t n known a b below_a below_b e =
@@ -128,7 +128,7 @@ module _ (nodes : List Node) (pool : IsPool nodes) where
           let m : ℕ = max i j in
           let same : a.0 ≡ b.0 = same_node (term_at nodes) m
           (λ x y hx hy. known x y (omega (arith, bi, bj, hx)) (omega (arith, bi, bj, hy)) (omega (arith, wi, wj, hx)) (omega (arith, wi, wj, hy)))
-          a.0 b.0 (weaken i m (omega arith) _ below_a) (weaken j m (omega arith) _ below_b)
+          a.0 b.0 (all_below i m (omega arith) _ below_a) (all_below j m (omega arith) _ below_b)
           (sym (term_at-node nodes i a.0 a.1 below_a) ∙ e ∙ term_at-node nodes j b.0 b.1 below_b) in
           pool.distinct i j b.0 (a.1 ∙ ap Some same) b.1
 

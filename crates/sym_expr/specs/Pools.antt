@@ -1,5 +1,6 @@
 -- What a pool says: the list of its nodes, where a node's place is its id.
 use Rattle.std.specs.Prelude.{◌-◌, min, ◌≡◌, ◌↔◌, ℕ, ◌+◌, ◌^◌, ◌<◌, ◌≤◌, ◌==◌, if◌then◌else◌, List, [], ◌∷◌, ◌++◌, length, reverse, slice_get, slice_index, Some}
+use Rattle.std.specs.List.{AllByRecursion}
 use Rattle.net_model.specs.Terms.{Term, term_width, word, reg, const, read, un, bin, slice, cat, zext, sext, select}
 use Rattle.net_model.specs.Meaning.{mean}
 use Rattle.net_model.specs.declared.states.State.{State}
@@ -36,8 +37,7 @@ parts_of (Select c a b) = c ∷ a ∷ b ∷ []
 
 -- each number is below this one
 abbrev pub AllBelow : ℕ → List ℕ → Type 0
-AllBelow n [] = Unit {0}
-AllBelow n (i ∷ is) = (i < n) × AllBelow n is
+AllBelow n is = AllByRecursion (λ i. i < n) is
 
 -- the expression of an id, where the newest node comes first
 unfoldable pub term_of_newest : List Node → ℕ → Term

@@ -21,8 +21,8 @@ use Rattle.sym_expr.specs.declared.pool.Node.{Node}
 use Rattle.sym_expr.specs.Pools.{term_at, IsOneEach}
 use Rattle.transfer_set.specs.declared.route.Route.{Route}
 use Rattle.transfer_set.specs.Routes.{RouteIs, held_terms, routes_at}
-use Rattle.transfer_set.specs.Entries.{ArePairs, AreWrites, each, given, memory_moves}
-use Rattle.transfer_set.specs.Sources.{IsOnSet, IsSource, IsStorageKnown, changes, when_set}
+use Rattle.transfer_set.specs.Entries.{ArePairs, AreWrites, each, given, memory_moves, register_moves}
+use Rattle.transfer_set.specs.Sources.{IsOnSet, IsSource, IsStorageKnown, IsWhenKnown, changes, when_set}
 use Rattle.transfer_set.proofs.Collecting.{sets_later, terms_later}
 use Rattle.transfer_set.proofs.Exact.{exact}
 
@@ -72,8 +72,11 @@ module _ (netlist : Netlist) (book : Diagrams) (pool : List Node) (controls : Co
   route_is n lt place route at = exact book pool controls.legal (λ word. sym_of netlist word n) (routes_at nets n) one (source.routes.tables n) (source.routes.gives n lt) place route at
 
   module _ (id : ℕ) (name : List ℕ) (width input : ℕ) (when : Option ℕ) (at : slice_get netlist.storages id ≡ Some (Register name width input when)) (fit : StorageFits netlist (Register name width input when)) where
+    pub register_known : IsWhenKnown netlist book controls.bits when
+    register_known = subst (IsStorageKnown netlist book controls.bits) at (source.storages id)
+
     on : IsOnSet netlist book (when_set controls.bits when) when
-    on = (subst (IsStorageKnown netlist book controls.bits) at (source.storages id)).1
+    on = register_known.1
 
     register_is : (word : ℕ) → move_at netlist word id ≡ (if is_enabled (value_of netlist blank word) when then (if same_reg (sym_of netlist word input) id then keep else write (sym_of netlist word input)) else keep)
     register_is word = ap (transfer_of netlist word id) at
@@ -103,10 +106,33 @@ module _ (netlist : Netlist) (book : Diagrams) (pool : List Node) (controls : Co
             (λ j. eo j && h j)
         back false s eo l e = absurd (cc)
 
+    pub register_gives : (n word : ℕ) → word < 2 ^ book.bits
+        → given ((id == n) && has_word book (when_set controls.bits when) word) (each (register_moves id) (held_terms book pool (routes_at nets input) word))
+        ≡ given ((id == n) && has_word book controls.legal word) (changes (move_at netlist word id))
+    register_gives n word fits =
+        (let o = on.words word fits in
+        let f = source.routes.gives input fit.0.0 word fits in
+        λ j. given ((id == n) && o j) (each (register_moves id) (f j)))
+        ∙ by (id == n) (is_enabled (value_of netlist blank word) when) (has_word book controls.legal word) (same_reg (sym_of netlist word input) id) refl
+        ∙ ap (λ m. given ((id == n) && has_word book controls.legal word) (changes m)) (sym (register_is word))
+      where
+        by : (k o l s : Bool) → same_reg (sym_of netlist word input) id ≡ s
+            → given (k && o) (each (register_moves id) (if l then sym_of netlist word input ∷ [] else []))
+            ≡ given (k && l) (changes (if o then (if same_reg (sym_of netlist word input) id then keep else write (sym_of netlist word input)) else keep))
+        by false o l s e = refl
+        by true false true s e = refl
+        by true false false s e = refl
+        by true true false s e = refl
+        by true true true true e = rw e
+        by true true true false e = rw e
+
   module _ (id : ℕ) (name : List ℕ) (width size addr_width value addr : ℕ) (when : Option ℕ) (at : slice_get netlist.storages id ≡ Some (Memory name width size addr_width value addr when))
       (fit : StorageFits netlist (Memory name width size addr_width value addr when)) where
+    pub memory_known : IsWhenKnown netlist book controls.bits when
+    memory_known = subst (IsStorageKnown netlist book controls.bits) at (source.storages id)
+
     on_memory : IsOnSet netlist book (when_set controls.bits when) when
-    on_memory = (subst (IsStorageKnown netlist book controls.bits) at (source.storages id)).1
+    on_memory = memory_known.1
 
     memory_is : (word : ℕ) → move_at netlist word id ≡ (if is_enabled (value_of netlist blank word) when then write_at (sym_of netlist word addr) (sym_of netlist word value) else keep)
     memory_is word = ap (transfer_of netlist word id) at

@@ -80,9 +80,6 @@ pub fn collect_patterns(
     let keeps = keep_sets(alloc, book, controls.legal, entries.as_slice(), storages)?;
     let step = step_set(alloc, book, pool, entries.as_slice(), counter(checked))?;
     let rows = sorted_rows(alloc, checked, pool, entries.as_slice())?;
-    if u32::try_from(rows.len()).is_err() {
-        return Err(NoMemory);
-    }
     Ok(Patterns {
         rows,
         keeps,

@@ -11,6 +11,7 @@ ghost use Rattle.transfer_set.specs.Tables.{AreSets, IsRow};
 
 use crate::row::Row;
 use bit_bdd::{Book, SetId};
+use code_model::bytes_of;
 use net_model::Checked;
 use rec_bits::NoMemory;
 use std::alloc::Global;
@@ -24,7 +25,7 @@ fn word_bytes(checked: &Checked) -> usize
     ensures most { result ≤ WORD_BYTES }
 {
     match checked.netlist().codes.get(0) {
-        Some(code) => (usize::from(code.bits) + 7) / 8,
+        Some(code) => bytes_of(code.bits),
         None => 0,
     }
 }

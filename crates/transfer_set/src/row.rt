@@ -1,6 +1,6 @@
 //! Patterns in the order in which they are told.
 
-ghost use Rattle.std.specs.Prelude.{◌≡◌, ◌<◌, All, length, IfOk};
+ghost use Rattle.std.specs.Prelude.{◌≡◌, ◌^◌, ◌<◌, All, length, IfOk};
 ghost use Rattle.transfer_set.specs.Entries.{AreKnown, IsAddrKnown, ids_move};
 ghost use Rattle.transfer_set.specs.Fields.{move_fields};
 ghost use Rattle.transfer_set.specs.Rows.{AreInOrder, AreRowsOf, IsTold, entries_of, entry_of};
@@ -74,7 +74,7 @@ fn rows(
     Ok(rows)
 }
 
-// The transfers with their texts, by storage and text.
+// The transfers with their texts, by storage and text. A `u32` numbers them.
 pub(crate) fn sorted_rows(
     alloc: Global,
     checked: &Checked,
@@ -85,8 +85,12 @@ pub(crate) fn sorted_rows(
     ensures same { IfOk result (λ rows. AreRowsOf entries.now rows.items) }
     ensures told { IfOk result (λ rows. All (IsTold checked.now.netlist pool.now) rows.items) }
     ensures ordered { IfOk result (λ rows. AreInOrder rows.items) }
+    ensures few { IfOk result (λ rows. length rows.items < 2 ^ 32) }
 {
     let mut rows = rows(alloc, checked, pool, entries)?;
     rows.sort()?;
+    if u32::try_from(rows.len()).is_err() {
+        return Err(NoMemory);
+    }
     Ok(rows)
 }

@@ -63,6 +63,14 @@ fn word_of_two(op: Op2) -> &'static str
     }
 }
 
+// Bytes as they stand.
+fn add_bytes(text: &mut Vec<u8>, bytes: &[u8]) -> Result<(), NoMemory>
+    ensures { OnOk result (text.new.items ≡ text.old.items ++ bytes.now) }
+{
+    text.extend_from_slice(bytes)?;
+    Ok(())
+}
+
 fn add_number(text: &mut Vec<u8>, number: u64) -> Result<(), NoMemory>
     ensures { OnOk result (text.new.items ≡ text.old.items ++ decimal number) }
 {
@@ -238,19 +246,18 @@ fn add_term(
     ensures { OnOk result (text.new.items ≡ text.old.items ++ term_text checked.now.netlist (term_at pool.now expr)) }
 {
     match pool.node(expr) {
-        Node::Word(_) => text.extend_from_slice(word_name(checked))?,
-        Node::Reg(id, _) => text.extend_from_slice(storage_name(checked, id))?,
-        Node::Const { width, value } => add_constant(text, value, width)?,
-        Node::Read(addr, _) => add_read(text, checked, pool, addr)?,
-        Node::Un(op, a) => add_one(text, checked, pool, word_of_one(op), a)?,
-        Node::Bin(op, a, b) => add_two(text, checked, pool, word_of_two(op), a, b)?,
-        Node::Slice(a, hi, lo) => add_slice(text, checked, pool, a, hi, lo)?,
-        Node::Cat(a, b) => add_two(text, checked, pool, "cat", a, b)?,
-        Node::Zext(a, width) => add_extension(text, checked, pool, "zext", a, width)?,
-        Node::Sext(a, width) => add_extension(text, checked, pool, "sext", a, width)?,
-        Node::Select(c, a, b) => add_select(text, checked, pool, c, a, b)?,
+        Node::Word(_) => add_bytes(text, word_name(checked)),
+        Node::Reg(id, _) => add_bytes(text, storage_name(checked, id)),
+        Node::Const { width, value } => add_constant(text, value, width),
+        Node::Read(addr, _) => add_read(text, checked, pool, addr),
+        Node::Un(op, a) => add_one(text, checked, pool, word_of_one(op), a),
+        Node::Bin(op, a, b) => add_two(text, checked, pool, word_of_two(op), a, b),
+        Node::Slice(a, hi, lo) => add_slice(text, checked, pool, a, hi, lo),
+        Node::Cat(a, b) => add_two(text, checked, pool, "cat", a, b),
+        Node::Zext(a, width) => add_extension(text, checked, pool, "zext", a, width),
+        Node::Sext(a, width) => add_extension(text, checked, pool, "sext", a, width),
+        Node::Select(c, a, b) => add_select(text, checked, pool, c, a, b),
     }
-    Ok(())
 }
 
 /// The text of a transfer of a storage: of the memory where there is an address, and otherwise of a register.

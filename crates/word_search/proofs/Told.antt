@@ -5,7 +5,7 @@ use Rattle.sym_expr.specs.declared.pool.Node.{Node}
 use Rattle.rec_bits.proofs.Lists.{pushed_at}
 use Rattle.word_moves.specs.declared.moves.StorageMove.{StorageMove}
 use Rattle.word_moves.specs.declared.moves.WordMoves.{WordMoves}
-use Rattle.word_moves.specs.Moves.{IsWordMoves, move_in}
+use Rattle.word_moves.specs.Moves.{AreMoves, IsWordMoves, move_in}
 use Rattle.net_model.specs.Widths.{IsTyped, WordFits}
 use Rattle.net_model.specs.declared.hardware.Netlist.{Netlist}
 use Rattle.net_model.specs.Terms.{Term, Move, keep, write, write_at}
@@ -100,28 +100,33 @@ none_clean : (o p : Option ℕ) → is_some o ≡ false → o ≡ p → is_none 
 none_clean None p h e = ap is_none (sym e)
 none_clean (Some x) p h e = absurd (true≢false h)
 
-module _ (netlist : Netlist) (i : ℕ) (nodes : List Node) (m : WordMoves) (w : IsWordMoves netlist i nodes m) where
-  moved_there : (id : ℕ) → move_in nodes (move_there (slice_get m.moves id)) ≡ move_at netlist i id
-  moved_there id = by (slice_get m.moves id) refl
+-- a word without a clash, whose widths are right
+pub clean_deed : (netlist : Netlist) (i : ℕ) (nodes : List Node) (m : WordMoves) → IsWordMoves netlist i nodes m → WordFits netlist i → IsTyped netlist → is_some m.clash ≡ false → (deed : Deed) → deed ≡ deed_by (steps netlist i) i (counter_move netlist i) (memory_move netlist i) → IsDeed netlist i deed
+clean_deed netlist i nodes m w fits typed clash deed e =
+    is_deed netlist i (none_clean m.clash _ clash w.clash)
+    (move_fits netlist i fits typed (counter_of netlist.codes))
+    (move_fits netlist i fits typed (data_memory netlist.storages))
+    deed e
+
+module _ (netlist : Netlist) (i : ℕ) (nodes : List Node) (moves : List StorageMove) (w : AreMoves netlist i nodes moves) where
+  moved_there : (id : ℕ) → move_in nodes (move_there (slice_get moves id)) ≡ move_at netlist i id
+  moved_there id = by (slice_get moves id) refl
     where
-      by : (o : Option StorageMove) → slice_get m.moves id ≡ o → move_in nodes (move_there o) ≡ move_at netlist i id
-      by (Some move) e = w.moves.are id move e
+      by : (o : Option StorageMove) → slice_get moves id ≡ o → move_in nodes (move_there o) ≡ move_at netlist i id
+      by (Some move) e = w.are id move e
       by None e =
-          elim (slice_get_cases m.moves id).1 as (λ _. keep ≡ move_at netlist i id) [
+          elim (slice_get_cases moves id).1 as (λ _. keep ≡ move_at netlist i id) [
             | inl s ↦ absurd (let q : None ≡ Some s.0 = sym e ∙ s.2 in cc)
-            | inr s ↦ sym (ap (transfer_of netlist i id) (slice_get_past netlist.storages id (omega (arith, s.0, w.moves.long))))
+            | inr s ↦ sym (ap (transfer_of netlist i id) (slice_get_past netlist.storages id (omega (arith, s.0, w.long))))
           ]
 
-  pub deed_right : WordFits netlist i → IsTyped netlist → is_some m.clash ≡ false → (step : Bool) (counter memory : StorageMove) (pc memory_id pc' width : ℕ) → counter ≡ move_there (slice_get m.moves pc) → pc ≡ counter_of netlist.codes → memory ≡ move_there (slice_get m.moves memory_id) → memory_id ≡ data_memory netlist.storages →
-      step ≡ is_step_move pc' width (move_in nodes counter) → pc' ≡ counter_of netlist.codes → width ≡ counter_width netlist → (deed : Deed) → deed ≡ deed_by step i (move_in nodes counter) (move_in nodes memory) → IsDeed netlist i deed
-  deed_right fits typed clash step counter memory pc memory_id pc' width ce pe me de se pe' we deed e =
+  pub deed_right : (step : Bool) (counter memory : StorageMove) (pc memory_id pc' width : ℕ) → counter ≡ move_there (slice_get moves pc) → pc ≡ counter_of netlist.codes → memory ≡ move_there (slice_get moves memory_id) → memory_id ≡ data_memory netlist.storages →
+      step ≡ is_step_move pc' width (move_in nodes counter) → pc' ≡ counter_of netlist.codes → width ≡ counter_width netlist → (deed : Deed) → deed ≡ deed_by step i (move_in nodes counter) (move_in nodes memory) → deed ≡ deed_by (steps netlist i) i (counter_move netlist i) (memory_move netlist i)
+  deed_right step counter memory pc memory_id pc' width ce pe me de se pe' we deed e =
       let c : move_in nodes counter ≡ counter_move netlist i = ap (move_in nodes) ce ∙ moved_there pc ∙ ap (move_at netlist i) pe in
       let d : move_in nodes memory ≡ memory_move netlist i = ap (move_in nodes) me ∙ moved_there memory_id ∙ ap (move_at netlist i) de in
       let s : step ≡ steps netlist i = se ∙ (λ j. is_step_move (pe' j) (we j) (c j)) in
-      is_deed netlist i (none_clean m.clash _ clash w.clash)
-      (move_fits netlist i fits typed (counter_of netlist.codes))
-      (move_fits netlist i fits typed (data_memory netlist.storages))
-      deed (e ∙ (λ j. deed_by (s j) i (c j) (d j)))
+      e ∙ (λ j. deed_by (s j) i (c j) (d j))
 
 -- ---- one more word
 

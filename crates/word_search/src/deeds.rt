@@ -1,11 +1,12 @@
 // What each word of a code does, as far as a program of assignments needs it.
 
 ghost use Rattle.std.specs.Prelude.{◌≡◌, ◌<◌, ◌≤◌, IfOk, length, slice_get};
-ghost use Rattle.code_model.specs.Tests.{is_step_move, is_step_term};
+ghost use Rattle.code_model.specs.Tests.{is_step_move, is_step_term, steps};
 ghost use Rattle.net_model.specs.Nets.{counter_width, word_width};
+ghost use Rattle.net_model.specs.Transfers.{counter_move, memory_move};
 ghost use Rattle.net_model.specs.Widths.{WordFits};
 ghost use Rattle.sym_expr.specs.Pools.{term_at};
-ghost use Rattle.word_moves.specs.Moves.{IsMoveWithin, move_in};
+ghost use Rattle.word_moves.specs.Moves.{AreMoves, IsMoveWithin, IsWordMoves, move_in};
 ghost use Rattle.word_search.specs.Deeds.{AreDeeds, IsDeed, assign_of_two, deed_by, deed_fits, goto_by, goto_of_one, is_one_node, is_register_node, move_there, next_pair, sum_parts};
 ghost use Rattle.word_search.specs.Fixed.{AreKnown};
 ghost use Rattle.word_search.specs.declared.deeds.Wanted.{Wanted};
@@ -16,7 +17,7 @@ use net_model::{Checked, Storage};
 use rec_bits::{Items, NoMemory, Op2};
 use std::alloc::Global;
 use sym_expr::{ExprId, Node, Pool};
-use word_moves::{StorageMove, word_moves};
+use word_moves::{StorageMove, WordMoves, word_moves};
 
 // What a word does without a clash.
 #[derive(Clone, Copy, Debug, PartialEq, Eq)]
@@ -85,19 +86,63 @@ fn deed_of(alloc: Global, checked: &Checked, word: u64) -> Result<Deed, NoMemory
     requires { WordFits checked.now.netlist word }
     ensures { IfOk result (IsDeed checked.now.netlist word) }
 {
+    let mut pool = Pool::new(alloc)?;
+    deed_in(alloc, checked, &mut pool, word)
+}
+
+// What a word does. Its expressions are added to the pool.
+fn deed_in(alloc: Global, checked: &Checked, pool: &mut Pool, word: u64) -> Result<Deed, NoMemory>
+    requires { WordFits checked.now.netlist word }
+    ensures { IfOk result (IsDeed checked.now.netlist word) }
+{
+    let moves = word_moves(alloc, checked, pool, word)?;
+    deed_of_moves(alloc, checked, pool, word, &moves)
+}
+
+// What a word does, from what the netlist does under it.
+fn deed_of_moves(
+    alloc: Global,
+    checked: &Checked,
+    pool: &Pool,
+    word: u64,
+    moves: &WordMoves,
+) -> Result<Deed, NoMemory>
+    requires fits { WordFits checked.now.netlist word }
+    requires moves { IsWordMoves checked.now.netlist word pool.now moves.now }
+    ensures { IfOk result (IsDeed checked.now.netlist word) }
+{
     // The netlist is read for what it keeps.
     let _netlist = checked.netlist();
-    let mut pool = Pool::new(alloc)?;
-    let moves = word_moves(alloc, checked, &mut pool, word)?;
     if moves.clash.is_some() {
         return Ok(Deed::Other);
     }
-    let values = values_of(alloc, &pool, word)?;
-    let counter = move_at(moves.moves.as_slice(), checked.pc());
-    let memory = move_at(moves.moves.as_slice(), checked.memory());
-    let steps = steps(&pool, counter, checked.pc(), counter_bits(checked));
-    let deed = deed_from(&pool, values.as_slice(), word, steps, counter, memory);
-    Ok(deed)
+    let values = values_of(alloc, pool, word)?;
+    Ok(deed_without_clash(
+        checked,
+        pool,
+        values.as_slice(),
+        word,
+        moves.moves.as_slice(),
+    ))
+}
+
+// What a word does that makes no bus clash.
+fn deed_without_clash(
+    checked: &Checked,
+    pool: &Pool,
+    values: &[Option<u64>],
+    word: u64,
+    moves: &[StorageMove],
+) -> Deed
+    requires known { AreKnown pool.now word values.now }
+    requires long { length values.now ≡ length pool.now }
+    requires moves { AreMoves checked.now.netlist word pool.now moves.now }
+    ensures { result ≡ deed_by (steps checked.now.netlist word) word (counter_move checked.now.netlist word) (memory_move checked.now.netlist word) }
+{
+    let counter = move_at(moves, checked.pc());
+    let memory = move_at(moves, checked.memory());
+    let steps = steps(pool, counter, checked.pc(), counter_bits(checked));
+    deed_from(pool, values, word, steps, counter, memory)
 }
 
 // What a storage does.

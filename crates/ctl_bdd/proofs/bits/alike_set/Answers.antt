@@ -1,6 +1,24 @@
 use Rattle.std.proofs.Common.{if◌then◌else◌, ◌&&◌, ◌∙◌}
-use Rattle.bit_bdd.proofs.CallerLemmas.{same_words, extends_trans}
+use Rattle.bit_bdd.proofs.CallerLemmas.{same_words, extends_trans, still_within}
 use Rattle.ctl_bdd.proofs.bits.alike_set.Goals as goal
+
+pub ite-requires-clause-c : goal.ite-requires-clause-c
+ite-requires-clause-c c = still_within c.args.book.now c.not.new.self c.in_ok-other.ensures.grows c.args.a c.requires.a
+
+pub ite-requires-clause-a : goal.ite-requires-clause-a
+ite-requires-clause-a c = still_within c.args.book.now c.not.new.self c.in_ok-other.ensures.grows c.args.b c.requires.b
+
+pub and-requires-clause-a : goal.and-requires-clause-a
+and-requires-clause-a c = still_within c.args.book.now c.ite.new.self (extends_trans c.args.book.now c.not.new.self c.ite.new.self c.in_ok-other.ensures.grows c.in_ok-same.ensures.grows) c.args.before c.requires.before
+
+pub returns-in_err-same-clause-grows : goal.returns-in_err-same-clause-grows
+returns-in_err-same-clause-grows c = extends_trans c.args.book.now c.not.new.self c.ite.new.self c.in_ok-other.ensures.grows c.in_err-same.ensures.grows
+
+pub returns-in_err-all-clause-grows : goal.returns-in_err-all-clause-grows
+returns-in_err-all-clause-grows c = extends_trans c.args.book.now c.ite.new.self c.and.new.self (extends_trans c.args.book.now c.not.new.self c.ite.new.self c.in_ok-other.ensures.grows c.in_ok-same.ensures.grows) c.in_err-all.ensures.grows
+
+pub returns-clause-grows : goal.returns-clause-grows
+returns-clause-grows c = extends_trans c.args.book.now c.ite.new.self c.and.new.self (extends_trans c.args.book.now c.not.new.self c.ite.new.self c.in_ok-other.ensures.grows c.in_ok-same.ensures.grows) c.in_ok-all.ensures.grows
 
 pub returns-clause-words : goal.returns-clause-words
 returns-clause-words c word =

@@ -1,11 +1,20 @@
 use Rattle.std.proofs.Common.{◌++◌, ◌∷◌, [], ◌<◌, cond, length, sym, ◌∙◌, arith}
 use Rattle.std.proofs.lemmas.List.{length_push}
 use Rattle.bit_bdd.specs.Diagrams.{has_word}
-use Rattle.bit_bdd.proofs.CallerLemmas.{same_words, extends_trans}
+use Rattle.bit_bdd.proofs.CallerLemmas.{same_words, extends_trans, still_within}
 use Rattle.ctl_bdd.specs.Bits.{choice_of}
 use Rattle.ctl_bdd.proofs.Sets.{sets_later, bools_later, set_in, sets_push, bools_push, bools_more}
 use Rattle.ctl_bdd.proofs.Bools.{choice_push}
 use Rattle.ctl_bdd.proofs.bits.choice_bits.Goals as goal
+
+pub ite-requires-clause-c : goal.ite-requires-clause-c
+ite-requires-clause-c c = still_within c.args.book.now c.loop-i.book c.loop-i.invariant.grows c.args.test c.requires.test
+
+pub returns-in_err-set-clause-grows : goal.returns-in_err-set-clause-grows
+returns-in_err-set-clause-grows c = extends_trans c.args.book.now c.loop-i.book c.ite.new.self c.loop-i.invariant.grows c.in_err-set.ensures.grows
+
+pub returns-in_err-push-clause-grows : goal.returns-in_err-push-clause-grows
+returns-in_err-push-clause-grows c = extends_trans c.args.book.now c.loop-i.book c.ite.new.self c.loop-i.invariant.grows c.in_ok-set.ensures.grows
 
 pub ite-requires-clause-a : goal.ite-requires-clause-a
 ite-requires-clause-a c =

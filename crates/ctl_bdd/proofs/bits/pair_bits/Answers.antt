@@ -6,6 +6,12 @@ use Rattle.ctl_bdd.proofs.Sets.{sets_later, bools_later, set_in, sets_push, bool
 use Rattle.ctl_bdd.proofs.Bools.{pairs_push}
 use Rattle.ctl_bdd.proofs.bits.pair_bits.Goals as goal
 
+pub returns-in_err-set-clause-grows : goal.returns-in_err-set-clause-grows
+returns-in_err-set-clause-grows c = extends_trans c.args.book.now c.loop-i.book c.pair_set.new.book c.loop-i.invariant.grows c.in_err-set.ensures.grows
+
+pub returns-in_err-push-clause-grows : goal.returns-in_err-push-clause-grows
+returns-in_err-push-clause-grows c = extends_trans c.args.book.now c.loop-i.book c.pair_set.new.book c.loop-i.invariant.grows c.in_ok-set.ensures.grows
+
 pub pair_set-requires-clause-a : goal.pair_set-requires-clause-a
 pair_set-requires-clause-a c =
     omega (arith, set_in c.args.book.now c.args.a.now c.loop-i.i c.loop-i-test.true c.requires.a, c.loop-i.invariant.grows.longer)

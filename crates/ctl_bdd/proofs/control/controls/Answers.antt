@@ -9,7 +9,29 @@ use Rattle.ctl_bdd.specs.Places.{control_places, static_controls}
 use Rattle.ctl_bdd.specs.Tables.{HasControls, sets_at}
 use Rattle.ctl_bdd.proofs.Placed.{static_inside}
 use Rattle.ctl_bdd.proofs.Listing.{controls_later, listed_are, names_listed}
+use Rattle.bit_bdd.proofs.CallerLemmas.{extends_trans}
 use Rattle.ctl_bdd.proofs.control.controls.Goals as goal
+
+pub control_table-requires-clause-places : goal.control_table-requires-clause-places
+control_table-requires-clause-places c = rw c.as_slice.ensures c.in_ok-places.ensures
+
+pub legal_words-requires : goal.legal_words-requires
+legal_words-requires c = rw c.as_slice-2.ensures c.in_ok-table.ensures.table
+
+pub listed_bits-requires-clause-places : goal.listed_bits-requires-clause-places
+listed_bits-requires-clause-places c = rw (c.as_slice-in-Some.ensures, c.netlist-netlist.ensures.value) c.in_ok-places.ensures
+
+pub returns-in_err-legal-clause-grows : goal.returns-in_err-legal-clause-grows
+returns-in_err-legal-clause-grows c = extends_trans c.args.book.now c.control_table.new.book c.legal_words.new.book c.in_ok-table.ensures.grows c.in_err-legal.ensures.grows
+
+pub returns-in-None-clause-grows : goal.returns-in-None-clause-grows
+returns-in-None-clause-grows c = extends_trans c.args.book.now c.control_table.new.book c.legal_words.new.book c.in_ok-table.ensures.grows c.in_ok-legal.ensures.grows
+
+pub returns-in_err-bits-in-Some-clause-grows : goal.returns-in_err-bits-in-Some-clause-grows
+returns-in_err-bits-in-Some-clause-grows c = extends_trans c.args.book.now c.control_table.new.book c.legal_words.new.book c.in_ok-table.ensures.grows c.in_ok-legal.ensures.grows
+
+pub returns-clause-grows : goal.returns-clause-grows
+returns-clause-grows c = extends_trans c.args.book.now c.control_table.new.book c.legal_words.new.book c.in_ok-table.ensures.grows c.in_ok-legal.ensures.grows
 
 pub returns-in-None-clause-control : goal.returns-in-None-clause-control
 returns-in-None-clause-control c word lt clean =

@@ -8,6 +8,9 @@ use Rattle.ctl_bdd.proofs.Sets.{sets_later, number_later}
 use Rattle.ctl_bdd.proofs.Rows.{row_at, case_step}
 use Rattle.ctl_bdd.proofs.gates.case_bits.Goals as goal
 
+pub returns-in_err-out-2-clause-grows : goal.returns-in_err-out-2-clause-grows
+returns-in_err-out-2-clause-grows c = extends_trans c.args.book.now c.loop-left.book c.row_bits.new.book c.loop-left.invariant.grows c.in_err-out-2.ensures.grows
+
 pub loop-left-init : goal.loop-left-init
 loop-left-init c = record {
   below = omega arith;

@@ -1,6 +1,6 @@
-use Rattle.std.proofs.Common.{◌≡◌, length, sym, true}
+use Rattle.std.proofs.Common.{◌≡◌, ℕ, ◌-◌, ◌<◌, ◌≤◌, ◌∙◌, length, sym, true, arith}
 use Rattle.std.specs.List.{AllByRecursion}
-use Rattle.net_model.specs.declared.hardware.Gate.TheVariants.{Word, Un, Slice, Cat, Zext, Sext, Case}
+use Rattle.net_model.specs.declared.hardware.Gate.TheVariants.{Word, Un, Bin, Slice, Cat, Zext, Sext, Case}
 use Rattle.net_model.specs.CheckedRules.{is_control_gate}
 use Rattle.net_model.specs.Nets.{gate_nets, width_at}
 use Rattle.net_model.specs.Widths.{GateFits}
@@ -8,6 +8,54 @@ use Rattle.net_model.proofs.Fits.{typed_width}
 use Rattle.ctl_bdd.specs.Tables.{sets_at}
 use Rattle.ctl_bdd.proofs.Values.{word_gate, not_gate, slice_gate, cat_gate, zext_gate, sext_gate, rows_have, rest_has}
 use Rattle.ctl_bdd.proofs.gates.gate_bits.Goals as goal
+
+last_in : (n : ℕ) → 1 ≤ n → n - 1 < n
+last_in n some = omega (arith, some)
+
+at_most : (m n : ℕ) → m < n → m ≤ n
+at_most m n less = omega (arith, less)
+
+pub slice_bits-requires-clause-within : goal.slice_bits-requires-clause-within
+slice_bits-requires-clause-within c =
+    let fits : GateFits c.args.netlist.now c.args.net.now.width (Slice c.in-Slice.of c.in-Slice.hi c.in-Slice.lo) = rw c.in-Slice.is at c.requires.gate in
+    let named : AllByRecursion (λ n. length (sets_at c.args.table.now n) ≡ width_at c.args.netlist.now n) (gate_nets (Slice c.in-Slice.of c.in-Slice.hi c.in-Slice.lo)) = rw c.in-Slice.is at c.requires.named in
+    rw (c.sets_of-in-Slice.ensures, named.0) fits.2
+
+pub overflow_sub-sets : goal.overflow_sub-sets
+overflow_sub-sets c =
+    let fits : GateFits c.args.netlist.now c.args.net.now.width (Sext c.in-Sext.a) = rw c.in-Sext.is at c.requires.gate in
+    let named : AllByRecursion (λ n. length (sets_at c.args.table.now n) ≡ width_at c.args.netlist.now n) (gate_nets (Sext c.in-Sext.a)) = rw c.in-Sext.is at c.requires.named in
+    rw (c.sets_of-sets.ensures, named.0) (typed_width c.args.netlist.now c.in-Sext.a c.requires.typed fits.0).0
+
+pub bounds-sets-sets : goal.bounds-sets-sets
+bounds-sets-sets c =
+    let fits : GateFits c.args.netlist.now c.args.net.now.width (Sext c.in-Sext.a) = rw c.in-Sext.is at c.requires.gate in
+    let named : AllByRecursion (λ n. length (sets_at c.args.table.now n) ≡ width_at c.args.netlist.now n) (gate_nets (Sext c.in-Sext.a)) = rw c.in-Sext.is at c.requires.named in
+    last_in _ (rw (c.sets_of-sets.ensures, named.0) (typed_width c.args.netlist.now c.in-Sext.a c.requires.typed fits.0).0)
+
+pub extend-requires : goal.extend-requires
+extend-requires c =
+    let fits : GateFits c.args.netlist.now c.args.net.now.width (Zext c.in-Zext.a) = rw c.in-Zext.is at c.requires.gate in
+    let named : AllByRecursion (λ n. length (sets_at c.args.table.now n) ≡ width_at c.args.netlist.now n) (gate_nets (Zext c.in-Zext.a)) = rw c.in-Zext.is at c.requires.named in
+    rw (c.sets_of-in-Zext.ensures, named.0) (at_most _ _ fits.1)
+
+pub extend-requires-in-Sext : goal.extend-requires-in-Sext
+extend-requires-in-Sext c =
+    let fits : GateFits c.args.netlist.now c.args.net.now.width (Sext c.in-Sext.a) = rw c.in-Sext.is at c.requires.gate in
+    let named : AllByRecursion (λ n. length (sets_at c.args.table.now n) ≡ width_at c.args.netlist.now n) (gate_nets (Sext c.in-Sext.a)) = rw c.in-Sext.is at c.requires.named in
+    rw (c.sets_of-sets.ensures, named.0) (at_most _ _ fits.1)
+
+pub operator_bits-requires-clause-long : goal.operator_bits-requires-clause-long
+operator_bits-requires-clause-long c =
+    let fits : GateFits c.args.netlist.now c.args.net.now.width (Bin c.in-Bin.op c.in-Bin.a c.in-Bin.b) = rw c.in-Bin.is at c.requires.gate in
+    let named : AllByRecursion (λ n. length (sets_at c.args.table.now n) ≡ width_at c.args.netlist.now n) (gate_nets (Bin c.in-Bin.op c.in-Bin.a c.in-Bin.b)) = rw c.in-Bin.is at c.requires.named in
+    rw (c.sets_of-in-Bin.ensures, c.sets_of-in-Bin-2.ensures) (named.0 ∙ sym (named.1.0 ∙ fits.1.1))
+
+pub case_bits-requires-clause-few : goal.case_bits-requires-clause-few
+case_bits-requires-clause-few c =
+    let fits : GateFits c.args.netlist.now c.args.net.now.width (Case c.in-Case.sel c.in-Case.rows c.in-Case.rest) = rw c.in-Case.is at c.requires.gate in
+    let named : AllByRecursion (λ n. length (sets_at c.args.table.now n) ≡ width_at c.args.netlist.now n) (gate_nets (Case c.in-Case.sel c.in-Case.rows c.in-Case.rest)) = rw c.in-Case.is at c.requires.named in
+    rw (c.sets_of-sets-in-Case.ensures, named.0) (typed_width c.args.netlist.now c.in-Case.sel c.requires.typed fits.0).1
 
 pub case_bits-requires-clause-rows : goal.case_bits-requires-clause-rows
 case_bits-requires-clause-rows c =

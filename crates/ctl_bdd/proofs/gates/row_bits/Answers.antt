@@ -2,7 +2,14 @@ use Rattle.std.proofs.Common.{◌∙◌, cond, ap}
 use Rattle.ctl_bdd.specs.Bits.{number_of, number_at}
 use Rattle.ctl_bdd.proofs.Sets.{sets_later, number_later}
 use Rattle.ctl_bdd.proofs.Numbers.{number_choice, eqb_turned}
+use Rattle.bit_bdd.proofs.CallerLemmas.{extends_trans}
 use Rattle.ctl_bdd.proofs.gates.row_bits.Goals as goal
+
+pub returns-in_err-out-clause-grows : goal.returns-in_err-out-clause-grows
+returns-in_err-out-clause-grows c = extends_trans c.args.book.now c.equals.new.book c.choice_bits.new.book c.in_ok-test.ensures.grows c.in_err-out.ensures.grows
+
+pub returns-clause-grows : goal.returns-clause-grows
+returns-clause-grows c = extends_trans c.args.book.now c.equals.new.book c.choice_bits.new.book c.in_ok-test.ensures.grows c.in_ok-out.ensures.grows
 
 pub choice_bits-requires-clause-on : goal.choice_bits-requires-clause-on
 choice_bits-requires-clause-on c = sets_later c.args.book.now c.equals.new.book c.in_ok-test.ensures.grows c.args.on.now c.requires.on

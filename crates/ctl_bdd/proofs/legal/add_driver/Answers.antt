@@ -1,7 +1,34 @@
 use Rattle.std.proofs.Common.{◌&&◌, ◌||◌, not, ◌∙◌}
 use Rattle.bit_bdd.specs.Diagrams.{has_word}
-use Rattle.bit_bdd.proofs.CallerLemmas.{same_words, extends_trans}
+use Rattle.bit_bdd.proofs.CallerLemmas.{same_words, extends_trans, still_within}
 use Rattle.ctl_bdd.proofs.legal.add_driver.Goals as goal
+
+pub or-requires-clause-a : goal.or-requires-clause-a
+or-requires-clause-a c = still_within c.args.book.now c.not.new.self (extends_trans c.args.book.now c.and.new.self c.not.new.self c.in_ok-both.ensures.grows c.in_ok-apart.ensures.grows) c.args.seen c.requires.seen
+
+pub or-requires-clause-b : goal.or-requires-clause-b
+or-requires-clause-b c = still_within c.args.book.now c.not.new.self (extends_trans c.args.book.now c.and.new.self c.not.new.self c.in_ok-both.ensures.grows c.in_ok-apart.ensures.grows) c.args.driver c.requires.driver
+
+pub and-requires-2-clause-a : goal.and-requires-2-clause-a
+and-requires-2-clause-a c = still_within c.args.book.now c.or.new.self (extends_trans c.args.book.now c.not.new.self c.or.new.self (extends_trans c.args.book.now c.and.new.self c.not.new.self c.in_ok-both.ensures.grows c.in_ok-apart.ensures.grows) c.in_ok-more.ensures.grows) c.args.legal c.requires.legal
+
+pub and-requires-2-clause-b : goal.and-requires-2-clause-b
+and-requires-2-clause-b c = still_within c.not.new.self c.or.new.self c.in_ok-more.ensures.grows c.in_ok-apart.apart c.in_ok-apart.ensures.within
+
+pub returns-in_err-apart-clause-grows : goal.returns-in_err-apart-clause-grows
+returns-in_err-apart-clause-grows c = extends_trans c.args.book.now c.and.new.self c.not.new.self c.in_ok-both.ensures.grows c.in_err-apart.ensures.grows
+
+pub returns-in_err-more-clause-grows : goal.returns-in_err-more-clause-grows
+returns-in_err-more-clause-grows c = extends_trans c.args.book.now c.not.new.self c.or.new.self (extends_trans c.args.book.now c.and.new.self c.not.new.self c.in_ok-both.ensures.grows c.in_ok-apart.ensures.grows) c.in_err-more.ensures.grows
+
+pub returns-in_err-left-clause-grows : goal.returns-in_err-left-clause-grows
+returns-in_err-left-clause-grows c = extends_trans c.args.book.now c.or.new.self c.and-2.new.self (extends_trans c.args.book.now c.not.new.self c.or.new.self (extends_trans c.args.book.now c.and.new.self c.not.new.self c.in_ok-both.ensures.grows c.in_ok-apart.ensures.grows) c.in_ok-more.ensures.grows) c.in_err-left.ensures.grows
+
+pub returns-clause-grows : goal.returns-clause-grows
+returns-clause-grows c = extends_trans c.args.book.now c.or.new.self c.and-2.new.self (extends_trans c.args.book.now c.not.new.self c.or.new.self (extends_trans c.args.book.now c.and.new.self c.not.new.self c.in_ok-both.ensures.grows c.in_ok-apart.ensures.grows) c.in_ok-more.ensures.grows) c.in_ok-left.ensures.grows
+
+pub returns-clause-seen_in : goal.returns-clause-seen_in
+returns-clause-seen_in c = still_within c.or.new.self c.and-2.new.self c.in_ok-left.ensures.grows c.in_ok-more.more c.in_ok-more.ensures.within
 
 pub returns-clause-legal : goal.returns-clause-legal
 returns-clause-legal c word =

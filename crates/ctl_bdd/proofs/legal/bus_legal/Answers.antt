@@ -8,6 +8,9 @@ use Rattle.ctl_bdd.specs.Tables.{numbers_at, sets_at}
 use Rattle.ctl_bdd.proofs.Clashes.{clash_step, counted, count_step}
 use Rattle.ctl_bdd.proofs.legal.bus_legal.Goals as goal
 
+pub returns-in_err-left-clause-grows : goal.returns-in_err-left-clause-grows
+returns-in_err-left-clause-grows c = extends_trans c.args.book.now c.loop-driver.book c.add_driver.new.book c.loop-driver.invariant.grows c.in_err-left.ensures.grows
+
 pub loop-driver-preserved : goal.loop-driver-preserved
 loop-driver-preserved c =
     let sets : AreSets c.args.book.now (sets_at c.args.table.now (get_or c.args.drivers.now c.loop-driver.driver-index (0, 0)).1) = c.requires.table.sets _ in

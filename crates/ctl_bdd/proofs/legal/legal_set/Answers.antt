@@ -9,6 +9,9 @@ use Rattle.ctl_bdd.proofs.Filling.{table_later}
 use Rattle.ctl_bdd.proofs.Clashes.{gate_step, any_step, numbers_later}
 use Rattle.ctl_bdd.proofs.legal.legal_set.Goals as goal
 
+pub returns-in_err-legal-clause-grows : goal.returns-in_err-legal-clause-grows
+returns-in_err-legal-clause-grows c = extends_trans c.args.book.now c.loop-net.book c.gate_legal.new.book c.loop-net.invariant.grows c.in_err-legal.ensures.grows
+
 pub gate_legal-requires-clause-table : goal.gate_legal-requires-clause-table
 gate_legal-requires-clause-table c = table_later c.args.book.now c.loop-net.book c.loop-net.invariant.grows c.args.table.now c.requires.table
 

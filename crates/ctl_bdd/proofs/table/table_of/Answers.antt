@@ -10,6 +10,35 @@ use Rattle.ctl_bdd.specs.Tables.{AreGateBits, sets_at}
 use Rattle.ctl_bdd.proofs.Filling.{skipped, named_long, gate_control, net_fits, filled, table_later, table_set}
 use Rattle.ctl_bdd.proofs.table.table_of.Goals as goal
 
+pub bounds-nets-at : goal.bounds-nets-at
+bounds-nets-at c =
+    let items : c.as_slice-id-items.result.now ≡ c.args.checked.now.order = c.as_slice-id-items.ensures ∙ c.order.ensures.value in
+    let o : IsOrder c.args.checked.now.netlist c.args.checked.now.order = c.order.ensures.kept.ordered in
+    let lt : c.loop-id.id-index < length c.args.checked.now.order = rw items at c.loop-id-test.true in
+    rw (items, c.as_slice-nets.ensures, c.netlist-netlist.ensures.value) (o.nets c.loop-id.id-index lt)
+
+pub set-requires : goal.set-requires
+set-requires c =
+    let items : c.as_slice-id-items.result.now ≡ c.args.checked.now.order = c.as_slice-id-items.ensures ∙ c.order.ensures.value in
+    let o : IsOrder c.args.checked.now.netlist c.args.checked.now.order = c.order.ensures.kept.ordered in
+    let lt : c.loop-id.id-index < length c.args.checked.now.order = rw items at c.loop-id-test.true in
+    rw (items, c.loop-id.invariant.long) (o.nets c.loop-id.id-index lt)
+
+pub gate_bits-requires-clause-typed : goal.gate_bits-requires-clause-typed
+gate_bits-requires-clause-typed c = rw c.netlist-netlist.ensures.value c.netlist-netlist.ensures.sound.typed
+
+pub gate_bits-requires-clause-code : goal.gate_bits-requires-clause-code
+gate_bits-requires-clause-code c = rw c.netlist-netlist.ensures.value c.netlist-netlist.ensures.kept.roles.code
+
+pub gate_bits-requires-clause-word : goal.gate_bits-requires-clause-word
+gate_bits-requires-clause-word c = rw c.netlist-netlist.ensures.value (c.loop-id.invariant.grows.bits ∙ c.requires.word)
+
+pub gate_bits-requires-clause-table : goal.gate_bits-requires-clause-table
+gate_bits-requires-clause-table c = rw c.as_slice.ensures c.loop-id.invariant.table
+
+pub returns-in_err-bits-clause-grows : goal.returns-in_err-bits-clause-grows
+returns-in_err-bits-clause-grows c = extends_trans c.args.book.now c.loop-id.book c.gate_bits.new.book c.loop-id.invariant.grows c.in_err-bits.ensures.grows
+
 pub loop-id-preserved-then-not-is_set : goal.loop-id-preserved-then-not-is_set
 loop-id-preserved-then-not-is_set c =
     let items : c.as_slice-id-items.result.now ≡ c.args.checked.now.order = c.as_slice-id-items.ensures ∙ c.order.ensures.value in

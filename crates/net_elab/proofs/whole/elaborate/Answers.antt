@@ -1,15 +1,16 @@
-use Rattle.std.proofs.Common.{◌≡◌, List, map, sym, ap, ◌∙◌, subst}
-use Rattle.net_model.specs.declared.units.Unit.{Unit as Item}
-use Rattle.net_model.specs.CheckedRules.{IsWellFormed}
-use Rattle.net_model.specs.Elaborated.{netlist_of}
+use Rattle.std.proofs.Common.{map, sym, ap, ◌∙◌, subst}
 use Rattle.net_model.specs.Written.{entry_of}
-use Rattle.net_elab.proofs.Emits.{if_ok_map}
-use Rattle.net_elab.proofs.Formed.{formed}
+use Rattle.net_model.specs.Elaborable.{IsElaborable}
+use Rattle.net_elab.proofs.Formed.{answer_same, answer_formed}
 use Rattle.net_elab.proofs.whole.elaborate.Goals as goal
+
+pub emit_items-requires : goal.emit_items-requires
+emit_items-requires c = subst IsElaborable (sym (ap (map entry_of) (c.in_ok-text.ensures ∙ c.new.ensures))) c.requires.keeps
+
+pub returns-clause-exact : goal.returns-clause-exact
+returns-clause-exact c =
+    answer_same (map entry_of c.args.units.now.items) (map entry_of c.in_ok-text.text) (ap (map entry_of) (c.in_ok-text.ensures ∙ c.new.ensures)) _ c.emit_items.ensures
 
 pub returns-clause-formed : goal.returns-clause-formed
 returns-clause-formed c =
-    let same : c.in_ok-text.text ≡ c.args.units.now.items = c.in_ok-text.ensures ∙ c.new.ensures in
-    if_ok_map
-    (λ made e. subst IsWellFormed (sym (e ∙ ap (λ (units : List Item). netlist_of (map entry_of units)) same)) (formed (map entry_of c.args.units.now.items) c.requires.keeps))
-    _ c.emit_items.ensures
+    answer_formed (map entry_of c.args.units.now.items) (map entry_of c.in_ok-text.text) c.requires.keeps (ap (map entry_of) (c.in_ok-text.ensures ∙ c.new.ensures)) _ c.emit_items.ensures

@@ -1,7 +1,7 @@
 use Rattle.std.proofs.lemmas.Result.{err_from_is_err_and}
 use Rattle.grammar.proofs.Steps.{return_reads}
 use Rattle.grammar.proofs.Passing.{there_return, there_bind, on, past, stuck}
-use Rattle.net_parser.proofs.Tokens.{there_sign, there_name, there_number, there_behind, there_before}
+use Rattle.net_parser.proofs.Tokens.{there_name, there_number, there_behind, there_before}
 use Rattle.net_parser.proofs.item.code.Goals as goal
 
 pub returns-in_err-name : goal.returns-in_err-name
@@ -17,12 +17,7 @@ returns-in_err-size c =
 pub returns-in_err-counter : goal.returns-in_err-counter
 returns-in_err-counter c =
     let p = err_from_is_err_and c.from_residual-in_err-counter.result c.from_residual-in_err-counter.ensures.1 in
-    rw (p.1, p.2) (past c.in_ok-name.ensures (past c.in_ok-size.ensures (stuck (λ x. there_return) (stuck (λ n. there_bind there_sign (λ u. there_return)) c.in_err-counter.ensures))))
-
-pub returns-in_err-rest : goal.returns-in_err-rest
-returns-in_err-rest c =
-    let p = err_from_is_err_and c.from_residual-in_err-rest.result c.from_residual-in_err-rest.ensures.1 in
-    rw (p.1, p.2) (past c.in_ok-name.ensures (past c.in_ok-size.ensures (stuck (λ x. there_return) (past c.in_ok-counter.ensures (stuck (λ u. there_return) c.in_err-rest.ensures)))))
+    rw (p.1, p.2) (past c.in_ok-name.ensures (past c.in_ok-size.ensures (stuck (λ x. there_return) c.in_err-counter.ensures)))
 
 pub returns : goal.returns
-returns c = on c.in_ok-name.ensures (on c.in_ok-size.ensures (on (on c.in_ok-counter.ensures (on c.in_ok-rest.ensures return_reads)) return_reads))
+returns c = on c.in_ok-name.ensures (on c.in_ok-size.ensures (on c.in_ok-counter.ensures return_reads))

@@ -1,25 +1,18 @@
 use Rattle.std.proofs.lemmas.Result.{err_from_is_err_and}
 use Rattle.grammar.proofs.Steps.{return_reads}
-use Rattle.grammar.proofs.Passing.{there_return, there_bind, beyond_reads, beyond_fails, short_of, on, past, stuck}
-use Rattle.net_parser.proofs.Tokens.{there_behind}
-use Rattle.net_parser.proofs.Expressions.{there_expr}
-use Rattle.net_parser.proofs.ItemParts.{there_when_end, when_apart}
+use Rattle.grammar.proofs.Passing.{there_return, there_bind, on, past, stuck}
+use Rattle.net_parser.proofs.ItemParts.{there_fed}
 use Rattle.net_parser.proofs.item.register.Goals as goal
 
 pub returns-in_err-name : goal.returns-in_err-name
 returns-in_err-name c =
     let p = err_from_is_err_and c.from_residual.result c.from_residual.ensures.1 in
-    rw (p.1, p.2) (stuck (λ x. there_bind (there_behind (there_expr 64)) (λ y. there_bind there_when_end (λ y. there_return))) c.in_err-name.ensures)
+    rw (p.1, p.2) (stuck (λ x. there_bind there_fed (λ y. there_return)) c.in_err-name.ensures)
 
 pub returns-in_err-input : goal.returns-in_err-input
 returns-in_err-input c =
     let p = err_from_is_err_and c.from_residual-in_err-input.result c.from_residual-in_err-input.ensures.1 in
-    rw (p.1, p.2) (past c.in_ok-name.ensures (short_of when_apart (λ x. there_bind there_when_end (λ y. there_return)) c.in_err-input.ensures))
-
-pub returns-in_err-when : goal.returns-in_err-when
-returns-in_err-when c =
-    let p = err_from_is_err_and c.from_residual-in_err-when.result c.from_residual-in_err-when.ensures.1 in
-    rw (p.1, p.2) (past c.in_ok-name.ensures (beyond_fails when_apart c.in_ok-input.ensures (stuck (λ x. there_return) c.in_err-when.ensures)))
+    rw (p.1, p.2) (past c.in_ok-name.ensures (stuck (λ x. there_return) c.in_err-input.ensures))
 
 pub returns : goal.returns
-returns c = on c.in_ok-name.ensures (beyond_reads when_apart c.in_ok-input.ensures (on c.in_ok-when.ensures return_reads))
+returns c = on c.in_ok-name.ensures (on c.in_ok-input.ensures return_reads)

@@ -1,6 +1,6 @@
 use Rattle.std.proofs.Common.{ℕ, ◌+◌, ◌-◌, List, arith, sym, ◌∙◌, ap}
 use Rattle.net_model.specs.declared.hardware.Netlist.{Netlist}
-use Rattle.net_model.specs.Clock.{run_from, clock, Clashed}
+use Rattle.net_model.specs.Clock.{run_from, Clashed}
 use Rattle.net_run.proofs.ClockLemmas.{run_next, run_clash}
 use Rattle.net_run.proofs.clocks.clock_all.Goals as goal
 

@@ -1,7 +1,7 @@
 use Rattle.std.proofs.Common.{◌≡◌, ℕ, ◌<◌, ◌^◌, true, false, [], length, length-set, replicate, slice_get, slice_index, Option, Some, get_or, refl, sym, ap, subst, ◌∙◌, arith}
 use Rattle.std.proofs.lemmas.List.{length-replicate}
 use Rattle.std.proofs.lemmas.Option.{slice_get_read}
-use Rattle.bit_bdd.proofs.CallerLemmas.{extends_refl, extends_trans}
+use Rattle.bit_bdd.proofs.CallerLemmas.{extends_refl, extends_trans, still_within}
 use Rattle.net_model.specs.declared.hardware.Net.{Net}
 use Rattle.net_model.specs.Nets.{gate_nets, nets_of}
 use Rattle.net_model.specs.Order.{IsOrder}
@@ -17,6 +17,43 @@ use Rattle.route_trace.proofs.Knowing.{decided}
 use Rattle.route_trace.proofs.Turns.{all_given, done_later, found_more, lost_done, named_found, new_gives, no_tables, no_widths, none_yet, over_sym, turn_done, turn_tables, turn_widths, widths_later}
 use Rattle.route_trace.proofs.all_nets.collect.Goals as goal
 use Rattle.route_trace.proofs.all_nets.collect.Goals.{then-all_kept+in-Ok, then-all_kept+in-Err-Many, else-all_kept}
+
+pub set-requires : goal.set-requires
+set-requires c =
+    let o : IsOrder c.args.checked.now.netlist c.as_slice-order.result.now = rw (c.as_slice-order.ensures, c.order.ensures.value) c.order.ensures.kept.ordered in
+    rw c.loop-id.invariant.judged (o.nets c.loop-id.id-index c.loop-id-test.true)
+
+pub set-requires-in-Ok : goal.set-requires-in-Ok
+set-requires-in-Ok c =
+    let o : IsOrder c.args.checked.now.netlist c.as_slice-order.result.now = rw (c.as_slice-order.ensures, c.order.ensures.value) c.order.ensures.kept.ordered in
+    rw c.loop-id.invariant.long (o.nets c.loop-id.id-index c.loop-id-test.true)
+
+pub set-requires-in-Err-Many : goal.set-requires-in-Err-Many
+set-requires-in-Err-Many c =
+    let o : IsOrder c.args.checked.now.netlist c.as_slice-order.result.now = rw (c.as_slice-order.ensures, c.order.ensures.value) c.order.ensures.kept.ordered in
+    rw c.loop-id.invariant.judged (o.nets c.loop-id.id-index c.loop-id-test.true)
+
+pub set-requires-else-all_kept : goal.set-requires-else-all_kept
+set-requires-else-all_kept c =
+    let o : IsOrder c.args.checked.now.netlist c.as_slice-order.result.now = rw (c.as_slice-order.ensures, c.order.ensures.value) c.order.ensures.kept.ordered in
+    rw c.loop-id.invariant.judged (o.nets c.loop-id.id-index c.loop-id-test.true)
+
+pub returns-in-Err-Memory-clause-book : goal.returns-in-Err-Memory-clause-book
+returns-in-Err-Memory-clause-book c = extends_trans c.args.book.now c.loop-id.book c.net_routes.new.book c.loop-id.invariant.book c.net_routes.ensures.book
+
+pub returns-in-Err-Memory-clause-pool : goal.returns-in-Err-Memory-clause-pool
+returns-in-Err-Memory-clause-pool c = grows_trans c.args.pool.now c.loop-id.pool c.net_routes.new.pool c.loop-id.invariant.pool c.net_routes.ensures.pool
+
+pub bounds-nets-at : goal.bounds-nets-at
+bounds-nets-at c =
+    let o : IsOrder c.args.checked.now.netlist c.as_slice-order.result.now = rw (c.as_slice-order.ensures, c.order.ensures.value) c.order.ensures.kept.ordered in
+    rw (c.as_slice-nets.ensures, c.netlist-netlist.ensures.value) (o.nets c.loop-id.id-index c.loop-id-test.true)
+
+pub net_routes-requires-clause-legal : goal.net_routes-requires-clause-legal
+net_routes-requires-clause-legal c = still_within c.args.book.now c.loop-id.book c.loop-id.invariant.book c.args.controls.now.legal c.requires.controls.within
+
+pub net_routes-requires-clause-typed : goal.net_routes-requires-clause-typed
+net_routes-requires-clause-typed c = rw c.netlist-netlist.ensures.value c.netlist-netlist.ensures.sound.typed
 
 pub loop-id-init : goal.loop-id-init
 loop-id-init c =

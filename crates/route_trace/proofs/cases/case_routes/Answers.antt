@@ -6,7 +6,20 @@ use Rattle.route_trace.proofs.Choosing.{bit_case, tests_case}
 use Rattle.route_trace.proofs.Firsts.{tables_later}
 use Rattle.route_trace.proofs.Selecting.{none_there, some_there, target_wide}
 use Rattle.route_trace.proofs.Stopping.{many_in}
+use Rattle.bit_bdd.proofs.CallerLemmas.{extends_trans, still_within}
 use Rattle.route_trace.proofs.cases.case_routes.Goals as goal
+
+pub routes_of_first-requires-clause-legal : goal.routes_of_first-requires-clause-legal
+routes_of_first-requires-clause-legal c = still_within c.args.book.now c.row_tests.new.book c.in_ok-tests.ensures.book c.args.controls.now.legal c.requires.legal
+
+pub routes_of_first-requires-clause-tests : goal.routes_of_first-requires-clause-tests
+routes_of_first-requires-clause-tests c = rw c.as_slice.ensures c.in_ok-tests.ensures.sets
+
+pub returns-in_err-out-2-clause-book : goal.returns-in_err-out-2-clause-book
+returns-in_err-out-2-clause-book c = extends_trans c.args.book.now c.row_tests.new.book c.routes_of_first.new.book c.in_ok-tests.ensures.book c.in_err-out-2.ensures.book
+
+pub returns-clause-book : goal.returns-clause-book
+returns-clause-book c = extends_trans c.args.book.now c.row_tests.new.book c.routes_of_first.new.book c.in_ok-tests.ensures.book c.in_ok-out-2.ensures.book
 
 pub select_routes-requires-clause-one : goal.select_routes-requires-clause-one
 select_routes-requires-clause-one c = rw c.target_of-one.ensures (target_wide c.args.pool.now c.args.nets.now c.args.width _ c.args.rows.now c.args.rest c.requires.wide)

@@ -1,7 +1,7 @@
 use Rattle.std.proofs.Common.{◌^◌, ◌<◌, inr, sym, subst}
 use Rattle.std.proofs.lemmas.Result.{err_from_is_err_and}
 use Rattle.bit_bdd.specs.Diagrams.{Extends}
-use Rattle.bit_bdd.proofs.CallerLemmas.{extends_trans}
+use Rattle.bit_bdd.proofs.CallerLemmas.{extends_trans, still_within}
 use Rattle.sym_expr.specs.Pools.{Grows}
 use Rattle.sym_expr.proofs.CallerLemmas.{grows_trans}
 use Rattle.transfer_set.specs.Routes.{routes_at}
@@ -25,6 +25,36 @@ wider c = grows_trans c.args.pool.now c.row_routes.new.pool c.row_routes-2.new.p
 
 latest : (c : goal.After-as_slice-2) → AreTables c.row_routes-2.new.book c.row_routes-2.new.pool c.args.nets.now
 latest c = tables_later c.args.book.now c.row_routes-2.new.book c.args.pool.now c.row_routes-2.new.pool (more c) (wider c) c.args.nets.now c.requires.nets
+
+pub row_routes-requires-2-clause-legal : goal.row_routes-requires-2-clause-legal
+row_routes-requires-2-clause-legal c = still_within c.args.book.now c.row_routes.new.book c.in_ok-ones.ensures.book c.args.legal c.requires.legal
+
+pub returns-in_err-zeros-clause-book : goal.returns-in_err-zeros-clause-book
+returns-in_err-zeros-clause-book c = extends_trans c.args.book.now c.row_routes.new.book c.row_routes-2.new.book c.in_ok-ones.ensures.book c.in_err-zeros.ensures.book
+
+pub returns-in_err-zeros-clause-pool : goal.returns-in_err-zeros-clause-pool
+returns-in_err-zeros-clause-pool c = grows_trans c.args.pool.now c.row_routes.new.pool c.row_routes-2.new.pool c.in_ok-ones.ensures.pool c.in_err-zeros.ensures.pool
+
+pub add_selects-requires-clause-set : goal.add_selects-requires-clause-set
+add_selects-requires-clause-set c = still_within c.args.book.now c.row_routes-2.new.book (more c) c.args.legal c.requires.legal
+
+pub add_selects-requires-clause-second : goal.add_selects-requires-clause-second
+add_selects-requires-clause-second c = rw c.as_slice-2.ensures c.in_ok-zeros.ensures.table
+
+pub add_selects-requires-clause-second_one : goal.add_selects-requires-clause-second_one
+add_selects-requires-clause-second_one c word fits = rw c.as_slice-2.ensures (c.in_ok-zeros.ensures.one word (subst (λ b. word < 2 ^ b) c.in_ok-zeros.ensures.book.bits fits))
+
+pub returns-in_err-add_selects-clause-book : goal.returns-in_err-add_selects-clause-book
+returns-in_err-add_selects-clause-book c = extends_trans c.args.book.now c.row_routes-2.new.book c.add_selects.new.book (extends_trans c.args.book.now c.row_routes.new.book c.row_routes-2.new.book c.in_ok-ones.ensures.book c.in_ok-zeros.ensures.book) c.in_err-add_selects.ensures.book
+
+pub returns-in_err-add_selects-clause-pool : goal.returns-in_err-add_selects-clause-pool
+returns-in_err-add_selects-clause-pool c = grows_trans c.args.pool.now c.row_routes-2.new.pool c.add_selects.new.pool (grows_trans c.args.pool.now c.row_routes.new.pool c.row_routes-2.new.pool c.in_ok-ones.ensures.pool c.in_ok-zeros.ensures.pool) c.in_err-add_selects.ensures.pool
+
+pub returns-clause-book : goal.returns-clause-book
+returns-clause-book c = extends_trans c.args.book.now c.row_routes-2.new.book c.add_selects.new.book (extends_trans c.args.book.now c.row_routes.new.book c.row_routes-2.new.book c.in_ok-ones.ensures.book c.in_ok-zeros.ensures.book) c.in_ok-add_selects.ensures.book
+
+pub returns-clause-pool : goal.returns-clause-pool
+returns-clause-pool c = grows_trans c.args.pool.now c.row_routes-2.new.pool c.add_selects.new.pool (grows_trans c.args.pool.now c.row_routes.new.pool c.row_routes-2.new.pool c.in_ok-ones.ensures.pool c.in_ok-zeros.ensures.pool) c.in_ok-add_selects.ensures.pool
 
 pub row_routes-requires-2-clause-nets : goal.row_routes-requires-2-clause-nets
 row_routes-requires-2-clause-nets c = later c

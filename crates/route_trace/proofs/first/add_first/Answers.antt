@@ -3,7 +3,7 @@ use Rattle.std.proofs.lemmas.Result.{err_from_is_err_and}
 use Rattle.std.specs.List.{slice_index_or}
 use Rattle.std.proofs.lemmas.Option.{slice_get-get_or}
 use Rattle.bit_bdd.specs.Diagrams.{has_word, Extends}
-use Rattle.bit_bdd.proofs.CallerLemmas.{same_words, extends_trans}
+use Rattle.bit_bdd.proofs.CallerLemmas.{same_words, extends_trans, still_within}
 use Rattle.sym_expr.proofs.CallerLemmas.{grows_refl, grows_trans}
 use Rattle.route_trace.specs.Routing.{AreTables}
 use Rattle.route_trace.proofs.Merging.{held_later}
@@ -11,6 +11,24 @@ use Rattle.route_trace.proofs.Products.{table_later, both_later}
 use Rattle.route_trace.proofs.Firsts.{all_fit_same, test_at, first_apart, first_step, left_more, tables_later}
 use Rattle.route_trace.proofs.Stopping.{many_in, part_tested}
 use Rattle.route_trace.proofs.first.add_first.Goals as goal
+
+pub returns-in_err-here-clause-book : goal.returns-in_err-here-clause-book
+returns-in_err-here-clause-book c = extends_trans c.args.book.now c.loop-test.book c.and.new.self c.loop-test.invariant.book c.in_err-here.ensures.grows
+
+pub returns-in_err-add_all-clause-book : goal.returns-in_err-add_all-clause-book
+returns-in_err-add_all-clause-book c = extends_trans c.args.book.now c.and.new.self c.add_all.new.book (extends_trans c.args.book.now c.loop-test.book c.and.new.self c.loop-test.invariant.book c.in_ok-here.ensures.grows) c.in_err-add_all.ensures.book
+
+pub returns-in_err-add_all-clause-pool : goal.returns-in_err-add_all-clause-pool
+returns-in_err-add_all-clause-pool c = grows_trans c.args.pool.now c.loop-test.pool c.add_all.new.pool c.loop-test.invariant.pool c.in_err-add_all.ensures.pool
+
+pub without-requires-clause-set : goal.without-requires-clause-set
+without-requires-clause-set c = still_within c.loop-test.book c.add_all.new.book (extends_trans c.loop-test.book c.and.new.self c.add_all.new.book c.in_ok-here.ensures.grows c.in_ok-add_all.ensures.book) c.loop-test.left c.loop-test.invariant.left_within
+
+pub returns-in_err-left-clause-book : goal.returns-in_err-left-clause-book
+returns-in_err-left-clause-book c = extends_trans c.args.book.now c.add_all.new.book c.without.new.book (extends_trans c.args.book.now c.and.new.self c.add_all.new.book (extends_trans c.args.book.now c.loop-test.book c.and.new.self c.loop-test.invariant.book c.in_ok-here.ensures.grows) c.in_ok-add_all.ensures.book) c.in_err-left.ensures.book
+
+pub returns-in_err-left-clause-pool : goal.returns-in_err-left-clause-pool
+returns-in_err-left-clause-pool c = grows_trans c.args.pool.now c.loop-test.pool c.add_all.new.pool c.loop-test.invariant.pool c.in_ok-add_all.ensures.pool
 
 pub and-requires-clause-b : goal.and-requires-clause-b
 and-requires-clause-b c =

@@ -5,7 +5,33 @@ use Rattle.transfer_set.specs.Routes.{held_terms}
 use Rattle.route_trace.proofs.Products.{both_later}
 use Rattle.route_trace.proofs.Firsts.{map_same, all_fit_same, tables_later, rest_apart, with_rest}
 use Rattle.route_trace.proofs.Stopping.{many_in, part_of_tests}
+use Rattle.bit_bdd.proofs.CallerLemmas.{extends_trans}
+use Rattle.sym_expr.proofs.CallerLemmas.{grows_trans}
 use Rattle.route_trace.proofs.gates.routes_of_first.Goals as goal
+
+pub returns-in_err-add_all-in-Some-clause-book : goal.returns-in_err-add_all-in-Some-clause-book
+returns-in_err-add_all-in-Some-clause-book c = extends_trans c.args.book.now c.add_first.new.book c.add_all.new.book c.in_ok-left.ensures.book c.in_err-add_all-in-Some.ensures.book
+
+pub returns-in_err-add_all-in-Some-clause-pool : goal.returns-in_err-add_all-in-Some-clause-pool
+returns-in_err-add_all-in-Some-clause-pool c = grows_trans c.args.pool.now c.add_first.new.pool c.add_all.new.pool c.in_ok-left.ensures.pool c.in_err-add_all-in-Some.ensures.pool
+
+pub returns-in_ok-add_all-in-Some-clause-book : goal.returns-in_ok-add_all-in-Some-clause-book
+returns-in_ok-add_all-in-Some-clause-book c = extends_trans c.args.book.now c.add_first.new.book c.add_all.new.book c.in_ok-left.ensures.book c.in_ok-add_all-in-Some.ensures.book
+
+pub returns-in_ok-add_all-in-Some-clause-pool : goal.returns-in_ok-add_all-in-Some-clause-pool
+returns-in_ok-add_all-in-Some-clause-pool c = grows_trans c.args.pool.now c.add_first.new.pool c.add_all.new.pool c.in_ok-left.ensures.pool c.in_ok-add_all-in-Some.ensures.pool
+
+pub returns-in_err-add_leaf-in-None-clause-book : goal.returns-in_err-add_leaf-in-None-clause-book
+returns-in_err-add_leaf-in-None-clause-book c = extends_trans c.args.book.now c.add_first.new.book c.add_leaf.new.book c.in_ok-left.ensures.book c.in_err-add_leaf-in-None.ensures.book
+
+pub returns-in_err-add_leaf-in-None-clause-pool : goal.returns-in_err-add_leaf-in-None-clause-pool
+returns-in_err-add_leaf-in-None-clause-pool c = grows_trans c.args.pool.now c.add_first.new.pool c.add_leaf.new.pool c.in_ok-left.ensures.pool c.in_err-add_leaf-in-None.ensures.pool
+
+pub returns-in_ok-add_leaf-in-None-clause-book : goal.returns-in_ok-add_leaf-in-None-clause-book
+returns-in_ok-add_leaf-in-None-clause-book c = extends_trans c.args.book.now c.add_first.new.book c.add_leaf.new.book c.in_ok-left.ensures.book c.in_ok-add_leaf-in-None.ensures.book
+
+pub returns-in_ok-add_leaf-in-None-clause-pool : goal.returns-in_ok-add_leaf-in-None-clause-pool
+returns-in_ok-add_leaf-in-None-clause-pool c = grows_trans c.args.pool.now c.add_first.new.pool c.add_leaf.new.pool c.in_ok-left.ensures.pool c.in_ok-add_leaf-in-None.ensures.pool
 
 pub add_all-requires-clause-source : goal.add_all-requires-clause-source
 add_all-requires-clause-source c =

@@ -3,7 +3,7 @@ use Rattle.std.specs.List.{slice_index_or}
 use Rattle.std.proofs.lemmas.Option.{slice_get-get_or}
 use Rattle.std.proofs.lemmas.Result.{err_from_is_err_and}
 use Rattle.bit_bdd.specs.Diagrams.{Extends, has_word}
-use Rattle.bit_bdd.proofs.CallerLemmas.{same_words, extends_trans}
+use Rattle.bit_bdd.proofs.CallerLemmas.{same_words, extends_trans, still_within}
 use Rattle.sym_expr.specs.Pools.{term_at}
 use Rattle.sym_expr.proofs.CallerLemmas.{grows_refl, grows_trans}
 use Rattle.route_trace.specs.declared.heads.Head.{Head}
@@ -15,6 +15,18 @@ use Rattle.route_trace.proofs.Products.{expr_at, table_later, both_later, below_
 use Rattle.route_trace.proofs.Loops.{each_apart, each_step, two_below, two-same, all_fit_later, two_fit_at, map-same}
 use Rattle.route_trace.proofs.Stopping.{many_in, part_taken}
 use Rattle.route_trace.proofs.pairs.add_pairs.Goals as goal
+
+pub and-requires-clause-a : goal.and-requires-clause-a
+and-requires-clause-a c = still_within c.args.book.now c.loop-route.book c.loop-route.invariant.book c.args.set c.requires.set
+
+pub returns-in_err-both-clause-book : goal.returns-in_err-both-clause-book
+returns-in_err-both-clause-book c = extends_trans c.args.book.now c.loop-route.book c.and.new.self c.loop-route.invariant.book c.in_err-both.ensures.grows
+
+pub returns-in_err-add_all-clause-book : goal.returns-in_err-add_all-clause-book
+returns-in_err-add_all-clause-book c = extends_trans c.args.book.now c.and.new.self c.add_all.new.book (extends_trans c.args.book.now c.loop-route.book c.and.new.self c.loop-route.invariant.book c.in_ok-both.ensures.grows) c.in_err-add_all.ensures.book
+
+pub returns-in_err-add_all-clause-pool : goal.returns-in_err-add_all-clause-pool
+returns-in_err-add_all-clause-pool c = grows_trans c.args.pool.now c.loop-route.pool c.add_all.new.pool c.loop-route.invariant.pool c.in_err-add_all.ensures.pool
 
 at : (c : goal.After-and-arg-1) → slice_get c.args.firsts.now c.loop-route.route-index ≡ Some (slice_index_or c.args.firsts.now c.loop-route.route-index (record { expr = 0; set = 0 }))
 at c = slice_get-get_or c.args.firsts.now c.loop-route.route-index (record { expr = 0; set = 0 }) c.loop-route-test.true

@@ -3,7 +3,14 @@ use Rattle.bit_bdd.specs.Diagrams.{has_word}
 use Rattle.route_trace.proofs.Merging.{routes_later, held_later}
 use Rattle.route_trace.proofs.Products.{added_terms, kept_terms, exprs_later, table_later}
 use Rattle.sym_expr.proofs.CallerLemmas.{grows_refl}
+use Rattle.bit_bdd.proofs.CallerLemmas.{extends_trans}
 use Rattle.route_trace.proofs.product.add_one.Goals as goal
+
+pub returns-in_err-add_route-in-Some-clause-book : goal.returns-in_err-add_route-in-Some-clause-book
+returns-in_err-add_route-in-Some-clause-book c = extends_trans c.args.book.now c.and.new.self c.add_route.new.book c.in_ok-both.ensures.grows c.in_err-add_route-in-Some.ensures.grows
+
+pub returns-in_ok-add_route-in-Some-clause-book : goal.returns-in_ok-add_route-in-Some-clause-book
+returns-in_ok-add_route-in-Some-clause-book c = extends_trans c.args.book.now c.and.new.self c.add_route.new.book c.in_ok-both.ensures.grows c.in_ok-add_route-in-Some.ensures.grows
 
 pub add_route-requires-clause-routes : goal.add_route-requires-clause-routes
 add_route-requires-clause-routes c = routes_later c.args.book.now c.and.new.self c.in_ok-both.ensures.grows c.args.out.now c.requires.table.right

@@ -3,7 +3,7 @@ use Rattle.std.specs.List.{slice_index_or}
 use Rattle.std.proofs.lemmas.Option.{slice_get-get_or}
 use Rattle.std.proofs.lemmas.Result.{err_from_is_err_and}
 use Rattle.bit_bdd.specs.Diagrams.{has_word}
-use Rattle.bit_bdd.proofs.CallerLemmas.{same_words, extends_trans}
+use Rattle.bit_bdd.proofs.CallerLemmas.{same_words, extends_trans, still_within}
 use Rattle.sym_expr.proofs.CallerLemmas.{grows_refl, grows_trans}
 use Rattle.transfer_set.specs.Routes.{IsSet, held_terms}
 use Rattle.route_trace.specs.Routing.{each}
@@ -15,6 +15,18 @@ use Rattle.route_trace.proofs.Choices.{two_fit_later, select_fit_at, under_later
 use Rattle.route_trace.specs.declared.heads.Two.TheVariants.{Select}
 use Rattle.route_trace.proofs.Stopping.{many_in, part_taken}
 use Rattle.route_trace.proofs.selects.add_selects.Goals as goal
+
+pub and-requires-clause-a : goal.and-requires-clause-a
+and-requires-clause-a c = still_within c.args.book.now c.loop-route.book c.loop-route.invariant.book c.args.set c.requires.set
+
+pub returns-in_err-both-clause-book : goal.returns-in_err-both-clause-book
+returns-in_err-both-clause-book c = extends_trans c.args.book.now c.loop-route.book c.and.new.self c.loop-route.invariant.book c.in_err-both.ensures.grows
+
+pub returns-in_err-add_pairs-clause-book : goal.returns-in_err-add_pairs-clause-book
+returns-in_err-add_pairs-clause-book c = extends_trans c.args.book.now c.and.new.self c.add_pairs.new.book (extends_trans c.args.book.now c.loop-route.book c.and.new.self c.loop-route.invariant.book c.in_ok-both.ensures.grows) c.in_err-add_pairs.ensures.book
+
+pub returns-in_err-add_pairs-clause-pool : goal.returns-in_err-add_pairs-clause-pool
+returns-in_err-add_pairs-clause-pool c = grows_trans c.args.pool.now c.loop-route.pool c.add_pairs.new.pool c.loop-route.invariant.pool c.in_err-add_pairs.ensures.pool
 
 at : (c : goal.After-and-arg-1) → slice_get c.args.choices.now c.loop-route.route-index ≡ Some (slice_index_or c.args.choices.now c.loop-route.route-index (record { expr = 0; set = 0 }))
 at c = slice_get-get_or c.args.choices.now c.loop-route.route-index (record { expr = 0; set = 0 }) c.loop-route-test.true

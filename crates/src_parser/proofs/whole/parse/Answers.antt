@@ -1,13 +1,24 @@
-use Rattle.std.proofs.Common.{◌≡◌, sym, ap, subst, ◌∙◌}
+use Rattle.std.proofs.Common.{◌≡◌, refl, sym, ap, subst, ◌∙◌}
+use Rattle.std.proofs.lemmas.Result.{err_from_is_err_and}
 use Rattle.grammar.specs.declared.stop.Stop.TheVariants.{At, Memory}
 use Rattle.src_model.specs.Grammar.{IsText}
+use Rattle.src_model.specs.Written.{listing_of}
 use Rattle.src_parser.specs.Words.{lexed_all}
 use Rattle.src_parser.proofs.whole.parse.Goals as goal
 
-pub returns-in-Ok-clause-only : goal.returns-in-Ok-clause-only
-returns-in-Ok-clause-only c entries spelled =
+pub returns-in_err-ts : goal.returns-in_err-ts
+returns-in_err-ts c =
+    let p = err_from_is_err_and c.from_residual.result c.from_residual.ensures.1 in
+    rw (p.1, p.2) (record { found = tt; only = λ entries spelled. refl; fault = tt })
+
+pub returns-in-Ok : goal.returns-in-Ok
+returns-in-Ok c =
     let same = c.as_slice-2.ensures.value ∙ c.in_ok-ts.ensures ∙ ap (lexed_all c.args.bytes.now) c.as_slice.ensures in
-    c.in-Ok.ensures.only entries (subst (λ ts. IsText ts entries) (sym same) spelled)
+    record {
+      found = subst (λ ts. IsText ts (listing_of c.in-Ok.program)) same c.in-Ok.ensures.found;
+      only = λ entries spelled. c.in-Ok.ensures.only entries (subst (λ ts. IsText ts entries) (sym same) spelled);
+      fault = tt;
+    }
 
 pub returns-in-Err-At-clause-only : goal.returns-in-Err-At-clause-only
 returns-in-Err-At-clause-only c entries spelled =

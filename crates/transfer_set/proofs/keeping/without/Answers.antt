@@ -1,8 +1,17 @@
 use Rattle.std.proofs.Common.{◌&&◌, not, true, ap, sym, ◌∙◌}
 use Rattle.std.proofs.lemmas.Bool.{eq-eqb}
 use Rattle.bit_bdd.specs.Diagrams.{has_word}
-use Rattle.bit_bdd.proofs.CallerLemmas.{same_words}
+use Rattle.bit_bdd.proofs.CallerLemmas.{same_words, extends_trans, still_within}
 use Rattle.transfer_set.proofs.keeping.without.Goals as goal
+
+pub and-requires-clause-a : goal.and-requires-clause-a
+and-requires-clause-a c = still_within c.args.book.now c.not.new.self c.in_ok-others.ensures.grows c.args.left c.requires.left
+
+pub returns-in_err-kept-clause-grows : goal.returns-in_err-kept-clause-grows
+returns-in_err-kept-clause-grows c = extends_trans c.args.book.now c.not.new.self c.and.new.self c.in_ok-others.ensures.grows c.in_err-kept.ensures.grows
+
+pub returns-clause-grows : goal.returns-clause-grows
+returns-clause-grows c = extends_trans c.args.book.now c.not.new.self c.and.new.self c.in_ok-others.ensures.grows c.in_ok-kept.ensures.grows
 
 pub returns-clause-words : goal.returns-clause-words
 returns-clause-words c word =

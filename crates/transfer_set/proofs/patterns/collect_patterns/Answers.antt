@@ -1,4 +1,5 @@
 use Rattle.std.proofs.Common.{◌≡◌, ◌≤◌, length, subst, arith}
+use Rattle.bit_bdd.proofs.CallerLemmas.{extends_trans}
 use Rattle.ctl_bdd.proofs.CallerLemmas.{clean_is}
 use Rattle.net_model.proofs.KeptRules.{few_storages}
 use Rattle.transfer_set.specs.Entries.{AreLeft}
@@ -21,6 +22,22 @@ collect_entries-requires-clause-source c =
 pub step_set-requires-clause-held : goal.step_set-requires-clause-held
 step_set-requires-clause-held c =
     rw (c.as_slice-2.ensures) (held_entries_later c.collect_entries.new.book c.keep_sets.new.book c.in_ok-keeps.ensures.grows c.in_ok-entries.entries c.in_ok-entries.ensures.held)
+
+pub returns-in_err-keeps-clause-grows : goal.returns-in_err-keeps-clause-grows
+returns-in_err-keeps-clause-grows c =
+    extends_trans c.args.book.now c.collect_entries.new.book c.keep_sets.new.book c.in_ok-entries.ensures.grows c.in_err-keeps.ensures.grows
+
+pub returns-in_err-step-clause-grows : goal.returns-in_err-step-clause-grows
+returns-in_err-step-clause-grows c =
+    extends_trans c.args.book.now c.keep_sets.new.book c.step_set.new.book (extends_trans c.args.book.now c.collect_entries.new.book c.keep_sets.new.book c.in_ok-entries.ensures.grows c.in_ok-keeps.ensures.grows) c.in_err-step.ensures.grows
+
+pub returns-in_err-rows-clause-grows : goal.returns-in_err-rows-clause-grows
+returns-in_err-rows-clause-grows c =
+    extends_trans c.args.book.now c.keep_sets.new.book c.step_set.new.book (extends_trans c.args.book.now c.collect_entries.new.book c.keep_sets.new.book c.in_ok-entries.ensures.grows c.in_ok-keeps.ensures.grows) c.in_ok-step.ensures.grows
+
+pub returns-clause-grows : goal.returns-clause-grows
+returns-clause-grows c =
+    extends_trans c.args.book.now c.keep_sets.new.book c.step_set.new.book (extends_trans c.args.book.now c.collect_entries.new.book c.keep_sets.new.book c.in_ok-entries.ensures.grows c.in_ok-keeps.ensures.grows) c.in_ok-step.ensures.grows
 
 pub returns-clause-patterns : goal.returns-clause-patterns
 returns-clause-patterns c =

@@ -1,6 +1,6 @@
 use Rattle.net_names.proofs.PortTables.{outputs_next, inputs_next}
-use Rattle.net_names.proofs.ports.Ports.new.Goals as goal
-use Rattle.net_names.proofs.ports.Ports.new.Goals.{then-port+in_ok-enter, else-port+in_ok-enter-2}
+use Rattle.net_names.proofs.ports.enter_ports.Goals as goal
+use Rattle.net_names.proofs.ports.enter_ports.Goals.{then-port+in_ok-enter, else-port+in_ok-enter-2}
 
 pub loop-i-preserved : goal.loop-i-preserved
 loop-i-preserved c =

@@ -1,5 +1,5 @@
 use Rattle.std.proofs.Common.{◌≡◌, ℕ, ◌++◌, map, drop}
-use Rattle.ctl_bdd.proofs.places.push_driver_enables.Given as goal
+use Rattle.net_model.proofs.controls.push_driver_enables.Given as goal
 
 abbrev pub invariant-loop-driver : goal.invariant-loop-driver
 invariant-loop-driver l =

@@ -1,7 +1,0 @@
-use Rattle.std.proofs.Common.{◌≡◌, ◌++◌, drop}
-use Rattle.net_model.specs.CheckedRules.{storage_controls}
-use Rattle.rec_bits.specs.Faults.{gather}
-use Rattle.net_check.proofs.places.write_enables.Given as goal
-
-abbrev pub invariant-loop-storage : goal.invariant-loop-storage
-invariant-loop-storage l = l.nets ++ gather storage_controls (drop l.storage-index l.storages) ≡ gather storage_controls l.storages
