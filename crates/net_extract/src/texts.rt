@@ -21,7 +21,7 @@ pub fn read_routed(alloc: Global, bytes: &[u8]) -> Result<Checked, NetRefusal>
     Ok(checked)
 }
 
-// The text of the patterns of a netlist of which this is traced. The book grows by their sets.
+// The text of the patterns of a netlist of which this is traced. The book grows by their sets, so it is lent here.
 fn write_patterns(
     alloc: Global,
     checked: &Checked,
@@ -41,6 +41,7 @@ fn write_patterns(
     Ok(text)
 }
 
+// The same, of what is needed no longer.
 fn patterns_text(alloc: Global, checked: &Checked, mut traced: Traced) -> Result<Vec<u8>, NoMemory>
     requires { IsTraced checked.now.netlist traced }
     ensures { IfOk result (λ text. WritesPatterns checked.now.netlist text.items) }
