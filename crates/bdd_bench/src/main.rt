@@ -1,4 +1,5 @@
-//! Counts the nodes that some diagrams take. The time that this takes is measured from outside.
+//! Counts the nodes that some diagrams take, and asks a small book each question. The time that this takes is measured
+//! from outside.
 #![tactic(auto)]
 
 ghost use Rattle.std.specs.Prelude.{◌≡◌, ◌+◌, ◌*◌, ◌<◌, ◌≤◌, length, IfOk};
@@ -107,6 +108,101 @@ fn equal_nodes(alloc: Global, count: u8) -> Result<u64, NoMemory> {
     Ok(book.size())
 }
 
+// What a book of three bits answers of `a`, the words of bit 2 that have bit 1 or bit 0 too. Of each set its words
+// below 8 stand as the bits of a number.
+#[derive(Clone, Copy)]
+struct Answers {
+    a: u8,
+    a_least: Option<u64>,
+    a_is_empty: bool,
+    // The words that come into `a` by changing bit 2.
+    by_bit_2: u8,
+    // The set of the words that come into `a` by changing any bit.
+    by_any_bit: SetId,
+    // Whether `a` with bit 1 set to 1 is the set of bit 2.
+    fixed_is_bit_2: bool,
+    // The words of `a` that have bit 0, and those outside that do not.
+    chosen: u8,
+    // The words that are in `a` and outside.
+    both: SetId,
+    both_least: Option<u64>,
+    both_is_empty: bool,
+}
+
+// The words below 8 of a set, as the bits of a number.
+fn words_of(book: &Book, set: SetId) -> u8
+    requires { set < length book.now.nodes }
+{
+    let mut words = 0;
+    for word in 0..8 {
+        if book.holds(set, word) {
+            words |= 1 << word;
+        }
+    }
+    words
+}
+
+// The answers for `a`, with the sets of bit 0 and bit 2.
+fn ask(
+    alloc: Global,
+    book: &mut Book,
+    bit_0: SetId,
+    bit_2: SetId,
+    a: SetId,
+) -> Result<Answers, NoMemory>
+    requires bits { book.old.bits ≡ 3 }
+    requires bit_0 { bit_0 < length book.old.nodes }
+    requires bit_2 { bit_2 < length book.old.nodes }
+    requires a { a < length book.old.nodes }
+{
+    let by_bit_2 = book.exists(alloc, a, 1 << 2)?;
+    let by_any_bit = book.exists(alloc, a, 0b111)?;
+    let fixed = book.fix(alloc, a, 1, true)?;
+    let not_a = book.not(alloc, a)?;
+    let chosen = book.ite(alloc, bit_0, a, not_a)?;
+    let both = book.and(alloc, a, not_a)?;
+    Ok(Answers {
+        a: words_of(book, a),
+        a_least: book.least(a),
+        a_is_empty: book.is_empty(a),
+        by_bit_2: words_of(book, by_bit_2),
+        by_any_bit,
+        fixed_is_bit_2: fixed == bit_2,
+        chosen: words_of(book, chosen),
+        both,
+        both_least: book.least(both),
+        both_is_empty: book.is_empty(both),
+    })
+}
+
+fn three_bits(alloc: Global) -> Result<Answers, NoMemory> {
+    let mut book = Book::new(alloc, 3)?;
+    let bit_0 = book.bit(alloc, 0)?;
+    let bit_1 = book.bit(alloc, 1)?;
+    let bit_2 = book.bit(alloc, 2)?;
+    let either = book.or(alloc, bit_1, bit_0)?;
+    let a = book.and(alloc, bit_2, either)?;
+    ask(alloc, &mut book, bit_0, bit_2, a)
+}
+
+fn print_least(rt: &impl Print, what: &str, least: Option<u64>, is_empty: bool) -> io::Result<()> {
+    match least {
+        Some(word) => println!(rt; "{what}: least word {word}, empty {is_empty}"),
+        None => println!(rt; "{what}: no least word, empty {is_empty}"),
+    }
+}
+
+fn print_answers(rt: &impl Print, answers: Answers) -> io::Result<()> {
+    println!(rt; "a, words 7 to 0: {:08b}", answers.a)?;
+    print_least(rt, "a", answers.a_least, answers.a_is_empty)?;
+    println!(rt; "into a by bit 2, words 7 to 0: {:08b}", answers.by_bit_2)?;
+    println!(rt; "into a by any bit: id {}", answers.by_any_bit)?;
+    println!(rt; "a with bit 1 set is bit 2: {}", answers.fixed_is_bit_2)?;
+    println!(rt; "a by bit 0, words 7 to 0: {:08b}", answers.chosen)?;
+    println!(rt; "a and not a: id {}", answers.both)?;
+    print_least(rt, "a and not a", answers.both_least, answers.both_is_empty)
+}
+
 fn print_nodes(rt: &impl Print, what: &str, nodes: Result<u64, NoMemory>) -> io::Result<()> {
     match nodes {
         Ok(nodes) => println!(rt; "{what}: {nodes} nodes"),
@@ -126,5 +222,9 @@ fn main(rt: HostRuntime) -> io::Result<()> {
         "carry of 16 bits apart",
         carry_nodes(alloc, Order::Apart, 16),
     )?;
-    print_nodes(&rt, "40 equalities of 48 bits", equal_nodes(alloc, 40))
+    print_nodes(&rt, "40 equalities of 48 bits", equal_nodes(alloc, 40))?;
+    match three_bits(alloc) {
+        Ok(answers) => print_answers(&rt, answers),
+        Err(NoMemory) => println!(rt; "three bits: out of memory"),
+    }
 }

@@ -34,7 +34,7 @@ enum Operation {
 ///
 /// A book only grows: an id means the same set for as long as the book lives. Want of memory is the only refusal, and
 /// after it too every id that the book held means what it meant. Bits of a word at or above the book's number are
-/// not looked at. `holds`, `least`, `is_empty` and `size` take no memory.
+/// not looked at. `bits`, `holds`, `least`, `is_empty` and `size` take no memory.
 #[derive(Drop)]
 pub struct Book {
     bits: u8,
@@ -73,6 +73,13 @@ impl Book {
             nodes,
             done: IndexMap::new(alloc),
         })
+    }
+
+    /// The number of bits of the book's words, 1 to 64.
+    pub fn bits(&self) -> u8
+        ensures { result ≡ self.now.bits }
+    {
+        self.bits
     }
 
     /// The words in which a bit is 1.

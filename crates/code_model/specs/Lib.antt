@@ -8,3 +8,5 @@ pub mod Straight
 pub mod Flow
 pub mod ImageText
 pub mod Tests
+pub mod ImageFits
+pub mod ImageLines

@@ -4,11 +4,9 @@ use Rattle.rec_bits.specs.declared.operator.Op2.TheVariants.{Add}
 use Rattle.net_model.specs.declared.hardware.Netlist.{Netlist}
 use Rattle.net_model.specs.Terms.{Term, reg, const, bin, Move, keep, write, write_at}
 use Rattle.net_model.specs.Nets.{storage_bits, counter_of}
-use Rattle.net_model.specs.Value.{value_of}
-use Rattle.net_model.specs.Clock.{clash_in}
 use Rattle.net_model.specs.Symbolic.{blank}
 use Rattle.net_model.specs.Meaning.{mean}
-use Rattle.net_model.specs.Transfers.{counter_move, memory_move}
+use Rattle.net_model.specs.Transfers.{clash_at, counter_move, memory_move}
 use Rattle.code_model.specs.Words.{is_fixed}
 
 -- the register plus 1, either way round
@@ -36,15 +34,12 @@ abbrev pub keeps : Move → Bool
 keeps keep = true
 keeps _ = false
 
-abbrev pub no_clash : Netlist → ℕ → Bool
-no_clash netlist i = is_none (clash_in (value_of netlist blank i) netlist.nets)
-
 abbrev pub steps : Netlist → ℕ → Bool
 steps netlist i = is_step_move (counter_of netlist.codes) (storage_bits (slice_get netlist.storages (counter_of netlist.codes))) (counter_move netlist i)
 
 -- whether a word below 2 to the code's bits is one for an assignment, and one that goes to an address
 abbrev pub does_assign : Netlist → ℕ → ℕ → ℕ → Bool
-does_assign netlist i address value = no_clash netlist i && (steps netlist i && stores i (memory_move netlist i) address value)
+does_assign netlist i address value = is_none (clash_at netlist i) && (steps netlist i && stores i (memory_move netlist i) address value)
 
 abbrev pub does_goto : Netlist → ℕ → ℕ → Bool
-does_goto netlist i address = no_clash netlist i && (goes_to i (counter_move netlist i) address && keeps (memory_move netlist i))
+does_goto netlist i address = is_none (clash_at netlist i) && (goes_to i (counter_move netlist i) address && keeps (memory_move netlist i))

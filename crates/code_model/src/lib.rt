@@ -3,6 +3,8 @@
 
 mod image;
 mod laws;
+mod limits;
 
 pub use image::{Image, Mark, Place, Places, Word, bytes_of};
 pub use laws::law_of_straight;
+pub use limits::Limits;

@@ -1,22 +1,17 @@
 -- What a caller cites of control bits.
-use Rattle.std.proofs.Common.{◌≡◌, ℕ, ◌<◌, ◌^◌, ◌==◌, ◌&&◌, ◌↔◌, nat_eq, cond, Bool, true, false, List, [], ◌∷◌, ◌++◌, Some, map, length, slice_get, slice_index, refl, sym, ap, ◌∙◌, subst, arith, zero, suc}
+use Rattle.std.proofs.Common.{◌≡◌, ℕ, ◌<◌, ◌^◌, ◌==◌, ◌&&◌, ◌↔◌, nat_eq, cond, Bool, true, false, List, [], ◌∷◌, ◌++◌, Some, map, length, slice_index, refl, sym, ap, ◌∙◌, subst, arith, zero, suc}
 use Rattle.std.specs.List.{AllByRecursion, list_any}
 use Rattle.std.proofs.lemmas.Bool.{eqb-true}
-use Rattle.rec_bits.specs.Faults.{gather}
 use Rattle.net_model.specs.declared.hardware.Netlist.{Netlist}
-use Rattle.net_model.specs.declared.hardware.Code.{Code}
-use Rattle.net_model.specs.declared.hardware.Storage.{Storage}
-use Rattle.net_model.specs.Nets.{width_at, code_bits, word_width}
-use Rattle.net_model.specs.Widths.{WordFits}
+use Rattle.net_model.specs.Nets.{width_at}
 use Rattle.net_model.specs.Symbolic.{blank}
 use Rattle.net_model.specs.Value.{value_of}
 use Rattle.net_model.specs.Transfers.{IsClean}
-use Rattle.net_model.specs.CheckedRules.{storage_controls}
 use Rattle.bit_bdd.specs.Diagrams.{Diagrams, Extends, has_word}
 use Rattle.bit_bdd.proofs.CallerLemmas.{same_words}
 use Rattle.ctl_bdd.specs.declared.ControlBits.{ControlBits}
-use Rattle.ctl_bdd.specs.Places.{is_placed, is_static_control, numbers_below, static_controls}
-use Rattle.ctl_bdd.specs.Controls.{IsControl, IsNetBits, IsWithoutClash, bits_in}
+use Rattle.ctl_bdd.specs.Places.{is_static_control, numbers_below, static_controls}
+use Rattle.ctl_bdd.specs.Controls.{IsControl, IsNetBits, bits_in}
 use Rattle.rec_bits.proofs.Booleans.{or_left}
 use Rattle.rec_bits.proofs.Lists.{all_weaker}
 use Rattle.ctl_bdd.proofs.Sets.{sets_later, set_in}
@@ -24,7 +19,7 @@ use Rattle.ctl_bdd.proofs.Numbers.{eqb_turned, number_one}
 use Rattle.ctl_bdd.proofs.Filling.{bits_later}
 use Rattle.ctl_bdd.proofs.Listing.{bit_is}
 use Rattle.ctl_bdd.proofs.Placed.{any_filtered, any_append, any_front}
-pub use Rattle.ctl_bdd.proofs.Placed.{placed}
+pub use Rattle.ctl_bdd.proofs.Placed.{when_placed, enable_placed, selector_placed}
 pub use Rattle.ctl_bdd.proofs.Sets.{bools_later, number_later}
 
 -- ---- the look-up
@@ -48,7 +43,7 @@ there_is (net ∷ nets) n e = by (net.0 == n) refl (there_is nets n)
     by true q later = (net.1, refl)
     by false q later = later (rw (eqb_turned n net.0, q) at e)
 
-number_there : (n k : ℕ) → n < k → list_any (nat_eq n) (numbers_below k) ≡ true
+pub number_there : (n k : ℕ) → n < k → list_any (nat_eq n) (numbers_below k) ≡ true
 number_there n zero lt = absurd (omega arith)
 number_there n (suc k) lt = by (n == k) refl (number_there n k)
   where
@@ -66,15 +61,6 @@ bits_found netlist book controls c n lt s =
     let found : (sets : List ℕ) × (bits_in controls.bits n ≡ Some sets) = there_is controls.bits n (ap (list_any (nat_eq n)) c.nets ∙ listed) in
     (found.0, found.1, found_bits netlist book controls.bits c.bits n found.0 found.1)
 
--- a write enable stands in a control place; `placed` says the same of what a gate puts there
-pub when_placed : (netlist : Netlist) (k n : ℕ) (storage : Storage) → slice_get netlist.storages k ≡ Some storage → list_any (nat_eq n) (storage_controls storage) ≡ true → is_placed netlist n ≡ true
-when_placed netlist k n storage there e = any_front n (gather storage_controls netlist.storages) _ (by netlist.storages k there)
-  where
-    by : (storages : List Storage) (k : ℕ) → slice_get storages k ≡ Some storage → list_any (nat_eq n) (gather storage_controls storages) ≡ true
-    by [] k there = cc
-    by (x ∷ storages) zero there = let same : storage ≡ x = cc in any_front n (storage_controls x) (gather storage_controls storages) (rw same at e)
-    by (x ∷ storages) (suc k) there = any_append n (storage_controls x) _ (by storages k there)
-
 -- ---- what the bits say
 
 -- the set of a net of one bit has the words under which it is 1
@@ -83,18 +69,6 @@ one_set netlist book n [] b w = absurd (omega (arith, b.number.long, w))
 one_set netlist book n (set ∷ []) b w =
     (set, refl, λ word lt. bit_is (has_word book set word) ∙ ap (λ x. x == 1) (sym (number_one book set word) ∙ b.number.number word lt))
 one_set netlist book n (set ∷ other ∷ sets) b w = absurd (omega (arith, b.number.long, w))
-
-fits_one : (codes : List Code) (word : ℕ) → length codes ≡ 1 → word < 2 ^ code_bits (slice_get codes 0) → (k : ℕ) → 0 < code_bits (slice_get codes k) → word < 2 ^ code_bits (slice_get codes k)
-fits_one [] word e lt k pos = absurd (omega (arith, e))
-fits_one (c ∷ []) word e lt zero pos = lt
-fits_one (c ∷ []) word e lt (suc k) pos = absurd (omega (arith, pos))
-fits_one (c ∷ d ∷ codes) word e lt k pos = absurd (omega (arith, e))
-
--- the words of `legal` are those without clash
-pub clean_is : (netlist : Netlist) (book : Diagrams) (controls : ControlBits) → IsControl netlist book controls → length netlist.codes ≡ 1 → book.bits ≡ word_width netlist → (word : ℕ) → word < 2 ^ book.bits → (has_word book controls.legal word ≡ true) ↔ IsClean netlist word
-clean_is netlist book controls c one bits word lt =
-    let fits : WordFits netlist word = record { fits = fits_one netlist.codes word one (subst (λ b. word < 2 ^ b) bits lt) } in
-    (λ e. record { fits = fits; clean = (c.legal word lt).0 e }, λ k. (c.legal word lt).1 k.clean)
 
 -- ---- a book that grows
 
@@ -113,7 +87,7 @@ control_later netlist old new e controls c = record {
   within = omega (arith, c.within, e.longer);
   legal = λ word lt.
       let same : has_word new controls.legal word ≡ has_word old controls.legal word = same_words old new e controls.legal c.within word in
-      let is : (has_word old controls.legal word ≡ true) ↔ IsWithoutClash netlist word = c.legal word (subst (λ n. word < 2 ^ n) e.bits lt) in
+      let is : (has_word old controls.legal word ≡ true) ↔ IsClean netlist word = c.legal word (subst (λ n. word < 2 ^ n) e.bits lt) in
       (λ h. is.0 (sym same ∙ h), λ h. same ∙ is.1 h);
   some = (c.some.0, subst (λ n. c.some.0 < 2 ^ n) (sym e.bits) c.some.1, c.some.2);
 }

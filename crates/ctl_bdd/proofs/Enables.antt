@@ -11,21 +11,21 @@ use Rattle.net_model.specs.Widths.{GateFits, NetFits, DriversFit, IsTyped}
 use Rattle.net_model.specs.Symbolic.{is_static, blank}
 use Rattle.net_model.specs.Value.{value_of}
 use Rattle.net_model.specs.Clock.{enabled_count, gate_clashes}
-use Rattle.net_model.specs.Control.{EnablesStatic}
-use Rattle.net_model.specs.CheckedRules.{gate_controls, HasStaticEnables, IsNetStatic, IsBusStatic}
+use Rattle.net_model.specs.Control.{AllPass, gate_enables, GateControlled, IsControlled}
+use Rattle.net_model.proofs.GateControls.{gate_controlled}
 use Rattle.bit_bdd.specs.Diagrams.{Diagrams}
 use Rattle.ctl_bdd.specs.Places.{is_placed}
 use Rattle.ctl_bdd.specs.Tables.{AreBits, HasControls, HasEnable, HasEnables, numbers_at, sets_at}
-use Rattle.ctl_bdd.specs.Controls.{IsWithoutClash}
+use Rattle.net_model.specs.Transfers.{clash_at}
 use Rattle.rec_bits.proofs.Booleans.{or_left, or_right}
-use Rattle.ctl_bdd.proofs.Placed.{all_by_place, placed}
+use Rattle.ctl_bdd.proofs.Placed.{all_by_place, enable_placed}
 
 two_true : (a b : Bool) → a ≡ true → b ≡ true → (a && b) ≡ true
 two_true true b e f = f
 two_true false b e f = cc
 
 module _ (netlist : Netlist) (book : Diagrams) (table : List (List ℕ)) (h : HasControls netlist book table) where
-  drivers_have : (width : ℕ) (drivers : List (ℕ × ℕ)) → DriversFit netlist width drivers → EnablesStatic (is_static netlist) drivers
+  drivers_have : (width : ℕ) (drivers : List (ℕ × ℕ)) → DriversFit netlist width drivers → AllPass (is_static netlist) (map (λ (driver : ℕ × ℕ). driver.1) drivers)
       → ((n : ℕ) → list_any (nat_eq n) (map (λ (driver : ℕ × ℕ). driver.1) drivers) ≡ true → is_placed netlist n ≡ true)
       → AllByRecursion (λ (driver : ℕ × ℕ). HasEnable table driver × AreBits netlist book driver.1 (sets_at table driver.1)) drivers
   drivers_have width [] fits static places = tt
@@ -45,14 +45,13 @@ module _ (netlist : Netlist) (book : Diagrams) (table : List (List ℕ)) (h : Ha
       let f : enabled_count (numbers_at book table word) drivers ≡ enabled_count (value_of netlist blank word) drivers = same_count word lt drivers a.1 in
       (λ j. cond (e j == 1) 1 0 + f j)
 
-  module _ (t : IsTyped netlist) (s : HasStaticEnables netlist) where
+  module _ (t : IsTyped netlist) (control : IsControlled netlist) where
     bus_have : (k width : ℕ) (net : Net) (drivers : List (ℕ × ℕ)) → slice_get netlist.nets k ≡ Some net → net.gate ≡ Bus drivers → AllByRecursion (λ (driver : ℕ × ℕ). HasEnable table driver × AreBits netlist book driver.1 (sets_at table driver.1)) drivers
     bus_have k width net drivers there e =
         let fits : NetFits netlist (Some net) = subst (NetFits netlist) there (t.nets k) in
         let gate : GateFits netlist net.width (Bus drivers) = subst (GateFits netlist net.width) e fits.2 in
-        let static : IsNetStatic netlist (Some net) = subst (IsNetStatic netlist) there (s.buses k) in
-        let bus : IsBusStatic netlist (Bus drivers) = subst (IsBusStatic netlist) e static in
-        drivers_have net.width drivers gate bus (λ n a. placed netlist n k net there (ap (λ g. list_any (nat_eq n) (gate_controls g)) e ∙ a))
+        let bus : GateControlled netlist (Bus drivers) = subst (GateControlled netlist) e (gate_controlled netlist control k net there) in
+        drivers_have net.width drivers gate bus.enables (λ n a. enable_placed netlist n k net there (ap (λ g. list_any (nat_eq n) (gate_enables g)) e ∙ a))
 
     net_has : (k : ℕ) (net : Net) → slice_get netlist.nets k ≡ Some net → HasEnables table net.gate
     net_has k net there = by net.gate refl
@@ -84,7 +83,7 @@ module _ (netlist : Netlist) (book : Diagrams) (table : List (List ℕ)) (h : Ha
         by false later = later
 
     -- the words that the table tells to be without clash are those
-    pub legal_is : (word : ℕ) → word < 2 ^ book.bits → (not (list_any (λ (net : Net). gate_clashes (numbers_at book table word) net.gate) netlist.nets) ≡ true) ↔ IsWithoutClash netlist word
+    pub legal_is : (word : ℕ) → word < 2 ^ book.bits → (not (list_any (λ (net : Net). gate_clashes (numbers_at book table word) net.gate) netlist.nets) ≡ true) ↔ (clash_at netlist word ≡ None)
     legal_is word lt =
         let f : Net → Bool = λ net. gate_clashes (numbers_at book table word) net.gate in
         let g : Net → Bool = λ net. gate_clashes (value_of netlist blank word) net.gate in

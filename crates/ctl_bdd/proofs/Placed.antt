@@ -1,5 +1,5 @@
 -- The nets that stand in control places.
-use Rattle.std.proofs.Common.{◌≡◌, ℕ, ◌<◌, ◌&&◌, ◌||◌, nat_eq, cond, Bool, true, false, List, [], ◌∷◌, ◌++◌, Option, None, Some, map, length, slice_get, refl, sym, ap, ◌∙◌, subst, zero, suc}
+use Rattle.std.proofs.Common.{◌≡◌, ℕ, ◌<◌, ◌&&◌, ◌||◌, nat_eq, cond, Bool, true, false, List, [], ◌∷◌, ◌++◌, Option, None, Some, map, length, slice_get, refl, sym, ap, ◌∙◌, subst, zero, suc, not, option_to_list}
 use Rattle.std.specs.Prelude.{filter}
 use Rattle.std.specs.List.{AllByRecursion, list_any}
 use Rattle.std.proofs.lemmas.Bool.{eqb-true}
@@ -13,8 +13,10 @@ use Rattle.net_model.specs.declared.hardware.Gate.{Gate}
 use Rattle.net_model.specs.declared.hardware.Gate.TheVariants.{Case, Bus}
 use Rattle.net_model.specs.Widths.{GateFits, NetFits, StorageFits, WhenFits, DriversFit, IsTyped}
 use Rattle.net_model.specs.Symbolic.{is_static}
-use Rattle.net_model.specs.CheckedRules.{is_control, storage_controls, when_controls, gate_controls, net_controls, UsesControlGates, HasPlainControl}
-use Rattle.ctl_bdd.specs.Places.{control_places, is_placed, is_static_control}
+use Rattle.net_model.specs.Control.{storage_enables, gate_enables, gate_selectors, write_enables, bus_enables, enables, selectors, control_places}
+use Rattle.net_model.specs.CheckedRules.{is_control, is_plain, HasPlainControl}
+use Rattle.net_model.proofs.Offsets.{all_gather}
+use Rattle.ctl_bdd.specs.Places.{is_placed, is_static_control}
 use Rattle.rec_bits.proofs.Booleans.{or_right}
 
 -- ---- lists
@@ -23,10 +25,6 @@ use Rattle.rec_bits.proofs.Booleans.{or_right}
 pub all_by_place : {X : Type 0} (P : X → Type 0) (xs : List X) → ((n : ℕ) (x : X) → slice_get xs n ≡ Some x → P x) → AllByRecursion P xs
 all_by_place P [] h = tt
 all_by_place P (x ∷ xs) h = (h 0 x refl, all_by_place P xs (λ n y e. h (suc n) y e))
-
-all_gathered : {X : Type 0} (P : ℕ → Type 0) (f : X → List ℕ) (xs : List X) → AllByRecursion (λ x. AllByRecursion P (f x)) xs → AllByRecursion P (gather f xs)
-all_gathered P f [] h = tt
-all_gathered P f (x ∷ xs) h = all_append P (f x) (gather f xs) h.0 (all_gathered P f xs h.1)
 
 pub all_filtered : (P : ℕ → Type 0) (f : ℕ → Bool) (xs : List ℕ) → AllByRecursion P xs → AllByRecursion P (filter f xs)
 all_filtered P f [] h = tt
@@ -82,61 +80,80 @@ any_front n (x ∷ xs) ys e = by (nat_eq n x) e (any_front n xs ys)
     by true e later = refl
     by false e later = later e
 
-any_gathered : (n k : ℕ) (nets : List Net) (net : Net) → slice_get nets k ≡ Some net → list_any (nat_eq n) (gate_controls net.gate) ≡ true → list_any (nat_eq n) (gather (λ (net : Net). gate_controls net.gate) nets) ≡ true
-any_gathered n k [] net there e = cc
-any_gathered n zero (x ∷ nets) net there e =
-    let same : net ≡ x = cc in
-    any_front n (gate_controls x.gate) (gather (λ (net : Net). gate_controls net.gate) nets) (rw same at e)
-any_gathered n (suc k) (x ∷ nets) net there e = any_append n (gate_controls x.gate) _ (any_gathered n k nets net there e)
+any_gathered : {X : Type 0} (f : X → List ℕ) (n k : ℕ) (xs : List X) (x : X) → slice_get xs k ≡ Some x → list_any (nat_eq n) (f x) ≡ true → list_any (nat_eq n) (gather f xs) ≡ true
+any_gathered f n k [] x there e = cc
+any_gathered f n zero (y ∷ xs) x there e =
+    let same : x ≡ y = cc in
+    any_front n (f y) (gather f xs) (rw same at e)
+any_gathered f n (suc k) (y ∷ xs) x there e = any_append n (f y) _ (any_gathered f n k xs x there e)
+
+implied : (a b : Bool) → (not a || b) ≡ true → a ≡ true → b ≡ true
+implied true b e h = e
+implied false b e h = cc
 
 -- ---- control places
 
 module _ (netlist : Netlist) where
-  -- what the gate of a net puts in a control place
-  pub placed : (n k : ℕ) (net : Net) → slice_get netlist.nets k ≡ Some net → list_any (nat_eq n) (gate_controls net.gate) ≡ true → is_placed netlist n ≡ true
-  placed n k net there e = any_append n (gather storage_controls netlist.storages) _ (any_gathered n k netlist.nets net there e)
+  -- what a storage and the gate of a net put in a control place
+  pub when_placed : (n k : ℕ) (storage : Storage) → slice_get netlist.storages k ≡ Some storage → list_any (nat_eq n) (storage_enables storage) ≡ true → is_placed netlist n ≡ true
+  when_placed n k storage there e =
+      any_front n (enables netlist) (selectors netlist) (any_front n (write_enables netlist) (bus_enables netlist) (any_gathered storage_enables n k netlist.storages storage there e))
 
-  when_inside : (when : Option ℕ) → WhenFits netlist when → AllByRecursion (λ n. n < length netlist.nets) (when_controls when)
+  pub enable_placed : (n k : ℕ) (net : Net) → slice_get netlist.nets k ≡ Some net → list_any (nat_eq n) (gate_enables net.gate) ≡ true → is_placed netlist n ≡ true
+  enable_placed n k net there e =
+      any_front n (enables netlist) (selectors netlist)
+      (any_append n (write_enables netlist) (bus_enables netlist) (any_gathered (λ (net : Net). gate_enables net.gate) n k netlist.nets net there e))
+
+  pub selector_placed : (n k : ℕ) (net : Net) → slice_get netlist.nets k ≡ Some net → list_any (nat_eq n) (gate_selectors net.gate) ≡ true → is_placed netlist n ≡ true
+  selector_placed n k net there e =
+      any_append n (enables netlist) (selectors netlist) (any_gathered (λ (net : Net). gate_selectors net.gate) n k netlist.nets net there e)
+
+  abbrev Inside : List ℕ → Type 0
+  Inside ns = AllByRecursion (λ n. n < length netlist.nets) ns
+
+  when_inside : (when : Option ℕ) → WhenFits netlist when → Inside (option_to_list when)
   when_inside None h = tt
   when_inside (Some when) h = (h.0, tt)
 
-  storage_inside : (storage : Storage) → StorageFits netlist storage → AllByRecursion (λ n. n < length netlist.nets) (storage_controls storage)
+  storage_inside : (storage : Storage) → StorageFits netlist storage → Inside (storage_enables storage)
   storage_inside (Register name width input when) h = when_inside when h.1
   storage_inside (Memory name width size addr_width value addr when) h = when_inside when h.2
 
-  drivers_inside : (width : ℕ) (drivers : List (ℕ × ℕ)) → DriversFit netlist width drivers → AllByRecursion (λ n. n < length netlist.nets) (map (λ (driver : ℕ × ℕ). driver.1) drivers)
+  drivers_inside : (width : ℕ) (drivers : List (ℕ × ℕ)) → DriversFit netlist width drivers → Inside (map (λ (driver : ℕ × ℕ). driver.1) drivers)
   drivers_inside width [] h = tt
   drivers_inside width (driver ∷ drivers) h = (h.1.0, drivers_inside width drivers h.2)
 
-  gate_inside : (width : ℕ) (gate : Gate) → GateFits netlist width gate → AllByRecursion (λ n. n < length netlist.nets) (gate_controls gate)
-  gate_inside width (Case sel rows rest) h = (h.0, tt)
-  gate_inside width (Bus drivers) h = drivers_inside width drivers h
-  gate_inside width _ h = tt
+  enables_inside : (width : ℕ) (gate : Gate) → GateFits netlist width gate → Inside (gate_enables gate)
+  enables_inside width (Bus drivers) h = drivers_inside width drivers h
+  enables_inside width _ h = tt
 
-  pub places_inside : IsTyped netlist → AllByRecursion (λ n. n < length netlist.nets) (control_places netlist)
+  selectors_inside : (width : ℕ) (gate : Gate) → GateFits netlist width gate → Inside (gate_selectors gate)
+  selectors_inside width (Case sel rows rest) h = (h.0, tt)
+  selectors_inside width _ h = tt
+
+  gates_inside : (f : Gate → List ℕ) → ((width : ℕ) (gate : Gate) → GateFits netlist width gate → Inside (f gate)) → IsTyped netlist → Inside (gather (λ (net : Net). f net.gate) netlist.nets)
+  gates_inside f inside t =
+      all_gather (λ n. n < length netlist.nets) (λ (net : Net). f net.gate) netlist.nets (all_by_place (λ (net : Net). Inside (f net.gate)) netlist.nets
+      (λ k net there. let fits : NetFits netlist (Some net) = subst (NetFits netlist) there (t.nets k) in inside net.width net.gate fits.2))
+
+  pub places_inside : IsTyped netlist → Inside (control_places netlist)
   places_inside t =
-      all_append (λ n. n < length netlist.nets) (gather storage_controls netlist.storages) _
-      (all_gathered (λ n. n < length netlist.nets) storage_controls netlist.storages
-      (all_weaker (StorageFits netlist) (λ storage. AllByRecursion (λ n. n < length netlist.nets) (storage_controls storage)) storage_inside netlist.storages t.storages))
-      (all_gathered (λ n. n < length netlist.nets) (λ (net : Net). gate_controls net.gate) netlist.nets
-      (all_by_place (λ (net : Net). AllByRecursion (λ n. n < length netlist.nets) (gate_controls net.gate)) netlist.nets
-      (λ k net there. let fits : NetFits netlist (Some net) = subst (NetFits netlist) there (t.nets k) in gate_inside net.width net.gate fits.2)))
-
-  -- a static net in a control place uses control's gates
-  pub places_control : HasPlainControl netlist → AllByRecursion (λ n. is_static netlist n ≡ true → is_control netlist n ≡ true) (control_places netlist)
-  places_control h =
-      all_append (λ n. is_static netlist n ≡ true → is_control netlist n ≡ true) (gather storage_controls netlist.storages) _
-      (all_gathered (UsesControlGates netlist) storage_controls netlist.storages h.storages)
-      (all_gathered (UsesControlGates netlist) (λ (net : Net). gate_controls net.gate) netlist.nets
-      (all_by_place (λ (net : Net). AllByRecursion (UsesControlGates netlist) (gate_controls net.gate)) netlist.nets
-      (λ k net there. let uses : AllByRecursion (UsesControlGates netlist) (net_controls (Some net)) = subst (λ o. AllByRecursion (UsesControlGates netlist) (net_controls o)) there (h.nets k) in uses)))
+      all_append (λ n. n < length netlist.nets) (enables netlist) (selectors netlist)
+      (all_append (λ n. n < length netlist.nets) (write_enables netlist) (bus_enables netlist)
+      (all_gather (λ n. n < length netlist.nets) storage_enables netlist.storages
+      (all_weaker (StorageFits netlist) (λ storage. Inside (storage_enables storage)) storage_inside netlist.storages t.storages))
+      (gates_inside gate_enables enables_inside t))
+      (gates_inside gate_selectors selectors_inside t)
 
   -- the static ones among them
-  pub static_inside : IsTyped netlist → AllByRecursion (λ n. n < length netlist.nets) (filter (is_static netlist) (control_places netlist))
+  pub static_inside : IsTyped netlist → Inside (filter (is_static netlist) (control_places netlist))
   static_inside t = all_filtered (λ n. n < length netlist.nets) (is_static netlist) (control_places netlist) (places_inside t)
 
   pub static_control : HasPlainControl netlist → AllByRecursion (λ n. is_control netlist n ≡ true) (filter (is_static netlist) (control_places netlist))
-  static_control h = all_passed (λ n. is_control netlist n ≡ true) (is_static netlist) (control_places netlist) (places_control h)
+  static_control h =
+      all_passed (λ n. is_control netlist n ≡ true) (is_static netlist) (control_places netlist)
+      (all_weaker (λ n. is_plain netlist n ≡ true) (λ n. is_static netlist n ≡ true → is_control netlist n ≡ true)
+      (λ n. implied (is_static netlist n) (is_control netlist n)) (control_places netlist) h)
 
   pub static_any : (n : ℕ) → list_any (nat_eq n) (filter (is_static netlist) (control_places netlist)) ≡ is_static_control netlist n
   static_any n = any_filtered (is_static netlist) n (control_places netlist)

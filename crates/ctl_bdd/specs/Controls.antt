@@ -3,10 +3,9 @@ use Rattle.std.specs.Prelude.{◌≡◌, ◌↔◌, ℕ, ◌^◌, ◌<◌, ◌==
 use Rattle.std.specs.List.{AllByRecursion}
 use Rattle.std.specs.Int.{bit_at}
 use Rattle.net_model.specs.declared.hardware.Netlist.{Netlist}
-use Rattle.net_model.specs.Nets.{word_width}
 use Rattle.net_model.specs.Symbolic.{blank}
 use Rattle.net_model.specs.Value.{value_of}
-use Rattle.net_model.specs.Clock.{clash_in}
+use Rattle.net_model.specs.Transfers.{IsClean, ClashesAlways}
 use Rattle.bit_bdd.specs.Diagrams.{Diagrams, has_word}
 use Rattle.ctl_bdd.specs.Bits.{AreSets}
 use Rattle.ctl_bdd.specs.Places.{static_controls}
@@ -14,10 +13,6 @@ use Rattle.ctl_bdd.specs.Tables.{AreBits}
 use Rattle.ctl_bdd.specs.declared.ControlBits.{ControlBits}
 use Rattle.ctl_bdd.specs.declared.CtlFault.{CtlFault}
 use Rattle.ctl_bdd.specs.declared.CtlFault.TheVariants.{AlwaysClash, Memory}
-
--- no bus clashes under the word; enables are static, so they are read in the blank state
-abbrev pub IsWithoutClash : Netlist → ℕ → Type 0
-IsWithoutClash netlist word = clash_in (value_of netlist blank word) netlist.nets ≡ None
 
 -- the sets of a net's bits: each holds exactly the words under which the net's value has that bit
 pub record IsNetBits (netlist : Netlist) (book : Diagrams) (net : ℕ × List ℕ) : Type 0 where
@@ -31,8 +26,8 @@ pub record IsControl (netlist : Netlist) (book : Diagrams) (controls : ControlBi
   pub nets : map (λ (net : ℕ × List ℕ). net.0) controls.bits ≡ static_controls netlist
   pub bits : AllByRecursion (IsNetBits netlist book) controls.bits
   pub within : controls.legal < length book.nodes
-  pub legal : (word : ℕ) → word < 2 ^ book.bits → (has_word book controls.legal word ≡ true) ↔ IsWithoutClash netlist word
-  pub some : (word : ℕ) × (word < 2 ^ book.bits) × IsWithoutClash netlist word
+  pub legal : (word : ℕ) → word < 2 ^ book.bits → (has_word book controls.legal word ≡ true) ↔ IsClean netlist word
+  pub some : (word : ℕ) × (word < 2 ^ book.bits) × IsClean netlist word
 
 -- the sets that stand with a net
 abbrev pub bits_in : List (ℕ × List ℕ) → ℕ → Option (List ℕ)
@@ -41,5 +36,5 @@ bits_in (net ∷ nets) n = if net.0 == n then Some net.1 else bits_in nets n
 
 -- each word of the code clashes; want of memory has no cause
 abbrev pub HasCause : Netlist → CtlFault → Type 0
-HasCause netlist AlwaysClash = (word : ℕ) → word < 2 ^ word_width netlist → IsWithoutClash netlist word → ⊥
+HasCause netlist AlwaysClash = ClashesAlways netlist
 HasCause netlist Memory = Unit {0}

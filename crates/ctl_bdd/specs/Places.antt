@@ -1,15 +1,9 @@
 -- The nets whose bits control needs: static nets that stand in control places.
 use Rattle.std.specs.Prelude.{ℕ, zero, suc, ◌&&◌, nat_eq, Bool, List, [], ◌∷◌, ◌++◌, length, filter}
 use Rattle.std.specs.List.{list_any}
-use Rattle.rec_bits.specs.Faults.{gather}
 use Rattle.net_model.specs.declared.hardware.Netlist.{Netlist}
-use Rattle.net_model.specs.declared.hardware.Net.{Net}
-use Rattle.net_model.specs.CheckedRules.{storage_controls, gate_controls}
+use Rattle.net_model.specs.Control.{control_places}
 use Rattle.net_model.specs.Symbolic.{is_static}
-
--- what stands in control places: write enables, then bus enables and the selectors of cases
-abbrev pub control_places : Netlist → List ℕ
-control_places netlist = gather storage_controls netlist.storages ++ gather (λ (net : Net). gate_controls net.gate) netlist.nets
 
 abbrev pub is_placed : Netlist → ℕ → Bool
 is_placed netlist n = list_any (nat_eq n) (control_places netlist)

@@ -3,10 +3,12 @@
 ghost use Rattle.std.specs.Prelude.{◌≡◌, ◌↔◌, ℕ, ◌<◌, ◌^◌, true, List, length, filter, map, IfOk, MatchResult};
 ghost use Rattle.std.specs.List.{AllByRecursion};
 ghost use Rattle.net_model.specs.Symbolic.{is_static};
+ghost use Rattle.net_model.specs.Control.{control_places};
 ghost use Rattle.net_model.specs.Nets.{word_width};
+ghost use Rattle.net_model.specs.Transfers.{IsClean};
 ghost use Rattle.bit_bdd.specs.Diagrams.{Extends, has_word};
-ghost use Rattle.ctl_bdd.specs.Controls.{HasCause, IsControl, IsWithoutClash};
-ghost use Rattle.ctl_bdd.specs.Places.{control_places, static_controls};
+ghost use Rattle.ctl_bdd.specs.Controls.{HasCause, IsControl};
+ghost use Rattle.ctl_bdd.specs.Places.{static_controls};
 ghost use Rattle.ctl_bdd.specs.Tables.{HasControls, sets_at};
 
 use crate::gates::sets_of;
@@ -54,11 +56,12 @@ fn legal_words(
     table: &[Items<SetId>],
     book: &mut Book,
 ) -> Result<SetId, NoMemory>
-    requires { HasControls checked.now.netlist book.old table.now }
+    requires controls { HasControls checked.now.netlist book.old table.now }
+    requires width { book.old.bits ≡ word_width checked.now.netlist }
     ensures grows { Extends book.old book.new }
     ensures within { IfOk result (λ id. id < length book.new.nodes) }
     ensures legal { IfOk result (λ id. (word : ℕ) → word < 2 ^ book.new.bits →
-        (has_word book.new id word ≡ true) ↔ IsWithoutClash checked.now.netlist word) }
+        (has_word book.new id word ≡ true) ↔ IsClean checked.now.netlist word) }
 {
     let nets = checked.netlist().nets.as_slice();
     let legal = legal_set(alloc, book, table, nets)?;

@@ -1,40 +1,17 @@
 //! The nets that stand in control places, and all that they depend on.
 
-ghost use Rattle.std.specs.Prelude.{◌≡◌, ℕ, ◌<◌, ◌++◌, ◌&&◌, ◌||◌, filter, nat_eq, true, length, IfOk, OnOk};
+ghost use Rattle.std.specs.Prelude.{◌≡◌, ℕ, ◌<◌, ◌&&◌, ◌||◌, filter, nat_eq, true, length, IfOk, OnOk};
 ghost use Rattle.std.specs.List.{AllByRecursion, list_any};
-ghost use Rattle.net_model.specs.CheckedRules.{gate_controls, is_control};
+ghost use Rattle.net_model.specs.CheckedRules.{is_control};
+ghost use Rattle.net_model.specs.Control.{control_places};
 ghost use Rattle.net_model.specs.Nets.{gate_nets};
 ghost use Rattle.net_model.specs.Flags.{flag_at};
 ghost use Rattle.ctl_bdd.specs.Flags.{IsClosed};
-ghost use Rattle.ctl_bdd.specs.Places.{control_places};
 
 use crate::flags::{new_flags, set_all};
 use net_model::{Checked, Gate, Netlist, is_set};
 use rec_bits::{Items, NoMemory};
 use std::alloc::Global;
-
-fn push_controls(nets: &mut Items<u32>, gate: &Gate) -> Result<(), NoMemory>
-    ensures { OnOk result (nets.new ≡ nets.old ++ gate_controls gate.now) }
-{
-    match gate {
-        Gate::Case { sel, .. } => {
-            nets.push(*sel)?;
-            Ok(())
-        }
-        _ => gate.push_enables(nets),
-    }
-}
-
-// The nets of write enables, then those of bus enables and of selectors.
-fn places_of(alloc: Global, netlist: &Netlist) -> Result<Items<u32>, NoMemory>
-    ensures { IfOk result (λ places. places ≡ control_places netlist.now) }
-{
-    let mut places = netlist.write_enables(alloc)?;
-    for net in netlist.nets.as_slice() {
-        push_controls(&mut places, &net.gate)?;
-    }
-    Ok(places)
-}
 
 fn with_flag(alloc: Global, flags: &[bool], nets: &[u32]) -> Result<Items<u32>, NoMemory>
     ensures { IfOk result (λ those. those ≡ filter (flag_at flags.now) nets.now) }
@@ -56,7 +33,7 @@ pub(crate) fn places_with_flag(
 ) -> Result<Items<u32>, NoMemory>
     ensures { IfOk result (λ places. places ≡ filter (flag_at flags.now) (control_places netlist.now)) }
 {
-    let places = places_of(alloc, netlist)?;
+    let places = netlist.control_places(alloc)?;
     with_flag(alloc, flags, places.as_slice())
 }
 

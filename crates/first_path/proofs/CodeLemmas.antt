@@ -18,12 +18,15 @@ use Rattle.code_model.specs.Programs.{IsRightCode}
 use Rattle.code_model.specs.Right.{IsLaidOut, IsEndMarked, TracesRight}
 use Rattle.code_model.specs.Straight.{IsStraight}
 use Rattle.code_model.proofs.Straight.{straight_traces}
+use Rattle.src_front.specs.Fronts.{AreNamed}
 use Rattle.word_search.specs.declared.finder.Store.{Store}
 use Rattle.word_search.specs.Found.{AreCells, AreFound}
 use Rattle.word_search.proofs.Straight.{straight}
 use Rattle.first_path.specs.Code.{AreStores, IsCode, IsNarrow}
 use Rattle.first_path.specs.Images.{plain_word, straight_image}
 use Rattle.first_path.specs.Stores.{are_plain, each, store_in, stores_in}
+use Rattle.first_path.specs.Tasks.{Task}
+use Rattle.first_path.proofs.FittingLemmas.{straight_fits}
 use Rattle.first_path.proofs.StraightLemmas.{pairs_of, straight_temps, straight_trace}
 
 -- the assignments of a straight program are found in its statements
@@ -53,7 +56,8 @@ right_of_straight netlist sound word listing stores each_is image is_straight la
 }
 
 module _ (netlist : Netlist) (order : List ℕ) (rules : KeepsRules netlist order) (sound : IsSound netlist) (word : ℕ) (listing : Listing) (stores : List Store)
-    (are : AreStores netlist listing stores) (words : List ℕ) (found : AreFound netlist stores words) (apart : Apart (layout_of word listing).temps (layout_of word listing).list (memory_size netlist.storages)) where
+    (are : AreStores (record { netlist = netlist; width = word; listing = listing }) stores) (words : List ℕ) (found : AreFound netlist stores words) (apart : Apart (layout_of word listing).temps (layout_of word listing).list (memory_size netlist.storages))
+    (named : AreNamed listing.vars) where
   abbrev image : Image
   image = straight_image (word_width netlist) (layout_of word listing) words (length stores)
 
@@ -73,13 +77,16 @@ module _ (netlist : Netlist) (order : List ℕ) (rules : KeepsRules netlist orde
   is_straight =
       straight netlist rules.roles.code stores words found (variables_of listing.vars) (pairs_of stores) image (cells_are (temp_count word listing) none stores)
       (record { places = refl; all = all; marks = ap (λ n. record { address = n; label = None } ∷ []) (sym long) })
-      (omega (arith, long, are.short, rules.roles.words.1))
+      (omega (arith, long, are.short, rules.roles.sizes.0.1))
 
   code_right : IsRightCode netlist word listing image
   code_right = right_of_straight netlist sound word listing stores each_is image is_straight (record { temps = refl; places = refl; apart = apart })
       (record { last = length stores; words = ap length all ∙ found.long; marks = refl })
 
-  pub code_is : (narrow : IsNarrow netlist word listing) (places : Places) (out : List ℕ) (made : Image) → places ≡ layout_of word listing → made ≡ straight_image (word_width netlist) places words (length stores) → out ≡ image_text made → IsCode out netlist word listing
+  abbrev task : Task
+  task = record { netlist = netlist; width = word; listing = listing }
+
+  pub code_is : (narrow : IsNarrow task) (places : Places) (out : List ℕ) (made : Image) → places ≡ layout_of word listing → made ≡ straight_image (word_width netlist) places words (length stores) → out ≡ image_text made → IsCode out task
   code_is narrow places out made places_is made_is out_is =
       let same : made ≡ image = made_is ∙ ap (λ (p : Places). straight_image (word_width netlist) p words (length stores)) places_is in
       record {
@@ -90,6 +97,9 @@ module _ (netlist : Netlist) (order : List ℕ) (rules : KeepsRules netlist orde
         found = found;
         image = image;
         image_is = refl;
-        text = out_is ∙ ap image_text same;
+        read = record {
+          text = out_is ∙ ap image_text same;
+          fits = straight_fits netlist order rules stores are.short words found (temp_count word listing) listing.vars named apart;
+        };
         code = code_right;
       }

@@ -1,6 +1,6 @@
 -- What is found in each of a list.
 use Rattle.std.proofs.Common.{◌≡◌, List, [], ◌∷◌, ◌++◌, Option, Some, None, refl, ap, append_assoc}
-use Rattle.first_path.specs.Stores.{put_first, each}
+use Rattle.first_path.specs.Stores.{put_first}
 
 -- a list in front of what was found
 abbrev pub put_before : {B : Type 0} → List B → Option (List B) → Option (List B)

@@ -1,40 +1,49 @@
--- What was read of two texts is the one thing that they say.
-use Rattle.std.proofs.Common.{◌≡◌, ℕ, List, subst, arith}
+-- Two texts say one task, and it is that of what was read.
+use Rattle.std.proofs.Common.{◌≡◌, ℕ, List, ap, refl, sym, ◌∙◌, subst, arith}
 use Rattle.net_model.specs.declared.hardware.Netlist.{Netlist}
 use Rattle.net_model.specs.CheckedRules.{Ordered}
 use Rattle.net_model.specs.Elaborated.{netlist_of}
 use Rattle.net_model.specs.Nets.{memory_width}
 use Rattle.net_extract.specs.Extracts.{IsRoutedNet}
 use Rattle.src_model.specs.declared.fault.SrcFault.{SrcFault}
-use Rattle.src_model.specs.Written.{Listing}
+use Rattle.src_model.specs.declared.typed.Typed.{Typed}
+use Rattle.src_model.specs.Written.{Listing, listing_of}
 use Rattle.src_front.specs.Fronts.{IsSrcFile, BreaksSrcRule}
 use Rattle.src_front.proofs.FrontLaws.{no_broken_rule, one_broken_rule}
 use Rattle.first_path.specs.declared.compiler.FirstFault.{FirstFault}
 use Rattle.first_path.specs.declared.compiler.FirstFault.TheVariants.{NetText, Net, SrcText, Src, DataFull, WideCode, NotStraight, NoWord, Memory}
-use Rattle.first_path.specs.Code.{Property, IsFull, IsWide, IsNotStraight, IsWordless, AreStores, HasStores, HasRoom, IsNarrow, IsCode, IsCodeFault, FailsWith}
-use Rattle.first_path.specs.First.{HasNet, Holds, IsCompiled, BreaksSrc, IsFirstFault, data_width}
+use Rattle.first_path.specs.Code.{IsFull, IsWide, IsNotStraight, IsWordless, AreStores, HasStores, HasRoom, IsNarrow, IsCode, IsCodeFault, FailsWith}
+use Rattle.first_path.specs.First.{HasNet, IsCompiled, BreaksSrc, IsFirstFault}
+use Rattle.first_path.specs.Tasks.{Task, Property, IsTask, Holds, read_task, data_width}
 use Rattle.word_search.specs.declared.finder.Store.{Store}
 use Rattle.word_search.specs.Found.{IsMissing}
 use Rattle.first_path.proofs.MissingLemmas.{one_missing, none_missing}
 
 -- a program has one list of assignments
-one_stores : (netlist : Netlist) (listing : Listing) (s t : List Store) → AreStores netlist listing s → AreStores netlist listing t → s ≡ t
-one_stores netlist listing s t a b = let e = a.straight in let f = b.straight in cc
+one_stores : (task : Task) (s t : List Store) → AreStores task s → AreStores task t → s ≡ t
+one_stores task s t a b = let e = a.straight in let f = b.straight in cc
 
--- ---- two texts say one netlist and one program
+-- ---- two texts say one task
+
+abbrev task_with : Netlist → ℕ → Listing → Task
+task_with netlist width listing = record { netlist = netlist; width = width; listing = listing }
+
+same_task : (n m : Netlist) (w v : ℕ) (l k : Listing) → n ≡ m → w ≡ v → l ≡ k → task_with n w l ≡ task_with m v k
+same_task n m w v l k e f g = rw (e, f, g) refl
 
 module _ (net src : List ℕ) where
-  -- what holds of them, and what else does, holds of the same netlist and program
-  pub together : (P Q : Property) (G : Type 0) → ((netlist : Netlist) (word : ℕ) (listing : Listing) → P netlist word listing → Q netlist word listing → G) → Holds net src P → Holds net src Q → G
-  together P Q G f a b =
-      let e : b.entries ≡ a.entries = b.files.net_file.file.says.only a.entries a.files.net_file.file.says.text in
-      let file : IsSrcFile src (data_width a.entries) b.listing = subst (λ x. IsSrcFile src (data_width x) b.listing) e b.files.src_file in
-      let l : b.listing ≡ a.listing = file.says.only a.listing a.files.src_file.says.text in
-      f (netlist_of a.entries) (data_width a.entries) a.listing a.holds
-      (subst (λ x. Q (netlist_of x) (data_width x) a.listing) e (subst (λ y. Q (netlist_of b.entries) (data_width b.entries) y) l b.holds))
+  one_task : (a b : Task) → IsTask net src a → IsTask net src b → a ≡ b
+  one_task a b p q =
+      let e : p.entries ≡ q.entries = p.net_file.file.says.only q.entries q.net_file.file.says.text in
+      same_task a.netlist b.netlist a.width b.width a.listing b.listing (p.netlist ∙ (ap netlist_of e ∙ sym q.netlist)) (p.width ∙ (ap data_width e ∙ sym q.width))
+      (p.src_file.says.only b.listing q.src_file.says.text)
+
+  -- what holds of it, and what else does, holds of the same task
+  pub together : (P Q : Property) (G : Type 0) → ((task : Task) → P task → Q task → G) → Holds net src P → Holds net src Q → G
+  together P Q G f a b = f a.task a.holds (subst Q (one_task b.task a.task b.is a.is) b.holds)
 
   pub has_net : (P : Property) → Holds net src P → HasNet net
-  has_net P h = record { entries = h.entries; file = h.files.net_file }
+  has_net P h = record { entries = h.is.entries; file = h.is.net_file }
 
   -- a program breaks one rule first, and none where it keeps them
   pub one_broken : (fault later : SrcFault) → BreaksSrc net src fault → BreaksSrc net src later → fault ≡ later
@@ -44,62 +53,68 @@ module _ (net src : List ℕ) where
 
   pub none_broken : (P : Property) (fault : SrcFault) → Holds net src P → BreaksSrc net src fault → ⊥
   none_broken P fault h b =
-      no_broken_rule src (data_width h.entries) h.listing fault h.files.src_file
-      (subst (λ e. BreaksSrcRule src (data_width e) fault) (b.net_file.file.says.only h.entries h.files.net_file.file.says.text) b.breaks)
+      let e : b.entries ≡ h.is.entries = b.net_file.file.says.only h.is.entries h.is.net_file.file.says.text in
+      no_broken_rule src h.task.width h.task.listing fault h.is.src_file
+      (subst (λ n. BreaksSrcRule src n fault) (ap data_width e ∙ sym h.is.width) b.breaks)
 
-  -- what follows from what holds of them holds of them
-  pub weaker : (P Q : Property) → ((netlist : Netlist) (word : ℕ) (listing : Listing) → P netlist word listing → Q netlist word listing) → Holds net src P → Holds net src Q
-  weaker P Q f h = record { entries = h.entries; listing = h.listing; files = h.files; holds = f (netlist_of h.entries) (data_width h.entries) h.listing h.holds }
+  -- what follows from what holds of it holds of it
+  pub weaker : (P Q : Property) → ((task : Task) → P task → Q task) → Holds net src P → Holds net src Q
+  weaker P Q f h = record { task = h.task; is = h.is; holds = f h.task h.holds }
 
   -- ---- the refusals exclude each other
 
   pub one_full : (p q : ℕ × ℕ) → Holds net src (IsFull p.0 p.1) → Holds net src (IsFull q.0 q.1) → p ≡ q
-  one_full (a, b) (c, d) = together (IsFull a b) (IsFull c d) ((a, b) ≡ (c, d)) (λ netlist word listing x y. let e = x.needs in let f = y.needs in let g = x.has in let h = y.has in cc)
+  one_full (a, b) (c, d) = together (IsFull a b) (IsFull c d) ((a, b) ≡ (c, d)) (λ task x y. let e = x.needs in let f = y.needs in let g = x.has in let h = y.has in cc)
 
   pub no_full : (need have : ℕ) → Holds net src HasRoom → Holds net src (IsFull need have) → ⊥
-  no_full need have = together HasRoom (IsFull need have) ⊥ (λ netlist word listing x y. let a = x.room in let b = y.needs in let c = y.has in let d = y.more in omega arith)
+  no_full need have = together HasRoom (IsFull need have) ⊥ (λ task x y. let a = x.room in let b = y.needs in let c = y.has in let d = y.more in omega arith)
 
   pub no_wide : Holds net src IsNarrow → Holds net src IsWide → ⊥
-  no_wide = together IsNarrow IsWide ⊥ (λ netlist word listing x y. let a = x.narrow in omega arith)
+  no_wide = together IsNarrow IsWide ⊥ (λ task x y. let a = x.narrow in omega arith)
 
   pub no_crooked : Holds net src HasStores → Holds net src IsNotStraight → ⊥
-  no_crooked = together HasStores IsNotStraight ⊥ (λ netlist word listing x y. y x.stores x.are)
+  no_crooked = together HasStores IsNotStraight ⊥ (λ task x y. y x.stores x.are)
 
   pub one_wordless : (number later : ℕ) → Holds net src (IsWordless number) → Holds net src (IsWordless later) → number ≡ later
-  one_wordless number later = together (IsWordless number) (IsWordless later) (number ≡ later) (λ netlist word listing x y.
-      one_missing netlist x.stores number later x.lacks (subst (λ s. IsMissing netlist s later) (one_stores netlist listing y.stores x.stores y.are x.are) y.lacks))
+  one_wordless number later = together (IsWordless number) (IsWordless later) (number ≡ later) (λ task x y.
+      one_missing task.netlist x.stores number later x.lacks (subst (λ s. IsMissing task.netlist s later) (one_stores task y.stores x.stores y.are x.are) y.lacks))
 
   pub no_wordless : (out : List ℕ) (number : ℕ) → IsCompiled net src out → Holds net src (IsWordless number) → ⊥
-  no_wordless out number = together (IsCode out) (IsWordless number) ⊥ (λ netlist word listing x y.
-      none_missing netlist x.stores x.words number x.found (subst (λ s. IsMissing netlist s number) (one_stores netlist listing y.stores x.stores y.are x.are) y.lacks))
+  no_wordless out number = together (IsCode out) (IsWordless number) ⊥ (λ task x y.
+      none_missing task.netlist x.stores x.words number x.found (subst (λ s. IsMissing task.netlist s number) (one_stores task y.stores x.stores y.are x.are) y.lacks))
 
   pub narrow_of_code : (out : List ℕ) → IsCompiled net src out → Holds net src IsNarrow
-  narrow_of_code out = weaker (IsCode out) IsNarrow (λ netlist word listing x. x.narrow)
+  narrow_of_code out = weaker (IsCode out) IsNarrow (λ task x. x.narrow)
 
   pub straight_of_code : (out : List ℕ) → IsCompiled net src out → Holds net src HasStores
-  straight_of_code out = weaker (IsCode out) HasStores (λ netlist word listing x. record { stores = x.stores; are = x.are })
+  straight_of_code out = weaker (IsCode out) HasStores (λ task x. record { stores = x.stores; are = x.are })
 
 -- ---- from what was read to the texts
 
--- what holds of the netlist and the program that were read holds of the two texts
-pub holds_of_read : (net src : List ℕ) (checked : Ordered) (word : ℕ) (listing : Listing) (P : Property) → IsRoutedNet net checked → word ≡ memory_width checked.netlist.storages → IsSrcFile src word listing → P checked.netlist word listing → Holds net src P
-holds_of_read net src checked word listing P read wide file holds =
-    let w : word ≡ data_width read.entries = rw read.netlist.netlist at wide in
-    record {
-      entries = read.entries;
-      listing = listing;
-      files = record { net_file = read.file; src_file = subst (λ n. IsSrcFile src n listing) w file };
-      holds = subst (λ (n : Netlist). P n (data_width read.entries) listing) read.netlist.netlist (subst (λ n. P checked.netlist n listing) w holds);
-    }
+module _ (net src : List ℕ) (checked : Ordered) (typed : Typed) (read : IsRoutedNet net checked) (wide : typed.width ≡ memory_width checked.netlist.storages)
+    (file : IsSrcFile src typed.width (listing_of typed.program)) where
+  -- the task of what was read is that of the two texts
+  is_task : IsTask net src (read_task checked typed)
+  is_task = record {
+    entries = read.entries;
+    net_file = read.file;
+    netlist = read.netlist.netlist;
+    width = wide ∙ ap (λ (n : Netlist). memory_width n.storages) read.netlist.netlist;
+    src_file = file;
+  }
 
--- why there is no code, once both were read
-pub fault_of_code : (net src : List ℕ) (checked : Ordered) (word : ℕ) (listing : Listing) → IsRoutedNet net checked → word ≡ memory_width checked.netlist.storages → IsSrcFile src word listing → (fault : FirstFault) → IsCodeFault checked.netlist word listing fault → IsFirstFault net src fault
-fault_of_code net src checked word listing read wide file (NetText at) h = absurd h
-fault_of_code net src checked word listing read wide file (Net fault) h = absurd h
-fault_of_code net src checked word listing read wide file (SrcText at) h = absurd h
-fault_of_code net src checked word listing read wide file (Src fault) h = absurd h
-fault_of_code net src checked word listing read wide file (DataFull need have) h = holds_of_read net src checked word listing (FailsWith (DataFull need have)) read wide file h
-fault_of_code net src checked word listing read wide file WideCode h = holds_of_read net src checked word listing (FailsWith WideCode) read wide file h
-fault_of_code net src checked word listing read wide file NotStraight h = holds_of_read net src checked word listing (FailsWith NotStraight) read wide file h
-fault_of_code net src checked word listing read wide file (NoWord number) h = holds_of_read net src checked word listing (FailsWith (NoWord number)) read wide file h
-fault_of_code net src checked word listing read wide file Memory h = tt
+  -- what holds of it holds of them
+  pub holds_of_read : (P : Property) → P (read_task checked typed) → Holds net src P
+  holds_of_read P holds = record { task = read_task checked typed; is = is_task; holds = holds }
+
+  -- why there is no code, once both were read
+  pub fault_of_code : (fault : FirstFault) → IsCodeFault (read_task checked typed) fault → IsFirstFault net src fault
+  fault_of_code (NetText at) h = absurd h
+  fault_of_code (Net fault) h = absurd h
+  fault_of_code (SrcText at) h = absurd h
+  fault_of_code (Src fault) h = absurd h
+  fault_of_code (DataFull need have) h = holds_of_read (FailsWith (DataFull need have)) h
+  fault_of_code WideCode h = holds_of_read (FailsWith WideCode) h
+  fault_of_code NotStraight h = holds_of_read (FailsWith NotStraight) h
+  fault_of_code (NoWord number) h = holds_of_read (FailsWith (NoWord number)) h
+  fault_of_code Memory h = tt

@@ -2,5 +2,6 @@ pub mod FirstLemmas
 pub mod StraightLemmas
 pub mod Eaches
 pub mod MissingLemmas
+pub mod FittingLemmas
 pub mod CodeLemmas
 pub mod Worked

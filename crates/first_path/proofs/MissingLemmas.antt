@@ -1,5 +1,5 @@
 -- The first address without a word is one, and there is none where all words were found.
-use Rattle.std.proofs.Common.{◌≡◌, ℕ, ◌<◌, List, true, false, sym, ◌∙◌, inl, inr, arith}
+use Rattle.std.proofs.Common.{◌≡◌, ℕ, ◌<◌, List, sym, ◌∙◌, inl, inr, arith}
 use Rattle.std.proofs.lemmas.Bool.{cases_lt, false≢true}
 use Rattle.net_model.specs.declared.hardware.Netlist.{Netlist}
 use Rattle.word_search.specs.declared.finder.Store.{Store}

@@ -1,10 +1,12 @@
 -- The definitions at a small processor: an image that is right code for a program, and one that isn't.
-use Rattle.std.proofs.Common.{ℕ, zero, suc, ◌≡◌, ◌<◌, ◌^◌, List, [], ◌∷◌, take, inl, refl, sym, ◌∙◌, ap, arith, None, slice_get, slice_index, codes}
+use Rattle.std.proofs.Common.{ℕ, zero, suc, ◌≡◌, ◌<◌, ◌^◌, List, [], ◌∷◌, take, refl, sym, ◌∙◌, ap, arith, None, slice_get, slice_index, codes}
 use Rattle.net_model.specs.declared.states.State.{State}
-use Rattle.net_model.specs.Control.{IsSound, NetControlled}
+use Rattle.net_model.specs.Control.{IsSound}
 use Rattle.net_model.specs.Nets.{code_bits, storage_bits}
-use Rattle.net_model.specs.Widths.{NetFits, WordFits}
+use Rattle.net_model.specs.Widths.{WordFits}
 use Rattle.net_model.specs.Worked.{s8}
+use Rattle.net_model.proofs.KeptRules.{sound_of}
+use Rattle.net_model.proofs.WorkedRules.{s8_order, s8_keeps}
 use Rattle.src_model.specs.declared.checkpoint.Checkpoint.TheVariants.{End}
 use Rattle.src_model.specs.Trace.{strace, run, run_in}
 use Rattle.src_model.specs.Ways.{Passed}
@@ -39,45 +41,8 @@ image_with second = straight_image 8 (layout_of 5 program) (3 ∷ second ∷ 130
 
 -- ---- the netlist keeps what the laws ask for
 
-nets_fit : (n : ℕ) → NetFits s8 (slice_get s8.nets n)
-nets_fit zero = (omega arith, omega arith, refl)
-nets_fit (suc zero) = (omega arith, omega arith, (omega arith, omega arith, omega arith, omega arith))
-nets_fit (suc (suc zero)) = (omega arith, omega arith, omega arith)
-nets_fit (suc (suc (suc zero))) = (omega arith, omega arith, (omega arith, (omega arith, refl), refl))
-nets_fit (suc (suc (suc (suc zero)))) = (omega arith, omega arith, (omega arith, omega arith, omega arith, omega arith))
-nets_fit (suc (suc (suc (suc (suc zero))))) = (omega arith, omega arith, (omega arith, (omega arith, (omega arith, refl), (omega arith, (omega arith, refl), tt)), tt))
-nets_fit (suc (suc (suc (suc (suc (suc zero)))))) = (omega arith, omega arith, refl)
-nets_fit (suc (suc (suc (suc (suc (suc (suc zero))))))) = (omega arith, omega arith, (omega arith, omega arith, omega arith, omega arith))
-nets_fit (suc (suc (suc (suc (suc (suc (suc (suc zero)))))))) = (omega arith, omega arith, (omega arith, omega arith, omega arith, omega arith))
-nets_fit (suc (suc (suc (suc (suc (suc (suc (suc (suc zero))))))))) = (omega arith, omega arith, (omega arith, omega arith, omega arith, omega arith))
-nets_fit (suc (suc (suc (suc (suc (suc (suc (suc (suc (suc zero)))))))))) = (omega arith, omega arith, (omega arith, refl))
-nets_fit (suc (suc (suc (suc (suc (suc (suc (suc (suc (suc (suc n))))))))))) = tt
-
-controlled : (n : ℕ) → NetControlled s8 (slice_get s8.nets n)
-controlled zero = tt
-controlled (suc zero) = tt
-controlled (suc (suc zero)) = tt
-controlled (suc (suc (suc zero))) = tt
-controlled (suc (suc (suc (suc zero)))) = tt
-controlled (suc (suc (suc (suc (suc zero))))) = inl refl
-controlled (suc (suc (suc (suc (suc (suc zero)))))) = tt
-controlled (suc (suc (suc (suc (suc (suc (suc zero))))))) = tt
-controlled (suc (suc (suc (suc (suc (suc (suc (suc zero)))))))) = tt
-controlled (suc (suc (suc (suc (suc (suc (suc (suc (suc zero))))))))) = tt
-controlled (suc (suc (suc (suc (suc (suc (suc (suc (suc (suc zero)))))))))) = tt
-controlled (suc (suc (suc (suc (suc (suc (suc (suc (suc (suc (suc n))))))))))) = tt
-
 sound : IsSound s8
-sound = record {
-  typed = record {
-    nets = nets_fit;
-    storages = (((omega arith, refl), tt), (((omega arith, refl), (omega arith, refl), (omega arith, refl)), tt));
-    few = omega arith;
-  };
-  controlled = record { nets = controlled };
-  storages = (tt, (refl, tt));
-  counter = tt;
-}
+sound = sound_of s8 s8_order s8_keeps
 
 word_fits : (i : ℕ) → i < 256 → WordFits s8 i
 word_fits i lt = record { fits = by_code }

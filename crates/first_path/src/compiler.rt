@@ -3,12 +3,13 @@
 ghost use Rattle.std.specs.Prelude.{◌≡◌, ◌<◌, ◌≤◌, ◌^◌, IfOk, IfErr, length};
 ghost use Rattle.src_model.specs.Written.{listing_of};
 ghost use Rattle.net_extract.specs.Extracts.{IsRoutedNet};
-ghost use Rattle.src_front.specs.Fronts.{IsSrcFile};
+ghost use Rattle.src_front.specs.Fronts.{AreNamed, IsSrcFile};
 ghost use Rattle.code_model.specs.Layout.{layout_of};
 ghost use Rattle.code_model.specs.Places.{Apart};
 ghost use Rattle.net_model.specs.Nets.{memory_size};
 ghost use Rattle.first_path.specs.Code.{AreStores, HasRoom, IsCode, IsCodeFault, IsNarrow};
 ghost use Rattle.first_path.specs.First.{IsCompiled, IsFirstFault, IsNetFault, IsSrcFault};
+ghost use Rattle.first_path.specs.Tasks.{read_task};
 ghost use Rattle.first_path.specs.declared.compiler.FirstFault.{FirstFault};
 
 use crate::image::straight_image;
@@ -60,18 +61,72 @@ impl From<NoMemory> for FirstFault {
     }
 }
 
+impl From<NetRefusal> for FirstFault {
+    ghost from_gives = { λ refusal fault. fault ≡ net_fault refusal };
+
+    ghost use Rattle.std.specs.Prelude.{◌≡◌};
+    ghost use Rattle.first_path.specs.Told.{net_fault};
+
+    fn from(refusal: NetRefusal) -> FirstFault {
+        match refusal {
+            NetRefusal::Text(at) => FirstFault::NetText(at),
+            NetRefusal::Fault(fault) => FirstFault::Net(fault),
+            NetRefusal::Memory => FirstFault::Memory,
+        }
+    }
+}
+
+impl From<SrcRefusal> for FirstFault {
+    ghost from_gives = { λ refusal fault. fault ≡ src_fault refusal };
+
+    ghost use Rattle.std.specs.Prelude.{◌≡◌};
+    ghost use Rattle.first_path.specs.Told.{src_fault};
+
+    fn from(refusal: SrcRefusal) -> FirstFault {
+        match refusal {
+            SrcRefusal::Text(at) => FirstFault::SrcText(at),
+            SrcRefusal::Fault(fault) => FirstFault::Src(fault),
+            SrcRefusal::Memory => FirstFault::Memory,
+        }
+    }
+}
+
+impl From<BindFault> for FirstFault {
+    ghost from_gives = { λ refusal fault. fault ≡ bind_fault refusal };
+
+    ghost use Rattle.std.specs.Prelude.{◌≡◌};
+    ghost use Rattle.first_path.specs.Told.{bind_fault};
+
+    fn from(refusal: BindFault) -> FirstFault {
+        match refusal {
+            BindFault::DataFull { need, have } => FirstFault::DataFull { need, have },
+            BindFault::Memory => FirstFault::Memory,
+        }
+    }
+}
+
+impl From<SearchFault> for FirstFault {
+    ghost from_gives = { λ refusal fault. fault ≡ search_fault refusal };
+
+    ghost use Rattle.std.specs.Prelude.{◌≡◌};
+    ghost use Rattle.first_path.specs.Told.{search_fault};
+
+    fn from(refusal: SearchFault) -> FirstFault {
+        match refusal {
+            SearchFault::NoWord(number) => FirstFault::NoWord(number),
+            SearchFault::Memory => FirstFault::Memory,
+        }
+    }
+}
+
 // The netlist, which keeps all rules.
 fn netlist(alloc: Global, net: &[u8]) -> Result<Checked, FirstFault>
     requires { length net.now < 2 ^ 32 }
     ensures found { IfOk result (IsRoutedNet net.now) }
     ensures refused { IfErr result (IsNetFault net.now) }
 {
-    match read_routed(alloc, net) {
-        Ok(checked) => Ok(checked),
-        Err(NetRefusal::Text(at)) => Err(FirstFault::NetText(at)),
-        Err(NetRefusal::Fault(fault)) => Err(FirstFault::Net(fault)),
-        Err(NetRefusal::Memory) => Err(FirstFault::Memory),
-    }
+    let checked = read_routed(alloc, net)?;
+    Ok(checked)
 }
 
 // The program, which was checked for words of so many bits.
@@ -83,37 +138,30 @@ fn program(alloc: Global, src: &[u8], width: u8) -> Result<Typed, FirstFault>
     ensures width { IfOk result (λ typed. typed.width ≡ width) }
     ensures refused { IfErr result (IsSrcFault src.now width) }
 {
-    match read_src(alloc, src, width) {
-        Ok(typed) => Ok(typed),
-        Err(SrcRefusal::Text(at)) => Err(FirstFault::SrcText(at)),
-        Err(SrcRefusal::Fault(fault)) => Err(FirstFault::Src(fault)),
-        Err(SrcRefusal::Memory) => Err(FirstFault::Memory),
-    }
+    let typed = read_src(alloc, src, width)?;
+    Ok(typed)
 }
 
 // The places of the program's variables.
 fn places(alloc: Global, checked: &Checked, typed: &Typed) -> Result<Places, FirstFault>
     requires { length typed.now.program.vars < 2 ^ 32 }
     ensures places { IfOk result (λ places. places ≡ layout_of typed.now.width (listing_of typed.now.program)) }
-    ensures room { IfOk result (λ _. HasRoom checked.now.netlist typed.now.width (listing_of typed.now.program)) }
+    ensures room { IfOk result (λ _. HasRoom (read_task checked.now typed.now)) }
     ensures apart { IfOk result (λ places. Apart places.temps places.list (memory_size checked.now.netlist.storages)) }
-    ensures refused { IfErr result (IsCodeFault checked.now.netlist typed.now.width (listing_of typed.now.program)) }
+    ensures refused { IfErr result (IsCodeFault (read_task checked.now typed.now)) }
 {
-    match bind(alloc, typed, checked.memory_size()) {
-        Ok(places) => Ok(places),
-        Err(BindFault::DataFull { need, have }) => Err(FirstFault::DataFull { need, have }),
-        Err(BindFault::Memory) => Err(FirstFault::Memory),
-    }
+    let places = bind(alloc, typed, checked.memory_size())?;
+    Ok(places)
 }
 
 // The assignments of the program, where it is straight and its words are searched.
 fn stores(alloc: Global, checked: &Checked, typed: &Typed) -> Result<Items<Store>, FirstFault>
     requires few { length typed.now.program.vars < 2 ^ 32 }
-    requires room { HasRoom checked.now.netlist typed.now.width (listing_of typed.now.program) }
-    ensures narrow { IfOk result (λ _. IsNarrow checked.now.netlist typed.now.width (listing_of typed.now.program)) }
-    ensures stores { IfOk result (AreStores checked.now.netlist (listing_of typed.now.program)) }
+    requires room { HasRoom (read_task checked.now typed.now) }
+    ensures narrow { IfOk result (λ _. IsNarrow (read_task checked.now typed.now)) }
+    ensures stores { IfOk result (AreStores (read_task checked.now typed.now)) }
     ensures short { IfOk result (λ stores. length stores < 2 ^ 32) }
-    ensures refused { IfErr result (IsCodeFault checked.now.netlist typed.now.width (listing_of typed.now.program)) }
+    ensures refused { IfErr result (IsCodeFault (read_task checked.now typed.now)) }
 {
     if code_bits(checked) > SEARCHED_BITS {
         return Err(FirstFault::WideCode);
@@ -130,16 +178,13 @@ fn stores(alloc: Global, checked: &Checked, typed: &Typed) -> Result<Items<Store
 // The text of the image of the program for the netlist.
 fn code(alloc: Global, checked: &Checked, typed: &Typed) -> Result<Vec<u8>, FirstFault>
     requires few { length typed.now.program.vars < 2 ^ 32 }
-    ensures code { IfOk result (λ text. IsCode text.items checked.now.netlist typed.now.width (listing_of typed.now.program)) }
-    ensures refused { IfErr result (IsCodeFault checked.now.netlist typed.now.width (listing_of typed.now.program)) }
+    requires named { AreNamed typed.now.program.vars }
+    ensures code { IfOk result (λ text. IsCode text.items (read_task checked.now typed.now)) }
+    ensures refused { IfErr result (IsCodeFault (read_task checked.now typed.now)) }
 {
     let places = places(alloc, checked, typed)?;
     let stores = stores(alloc, checked, typed)?;
-    let words = match search(alloc, checked, stores.as_slice()) {
-        Ok(words) => words,
-        Err(SearchFault::NoWord(number)) => return Err(FirstFault::NoWord(number)),
-        Err(SearchFault::Memory) => return Err(FirstFault::Memory),
-    };
+    let words = search(alloc, checked, stores.as_slice())?;
     let end = stores.len() as u32;
     let image = straight_image(alloc, code_bits(checked), places, words.as_slice(), end)?;
     let text = image_text::write(alloc, &image)?;

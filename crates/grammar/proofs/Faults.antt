@@ -1,5 +1,7 @@
 -- A text has no fault, and what is no text has one.
-use Rattle.std.proofs.Common.{◌≡◌, List, [], ◌∷◌, ◌++◌, Some, refl, sym, ap, subst, ◌∙◌, append_assoc}
+use Rattle.std.proofs.Common.{◌≡◌, ℕ, List, [], ◌∷◌, ◌++◌, Some, length, refl, sym, ap, subst, ◌∙◌, append_assoc}
+use Rattle.grammar.specs.declared.words.Lexed.{Lexed}
+use Rattle.grammar.specs.Parses.{IsFaultAt, offset_of}
 use Rattle.grammar.specs.Reading.{head, Begins, IsFault}
 
 -- one of two fronts of a list goes on with what begins the rest of the other, or the rests are the same
@@ -41,3 +43,12 @@ module _ {T V : Type 0} (R : List T → V → Type 0) where
     | first t more parts h ↦ absurd (a.next t h (begins_shorter a.front t more b.front parts b.begins))
     | second t more parts h ↦ absurd (b.next t h (begins_shorter b.front t more a.front parts a.begins))
   ]
+
+-- ---- at an offset
+
+module _ {S K V : Type 0} (R : List (Lexed S K) → V → Type 0) (bytes : List ℕ) (ts : List (Lexed S K)) where
+  pub none_in_text : (offset : ℕ) → IsFaultAt R bytes ts offset → (v : V) → R ts v → ⊥
+  none_in_text offset fault v text = no_fault_of_text R ts fault.rest fault.fault v text
+
+  pub one_offset : (offset later : ℕ) → IsFaultAt R bytes ts offset → IsFaultAt R bytes ts later → offset ≡ later
+  one_offset offset later a b = a.at ∙ ap (offset_of (length bytes)) (one_fault R ts a.rest b.rest a.fault b.fault) ∙ sym b.at

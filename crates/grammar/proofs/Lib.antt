@@ -5,3 +5,4 @@ pub mod Passing
 pub mod Repeats
 pub mod Steps
 pub mod Whole
+pub mod Tokens

@@ -1,1 +1,3 @@
+pub mod Parses
 pub mod Reading
+pub mod Tokens

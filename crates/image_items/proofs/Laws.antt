@@ -1,5 +1,5 @@
 -- A line that is read says what it is read as, and a line that says something is read as that.
-use Rattle.std.proofs.Common.{◌≡◌, ◌==◌, ℕ, ◌+◌, ◌-◌, ◌^◌, ◌<◌, ◌≤◌, List, [], ◌∷◌, ◌++◌, length, Bool, true, false, cond, Option, Some, None, refl, sym, ap, subst, ◌∙◌, eq-eqb, eqb-true, arith}
+use Rattle.std.proofs.Common.{◌≡◌, ◌==◌, ℕ, ◌+◌, ◌^◌, ◌<◌, ◌≤◌, List, [], ◌∷◌, ◌++◌, length, Bool, true, false, cond, Option, Some, None, refl, sym, ap, subst, ◌∙◌, eq-eqb, eqb-true, arith}
 use Rattle.std.proofs.lemmas.List.{append-nil}
 use Rattle.std.proofs.lemmas.Option.{some_pair_parts, cond_some, same_Some}
 use Rattle.std.proofs.lemmas.Bool.{ltb-true, ltb-false, lt-ltb, le-ltb}
@@ -11,17 +11,19 @@ use Rattle.std.specs.Fmt.{decimal}
 use Rattle.code_model.specs.declared.image.Mark.{Mark}
 use Rattle.code_model.specs.declared.image.Place.{Place}
 use Rattle.code_model.specs.declared.image.Word.{Word}
+use Rattle.code_model.specs.ImageFits.{AscendFrom, LabelFits, PlaceFits, MarkFits}
 use Rattle.code_model.specs.ImageText.{after_comma, numbers_text, label_text, hex_of, place_line, cost_line, mark_line, word_line}
 use Rattle.text_lines.specs.Fields.{parts_at, number_of, is_name, ◌>>=◌, only_front, line_end}
 use Rattle.lexing.specs.Bytes.{is_digit}
 use Rattle.text_lines.specs.Lines.{longer_line}
+use Rattle.text_lines.proofs.Ends.{end_is, end_again}
 use Rattle.text_lines.proofs.Parts.{Avoids, parts_are, parts_again, avoids-append}
 use Rattle.text_lines.proofs.Numbers.{number_is, number_again, avoids-decimal, avoids-name}
 use Rattle.image_items.proofs.Lists.{fields_cut, fields_last}
 use Rattle.std.proofs.lemmas.Fmt.{decimal_nonempty}
 use Rattle.image_items.specs.declared.item.Item.{Item}
 use Rattle.image_items.specs.declared.item.Item.TheVariants.{Size, Temps, Variable, Tree, Label, Code, Done}
-use Rattle.image_items.specs.Items.{item_line, size_line, temps_line, IsSayable, AscendFrom, LabelFits, PlaceFits, MarkFits, IsWithin}
+use Rattle.image_items.specs.Items.{item_line, size_line, temps_line, IsSayable, IsWithin}
 use Rattle.image_items.specs.Reading.{below_2_32, small, number_before, last_number, pair_of, label_of, number_from, numbers_from, fields_of, list_of, place_parts, place_item, size_item, temps_item, tree_item, mark_item, word_parts, word_item, word_in, said_by, item_of}
 use Rattle.image_items.proofs.Digits.{word_in_is, word_in_again, hex_avoids}
 use Rattle.text_lines.proofs.Steps.{bind_ok, bind_again}
@@ -71,22 +73,6 @@ unfolding number_before
 before_again mark n rest out h =
     bind_again (parts_at mark (decimal n ++ (mark ∷ rest))) _ (decimal n, rest) (Some (n, rest)) (parts_again mark (decimal n) rest out)
     (bind_again (small (decimal n)) _ n (Some (n, rest)) (small_again n h) refl)
-
-nil_of : (xs : List ℕ) → (length xs == 0) ≡ true → xs ≡ []
-nil_of [] e = refl
-nil_of (x ∷ xs) e = absurd (omega (arith, eqb-true (length (x ∷ xs)) 0 e))
-
-pub end_is : (text front : List ℕ) → line_end text ≡ Some front → text ≡ front ++ (10 ∷ [])
-unfolding line_end
-end_is text front e =
-    let b = bind_ok (parts_at 10 text) only_front front e in
-    let p = cond_some (length b.value.1 == 0) b.value.0 front b.then in
-    let whole : text ≡ b.value.0 ++ (10 ∷ b.value.1) = parts_are 10 text b.value.0 b.value.1 b.first in
-    rw (p.1, nil_of b.value.1 p.0) at whole
-
-end_again : (front : List ℕ) → Avoids 10 front → line_end (front ++ (10 ∷ [])) ≡ Some front
-unfolding line_end
-end_again front out = bind_again (parts_at 10 (front ++ (10 ∷ []))) only_front (front, []) (Some front) (parts_again 10 front [] out) refl
 
 pub last_is : (text : List ℕ) (n : ℕ) → last_number text ≡ Some n → (text ≡ decimal n ++ (10 ∷ [])) × (n < 2 ^ 32)
 unfolding last_number

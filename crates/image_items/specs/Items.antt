@@ -1,11 +1,9 @@
 -- The lines of image texts, by what they say.
-use Rattle.std.specs.Prelude.{ℕ, ◌+◌, ◌^◌, ◌<◌, ◌≤◌, ◌≡◌, true, List, [], ◌∷◌, codes, Option, Some, None}
+use Rattle.std.specs.Prelude.{ℕ, ◌^◌, ◌<◌, List, [], ◌∷◌, codes}
 use Rattle.std.specs.List.{concat}
 use Rattle.std.specs.Fmt.{decimal}
-use Rattle.code_model.specs.declared.image.Mark.{Mark}
-use Rattle.code_model.specs.declared.image.Place.{Place}
+use Rattle.code_model.specs.ImageFits.{AscendFrom, PlaceFits, MarkFits}
 use Rattle.code_model.specs.ImageText.{place_line, cost_line, mark_line, word_line}
-use Rattle.text_lines.specs.Fields.{is_name}
 use Rattle.image_items.specs.declared.item.Item.{Item}
 use Rattle.image_items.specs.declared.item.Item.TheVariants.{Size, Temps, Variable, Tree, Label, Code, Done}
 
@@ -26,24 +24,6 @@ item_line bytes (Tree cost) = cost_line cost
 item_line bytes (Label mark) = mark_line mark
 item_line bytes (Code address word) = word_line bytes address word
 item_line bytes Done = codes "done\n"
-
--- numbers below 2^32 from a number on, each above the one before
-abbrev pub AscendFrom : ℕ → List ℕ → Type 0
-AscendFrom from [] = Unit {0}
-AscendFrom from (n ∷ ns) = (from ≤ n) × (n < 2 ^ 32) × AscendFrom (n + 1) ns
-
-abbrev pub LabelFits : Option ℕ → Type 0
-LabelFits None = Unit {0}
-LabelFits (Some tree) = tree < 2 ^ 32
-
-pub record PlaceFits (place : Place) : Type 0 where
-  pub name : is_name place.name ≡ true
-  pub address : place.address < 2 ^ 32
-  pub len : place.len < 2 ^ 32
-
-pub record MarkFits (mark : Mark) : Type 0 where
-  pub address : mark.address < 2 ^ 32
-  pub label : LabelFits mark.label
 
 -- what a line can say: names are names, numbers are below 2^32, patterns ascend
 abbrev pub IsSayable : Item → Type 0

@@ -1,4 +1,4 @@
--- The text of an image that fits is read as that image.
+-- The lines of the text of an image that fits.
 use Rattle.std.proofs.Common.{◌≡◌, ℕ, ◌+◌, ◌<◌, ◌^◌, List, [], ◌∷◌, ◌++◌, length, map, refl, sym, ap, ◌∙◌, append_assoc, arith}
 use Rattle.std.proofs.lemmas.List.{map-append}
 use Rattle.std.specs.Prelude.{codes}
@@ -11,10 +11,11 @@ use Rattle.text_lines.specs.Lines.{lines_of}
 use Rattle.text_lines.proofs.Parts.{IsLine, lines-joined}
 use Rattle.image_items.specs.declared.item.Item.{Item}
 use Rattle.image_items.specs.declared.item.Item.TheVariants.{Size, Temps, Variable, Tree, Label, Code, Done}
-use Rattle.image_items.specs.Items.{item_line, PlaceFits, MarkFits}
+use Rattle.image_items.specs.Items.{item_line}
 use Rattle.image_items.proofs.Endings.{item_ends}
-use Rattle.image_text.specs.declared.limits.Limits.{Limits}
-use Rattle.image_text.specs.Lines.{code_items, image_lines, CostFits, CodeFits, IsFitting, IsImageText}
+use Rattle.code_model.specs.declared.limits.Limits.{Limits}
+use Rattle.code_model.specs.ImageFits.{PlaceFits, MarkFits, CostFits, CodeFits, IsFitting}
+use Rattle.image_text.specs.Lines.{code_items, image_lines}
 
 -- ---- the lines one after the other are the text
 
@@ -36,7 +37,7 @@ parted line xs ys x y e f = ap concat (map-append line xs ys) ∙ concat-append 
 two_lines : (b n t tail : List ℕ) → (codes "image " ++ (b ++ (32 ∷ (n ++ (10 ∷ []))))) ++ ((codes "temps " ++ (t ++ (10 ∷ []))) ++ tail) ≡ (codes "image " ++ (b ++ (32 ∷ (n ++ (codes "\ntemps " ++ (t ++ (10 ∷ []))))))) ++ tail
 two_lines b n t tail = simp append_assoc
 
-whole_text : (image : Image) → concat (image_lines image) ≡ image_text image
+pub whole_text : (image : Image) → concat (image_lines image) ≡ image_text image
 whole_text image =
     let bytes = bytes_of image.bits in
     let line = item_line bytes in
@@ -75,8 +76,6 @@ whole_lines limits image small words f =
       ),
     )
 
-pub text_again : (limits : Limits) (image : Image) → limits.bits < 2 ^ 32 → limits.words < 2 ^ 32 → IsFitting limits image → IsImageText limits (image_text image) image
-text_again limits image small words f = record {
-  lines = ap lines_of (sym (whole_text image)) ∙ lines-joined (image_lines image) (whole_lines limits image (omega (arith, f.bits, small)) words f);
-  fits = f;
-}
+pub written_lines : (limits : Limits) (image : Image) → limits.bits < 2 ^ 32 → limits.words < 2 ^ 32 → IsFitting limits image → lines_of (image_text image) ≡ image_lines image
+written_lines limits image small words f =
+    ap lines_of (sym (whole_text image)) ∙ lines-joined (image_lines image) (whole_lines limits image (omega (arith, f.bits, small)) words f)

@@ -1,10 +1,10 @@
 -- The order of marks.
-use Rattle.std.proofs.Common.{◌≡◌, ℕ, ◌+◌, ◌-◌, List, [], ◌∷◌, ◌++◌, length, true, Option, Some, None, refl, ap, ◌∙◌, arith}
+use Rattle.std.proofs.Common.{◌≡◌, ℕ, ◌-◌, List, [], ◌∷◌, ◌++◌, length, true, Option, Some, None, refl, ap, ◌∙◌, arith}
 use Rattle.std.proofs.lemmas.Bool.{ltb-true, lt-ltb}
 use Rattle.std.specs.Prelude.{nat_lt, slice_get}
 use Rattle.rec_bits.proofs.Booleans.{both}
 use Rattle.code_model.specs.declared.image.Mark.{Mark}
-use Rattle.image_text.specs.Lines.{MayFollow, HasNumber, AreMarksAfter}
+use Rattle.code_model.specs.ImageFits.{MayFollow, HasNumber, AreMarksAfter}
 use Rattle.image_text.specs.Fronts.{has_number, may_follow, last_mark}
 
 last_from : (mark : Mark) (marks : List Mark) → last_mark (Some mark) marks ≡ slice_get (mark ∷ marks) (length marks)

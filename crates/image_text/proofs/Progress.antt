@@ -4,7 +4,7 @@ use Rattle.std.proofs.lemmas.List.{append-nil}
 use Rattle.std.specs.List.{concat}
 use Rattle.text_lines.proofs.Joined.{concat-snoc}
 use Rattle.text_lines.specs.Lines.{lines_of, IsFirstLine}
-use Rattle.image_text.specs.declared.limits.Limits.{Limits}
+use Rattle.code_model.specs.declared.limits.Limits.{Limits}
 use Rattle.image_text.specs.declared.front.Front.{Front}
 use Rattle.image_text.specs.declared.front.Front.TheVariants.{Nothing}
 use Rattle.image_text.specs.Fronts.{step_line, reads, IsRead, StopsAt}

@@ -10,25 +10,28 @@ use Rattle.text_lines.proofs.Parts.{joined-lines}
 use Rattle.std.specs.Prelude.{slice_get, Result, Ok, Err, IfOk, IfErr, MatchResult}
 use Rattle.rec_bits.specs.declared.fault.ParseFault.{ParseFault}
 use Rattle.rec_bits.specs.declared.fault.ParseFault.TheVariants.{Text, Memory}
-use Rattle.std.specs.List.{AllByRecursion}
+use Rattle.std.specs.List.{AllByRecursion, concat}
 use Rattle.code_model.specs.declared.image.Image.{Image}
 use Rattle.code_model.specs.declared.image.Mark.{Mark}
 use Rattle.code_model.specs.declared.image.Place.{Place}
 use Rattle.code_model.specs.declared.image.Word.{Word}
-use Rattle.code_model.specs.ImageText.{bytes_of}
+use Rattle.code_model.specs.ImageText.{bytes_of, image_text}
 use Rattle.text_lines.specs.Lines.{lines_of}
 use Rattle.image_items.specs.declared.item.Item.{Item}
 use Rattle.image_items.specs.declared.item.Item.TheVariants.{Size, Temps, Variable, Tree, Label, Code, Done}
-use Rattle.image_items.specs.Items.{item_line, IsSayable, IsWithin, PlaceFits, MarkFits}
+use Rattle.image_items.specs.Items.{item_line, IsSayable, IsWithin}
 use Rattle.image_items.specs.Reading.{item_of}
 use Rattle.image_items.proofs.Laws.{item_is, item_again}
 use Rattle.image_text.proofs.Marks.{follow_again, last-snoc}
 use Rattle.image_text.proofs.Machine.{body_items, front_items, FrontFits, step_goes, more_codes}
 use Rattle.image_text.proofs.Progress.{reads-append}
-use Rattle.image_text.specs.declared.limits.Limits.{Limits}
+use Rattle.image_text.proofs.Again.{whole_text, written_lines}
+use Rattle.code_model.specs.declared.limits.Limits.{Limits}
+use Rattle.code_model.specs.ImageFits.{PlaceFits, MarkFits, MayFollow, AreMarksAfter, CostFits, CodeFits, IsFitting}
+use Rattle.code_model.specs.ImageLines.{IsImageText, Begin, IsFault, IsRefusal}
 use Rattle.image_text.specs.declared.front.Front.{Front}
 use Rattle.image_text.specs.declared.front.Front.TheVariants.{Nothing, Sized, Open, Whole}
-use Rattle.image_text.specs.Lines.{code_items, image_lines, MayFollow, AreMarksAfter, CostFits, CodeFits, IsFitting, IsImageText, Begin, IsFault, IsRefusal}
+use Rattle.image_text.specs.Lines.{code_items, image_lines}
 use Rattle.image_text.specs.Fronts.{last_mark, opened, with_size, with_place, with_cost, with_mark, with_word, whole, with_item, after_nothing, after_size, step, step_line, reads, IsRead, StopsAt, Stops, IsWholeOf}
 use Rattle.text_lines.specs.Fields.{◌>>=◌}
 use Rattle.text_lines.proofs.Steps.{bind_ok, bind_again}
@@ -183,6 +186,10 @@ image_read limits image n f =
     let P : Image → Type 0 = λ i. reads limits Nothing (image_lines i) ≡ Some (Whole i) in
     subst P (sym same) (made_read limits image.temps image.places image.costs image.marks image.words n (subst (IsFitting limits) same f))
 
+-- the lines of its text are those
+lines_are : (limits : Limits) (image : Image) → Narrow limits → IsFitting limits image → lines_of (image_text image) ≡ image_lines image
+lines_are limits image n f = written_lines limits image (omega (arith, n.narrow)) n.words f
+
 -- ---- what was read can be completed
 
 end_last : (limits : Limits) (image : Image) → image.bits ≡ limits.bits → image_lines image ≡ map (line_in limits) (front_items limits (Whole image))
@@ -216,48 +223,49 @@ fill_fits bits (suc n) =
 begin_less : (limits : Limits) (xs ys : List (List ℕ)) → Begin limits (xs ++ ys) → Begin limits xs
 begin_less limits xs ys (more, image, e, f) = (ys ++ more, image, sym (append_assoc xs ys more) ∙ e, f)
 
-open_begins : (limits : Limits) (count : ℕ) (image : Image) → FrontFits limits (Open count image) → Begin limits (map (line_in limits) (front_items limits (Open count image)))
-open_begins limits count image (c, l, f) =
+open_begins : (limits : Limits) (count : ℕ) (image : Image) → Narrow limits → FrontFits limits (Open count image) → Begin limits (map (line_in limits) (front_items limits (Open count image)))
+open_begins limits count image n (c, l, f) =
     let k = count - length image.words in
     let full : Image = record image { words = image.words ++ fill k } in
     let long : length (image.words ++ fill k) ≡ count = omega (arith, length-append image.words (fill k), fill_long k) in
     let rest = code_items (length image.words) (fill k) ++ (Done ∷ []) in
+    let fits : IsFitting limits full = record { bits = f.bits; few = omega (arith, long); temps = f.temps; places = f.places; costs = f.costs; marks = f.marks; in_order = f.in_order; words = all_append (CodeFits limits.bits) image.words (fill k) f.words (fill_fits limits.bits k) } in
     let items : front_items limits (Whole full) ≡ front_items limits (Open count image) ++ rest =
-    ap (λ n. Size limits.bits n ∷ Temps image.temps ∷ (body_items full ++ (Done ∷ []))) long
+    ap (λ words. Size limits.bits words ∷ Temps image.temps ∷ (body_items full ++ (Done ∷ []))) long
     ∙ ap (λ r. Size limits.bits count ∷ Temps image.temps ∷ r) (ap (λ r. r ++ (Done ∷ [])) (more_codes image.places image.costs image.marks image.words (fill k)) ∙ append_assoc (body_items image) (code_items (length image.words) (fill k)) (Done ∷ [])) in (
       map (line_in limits) rest,
       full,
-      sym (map-append (line_in limits) (front_items limits (Open count image)) rest) ∙ ap (map (line_in limits)) (sym items) ∙ sym (end_last limits full f.bits),
-      record { bits = f.bits; few = omega (arith, long); temps = f.temps; places = f.places; costs = f.costs; marks = f.marks; in_order = f.in_order; words = all_append (CodeFits limits.bits) image.words (fill k) f.words (fill_fits limits.bits k) },
+      sym (map-append (line_in limits) (front_items limits (Open count image)) rest) ∙ ap (map (line_in limits)) (sym items) ∙ sym (end_last limits full f.bits) ∙ sym (lines_are limits full n fits),
+      fits,
     )
 
-sized_begins : (limits : Limits) (count : ℕ) → count ≤ limits.words → Begin limits (map (line_in limits) (front_items limits (Sized count)))
-sized_begins limits count h =
+sized_begins : (limits : Limits) (count : ℕ) → Narrow limits → count ≤ limits.words → Begin limits (map (line_in limits) (front_items limits (Sized count)))
+sized_begins limits count n h =
     begin_less limits (line_in limits (Size limits.bits count) ∷ []) (line_in limits (Temps 0) ∷ [])
-    (open_begins limits count (opened limits 0) (h, omega arith, record { bits = refl; few = omega arith; temps = omega arith; places = tt; costs = tt; marks = tt; in_order = tt; words = tt }))
+    (open_begins limits count (opened limits 0) n (h, omega arith, record { bits = refl; few = omega arith; temps = omega arith; places = tt; costs = tt; marks = tt; in_order = tt; words = tt }))
 
-front_begins : (limits : Limits) (front : Front) → FrontFits limits front → Begin limits (map (line_in limits) (front_items limits front))
-front_begins limits Nothing h = begin_less limits [] (line_in limits (Size limits.bits 0) ∷ []) (sized_begins limits 0 (omega arith))
-front_begins limits (Sized count) h = sized_begins limits count h
-front_begins limits (Open count image) h = open_begins limits count image h
-front_begins limits (Whole image) f = ([], image, append-nil (map (line_in limits) (front_items limits (Whole image))) ∙ sym (end_last limits image f.bits), f)
+front_begins : (limits : Limits) (front : Front) → Narrow limits → FrontFits limits front → Begin limits (map (line_in limits) (front_items limits front))
+front_begins limits Nothing n h = begin_less limits [] (line_in limits (Size limits.bits 0) ∷ []) (sized_begins limits 0 n (omega arith))
+front_begins limits (Sized count) n h = sized_begins limits count n h
+front_begins limits (Open count image) n h = open_begins limits count image n h
+front_begins limits (Whole image) n f = ([], image, append-nil (map (line_in limits) (front_items limits (Whole image))) ∙ sym (end_last limits image f.bits) ∙ sym (lines_are limits image n f), f)
 
 -- ---- what reading answers
 
 read_begins : (limits : Limits) (lines : List (List ℕ)) (front : Front) → Narrow limits → reads limits Nothing lines ≡ Some front → Begin limits lines
 read_begins limits lines front n e =
     let s = spells limits Nothing lines front n tt e in
-    subst (Begin limits) s.spelled (front_begins limits front s.fits)
+    subst (Begin limits) s.spelled (front_begins limits front n s.fits)
 
 stuck : (limits : Limits) (before : List (List ℕ)) (front : Front) (line : List ℕ) (more : List (List ℕ)) → reads limits Nothing before ≡ Some front → step_line limits front line ≡ None → reads limits Nothing (before ++ (line ∷ more)) ≡ None
 unfolding reads
 stuck limits before front line more e s = reads-append limits Nothing before (line ∷ more) ∙ rw (e, s) refl
 
-no_text : (limits : Limits) (before : List (List ℕ)) (front : Front) (line : List ℕ) (more : List (List ℕ)) (image : Image) → Narrow limits → reads limits Nothing before ≡ Some front → step_line limits front line ≡ None → IsFitting limits image → (before ++ (line ∷ more)) ≡ image_lines image → ⊥
+no_text : (limits : Limits) (before : List (List ℕ)) (front : Front) (line : List ℕ) (more : List (List ℕ)) (image : Image) → Narrow limits → reads limits Nothing before ≡ Some front → step_line limits front line ≡ None → IsFitting limits image → (before ++ (line ∷ more)) ≡ lines_of (image_text image) → ⊥
 no_text limits before front line more image n e s f same =
     let a = stuck limits before front line more e s in
     let b = image_read limits image n f in
-    let d : None ≡ Some (Whole image) = sym a ∙ ap (reads limits Nothing) same ∙ b in
+    let d : None ≡ Some (Whole image) = sym a ∙ ap (reads limits Nothing) (same ∙ lines_are limits image n f) ∙ b in
     cc
 
 stop_is_fault : (limits : Limits) (bytes : List ℕ) (at : ℕ) → Narrow limits → StopsAt limits bytes at → IsFault limits bytes at
@@ -270,11 +278,11 @@ stop_is_fault limits bytes at n s = record {
   next = λ (line : List ℕ) (e : slice_get (s.line ∷ s.after) 0 ≡ Some line) (b : Begin limits (s.before ++ (line ∷ []))).
       let same : s.line ≡ line = same_Some s.line line e in
       no_text limits s.before s.front s.line b.0 b.1 n s.read s.stops b.3 (sym (append_assoc s.before (s.line ∷ []) b.0) ∙ ap (λ l. (s.before ++ (l ∷ [])) ++ b.0) same ∙ b.2);
-  whole = λ (image : Image) (t : IsImageText limits bytes image). no_text limits s.before s.front s.line s.after image n s.read s.stops t.fits (sym s.lines ∙ t.lines);
+  whole = λ (image : Image) (t : IsImageText limits bytes image). no_text limits s.before s.front s.line s.after image n s.read s.stops t.fits (sym s.lines ∙ ap lines_of t.text);
 }
 
 pub text_is_read : (limits : Limits) (bytes : List ℕ) (image : Image) → Narrow limits → IsImageText limits bytes image → reads limits Nothing (lines_of bytes) ≡ Some (Whole image)
-text_is_read limits bytes image n t = ap (reads limits Nothing) t.lines ∙ image_read limits image n t.fits
+text_is_read limits bytes image n t = ap (reads limits Nothing) (ap lines_of t.text ∙ lines_are limits image n t.fits) ∙ image_read limits image n t.fits
 
 end_is_fault : (limits : Limits) (bytes : List ℕ) (front : Front) → Narrow limits → IsRead limits bytes front → ((image : Image) → front ≡ Whole image → ⊥) → IsFault limits bytes (length bytes)
 end_is_fault limits bytes front n r other = record {
@@ -291,7 +299,8 @@ whole_is_text : (limits : Limits) (bytes : List ℕ) (image : Image) → Narrow 
 whole_is_text limits bytes image n r =
     let s = spells limits Nothing (lines_of bytes) (Whole image) n tt r.all in
     let f : IsFitting limits image = s.fits in
-    record { lines = sym s.spelled ∙ sym (end_last limits image f.bits); fits = f }
+    let lines : lines_of bytes ≡ image_lines image = sym s.spelled ∙ sym (end_last limits image f.bits) in
+    record { text = sym (joined-lines bytes) ∙ ap concat lines ∙ whole_text image; fits = f }
 
 pub one_image : (limits : Limits) (bytes : List ℕ) (found image : Image) → Narrow limits → IsRead limits bytes (Whole found) → IsImageText limits bytes image → found ≡ image
 one_image limits bytes found image n r t =

@@ -3,7 +3,6 @@
 
 mod front;
 mod laws;
-mod limits;
 mod reading;
 mod writing;
 

@@ -2,12 +2,12 @@
 
 ghost use Rattle.std.specs.Prelude.{◌≡◌, ◌≤◌, ◌<◌, ◌^◌, length, IfOk, IfErr, MatchResult};
 ghost use Rattle.code_model.specs.declared.image.Image.{Image};
-ghost use Rattle.image_text.specs.Lines.{limits_of, IsImageText, IsRefusal};
+ghost use Rattle.code_model.specs.ImageFits.{limits_of};
+ghost use Rattle.code_model.specs.ImageLines.{IsImageText, IsRefusal};
 ghost use Rattle.image_text.specs.Fronts.{IsRead, Stops, IsWholeOf};
 
 use crate::front::{Front, step_line};
-use crate::limits::Limits;
-use code_model::Image;
+use code_model::{Image, Limits};
 use net_model::Checked;
 use rec_bits::ParseFault;
 use std::alloc::Global;

@@ -1,7 +1,8 @@
 -- The laws of the tokens of a text.
 use Rattle.std.proofs.Common.{◌≡◌, ◌≢◌, ℕ, zero, suc, ◌+◌, ◌-◌, ◌≤◌, List, [], ◌∷◌, length, drop, All, refl, sym, ap, subst, ◌∙◌, arith}
-use Rattle.std.proofs.lemmas.List.{length-drop, drop-drop}
+use Rattle.std.proofs.lemmas.List.{length-drop, length-map, drop-drop}
 use Rattle.std.proofs.lemmas.List.Elements.{All-nil, All-cons, All-weaker}
+use Rattle.grammar.specs.declared.words.Word.{Word}
 use Rattle.lexing.specs.declared.token.Token.{Token}
 use Rattle.lexing.specs.declared.token.Kind.{Kind}
 use Rattle.lexing.specs.declared.token.Kind.TheVariants.{Bad}
@@ -10,6 +11,7 @@ use Rattle.lexing.specs.declared.piece.Piece.TheVariants.{Blank, Whole, Wrong}
 use Rattle.lexing.specs.Table.{Table}
 use Rattle.lexing.specs.Tokens.{piece, a_token, tokens_from, tokens_of}
 use Rattle.lexing.specs.Laws.{IsSpacing, nothing, IsKind, IsTokenOf, AreInOrder, AreSpaced, IsBadLast, AreTokens}
+use Rattle.lexing.specs.Words.{lexed_all, lexed_of}
 use Rattle.lexing.proofs.Scans.{IsWithin, piece_within}
 use Rattle.lexing.proofs.Standing.{blank_is, whole_is, wrong_is}
 
@@ -139,3 +141,7 @@ unfolding tokens_from
 few_tokens table at skip [] = omega arith
 few_tokens table at (suc skip) (b ∷ bs) = let k : length (tokens_from table (at + 1) skip bs) ≤ length bs = few_tokens table (at + 1) skip bs in omega arith
 few_tokens table at zero (b ∷ bs) = next_token table at b bs (λ k. few_tokens table (at + 1) k bs) (piece table (b ∷ bs)) refl
+
+-- a text has no more words than bytes
+pub few_words : {S K : Type 0} (reserved sign : List ℕ → Word S K) (table : Table) (bytes : List ℕ) → length (lexed_all reserved sign bytes (tokens_of table bytes)) ≤ length bytes
+few_words reserved sign table bytes = omega (arith, length-map (tokens_of table bytes) (lexed_of reserved sign bytes), few_tokens table 0 0 bytes)

@@ -6,8 +6,7 @@ use Rattle.net_model.specs.declared.hardware.Code.{Code}
 use Rattle.net_model.specs.declared.hardware.Storage.{Storage}
 use Rattle.net_model.specs.declared.hardware.Storage.TheVariants.{Register, Memory}
 use Rattle.net_model.specs.Nets.{counter_of, counter_width, storage_bits}
-use Rattle.net_model.specs.CheckedRules.{IsWidth, StorageKeeps, IsCounter, IsWellFormed, memory_count, code_size, memory_addr_width}
-use Rattle.net_model.specs.NetFaults.{IsReached, HasCounter, HasSizes}
+use Rattle.net_model.specs.CheckedRules.{IsWidth, StorageKeeps, IsCounter, IsReached, HasCounter, HasSizes, IsWellFormed, memory_count, code_size, memory_addr_width}
 use Rattle.net_check.specs.Roles.{lone_from, IsShape}
 use Rattle.net_check.specs.declared.role.Shape.{Shape}
 

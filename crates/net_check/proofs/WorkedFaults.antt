@@ -8,7 +8,7 @@ use Rattle.net_model.specs.Depends.{Among, Depends, direct, via, named_by, IsAcy
 use Rattle.net_model.specs.CheckedRules.{HasRoles, KeepsRules}
 use Rattle.net_model.specs.NetFaults.{FaultOf}
 use Rattle.net_model.proofs.Acyclic.{acyclic_of}
-use Rattle.net_model.proofs.FaultLaws.{enables_static, controls_plain, kept_no_fault}
+use Rattle.net_model.proofs.FaultLaws.{kept_no_fault}
 use Rattle.net_check.specs.Worked.{looped, small}
 
 -- ---- nets 1 and 2 lie on a cycle, and net 0 doesn't
@@ -81,8 +81,7 @@ module _ (enable : ℕ) where
     code = refl;
     memory = refl;
     counter = lit≤ tt;
-    words = (lit≤ tt, lit≤ tt);
-    cells = (lit≤ tt, lit≤ tt);
+    sizes = ((lit≤ tt, lit≤ tt), (lit≤ tt, lit≤ tt));
     address = lit≤ tt;
   }
 
@@ -91,4 +90,4 @@ pub late_enable : FaultOf (small 1 3) (Enable 40)
 late_enable = (small_acyclic 3, small_roles 3, refl)
 
 pub wide_selector : FaultOf (small 1 2) (WideSelect 20)
-wide_selector = (small_acyclic 2, small_roles 2, enables_static (small 1 2) refl, controls_plain (small 1 2) refl, refl)
+wide_selector = (small_acyclic 2, small_roles 2, (refl, tt), (refl, (refl, tt)), refl)

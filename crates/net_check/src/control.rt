@@ -4,12 +4,12 @@ ghost use Rattle.std.specs.Prelude.{◌≡◌, IfOk, MatchOption, Some};
 ghost use Rattle.net_model.specs.CheckedRules.{HasRoles};
 ghost use Rattle.net_model.specs.Depends.{IsAcyclic};
 ghost use Rattle.rec_bits.specs.Faults.{least, sooner};
-ghost use Rattle.net_model.specs.NetFaults.{FaultOf, enables, failing, name_at, selectors};
+ghost use Rattle.net_model.specs.Control.{enables, selectors};
+ghost use Rattle.net_model.specs.NetFaults.{FaultOf, failing, name_at};
 ghost use Rattle.net_model.specs.Nets.{width_at};
 ghost use Rattle.net_model.specs.Order.{IsOrder};
 ghost use Rattle.net_check.specs.Control.{HasFlags, KeepsControl, passes};
 
-use crate::places::{enables_of, selectors_of};
 use net_model::{NetFault, Netlist, Property, flags_of, is_set};
 use rec_bits::{Items, NoMemory};
 use std::alloc::Global;
@@ -45,7 +45,8 @@ fn width_of(netlist: &Netlist, net: u32) -> u8
 }
 
 fn keeps(rule: Rule, netlist: &Netlist, flags: &Flags, net: u32) -> bool
-    ensures { result ≡ passes rule netlist.now flags.now net }
+    requires { HasFlags netlist.now flags.now }
+    ensures { result ≡ passes rule netlist.now net }
 {
     let is_static = is_set(flags.statics.as_slice(), net);
     match rule {
@@ -77,7 +78,8 @@ fn sooner_of(found: Option<u64>, other: Option<u64>) -> Option<u64>
 
 // The least offset of these nets that break a rule.
 fn least_broken(rule: Rule, netlist: &Netlist, flags: &Flags, nets: &[u32]) -> Option<u64>
-    ensures { result ≡ least (failing (passes rule netlist.now flags.now) (name_at netlist.now) nets.now) }
+    requires { HasFlags netlist.now flags.now }
+    ensures { result ≡ least (failing (passes rule netlist.now) (name_at netlist.now) nets.now) }
 {
     let mut found = None;
     for net in nets {
@@ -129,8 +131,8 @@ pub(crate) fn control_fault(
     let statics = flags_of(alloc, Property::Static, netlist, order)?;
     let controls = flags_of(alloc, Property::Control, netlist, order)?;
     let flags = Flags { statics, controls };
-    let enable_nets = enables_of(alloc, netlist)?;
-    let selector_nets = selectors_of(alloc, netlist)?;
+    let enable_nets = netlist.enables(alloc)?;
+    let selector_nets = netlist.selectors(alloc)?;
     Ok(first_broken(
         netlist,
         &flags,

@@ -4,7 +4,6 @@
 mod control;
 mod cycle;
 mod graph;
-mod places;
 mod role;
 mod rules;
 mod stack;

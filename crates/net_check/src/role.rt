@@ -1,8 +1,8 @@
 // The parts that each processor has.
 
 ghost use Rattle.std.specs.Prelude.{◌≡◌, ◌≤◌, ◌↔◌, IsTrue, MatchOption, None, slice_get};
-ghost use Rattle.net_model.specs.CheckedRules.{HasRoles, IsCounter, IsWellFormed};
-ghost use Rattle.net_model.specs.NetFaults.{IsReached, LacksRole};
+ghost use Rattle.net_model.specs.CheckedRules.{HasRoles, IsCounter, IsReached, IsWellFormed};
+ghost use Rattle.net_model.specs.NetFaults.{LacksRole};
 ghost use Rattle.net_model.specs.Nets.{storage_bits};
 ghost use Rattle.net_check.specs.Roles.{lone_from};
 

@@ -1,6 +1,6 @@
 -- The scans that number a text.
 use Rattle.std.proofs.Common.{ℕ, ◌≡◌, ◌+◌, ◌≤◌, List, ◌++◌}
-use Rattle.net_model.specs.declared.units.Ident.{Ident}
+use Rattle.grammar.specs.declared.words.Ident.{Ident}
 use Rattle.net_model.specs.declared.units.Port.{Port}
 use Rattle.net_model.specs.Written.{Entry, Phrase}
 use Rattle.net_model.specs.Numbering.{count_inputs, count_outputs, count_items, port_wires, last_nets, storage_numbers, wires_from}

@@ -1,7 +1,7 @@
 -- In a text that keeps the rules, names stand for nets, wires and memories of their widths.
 use Rattle.std.proofs.Common.{ℕ, zero, suc, ◌≡◌, ◌+◌, ◌-◌, true, false, List, [], ◌∷◌, ◌++◌, Option, Some, None, slice_get, slice_index, refl, sym, ap, subst, arith, length-append, IsTrue}
 use Rattle.std.specs.List.{AllByRecursion, list_all}
-use Rattle.net_model.specs.declared.units.Ident.{Ident}
+use Rattle.grammar.specs.declared.words.Ident.{Ident}
 use Rattle.net_model.specs.declared.units.Port.{Port}
 use Rattle.net_model.specs.declared.hardware.Netlist.{Netlist}
 use Rattle.net_model.specs.declared.hardware.Gate.TheVariants as gate

@@ -1,7 +1,7 @@
 -- Lists that stand within a list from a place on, and how long the lists of nets are.
 use Rattle.std.proofs.Common.{ℕ, ◌≡◌, ◌+◌, Bool, true, false, if◌then◌else◌, List, [], ◌∷◌, ◌++◌, length, Option, Some, None, slice_get, refl, ap, ◌∙◌, subst, arith, append_assoc, length-append}
 use Rattle.std.proofs.lemmas.Option.{slice_get_within}
-use Rattle.net_model.specs.declared.units.Ident.{Ident}
+use Rattle.grammar.specs.declared.words.Ident.{Ident}
 use Rattle.net_model.specs.declared.units.Port.{Port}
 use Rattle.net_model.specs.declared.hardware.Netlist.{Netlist}
 use Rattle.net_model.specs.declared.hardware.Net.{Net}

@@ -2,7 +2,7 @@
 use Rattle.std.specs.Prelude.{ℕ, ◌≡◌, List, map, Option, Some, option_map, true}
 use Rattle.std.specs.List.{AllByRecursion}
 use Rattle.net_model.specs.declared.units.Unit.{Unit as Item}
-use Rattle.net_model.specs.declared.units.Ident.{Ident}
+use Rattle.grammar.specs.declared.words.Ident.{Ident}
 use Rattle.net_model.specs.Written.{Entry, entry_of}
 use Rattle.net_elab.specs.declared.site.Spot.{Spot}
 use Rattle.net_elab.specs.declared.site.Cells.{Cells}

@@ -10,22 +10,23 @@ use Rattle.lexing.specs.Bytes.{is_name_byte}
 use Rattle.lexing.specs.Laws.{IsKind, IsTokenOf}
 use Rattle.lexing.proofs.TokenLaws.{are_tokens}
 use Rattle.net_lexer.specs.Netlists.{netlists, net_tokens}
-use Rattle.net_model.specs.declared.units.Ident.{Ident}
-use Rattle.net_model.specs.declared.words.Lexed.{Lexed}
-use Rattle.net_model.specs.declared.words.Word.{Word}
-use Rattle.net_model.specs.declared.words.Word.TheVariants.{Name as Named, Item, Operator as Operates, Symbol as Shows, Other}
+use Rattle.grammar.specs.declared.words.Ident.{Ident}
+use Rattle.net_model.specs.Grammar.{Lexed, Word, IsItem, IsSized, IsText, ItemBehind, ItemByWord}
+use Rattle.grammar.specs.declared.words.Word.TheVariants.{Name as Named, Symbol as Shows, Key as Keyed, Other}
+use Rattle.net_model.specs.declared.words.Key.TheVariants.{Item, Operator as Operates}
 use Rattle.net_model.specs.declared.words.ItemWord.{ItemWord}
 use Rattle.net_model.specs.declared.words.ItemWord.TheVariants.{Code, Register, Memory, Net, Bus, Module, Part}
 use Rattle.net_model.specs.declared.words.Operator.TheVariants.{Unary, Binary}
 use Rattle.net_model.specs.Elaborated.{codes_from, netlist_of, storages_from}
-use Rattle.net_model.specs.Grammar.{IsItem, IsName, IsSized, IsText, ItemBehind, ItemByWord}
+use Rattle.grammar.specs.Tokens.{IsName}
 use Rattle.net_model.specs.Numbering.{count_item}
 use Rattle.net_model.specs.TextNames.{own_name}
 use Rattle.net_model.specs.Texts.{first_name, name_in}
 use Rattle.net_model.specs.Written.{Entry, code, register, memory}
 use Rattle.net_front.specs.Fronts.{SaysNet}
 use Rattle.net_parser.specs.Texts.{words_of}
-use Rattle.net_parser.specs.Words.{binary_of, form_of, item_of, lexed_of, or_else, reserved_of, sign_of, symbol_of, unary_of, word_of}
+use Rattle.net_parser.specs.Words.{binary_of, form_of, item_of, reserved_of, sign_of, sign_word, symbol_of, unary_of}
+use Rattle.lexing.specs.Words.{lexed_of, or_else, word_of}
 use Rattle.transfer_set.specs.TextMarks.{HasPlainNames, Plain, is_mark}
 
 -- ---- bytes
@@ -69,15 +70,15 @@ plain_else make each (Some a) next plain = each a
 plain_reserved : (text : List ℕ) → PlainWord (reserved_of text)
 plain_reserved text =
     let symbols = or_else Shows (symbol_of text) Other in
-    let forms = or_else Operates (form_of text) symbols in
-    let binaries = or_else (λ op. Operates (Binary op)) (binary_of text) forms in
-    let unaries = or_else (λ op. Operates (Unary op)) (unary_of text) binaries in
-    plain_else Item (λ word. tt) (item_of text) unaries
-    (plain_else (λ op. Operates (Unary op)) (λ op. tt) (unary_of text) binaries
-    (plain_else (λ op. Operates (Binary op)) (λ op. tt) (binary_of text) forms
-    (plain_else Operates (λ operator. tt) (form_of text) symbols (plain_else Shows (λ symbol. tt) (symbol_of text) Other tt))))
+    let forms = or_else (λ form. Keyed (Operates form)) (form_of text) symbols in
+    let binaries = or_else (λ op. Keyed (Operates (Binary op))) (binary_of text) forms in
+    let unaries = or_else (λ op. Keyed (Operates (Unary op))) (unary_of text) binaries in
+    plain_else (λ item. Keyed (Item item)) (λ word. tt) (item_of text) unaries
+    (plain_else (λ op. Keyed (Operates (Unary op))) (λ op. tt) (unary_of text) binaries
+    (plain_else (λ op. Keyed (Operates (Binary op))) (λ op. tt) (binary_of text) forms
+    (plain_else (λ form. Keyed (Operates form)) (λ operator. tt) (form_of text) symbols (plain_else Shows (λ symbol. tt) (symbol_of text) Other tt))))
 
-plain_word : (kind : Kind) (n : ℕ) (bytes : List ℕ) → IsKind netlists kind n bytes → PlainWord (word_of kind (take n bytes))
+plain_word : (kind : Kind) (n : ℕ) (bytes : List ℕ) → IsKind netlists kind n bytes → PlainWord (word_of reserved_of sign_word kind (take n bytes))
 plain_word Name n bytes is = plain_bytes (take n bytes) is.0.run.all
 plain_word Reserved n bytes is = plain_reserved (take n bytes)
 plain_word Number n bytes is = tt
@@ -87,8 +88,8 @@ plain_word Bad n bytes is = tt
 plain_words : (bytes : List ℕ) → ArePlain (words_of bytes)
 plain_words bytes =
     recursion_from_All PlainToken (words_of bytes)
-    (All-map PlainToken (lexed_of bytes) (net_tokens bytes)
-    (All-weaker (IsTokenOf netlists bytes) (λ token. PlainToken (lexed_of bytes token))
+    (All-map PlainToken (lexed_of reserved_of sign_word bytes) (net_tokens bytes)
+    (All-weaker (IsTokenOf netlists bytes) (λ token. PlainToken (lexed_of reserved_of sign_word bytes token))
     (λ token is. plain_word token.kind token.len (drop token.at bytes) is.kind)
     (net_tokens bytes) (are_tokens netlists bytes).each))
 
@@ -135,7 +136,7 @@ plain_behind Part ts entry plain is =
     subst PlainEntry (sym is.second.second.second.second.same) (plain_name is.front is.value (plain_front is plain) is.first)
 
 plain_by_word : (word : Word) (at : ℕ) (ts : List Lexed) (entry : Entry) → ArePlain ts → ItemByWord word at ts entry → PlainEntry entry
-plain_by_word (Item word) at ts entry plain is = plain_behind word ts entry plain is
+plain_by_word (Keyed (Item word)) at ts entry plain is = plain_behind word ts entry plain is
 plain_by_word _ at ts entry plain is = absurd is
 
 plain_item : (ts : List Lexed) (entry : Entry) → ArePlain ts → IsItem ts entry → PlainEntry entry

@@ -1,5 +1,7 @@
 -- What is extracted from the text of a netlist, and why nothing is.
 use Rattle.std.specs.Prelude.{◌≡◌, ◌⊎◌, ℕ, List}
+use Rattle.net_model.specs.declared.fault.CheckFault.{CheckFault}
+use Rattle.net_model.specs.declared.fault.CheckFault.TheVariants.{Fault as Broken, Memory as CheckMemory}
 use Rattle.net_model.specs.declared.fault.NetFault.{NetFault}
 use Rattle.net_model.specs.declared.fault.NetFault.TheVariants.{AlwaysClash, PatternLarge, TooMany}
 use Rattle.net_model.specs.declared.hardware.Netlist.{Netlist}
@@ -7,26 +9,22 @@ use Rattle.net_model.specs.CheckedRules.{Ordered}
 use Rattle.net_model.specs.Elaborated.{netlist_of}
 use Rattle.net_model.specs.NetFaults.{name_at}
 use Rattle.net_model.specs.Patterns.{ArePatterns, Pattern}
+use Rattle.net_model.specs.Transfers.{ClashesAlways, IsClean}
 use Rattle.net_model.specs.Written.{Entry}
 use Rattle.net_parser.specs.Texts.{IsNoNetText}
 use Rattle.net_front.specs.Fronts.{BreaksRule, IsCheckedOf, IsNetFile}
 use Rattle.net_front.specs.declared.front.NetRefusal.{NetRefusal}
 use Rattle.net_front.specs.declared.front.NetRefusal.TheVariants.{Text, Fault, Memory}
 use Rattle.transfer_set.specs.PatternsText.{IsPatternsText}
-use Rattle.transfer_set.specs.TextMarks.{HasPlainNames}
-use Rattle.route_trace.specs.Limits.{IsCleanWord, IsRefusal, KeepsLimits}
+use Rattle.route_trace.specs.Limits.{IsRefusal, KeepsLimits}
 use Rattle.route_trace.specs.declared.RouteFault.TheVariants.{PatternLarge as RouteLarge, TooMany as RoutesMany}
 
 -- ---- N10, N12 and N13
 
--- N10: under no instruction word are the buses without clash
-abbrev pub ClashesAlways : Netlist → Type 0
-ClashesAlways netlist = (word : ℕ) → IsCleanWord netlist word → ⊥
-
 -- a word without clash
 pub record HasCleanWord (netlist : Netlist) : Type 0 where
   pub word : ℕ
-  pub clean : IsCleanWord netlist word
+  pub clean : IsClean netlist word
 
 -- the offset is that of the item of the net that N12 or N13 names
 pub record NamesNet (netlist : Netlist) (offset : ℕ) (Refuses : ℕ → Type 0) : Type 0 where
@@ -46,6 +44,11 @@ BreaksRoutes netlist _ = ⊥
 pub record IsRouted (netlist : Netlist) : Type 0 where
   pub clean : HasCleanWord netlist
   pub limits : KeepsLimits netlist
+
+-- why nothing is extracted from a netlist; nothing is said where memory ran out
+abbrev pub IsRouteRefusal : Netlist → CheckFault → Type 0
+IsRouteRefusal netlist (Broken fault) = BreaksRoutes netlist fault
+IsRouteRefusal netlist CheckMemory = Unit {0}
 
 -- ---- texts
 
@@ -75,12 +78,6 @@ pub record IsRoutedNet (bytes : List ℕ) (checked : Ordered) : Type 0 where
   pub entries : List Entry
   pub file : IsRoutedFile bytes entries
   pub netlist : IsCheckedOf entries checked
-
--- the text is that of the netlist's patterns, where no name of the netlist has a mark in it
-pub record WritesPatterns (netlist : Netlist) (text : List ℕ) : Type 0 where
-  pub patterns : List Pattern
-  pub are : HasPlainNames netlist → ArePatterns netlist patterns
-  pub written : IsPatternsText netlist patterns text
 
 -- the bytes are a netlist text that keeps all rules, and the text is that of its patterns
 pub record IsExtracted (bytes text : List ℕ) : Type 0 where

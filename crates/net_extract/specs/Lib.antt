@@ -1,2 +1,3 @@
 pub mod Extracts
-pub mod Traced
+pub mod Sets
+pub mod Extraction

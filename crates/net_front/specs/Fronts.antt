@@ -67,11 +67,10 @@ pub record IsElaboratedOf (entries : List Entry) (netlist : Netlist) : Type 0 wh
   pub exact : netlist ≡ netlist_of entries
   pub formed : IsWellFormed netlist
 
--- why the items are refused by N1 to N4 and N11
-abbrev pub IsTextRefusal : List Entry → NetRefusal → Type 0
-IsTextRefusal entries (Text at) = ⊥
-IsTextRefusal entries (Fault fault) = first_fault entries ≡ Some fault
-IsTextRefusal entries Memory = Unit {0}
+-- why the items are refused by N1 to N4 and N11; nothing is said where memory ran out
+abbrev pub IsTextRefusal : List Entry → CheckFault → Type 0
+IsTextRefusal entries (Broken fault) = first_fault entries ≡ Some fault
+IsTextRefusal entries CheckMemory = Unit {0}
 
 -- what a fault of the reading is told as
 abbrev pub parse_refusal : ParseFault → NetRefusal

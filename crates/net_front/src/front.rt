@@ -2,13 +2,11 @@
 
 ghost use Rattle.std.specs.Prelude.{◌≡◌, ◌^◌, ◌<◌, length, map, IfOk, IfErr};
 ghost use Rattle.net_model.specs.Written.{entry_of};
-ghost use Rattle.net_front.specs.Fronts.{SaysNet, IsCheckedOf, IsElaboratedOf, IsNetFile, IsNetRefusal, IsRuleRefusal, IsTextRefusal};
+ghost use Rattle.net_front.specs.Fronts.{SaysNet, IsCheckedOf, IsNetFile, IsNetRefusal, IsRuleRefusal};
 
+use crate::flat::flatten;
 use net_check::check;
-use net_elab::elaborate;
-use net_model::{CheckFault, Checked, NetFault, Netlist, Units};
-use net_names::Names;
-use net_rules::first_fault;
+use net_model::{CheckFault, Checked, NetFault, Units};
 use rec_bits::{NoMemory, ParseFault};
 use std::alloc::Global;
 
@@ -72,37 +70,13 @@ fn items(alloc: Global, bytes: &[u8]) -> Result<Units, NetRefusal>
     Ok(units)
 }
 
-// The netlist of the items, where they keep N1 to N4 and N11.
-fn elaborated(alloc: Global, units: &Units) -> Result<Netlist, NetRefusal>
-    requires { length units.now.items < 2 ^ 32 }
-    ensures found { IfOk result (IsElaboratedOf (map entry_of units.now.items)) }
-    ensures refused { IfErr result (IsTextRefusal (map entry_of units.now.items)) }
-{
-    let names = Names::new(alloc, units)?;
-    elaborated_by(alloc, units, &names)
-}
-
-// The same, by the items' names.
-fn elaborated_by(alloc: Global, units: &Units, names: &Names) -> Result<Netlist, NetRefusal>
-    requires few { length units.now.items < 2 ^ 32 }
-    requires names { names.now ≡ units.now.items }
-    ensures found { IfOk result (IsElaboratedOf (map entry_of units.now.items)) }
-    ensures refused { IfErr result (IsTextRefusal (map entry_of units.now.items)) }
-{
-    if let Some(fault) = first_fault(alloc, units, names)? {
-        return Err(NetRefusal::Fault(fault));
-    }
-    let netlist = elaborate(alloc, units, names)?;
-    Ok(netlist)
-}
-
 // The netlist of the items, where it keeps the rules.
 fn checked(alloc: Global, units: &Units) -> Result<Checked, NetRefusal>
     requires { length units.now.items < 2 ^ 32 }
     ensures found { IfOk result (IsCheckedOf (map entry_of units.now.items)) }
     ensures refused { IfErr result (IsRuleRefusal (map entry_of units.now.items)) }
 {
-    let netlist = elaborated(alloc, units)?;
+    let netlist = flatten(alloc, units)?;
     let checked = check(alloc, netlist)?;
     Ok(checked)
 }

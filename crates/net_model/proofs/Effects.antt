@@ -1,5 +1,5 @@
 -- The next state is what the transfers of the word say.
-use Rattle.std.proofs.Common.{ℕ, zero, suc, ◌≡◌, Bool, true, false, cond, List, [], ◌∷◌, length, refl, sym, ◌∙◌, ap, arith, Option, Some, None, slice_get, slice_index, slice_set}
+use Rattle.std.proofs.Common.{ℕ, zero, suc, ◌≡◌, Bool, true, false, cond, List, [], ◌∷◌, length, map, option_to_list, refl, sym, ◌∙◌, ap, arith, Option, Some, None, slice_get, slice_index, slice_set}
 use Rattle.std.specs.List.{AllByRecursion, position_or_len}
 use Rattle.std.proofs.lemmas.List.{length-set}
 use Rattle.std.proofs.lemmas.Bool.{eqb-true}
@@ -10,7 +10,7 @@ use Rattle.net_model.specs.Widths.{IsTyped, WordFits, ValuesFit, IsState}
 use Rattle.net_model.specs.Clock.{clash_in, enabled_count, gate_clashes, is_enabled, next_reg, next_regs, next_cells, next_state, outcome_of, step, word_at}
 use Rattle.net_model.specs.Symbolic.{blank, is_static, sym_of}
 use Rattle.net_model.specs.Meaning.{mean}
-use Rattle.net_model.specs.Control.{EnablesStatic, NetControlled, GateControlled, IsWhenStatic, IsStorageControlled, IsSound}
+use Rattle.net_model.specs.Control.{AllPass, gate_enables, storage_enables, IsSound}
 use Rattle.net_model.specs.Transfers.{same_reg, storage_move, transfer_of, IsClean, Moved, reg_moved, cells_moved}
 use Rattle.net_model.specs.declared.hardware.Netlist.{Netlist}
 use Rattle.net_model.specs.declared.hardware.Net.{Net}
@@ -19,6 +19,8 @@ use Rattle.net_model.specs.declared.hardware.Gate.TheVariants.{Bus}
 use Rattle.net_model.specs.declared.hardware.Storage.{Storage}
 use Rattle.net_model.specs.declared.hardware.Storage.TheVariants.{Register, Memory}
 use Rattle.net_model.specs.declared.states.State.{State}
+use Rattle.rec_bits.specs.Faults.{gather}
+use Rattle.net_model.proofs.Offsets.{gather_all, gathered_at}
 use Rattle.net_model.proofs.Fits.{value_fits}
 use Rattle.net_model.proofs.NextStates.{regs_fit, cells_fit, length-next_regs}
 use Rattle.net_model.proofs.Meanings.{static_value, value_is_mean}
@@ -26,20 +28,20 @@ use Rattle.net_model.proofs.Meanings.{static_value, value_is_mean}
 -- ---- clashes: the enables are static
 
 module _ (netlist : Netlist) (v w : ℕ → ℕ) (h : (m : ℕ) → is_static netlist m ≡ true → v m ≡ w m) where
-  count_same : (drivers : List (ℕ × ℕ)) → EnablesStatic (is_static netlist) drivers → enabled_count v drivers ≡ enabled_count w drivers
+  count_same : (drivers : List (ℕ × ℕ)) → AllPass (is_static netlist) (map (λ (driver : ℕ × ℕ). driver.1) drivers) → enabled_count v drivers ≡ enabled_count w drivers
   count_same [] e = refl
   count_same (driver ∷ drivers) e = rw (h driver.1 e.0, count_same drivers e.1) refl
 
-  clashes_same : (gate : Gate) → GateControlled netlist gate → gate_clashes v gate ≡ gate_clashes w gate
-  clashes_same (Bus drivers) c = rw (count_same drivers c) refl
-  clashes_same _ c = refl
+  clashes_same : (gate : Gate) → AllPass (is_static netlist) (gate_enables gate) → gate_clashes v gate ≡ gate_clashes w gate
+  clashes_same (Bus drivers) e = rw (count_same drivers e) refl
+  clashes_same _ e = refl
 
-  place_same : (nets : List Net) → ((n : ℕ) → NetControlled netlist (slice_get nets n)) → position_or_len (λ (net : Net). gate_clashes v net.gate) nets ≡ position_or_len (λ (net : Net). gate_clashes w net.gate) nets
-  place_same [] c = refl
-  place_same (net ∷ nets) c = rw (clashes_same net.gate (c 0), place_same nets (λ n. c (suc n))) refl
+  place_same : (nets : List Net) → AllByRecursion (λ (net : Net). AllPass (is_static netlist) (gate_enables net.gate)) nets → position_or_len (λ (net : Net). gate_clashes v net.gate) nets ≡ position_or_len (λ (net : Net). gate_clashes w net.gate) nets
+  place_same [] e = refl
+  place_same (net ∷ nets) e = rw (clashes_same net.gate e.0, place_same nets e.1) refl
 
-  clash_same : (nets : List Net) → ((n : ℕ) → NetControlled netlist (slice_get nets n)) → clash_in v nets ≡ clash_in w nets
-  clash_same nets c = rw (place_same nets c) refl
+  clash_same : (nets : List Net) → AllPass (is_static netlist) (gather (λ (net : Net). gate_enables net.gate) nets) → clash_in v nets ≡ clash_in w nets
+  clash_same nets e = rw (place_same nets (gather_all (λ n. is_static netlist n ≡ true) (λ (net : Net). gate_enables net.gate) nets e)) refl
 
 -- ---- registers
 
@@ -58,15 +60,11 @@ abbrev pub option_move : (ℕ → Term) → (ℕ → ℕ) → Option Storage →
 option_move t u None id = keep
 option_move t u (Some storage) id = storage_move t u id storage
 
-abbrev pub IsAtControlled : Netlist → Option Storage → Type 0
-IsAtControlled netlist None = Unit {0}
-IsAtControlled netlist (Some storage) = IsStorageControlled netlist storage
-
 -- whether a storage's `when` is on, by the values of static nets
 module _ (netlist : Netlist) (s : State) (i : ℕ) (t : ℕ → Term) (u v : ℕ → ℕ) (h : (m : ℕ) → mean (t m) s i ≡ v m) (hu : (m : ℕ) → is_static netlist m ≡ true → u m ≡ v m) where
-  on_same : (when : Option ℕ) → IsWhenStatic netlist when → is_enabled v when ≡ is_enabled u when
+  on_same : (when : Option ℕ) → AllPass (is_static netlist) (option_to_list when) → is_enabled v when ≡ is_enabled u when
   on_same None c = refl
-  on_same (Some when) c = rw (hu when c) refl
+  on_same (Some when) c = rw (hu when c.0) refl
 
   same_mean : (e : Term) (id : ℕ) → same_reg e id ≡ true → mean e s i ≡ slice_index s.regs id
   same_mean (reg r w) id e = ap (slice_index s.regs) (eqb-true r id e)
@@ -78,17 +76,17 @@ module _ (netlist : Netlist) (s : State) (i : ℕ) (t : ℕ → Term) (u v : ℕ
   pick_reg true false input id e = sym (h input)
   pick_reg false b input id e = refl
 
-  reg_law : (o : Option Storage) (id : ℕ) → IsRegister o → IsAtControlled netlist o → reg_next v o (slice_index s.regs id) ≡ reg_moved (option_move t u o id) s i id
+  reg_law : (o : Option Storage) (id : ℕ) → IsRegister o → ((storage : Storage) → o ≡ Some storage → AllPass (is_static netlist) (storage_enables storage)) → reg_next v o (slice_index s.regs id) ≡ reg_moved (option_move t u o id) s i id
   reg_law None id r c = absurd r
   reg_law (Some (Memory name width size addr_width value addr when)) id r c = absurd r
   reg_law (Some (Register name width input when)) id r c =
-      rw (on_same when c) (pick_reg (is_enabled u when) (same_reg (t input) id) input id (λ e. sym (h input) ∙ same_mean (t input) id e))
+      rw (on_same when (c _ refl)) (pick_reg (is_enabled u when) (same_reg (t input) id) input id (λ e. sym (h input) ∙ same_mean (t input) id e))
 
   pick_cells : (a : Bool) (addr value : ℕ) → cond a (slice_set s.cells (v addr) (v value)) s.cells ≡ cells_moved (cond a (write_at (t addr) (t value)) keep) s i
   pick_cells true addr value = rw (h addr, h value) refl
   pick_cells false addr value = refl
 
-  cells_law : (storages : List Storage) (id : ℕ) → AllByRecursion (IsStorageControlled netlist) storages → next_cells v storages s.cells ≡ cells_moved (option_move t u (slice_get storages (memory_id storages)) id) s i
+  cells_law : (storages : List Storage) (id : ℕ) → AllByRecursion (λ storage. AllPass (is_static netlist) (storage_enables storage)) storages → next_cells v storages s.cells ≡ cells_moved (option_move t u (slice_get storages (memory_id storages)) id) s i
   cells_law [] id c = refl
   cells_law (Register name width input when ∷ storages) id c = cells_law storages id c.1
   cells_law (Memory name width size addr_width value addr when ∷ storages) id c = rw (on_same when c.0) (pick_cells (is_enabled u when) addr value)
@@ -118,11 +116,6 @@ next_is_state netlist s i t h w =
       };
     }
 
-controlled_at : (netlist : Netlist) (storages : List Storage) (id : ℕ) → AllByRecursion (IsStorageControlled netlist) storages → IsAtControlled netlist (slice_get storages id)
-controlled_at netlist [] id c = tt
-controlled_at netlist (storage ∷ storages) zero c = c.0
-controlled_at netlist (storage ∷ storages) (suc id) c = controlled_at netlist storages id c.1
-
 option_move_is : (netlist : Netlist) (i id : ℕ) (o : Option Storage) → option_move (sym_of netlist i) (value_of netlist blank i) o id ≡ transfer_of netlist i id o
 option_move_is netlist i id None = refl
 option_move_is netlist i id (Some storage) = refl
@@ -137,13 +130,13 @@ moved netlist words i s sound h clean e =
       next = next_state v netlist s;
       clocked =
           ap (step netlist s) e
-          ∙ ap (outcome_of v netlist s) (sym (clash_same netlist (value_of netlist blank i) (value_of netlist s i) static netlist.nets sound.controlled.nets) ∙ clean.clean);
+          ∙ ap (outcome_of v netlist s) (sym (clash_same netlist (value_of netlist blank i) (value_of netlist s i) static netlist.nets sound.controlled.enables) ∙ clean.clean);
       state = next_is_state netlist s i sound.typed h clean.fits;
       regs = λ id r.
           reg_after v netlist.storages s.regs id h.regs
-          ∙ reg_law netlist s i (sym_of netlist i) (value_of netlist blank i) v means static (slice_get netlist.storages id) id r (controlled_at netlist netlist.storages id sound.storages)
+          ∙ reg_law netlist s i (sym_of netlist i) (value_of netlist blank i) v means static (slice_get netlist.storages id) id r (λ storage at. gathered_at (λ n. is_static netlist n ≡ true) storage_enables netlist.storages id storage at sound.storages)
           ∙ ap (λ (m : Move). reg_moved m s i id) (option_move_is netlist i id (slice_get netlist.storages id));
       cells =
-          cells_law netlist s i (sym_of netlist i) (value_of netlist blank i) v means static netlist.storages (memory_id netlist.storages) sound.storages
+          cells_law netlist s i (sym_of netlist i) (value_of netlist blank i) v means static netlist.storages (memory_id netlist.storages) (gather_all (λ n. is_static netlist n ≡ true) storage_enables netlist.storages sound.storages)
           ∙ ap (λ (m : Move). cells_moved m s i) (option_move_is netlist i (memory_id netlist.storages) (slice_get netlist.storages (memory_id netlist.storages)));
     }

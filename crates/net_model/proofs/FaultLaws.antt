@@ -1,13 +1,7 @@
 -- A netlist that keeps the rules has no fault, and no netlist has two.
-use Rattle.std.proofs.Common.{ℕ, ◌≡◌, ◌==◌, ◌++◌, ◌||◌, ◌⊎◌, inl, inr, Bool, true, false, not, List, [], ◌∷◌, map, Option, Some, None, refl, sym, ap, ◌∙◌, arith, slice_get, zero, suc, IsTrue}
-use Rattle.std.specs.List.{AllByRecursion}
-use Rattle.std.proofs.lemmas.Bool.{cases_lt, eqb-true, eq-eqb}
+use Rattle.std.proofs.Common.{ℕ, ◌≡◌, inl, inr, List, None, refl, sym, ap, ◌∙◌, arith}
+use Rattle.std.proofs.lemmas.Bool.{cases_lt}
 use Rattle.net_model.specs.declared.hardware.Netlist.{Netlist}
-use Rattle.net_model.specs.declared.hardware.Net.{Net}
-use Rattle.net_model.specs.declared.hardware.Storage.{Storage}
-use Rattle.net_model.specs.declared.hardware.Storage.TheVariants.{Register, Memory}
-use Rattle.net_model.specs.declared.hardware.Gate.{Gate}
-use Rattle.net_model.specs.declared.hardware.Gate.TheVariants.{Case, Bus}
 use Rattle.net_model.specs.declared.fault.Role.{Role}
 use Rattle.net_model.specs.declared.fault.Role.TheVariants.{Pc, Size, Addr}
 use Rattle.net_model.specs.declared.fault.Role.TheVariants.{Code as NotOneCode, Memory as NotOneMemory}
@@ -17,208 +11,24 @@ use Rattle.net_model.specs.declared.fault.NetFault.TheVariants.{Role as RoleFaul
 use Rattle.net_model.specs.declared.fault.CheckFault.{CheckFault}
 use Rattle.net_model.specs.declared.fault.CheckFault.TheVariants.{Fault}
 use Rattle.net_model.specs.declared.fault.CheckFault.TheVariants.{Memory as NoRoom}
-use Rattle.net_model.specs.Nets.{width_at}
 use Rattle.net_model.specs.Symbolic.{is_static}
-use Rattle.net_model.specs.Control.{EnablesStatic, IsWhenStatic, IsStorageControlled}
-use Rattle.net_model.specs.CheckedRules.{storage_controls, when_controls, gate_controls, net_controls, is_control, UsesControlGates, IsBusStatic, IsNetStatic, IsGateSelectable, IsNetSelectable, HasRoles, HasStaticEnables, HasPlainControl, HasNarrowSelectors, KeepsRules}
+use Rattle.net_model.specs.Control.{enables, selectors, control_places, is_selector}
+use Rattle.net_model.specs.CheckedRules.{is_plain, HasRoles, HasStaticEnables, HasPlainControl, HasNarrowSelectors, KeepsRules}
 use Rattle.net_model.specs.Depends.{IsLeastOnCycle, named_by}
-use Rattle.rec_bits.specs.Faults.{least, gather}
-use Rattle.net_model.specs.NetFaults.{name_at, gate_enables, gate_selectors, enables, selectors, enable_offsets, control_offsets, selector_offsets, is_plain, is_selector, LacksRole, FaultOf, Refuses, IsFaultOrMemory}
+use Rattle.rec_bits.specs.Faults.{least}
+use Rattle.net_model.specs.NetFaults.{name_at, enable_offsets, control_offsets, selector_offsets, LacksRole, FaultOf, Refuses, IsFaultOrMemory}
 use Rattle.net_model.proofs.Acyclic.{acyclic_of}
-use Rattle.rec_bits.proofs.Faults.{least_none}
-use Rattle.rec_bits.proofs.Lists.{all_append}
-use Rattle.net_model.proofs.Offsets.{all_parts, all_gather, gather_all, kept_of, none_of}
-
--- ---- each of a list, by its place
-
-abbrev pub AllGates : (Gate → Type 0) → List Net → Type 0
-AllGates P nets = AllByRecursion (λ (net : Net). P net.gate) nets
-
-abbrev pub AtGate : (Gate → Type 0) → Option Net → Type 0
-AtGate P None = Unit {0}
-AtGate P (Some net) = P net.gate
-
-pub gates_at : (P : Gate → Type 0) (nets : List Net) → AllGates P nets → (n : ℕ) → AtGate P (slice_get nets n)
-gates_at P [] h n = tt
-gates_at P (net ∷ nets) h zero = h.0
-gates_at P (net ∷ nets) h (suc n) = gates_at P nets h.1 n
-
-pub gates_of : (P : Gate → Type 0) (nets : List Net) → ((n : ℕ) → AtGate P (slice_get nets n)) → AllGates P nets
-gates_of P [] h = tt
-gates_of P (net ∷ nets) h = (h 0, gates_of P nets (λ n. h (suc n)))
-
-pub all_as : {A : Type 0} (P Q : A → Type 0) → ((x : A) → P x → Q x) → (xs : List A) → AllByRecursion P xs → AllByRecursion Q xs
-all_as P Q f [] h = tt
-all_as P Q f (x ∷ xs) h = (f x h.0, all_as P Q f xs h.1)
-
--- ---- N7
+use Rattle.net_model.proofs.Offsets.{no_least}
 
 module _ (netlist : Netlist) where
-  abbrev Static : ℕ → Type 0
-  Static n = is_static netlist n ≡ true
+  no_enable : HasStaticEnables netlist → least (enable_offsets netlist) ≡ None
+  no_enable = no_least (is_static netlist) (name_at netlist) (enables netlist)
 
-  when_kept : (when : Option ℕ) → AllByRecursion Static (when_controls when) → IsWhenStatic netlist when
-  when_kept None h = tt
-  when_kept (Some when) h = h.0
+  no_control : HasPlainControl netlist → least (control_offsets netlist) ≡ None
+  no_control = no_least (is_plain netlist) (name_at netlist) (control_places netlist)
 
-  kept_when : (when : Option ℕ) → IsWhenStatic netlist when → AllByRecursion Static (when_controls when)
-  kept_when None h = tt
-  kept_when (Some when) h = (h, tt)
-
-  storage_kept : (storage : Storage) → AllByRecursion Static (storage_controls storage) → IsStorageControlled netlist storage
-  storage_kept (Register name width input when) h = when_kept when h
-  storage_kept (Memory name width size addr_width value addr when) h = when_kept when h
-
-  kept_storage : (storage : Storage) → IsStorageControlled netlist storage → AllByRecursion Static (storage_controls storage)
-  kept_storage (Register name width input when) h = kept_when when h
-  kept_storage (Memory name width size addr_width value addr when) h = kept_when when h
-
-  drivers_kept : (drivers : List (ℕ × ℕ)) → AllByRecursion Static (map (λ (driver : ℕ × ℕ). driver.1) drivers) → EnablesStatic (is_static netlist) drivers
-  drivers_kept [] h = tt
-  drivers_kept (driver ∷ drivers) h = (h.0, drivers_kept drivers h.1)
-
-  kept_drivers : (drivers : List (ℕ × ℕ)) → EnablesStatic (is_static netlist) drivers → AllByRecursion Static (map (λ (driver : ℕ × ℕ). driver.1) drivers)
-  kept_drivers [] h = tt
-  kept_drivers (driver ∷ drivers) h = (h.0, kept_drivers drivers h.1)
-
-  gate_kept : (gate : Gate) → AllByRecursion Static (gate_enables gate) → IsBusStatic netlist gate
-  gate_kept (Bus drivers) h = drivers_kept drivers h
-  gate_kept _ h = tt
-
-  kept_gate : (gate : Gate) → IsBusStatic netlist gate → AllByRecursion Static (gate_enables gate)
-  kept_gate (Bus drivers) h = kept_drivers drivers h
-  kept_gate _ h = tt
-
-  static_net : (net : Option Net) → AtGate (IsBusStatic netlist) net → IsNetStatic netlist net
-  static_net None h = tt
-  static_net (Some net) h = h
-
-  net_static_at : (net : Option Net) → IsNetStatic netlist net → AtGate (IsBusStatic netlist) net
-  net_static_at None h = tt
-  net_static_at (Some net) h = h
-
-  pub enables_static : least (enable_offsets netlist) ≡ None → HasStaticEnables netlist
-  enables_static e =
-      let k : AllByRecursion Static (gather storage_controls netlist.storages) × AllByRecursion Static (gather (λ (net : Net). gate_enables net.gate) netlist.nets) =
-      all_parts Static _ _ (kept_of (is_static netlist) (name_at netlist) (enables netlist) (least_none _ e)) in
-      record {
-        storages = all_as _ _ storage_kept netlist.storages (gather_all Static storage_controls netlist.storages k.0);
-        buses = λ n. static_net _ (gates_at (IsBusStatic netlist) netlist.nets (all_as _ _ (λ (net : Net). gate_kept net.gate) netlist.nets (gather_all Static (λ (net : Net). gate_enables net.gate) netlist.nets k.1)) n);
-      }
-
-  pub no_enable : HasStaticEnables netlist → least (enable_offsets netlist) ≡ None
-  no_enable h =
-      ap least (none_of (is_static netlist) (name_at netlist) (enables netlist) (all_append Static _ _
-      (all_gather Static storage_controls netlist.storages (all_as _ _ kept_storage netlist.storages h.storages))
-      (all_gather Static (λ (net : Net). gate_enables net.gate) netlist.nets (all_as _ _ (λ (net : Net). kept_gate net.gate) netlist.nets (gates_of (IsBusStatic netlist) netlist.nets (λ n. net_static_at _ (h.buses n)))))))
-
-  -- ---- N8
-
-  abbrev Plain : ℕ → Type 0
-  Plain n = is_plain netlist n ≡ true
-
-  implied : (a b : Bool) → (not a || b) ≡ true → IsTrue a → IsTrue b
-  implied true b e h = e
-  implied false b e h = cc h
-
-  implies : (a b : Bool) → (IsTrue a → IsTrue b) → (not a || b) ≡ true
-  implies true b f = f refl
-  implies false b f = refl
-
-  abbrev Uses : ℕ → Type 0
-  Uses n = UsesControlGates netlist n
-
-  uses_of : (ns : List ℕ) → AllByRecursion Plain ns → AllByRecursion Uses ns
-  uses_of ns h = all_as Plain Uses (λ n. implied (is_static netlist n) (is_control netlist n)) ns h
-
-  plain_of : (ns : List ℕ) → AllByRecursion Uses ns → AllByRecursion Plain ns
-  plain_of ns h = all_as Uses Plain (λ n. implies (is_static netlist n) (is_control netlist n)) ns h
-
-  controls_kept : (gate : Gate) → AllByRecursion Uses (gate_enables gate) → AllByRecursion Uses (gate_selectors gate) → AllByRecursion Uses (gate_controls gate)
-  controls_kept (Case sel rows rest) h k = k
-  controls_kept (Bus drivers) h k = h
-  controls_kept _ h k = tt
-
-  kept_enables : (gate : Gate) → AllByRecursion Uses (gate_controls gate) → AllByRecursion Uses (gate_enables gate)
-  kept_enables (Bus drivers) h = h
-  kept_enables _ h = tt
-
-  kept_selectors : (gate : Gate) → AllByRecursion Uses (gate_controls gate) → AllByRecursion Uses (gate_selectors gate)
-  kept_selectors (Case sel rows rest) h = h
-  kept_selectors _ h = tt
-
-  abbrev UsesAt : Gate → Type 0
-  UsesAt gate = AllByRecursion Uses (gate_controls gate)
-
-  controls_at : (net : Option Net) → AtGate UsesAt net → AllByRecursion Uses (net_controls net)
-  controls_at None h = tt
-  controls_at (Some net) h = h
-
-  at_controls : (net : Option Net) → AllByRecursion Uses (net_controls net) → AtGate UsesAt net
-  at_controls None h = tt
-  at_controls (Some net) h = h
-
-  both_kept : (nets : List Net) → AllByRecursion (λ (net : Net). AllByRecursion Uses (gate_enables net.gate)) nets → AllByRecursion (λ (net : Net). AllByRecursion Uses (gate_selectors net.gate)) nets → AllGates UsesAt nets
-  both_kept [] h k = tt
-  both_kept (net ∷ nets) h k = (controls_kept net.gate h.0 k.0, both_kept nets h.1 k.1)
-
-  pub controls_plain : least (control_offsets netlist) ≡ None → HasPlainControl netlist
-  controls_plain e =
-      let all : AllByRecursion Uses (enables netlist) × AllByRecursion Uses (selectors netlist) =
-      all_parts Uses _ _ (uses_of _ (kept_of (is_plain netlist) (name_at netlist) (enables netlist ++ selectors netlist) (least_none _ e))) in
-      let k : AllByRecursion Uses (gather storage_controls netlist.storages) × AllByRecursion Uses (gather (λ (net : Net). gate_enables net.gate) netlist.nets) = all_parts Uses _ _ all.0 in
-      record {
-        nets = λ n. controls_at _ (gates_at UsesAt netlist.nets (both_kept netlist.nets (gather_all Uses (λ (net : Net). gate_enables net.gate) netlist.nets k.1) (gather_all Uses (λ (net : Net). gate_selectors net.gate) netlist.nets all.1)) n);
-        storages = gather_all Uses storage_controls netlist.storages k.0;
-      }
-
-  pub no_control : HasPlainControl netlist → least (control_offsets netlist) ≡ None
-  no_control h =
-      let at : AllGates UsesAt netlist.nets = gates_of UsesAt netlist.nets (λ n. at_controls _ (h.nets n)) in
-      ap least (none_of (is_plain netlist) (name_at netlist) (enables netlist ++ selectors netlist) (plain_of _ (all_append Uses _ _
-      (all_append Uses _ _ (all_gather Uses storage_controls netlist.storages h.storages)
-      (all_gather Uses (λ (net : Net). gate_enables net.gate) netlist.nets (all_as _ _ (λ (net : Net). kept_enables net.gate) netlist.nets at)))
-      (all_gather Uses (λ (net : Net). gate_selectors net.gate) netlist.nets (all_as _ _ (λ (net : Net). kept_selectors net.gate) netlist.nets at)))))
-
-  -- ---- N9
-
-  abbrev Selects : ℕ → Type 0
-  Selects n = is_selector netlist n ≡ true
-
-  either_of : (a : Bool) (w : ℕ) → (a || (w == 1)) ≡ true → IsTrue a ⊎ (w ≡ 1)
-  either_of true w e = inl refl
-  either_of false w e = inr (eqb-true w 1 e)
-
-  of_either : (a : Bool) (w : ℕ) → IsTrue a ⊎ (w ≡ 1) → (a || (w == 1)) ≡ true
-  of_either true w h = refl
-  of_either false w (inl h) = cc h
-  of_either false w (inr h) = eq-eqb w 1 h
-
-  gate_selects : (gate : Gate) → AllByRecursion Selects (gate_selectors gate) → IsGateSelectable netlist gate
-  gate_selects (Case sel rows rest) h = either_of (is_static netlist sel) (width_at netlist sel) h.0
-  gate_selects _ h = tt
-
-  selects_gate : (gate : Gate) → IsGateSelectable netlist gate → AllByRecursion Selects (gate_selectors gate)
-  selects_gate (Case sel rows rest) h = (of_either (is_static netlist sel) (width_at netlist sel) h, tt)
-  selects_gate _ h = tt
-
-  selectable_net : (net : Option Net) → AtGate (IsGateSelectable netlist) net → IsNetSelectable netlist net
-  selectable_net None h = tt
-  selectable_net (Some net) h = h
-
-  net_selectable : (net : Option Net) → IsNetSelectable netlist net → AtGate (IsGateSelectable netlist) net
-  net_selectable None h = tt
-  net_selectable (Some net) h = h
-
-  pub selectors_narrow : least (selector_offsets netlist) ≡ None → HasNarrowSelectors netlist
-  selectors_narrow e =
-      let k : AllByRecursion Selects (selectors netlist) = kept_of (is_selector netlist) (name_at netlist) (selectors netlist) (least_none _ e) in
-      record { nets = λ n. selectable_net _ (gates_at (IsGateSelectable netlist) netlist.nets (all_as _ _ (λ (net : Net). gate_selects net.gate) netlist.nets (gather_all Selects (λ (net : Net). gate_selectors net.gate) netlist.nets k)) n) }
-
-  pub no_selector : HasNarrowSelectors netlist → least (selector_offsets netlist) ≡ None
-  no_selector h =
-      ap least (none_of (is_selector netlist) (name_at netlist) (selectors netlist)
-      (all_gather Selects (λ (net : Net). gate_selectors net.gate) netlist.nets (all_as _ _ (λ (net : Net). selects_gate net.gate) netlist.nets (gates_of (IsGateSelectable netlist) netlist.nets (λ n. net_selectable _ (h.nets n))))))
+  no_selector : HasNarrowSelectors netlist → least (selector_offsets netlist) ≡ None
+  no_selector = no_least (is_selector netlist) (name_at netlist) (selectors netlist)
 
   -- ---- N6
 
@@ -226,7 +36,7 @@ module _ (netlist : Netlist) where
   has_no_lack NotOneCode r l = l r.code
   has_no_lack NotOneMemory r l = l.1 r.memory
   has_no_lack Pc r l = l.2 r.counter
-  has_no_lack Size r l = l.3 (r.words, r.cells)
+  has_no_lack Size r l = l.3 r.sizes
   has_no_lack Addr r l = l.4 r.address
 
   -- the role that is lacking first

@@ -1,16 +1,18 @@
 -- A checked netlist is sound: what follows from the rules.
-use Rattle.std.proofs.Common.{◌≡◌, ℕ, ◌+◌, ◌≤◌, List, [], ◌∷◌, Option, Some, None, length, arith, slice_get, zero, suc}
+use Rattle.std.proofs.Common.{◌≡◌, ℕ, ◌+◌, ◌≤◌, List, [], ◌∷◌, Option, Some, None, length, true, arith, slice_get, zero, suc}
 use Rattle.std.specs.List.{AllByRecursion}
 use Rattle.net_model.specs.declared.hardware.Netlist.{Netlist}
 use Rattle.net_model.specs.declared.hardware.Net.{Net}
 use Rattle.net_model.specs.declared.hardware.Storage.{Storage}
 use Rattle.net_model.specs.declared.hardware.Storage.TheVariants.{Register, Memory}
 use Rattle.net_model.specs.declared.hardware.Gate.{Gate}
-use Rattle.net_model.specs.declared.hardware.Gate.TheVariants.{Word, Reg, Read, Case, Bus}
+use Rattle.net_model.specs.declared.hardware.Gate.TheVariants.{Word, Reg, Read, Case}
 use Rattle.net_model.specs.Nets.{memory_width, IsRegister, counter_of}
 use Rattle.net_model.specs.Widths.{IsNet, GateFits, NetFits, StorageFits, IsTyped}
-use Rattle.net_model.specs.Control.{NetControlled, GateControlled, IsSound}
-use Rattle.net_model.specs.CheckedRules.{ReadKeeps, GateKeeps, NetKeeps, StorageKeeps, memory_count, register_count, IsWellFormed, IsCounter, IsBusStatic, IsNetStatic, IsGateSelectable, IsNetSelectable, KeepsRules}
+use Rattle.net_model.specs.Symbolic.{is_static}
+use Rattle.net_model.specs.Control.{write_enables, bus_enables, IsSound}
+use Rattle.net_model.proofs.Offsets.{all_parts}
+use Rattle.net_model.specs.CheckedRules.{ReadKeeps, GateKeeps, NetKeeps, StorageKeeps, memory_count, register_count, IsWellFormed, IsCounter, KeepsRules}
 
 -- ---- widths: there is one memory, so a read is of the data memory
 
@@ -57,15 +59,6 @@ typed_of netlist w e = record {
 
 -- ---- control
 
-gate_controlled : (netlist : Netlist) (gate : Gate) → IsBusStatic netlist gate → IsGateSelectable netlist gate → GateControlled netlist gate
-gate_controlled netlist (Case sel rows rest) b s = s
-gate_controlled netlist (Bus drivers) b s = b
-gate_controlled netlist _ b s = tt
-
-net_controlled : (netlist : Netlist) (net : Option Net) → IsNetStatic netlist net → IsNetSelectable netlist net → NetControlled netlist net
-net_controlled netlist None b s = tt
-net_controlled netlist (Some net) b s = gate_controlled netlist net.gate b s
-
 counter_register : (o : Option Storage) → IsCounter o → IsRegister o
 counter_register None h = h
 counter_register (Some (Register name width input None)) h = tt
@@ -76,8 +69,8 @@ counter_register (Some (Memory name width size addr_width value addr when)) h = 
 pub sound_of : (netlist : Netlist) (order : List ℕ) → KeepsRules netlist order → IsSound netlist
 sound_of netlist order k = record {
   typed = typed_of netlist k.formed k.roles.memory;
-  controlled = record { nets = λ n. net_controlled netlist (slice_get netlist.nets n) (k.enables.buses n) (k.selectors.nets n) };
-  storages = k.enables.storages;
+  controlled = record { enables = (all_parts (λ n. is_static netlist n ≡ true) (write_enables netlist) (bus_enables netlist) k.enables).1; selectors = k.selectors };
+  storages = (all_parts (λ n. is_static netlist n ≡ true) (write_enables netlist) (bus_enables netlist) k.enables).0;
   counter = counter_register (slice_get netlist.storages (counter_of netlist.codes)) k.roles.counter;
 }
 

@@ -10,7 +10,7 @@ use Rattle.net_model.specs.declared.fault.NetFault.{NetFault}
 use Rattle.net_model.specs.declared.fault.NetFault.TheVariants.{Duplicate, Unknown, Width, Driver}
 use Rattle.net_model.specs.declared.fault.NetKind.{NetKind}
 use Rattle.net_model.specs.declared.fault.NetKind.TheVariants.{Nets, Registers, Cells, Words}
-use Rattle.net_model.specs.declared.units.Ident.{Ident}
+use Rattle.grammar.specs.declared.words.Ident.{Ident}
 use Rattle.net_model.specs.declared.units.Port.{Port}
 use Rattle.net_model.specs.Written.{Entry, code, register, memory, net, bus, module_item, part, Phrase}
 use Rattle.net_model.specs.TextNames.{same_name, own_name, place_named, item_named, is_port, port_named, Scope, in_text, in_module}
@@ -18,7 +18,8 @@ use Rattle.net_model.specs.TextWidths.{wide, is_width, port_width, ports_of}
 use Rattle.net_model.specs.NameRules.{is_among, repeated, port_name, repeated_ports, duplicates, is_register, unknown_in_item, unknowns}
 use Rattle.net_model.specs.WidthRules.{has_width, feeds, enables, driver_feeds, binding_feeds, feeds_port, port_keeps, widths_fit, misfit, misfits}
 use Rattle.net_model.specs.DriverRules.{names_new, is_driven, drives_once, binding_name, covers_binding, is_driven_item, undriven, undrivens}
-use Rattle.net_model.specs.LimitRules.{told, count_registers, cells_of, words_of, greatest, over, or_else, limit_fault}
+use Rattle.net_model.specs.LimitRules.{count_registers, cells_of, words_of, greatest, over, or_else, limit_fault}
+use Rattle.rec_bits.specs.Counts.{capped}
 use Rattle.net_model.specs.TextRules.{fault_at, first_fault}
 use Rattle.net_model.specs.Numbering.{bound, count_items}
 use Rattle.net_model.specs.Elaborable.{Feeds, FeedsIf, DriverFeeds, IsBound, PortFed, PortKeeps, IsRegisterItem, ItemKeeps, item_names, IsDriven, IsElaborable}
@@ -289,11 +290,11 @@ within_so false fault h = absurd (cc h)
 within : (kind : NetKind) (limit count : ℕ) → over kind limit count ≡ None → IsTrue (nat_le count limit)
 within kind limit count h = within_so (nat_le count limit) _ h
 
-told_nets : (n : ℕ) → IsTrue (nat_le (told n) 4096) → n ≤ 4096
-told_nets n h = let k : told n ≤ 4096 = grind (arith, nat_tests) in omega arith
+told_nets : (n : ℕ) → IsTrue (nat_le (capped n) 4096) → n ≤ 4096
+told_nets n h = let k : capped n ≤ 4096 = grind (arith, nat_tests) in omega arith
 
-told_registers : (n : ℕ) → IsTrue (nat_le (told n) 13) → n ≤ 13
-told_registers n h = let k : told n ≤ 13 = grind (arith, nat_tests) in omega arith
+told_registers : (n : ℕ) → IsTrue (nat_le (capped n) 13) → n ≤ 13
+told_registers n h = let k : capped n ≤ 13 = grind (arith, nat_tests) in omega arith
 
 first_within : (a b limit : ℕ) → IsTrue (nat_le (max a b) limit) → IsTrue (nat_le a limit)
 first_within a b limit h = let k : max a b ≤ limit = grind (arith, nat_tests) in let l : a ≤ limit = omega arith in grind (arith, nat_tests)
@@ -314,8 +315,8 @@ record KeepsAll (text : List Entry) : Type 0 where
   no_unknowns : unknowns text ≡ []
   no_misfits : misfits text ≡ []
   no_undrivens : undrivens text ≡ []
-  nets : IsTrue (nat_le (told (count_items text text)) 4096)
-  registers : IsTrue (nat_le (told (count_registers text)) 13)
+  nets : IsTrue (nat_le (capped (count_items text text)) 4096)
+  registers : IsTrue (nat_le (capped (count_registers text)) 13)
   cells : IsTrue (nat_le (greatest cells_of text) 65536)
   words : IsTrue (nat_le (greatest words_of text) 65536)
 
@@ -325,16 +326,16 @@ keeps_all text h =
     let b = both_none (fault_at Unknown (least (unknowns text))) _ a.1 in
     let c = both_none (fault_at Width (least (misfits text))) _ b.1 in
     let d = both_none (fault_at Driver (least (undrivens text))) (limit_fault text) c.1 in
-    let e = both_none (over Nets 4096 (told (count_items text text))) _ d.1 in
-    let f = both_none (over Registers 13 (told (count_registers text))) _ e.1 in
+    let e = both_none (over Nets 4096 (capped (count_items text text))) _ d.1 in
+    let f = both_none (over Registers 13 (capped (count_registers text))) _ e.1 in
     let g = both_none (over Cells 65536 (greatest cells_of text)) (over Words 65536 (greatest words_of text)) f.1 in
     record {
       no_duplicates = rule_kept Duplicate (duplicates text) a.0;
       no_unknowns = rule_kept Unknown (unknowns text) b.0;
       no_misfits = rule_kept Width (misfits text) c.0;
       no_undrivens = rule_kept Driver (undrivens text) d.0;
-      nets = within Nets 4096 (told (count_items text text)) e.0;
-      registers = within Registers 13 (told (count_registers text)) f.0;
+      nets = within Nets 4096 (capped (count_items text text)) e.0;
+      registers = within Registers 13 (capped (count_registers text)) f.0;
       cells = within Cells 65536 (greatest cells_of text) g.0;
       words = within Words 65536 (greatest words_of text) g.1;
     }

@@ -1,5 +1,6 @@
 pub mod Agree
 pub mod Cases
+pub mod GateControls
 pub mod Effects
 pub mod Fits
 pub mod Meanings
@@ -16,3 +17,9 @@ pub mod Offsets
 pub mod FaultLaws
 pub mod Memories
 pub mod Syms
+pub mod Masks
+pub mod WordWidths
+pub mod TermLaws
+pub mod Counts
+pub mod Storages
+pub mod Far

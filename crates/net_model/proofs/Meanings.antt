@@ -1,5 +1,5 @@
 -- The value of a net is what its symbolic value means.
-use Rattle.std.proofs.Common.{inl, inr, ◌≡◌, ℕ, ◌+◌, ◌-◌, ◌/◌, ◌%◌, ◌^◌, ◌<◌, ◌≤◌, ◌==◌, ◌&&◌, ◌⊎◌, List, [], ◌∷◌, Option, Some, None, length, sym, ◌∙◌, ap, arith, subst, refl, Bool, true, false, cond, slice_get, slice_index, zero, suc, IsTrue, add-suc, add-zero}
+use Rattle.std.proofs.Common.{inl, inr, ◌≡◌, ℕ, ◌+◌, ◌-◌, ◌/◌, ◌%◌, ◌^◌, ◌<◌, ◌≤◌, ◌==◌, ◌&&◌, List, [], ◌∷◌, Option, Some, None, length, map, sym, ◌∙◌, ap, arith, subst, refl, Bool, true, false, cond, slice_get, slice_index, zero, suc, add-suc, add-zero}
 use Rattle.std.proofs.Math.Pow.{mod-mod-pow}
 use Rattle.std.proofs.lemmas.Nat.{field_of, shr-shr}
 use Rattle.std.proofs.lemmas.Bool.{cases_eq, eq-eqb, ne_eqb, eqb-true}
@@ -12,7 +12,8 @@ use Rattle.net_model.specs.Value.{case_value, bus_value, gate_value, net_value, 
 use Rattle.net_model.specs.Widths.{RowsFit, RestFits, DriversFit, GateFits, NetFits, IsTyped, StateFits, WordFits}
 use Rattle.net_model.specs.Symbolic.{sliced, reads_state, all_of, gate_static, net_static, static_within, is_static, blank, case_term, bus_term, gate_term, net_term, sym_within, sym_of}
 use Rattle.net_model.specs.Meaning.{mean}
-use Rattle.net_model.specs.Control.{EnablesStatic, GateControlled, NetControlled, IsControlled}
+use Rattle.net_model.specs.Control.{AllPass, is_selector, GateControlled, IsControlled}
+use Rattle.net_model.proofs.GateControls.{gate_controlled, is_bit}
 use Rattle.rec_bits.specs.Operators.{result_width}
 use Rattle.net_model.specs.declared.hardware.Netlist.{Netlist}
 use Rattle.net_model.specs.declared.hardware.Net.{Net}
@@ -21,9 +22,6 @@ use Rattle.net_model.specs.declared.hardware.Gate.TheVariants.{Word, Reg, Read, 
 use Rattle.net_model.specs.declared.states.State.{State}
 use Rattle.net_model.proofs.Agree.{Agree, same_gate}
 use Rattle.net_model.proofs.Fits.{value_fits}
-
-is_true : (b : Bool) → IsTrue b → b ≡ true
-is_true b h = h
 
 -- ---- slices
 
@@ -173,11 +171,11 @@ module _ (netlist : Netlist) (s : State) (i : ℕ) (t : ℕ → Term) (u v : ℕ
   case_law width key [] (Some n) = h n
   case_law width key (row ∷ rows) rest = pick_mean (row.0 == key) _ _ s i _ _ (h row.1) (case_law width key rows rest)
 
-  bus_law : (width : ℕ) (drivers : List (ℕ × ℕ)) → EnablesStatic (is_static netlist) drivers → mean (bus_term t u width drivers) s i ≡ bus_value v drivers
+  bus_law : (width : ℕ) (drivers : List (ℕ × ℕ)) → AllPass (is_static netlist) (map (λ (driver : ℕ × ℕ). driver.1) drivers) → mean (bus_term t u width drivers) s i ≡ bus_value v drivers
   bus_law width [] e = refl
   bus_law width (driver ∷ drivers) e =
       pick_mean (u driver.1 == 1) _ _ s i _ _ (h driver.0) (bus_law width drivers e.1)
-      ∙ ap (λ n. cond (n == 1) (v driver.0) (bus_value v drivers)) (hu driver.1 (is_true (is_static netlist driver.1) e.0))
+      ∙ ap (λ n. cond (n == 1) (v driver.0) (bus_value v drivers)) (hu driver.1 e.0)
 
   -- a selector of one bit is 1 or 0
   bit_law : (width sel : ℕ) (rows : List (ℕ × ℕ)) (rest : Option ℕ) → v sel < 2 → mean (select (t sel) (case_term t width 1 rows rest) (case_term t width 0 rows rest)) s i ≡ case_value v (v sel) rows rest
@@ -192,14 +190,9 @@ module _ (netlist : Netlist) (s : State) (i : ℕ) (t : ℕ → Term) (u v : ℕ
             ∙ case_law width 0 rows rest ∙ ap (λ n. case_value v n rows rest) (sym e)
       ]
 
-  choice_law : (width sel : ℕ) (rows : List (ℕ × ℕ)) (rest : Option ℕ) (b : Bool) → is_static netlist sel ≡ b → (IsTrue (is_static netlist sel) ⊎ (width_at netlist sel ≡ 1)) → mean (cond b (case_term t width (u sel) rows rest) (select (t sel) (case_term t width 1 rows rest) (case_term t width 0 rows rest))) s i ≡ case_value v (v sel) rows rest
+  choice_law : (width sel : ℕ) (rows : List (ℕ × ℕ)) (rest : Option ℕ) (b : Bool) → is_static netlist sel ≡ b → is_selector netlist sel ≡ true → mean (cond b (case_term t width (u sel) rows rest) (select (t sel) (case_term t width 1 rows rest) (case_term t width 0 rows rest))) s i ≡ case_value v (v sel) rows rest
   choice_law width sel rows rest true e c = case_law width (u sel) rows rest ∙ ap (λ n. case_value v n rows rest) (hu sel e)
-  choice_law width sel rows rest false e c =
-      bit_law width sel rows rest
-      (elim c as (λ _. v sel < 2) [
-        | inl p ↦ absurd (let q : true ≡ false = sym (is_true (is_static netlist sel) p) ∙ e in cc)
-        | inr p ↦ subst (λ n. v sel < 2 ^ n) p (hv sel)
-      ])
+  choice_law width sel rows rest false e c = bit_law width sel rows rest (subst (λ n. v sel < 2 ^ n) (is_bit netlist sel c e) (hv sel))
 
   gate_law : (width : ℕ) (gate : Gate) → GateFits netlist width gate → GateControlled netlist gate → mean (gate_term t u (is_static netlist) width gate) s i ≡ gate_value v netlist s i width gate
   gate_law width (Word code) g c = refl
@@ -214,12 +207,12 @@ module _ (netlist : Netlist) (s : State) (i : ℕ) (t : ℕ → Term) (u v : ℕ
   gate_law width (Cat a b) g c = rw (h a, h b, hw b) refl
   gate_law width (Zext a) g c = h a
   gate_law width (Sext a) g c = rw (h a, hw a) refl
-  gate_law width (Case sel rows rest) g c = choice_law width sel rows rest (is_static netlist sel) refl c
-  gate_law width (Bus drivers) g c = bus_law width drivers c
+  gate_law width (Case sel rows rest) g c = choice_law width sel rows rest (is_static netlist sel) refl c.selectors.0
+  gate_law width (Bus drivers) g c = bus_law width drivers c.enables
 
-  net_law : (net : Option Net) → NetFits netlist net → NetControlled netlist net → mean (net_term t u (is_static netlist) net) s i ≡ net_value v netlist s i net
+  net_law : (net : Option Net) → NetFits netlist net → ((x : Net) → net ≡ Some x → GateControlled netlist x.gate) → mean (net_term t u (is_static netlist) net) s i ≡ net_value v netlist s i net
   net_law None p c = refl
-  net_law (Some net) p c = gate_law net.width net.gate p.2 c
+  net_law (Some net) p c = gate_law net.width net.gate p.2 (c net refl)
 
 pub law_within : (netlist : Netlist) (s : State) (i : ℕ) → IsTyped netlist → IsControlled netlist → StateFits netlist s → WordFits netlist i → (k d : ℕ) → k + d ≡ length netlist.nets → (n : ℕ) → mean (sym_within k netlist i n) s i ≡ value_within k netlist s i n
 law_within netlist s i t c f w zero d e n = refl
@@ -229,7 +222,7 @@ law_within netlist s i t c f w (suc k) d e n =
     (width_is netlist i t k)
     (λ m q. static_value netlist blank s i k m (static_far netlist (suc d) k m (subst (λ j. static_within j netlist m ≡ true) (let z : length netlist.nets ≡ k + suc d = omega arith in z) q)))
     (value_fits netlist s i t f w k)
-    (slice_get netlist.nets n) (t.nets n) (c.nets n)
+    (slice_get netlist.nets n) (t.nets n) (gate_controlled netlist c n)
 
 -- the law of a net's value
 pub value_is_mean : (netlist : Netlist) (s : State) (i : ℕ) → IsTyped netlist → IsControlled netlist → StateFits netlist s → WordFits netlist i → (n : ℕ) → mean (sym_of netlist i n) s i ≡ value_of netlist s i n

@@ -9,7 +9,7 @@ use Rattle.net_model.specs.declared.hardware.Gate.TheVariants.{Bin, Slice}
 use Rattle.net_model.specs.declared.hardware.Storage.TheVariants.{Register, Memory}
 use Rattle.net_model.specs.Nets.{nets_of}
 use Rattle.net_model.specs.Order.{place_of, IsOrder}
-use Rattle.net_model.specs.CheckedRules.{NetKeeps, NamesDiffer, IsWellFormed, HasRoles, HasStaticEnables, HasPlainControl, HasNarrowSelectors, UsesControlGates, net_controls, IsNetStatic, IsNetSelectable, IsWhole, row_numbers, KeepsRules}
+use Rattle.net_model.specs.CheckedRules.{NetKeeps, NamesDiffer, IsWellFormed, HasRoles, IsWhole, row_numbers, KeepsRules}
 use Rattle.net_model.specs.Worked.{a16, b2, s8, ring}
 
 -- what holds of each net of a list holds at each place
@@ -73,34 +73,18 @@ s8_roles = record {
   code = refl;
   memory = refl;
   counter = lit≤ tt;
-  words = (lit≤ tt, lit≤ tt);
-  cells = (lit≤ tt, lit≤ tt);
+  sizes = ((lit≤ tt, lit≤ tt), (lit≤ tt, lit≤ tt));
   address = lit≤ tt;
 }
-
-s8_enables : HasStaticEnables s8
-s8_enables = record {
-  storages = (tt, (refl, tt));
-  buses = at_each (λ n net. IsNetStatic s8 net) (λ n. tt) s8.nets (search rules);
-}
-
-s8_control : HasPlainControl s8
-s8_control = record {
-  nets = at_each (λ n net. AllByRecursion (UsesControlGates s8) (net_controls net)) (λ n. tt) s8.nets (search rules);
-  storages = (tt, ((λ _. refl, tt), tt));
-}
-
-s8_selectors : HasNarrowSelectors s8
-s8_selectors = record { nets = at_each (λ n net. IsNetSelectable s8 net) (λ n. tt) s8.nets (search rules) }
 
 pub s8_keeps : KeepsRules s8 s8_order
 s8_keeps = record {
   formed = s8_formed;
   ordered = s8_ordered;
   roles = s8_roles;
-  enables = s8_enables;
-  control = s8_control;
-  selectors = s8_selectors;
+  enables = search rules;
+  control = search rules;
+  selectors = search rules;
 }
 
 -- ---- the processor with a bus
@@ -137,19 +121,12 @@ b2_keeps = record {
     code = refl;
     memory = refl;
     counter = lit≤ tt;
-    words = (lit≤ tt, lit≤ tt);
-    cells = (lit≤ tt, lit≤ tt);
+    sizes = ((lit≤ tt, lit≤ tt), (lit≤ tt, lit≤ tt));
     address = lit≤ tt;
   };
-  enables = record {
-    storages = (tt, (tt, (refl, tt)));
-    buses = at_each (λ n net. IsNetStatic b2 net) (λ n. tt) b2.nets (search rules);
-  };
-  control = record {
-    nets = at_each (λ n net. AllByRecursion (UsesControlGates b2) (net_controls net)) (λ n. tt) b2.nets (search rules);
-    storages = (tt, (tt, ((λ _. refl, tt), tt)));
-  };
-  selectors = record { nets = at_each (λ n net. IsNetSelectable b2 net) (λ n. tt) b2.nets (search rules) };
+  enables = search rules;
+  control = search rules;
+  selectors = search rules;
 }
 
 -- ---- the processor with an adder and a branch
@@ -211,19 +188,12 @@ a16_keeps = record {
     code = refl;
     memory = refl;
     counter = lit≤ tt;
-    words = (lit≤ tt, lit≤ tt);
-    cells = (lit≤ tt, lit≤ tt);
+    sizes = ((lit≤ tt, lit≤ tt), (lit≤ tt, lit≤ tt));
     address = lit≤ tt;
   };
-  enables = record {
-    storages = (tt, (refl, (refl, tt)));
-    buses = at_each (λ n net. IsNetStatic a16 net) (λ n. tt) a16.nets (search rules);
-  };
-  control = record {
-    nets = at_each (λ n net. AllByRecursion (UsesControlGates a16) (net_controls net)) (λ n. tt) a16.nets (search rules);
-    storages = (tt, ((λ _. refl, tt), ((λ _. refl, tt), tt)));
-  };
-  selectors = record { nets = at_each (λ n net. IsNetSelectable a16 net) (λ n. tt) a16.nets (search rules) };
+  enables = search rules;
+  control = search rules;
+  selectors = search rules;
 }
 
 -- nets that depend on themselves have no order
@@ -240,11 +210,11 @@ enabled_by gate = record {
 
 -- the enable may not depend on the program counter
 pub late_breaks : (order : List ℕ) → KeepsRules (enabled_by (Slice 6 0 0)) order → ⊥
-late_breaks order k = cc (k.enables.storages.1.0)
+late_breaks order k = cc (k.enables.0)
 
 -- nor be computed by an addition
 pub added_breaks : (order : List ℕ) → KeepsRules (enabled_by (Bin Add 1 9)) order → ⊥
-added_breaks order k = cc (k.control.storages.1.0.0 refl)
+added_breaks order k = cc (k.control.0)
 
 -- the program counter has no `when`
 pub held_breaks : (order : List ℕ) → KeepsRules (record s8 { storages = Register (codes "PC") 4 5 (Some 10) ∷ Memory (codes "M") 5 4 2 7 8 (Some 10) ∷ [] }) order → ⊥

@@ -1,6 +1,6 @@
 -- The rules that a checked netlist keeps, each said of the netlist alone. The rules N10, N12 and N13 speak of all instruction words
 -- and are asked later.
-use Rattle.std.specs.Prelude.{ℕ, zero, suc, ◌+◌, ◌^◌, ◌<◌, ◌≤◌, ◌≡◌, ◌⊎◌, ◌++◌, ◌&&◌, nat_eq, List, [], ◌∷◌, length, map, Option, Some, None, slice_get, Bool, true, false, IsTrue}
+use Rattle.std.specs.Prelude.{ℕ, zero, suc, ◌+◌, ◌^◌, ◌<◌, ◌≤◌, ◌≡◌, ◌++◌, ◌&&◌, ◌||◌, not, nat_eq, List, [], ◌∷◌, length, map, Option, Some, None, slice_get, Bool, true, false, IsTrue}
 use Rattle.std.specs.List.{AllByRecursion, IsDistinct, list_any}
 use Rattle.std.specs.Cmp.Lexicographic.{pointwise}
 use Rattle.rec_bits.specs.declared.operator.Op1.TheVariants.{Not}
@@ -11,11 +11,11 @@ use Rattle.net_model.specs.declared.hardware.Code.{Code}
 use Rattle.net_model.specs.declared.hardware.Storage.{Storage}
 use Rattle.net_model.specs.declared.hardware.Storage.TheVariants.{Register, Memory}
 use Rattle.net_model.specs.declared.hardware.Gate.{Gate}
-use Rattle.net_model.specs.declared.hardware.Gate.TheVariants.{Word, Reg, Read, Const, Wire, Un, Bin, Slice, Cat, Zext, Sext, Case, Bus}
+use Rattle.net_model.specs.declared.hardware.Gate.TheVariants.{Word, Reg, Read, Const, Wire, Un, Bin, Slice, Cat, Zext, Sext, Case}
 use Rattle.net_model.specs.Nets.{width_at, gate_nets, IsRegister, counter_of, counter_width, memory_size, memory_width}
 use Rattle.net_model.specs.Widths.{GateFits, HasWidth, StorageFits}
 use Rattle.net_model.specs.Symbolic.{all_of, is_static}
-use Rattle.net_model.specs.Control.{EnablesStatic, IsStorageControlled}
+use Rattle.net_model.specs.Control.{AllPass, enables, selectors, control_places, is_selector}
 use Rattle.net_model.specs.Order.{IsOrder}
 
 -- what a checked netlist is seen as
@@ -132,30 +132,42 @@ memory_addr_width [] = 0
 memory_addr_width (Register name width input when ∷ storages) = memory_addr_width storages
 memory_addr_width (Memory name width size addr_width value addr when ∷ storages) = addr_width
 
--- one code, one memory, and a program counter; no more words than the program counter reaches and no more cells than an address
--- reaches, at least one of each; addresses that a cell can hold
+-- at least 1 and no more than so many bits reach
+abbrev pub IsReached : ℕ → ℕ → Type 0
+IsReached size bits = (1 ≤ size) × (size ≤ 2 ^ bits)
+
+abbrev pub HasOneCode : Netlist → Type 0
+HasOneCode netlist = length netlist.codes ≡ 1
+
+abbrev pub HasOneMemory : Netlist → Type 0
+HasOneMemory netlist = memory_count netlist.storages ≡ 1
+
+abbrev pub HasCounter : Netlist → Type 0
+HasCounter netlist = IsCounter (slice_get netlist.storages (counter_of netlist.codes))
+
+-- the program counter reaches all words, and an address all cells
+abbrev pub HasSizes : Netlist → Type 0
+HasSizes netlist =
+    IsReached (code_size netlist.codes) (counter_width netlist)
+    × IsReached (memory_size netlist.storages) (memory_addr_width netlist.storages)
+
+-- a cell can hold an address
+abbrev pub HasAddress : Netlist → Type 0
+HasAddress netlist = memory_addr_width netlist.storages ≤ memory_width netlist.storages
+
+-- a code, a memory and a program counter, of sizes that fit together
 pub record HasRoles (netlist : Netlist) : Type 0 where
-  pub code : length netlist.codes ≡ 1
-  pub memory : memory_count netlist.storages ≡ 1
-  pub counter : IsCounter (slice_get netlist.storages (counter_of netlist.codes))
-  pub words : (1 ≤ code_size netlist.codes) × (code_size netlist.codes ≤ 2 ^ counter_width netlist)
-  pub cells : (1 ≤ memory_size netlist.storages) × (memory_size netlist.storages ≤ 2 ^ memory_addr_width netlist.storages)
-  pub address : memory_addr_width netlist.storages ≤ memory_width netlist.storages
+  pub code : HasOneCode netlist
+  pub memory : HasOneMemory netlist
+  pub counter : HasCounter netlist
+  pub sizes : HasSizes netlist
+  pub address : HasAddress netlist
 
 -- ---- N7: enables depend on the instruction word alone
 
-abbrev pub IsBusStatic : Netlist → Gate → Type 0
-IsBusStatic netlist (Bus drivers) = EnablesStatic (is_static netlist) drivers
-IsBusStatic netlist _ = Unit {0}
-
-abbrev pub IsNetStatic : Netlist → Option Net → Type 0
-IsNetStatic netlist None = Unit {0}
-IsNetStatic netlist (Some net) = IsBusStatic netlist net.gate
-
 -- each write enable and each bus enable is static
-pub record HasStaticEnables (netlist : Netlist) : Type 0 where
-  pub storages : AllByRecursion (IsStorageControlled netlist) netlist.storages
-  pub buses : (n : ℕ) → IsNetStatic netlist (slice_get netlist.nets n)
+abbrev pub HasStaticEnables : Netlist → Type 0
+HasStaticEnables netlist = AllPass (is_static netlist) (enables netlist)
 
 -- ---- N8: how control is computed
 
@@ -189,46 +201,19 @@ control_within (suc k) netlist n = net_control (control_within k netlist) (slice
 abbrev pub is_control : Netlist → ℕ → Bool
 is_control netlist n = control_within (length netlist.nets) netlist n
 
--- a static net has such gates alone
-abbrev pub UsesControlGates : Netlist → ℕ → Type 0
-UsesControlGates netlist n = IsTrue (is_static netlist n) → IsTrue (is_control netlist n)
-
--- the nets in control places: a case's selector, a bus's enables, a storage's write enable
-abbrev pub gate_controls : Gate → List ℕ
-gate_controls (Case sel rows rest) = sel ∷ []
-gate_controls (Bus drivers) = map (λ (driver : ℕ × ℕ). driver.1) drivers
-gate_controls _ = []
-
-abbrev pub net_controls : Option Net → List ℕ
-net_controls None = []
-net_controls (Some net) = gate_controls net.gate
-
-abbrev pub when_controls : Option ℕ → List ℕ
-when_controls None = []
-when_controls (Some when) = when ∷ []
-
-abbrev pub storage_controls : Storage → List ℕ
-storage_controls (Register name width input when) = when_controls when
-storage_controls (Memory name width size addr_width value addr when) = when_controls when
+-- a net that has such gates alone if it is static
+abbrev pub is_plain : Netlist → ℕ → Bool
+is_plain netlist n = not (is_static netlist n) || is_control netlist n
 
 -- a static net in a control place uses these gates alone
-pub record HasPlainControl (netlist : Netlist) : Type 0 where
-  pub nets : (n : ℕ) → AllByRecursion (UsesControlGates netlist) (net_controls (slice_get netlist.nets n))
-  pub storages : AllByRecursion (λ storage. AllByRecursion (UsesControlGates netlist) (storage_controls storage)) netlist.storages
+abbrev pub HasPlainControl : Netlist → Type 0
+HasPlainControl netlist = AllPass (is_plain netlist) (control_places netlist)
 
 -- ---- N9: selectors
 
-abbrev pub IsGateSelectable : Netlist → Gate → Type 0
-IsGateSelectable netlist (Case sel rows rest) = IsTrue (is_static netlist sel) ⊎ (width_at netlist sel ≡ 1)
-IsGateSelectable netlist _ = Unit {0}
-
-abbrev pub IsNetSelectable : Netlist → Option Net → Type 0
-IsNetSelectable netlist None = Unit {0}
-IsNetSelectable netlist (Some net) = IsGateSelectable netlist net.gate
-
 -- a case's selector is static or one bit wide
-pub record HasNarrowSelectors (netlist : Netlist) : Type 0 where
-  pub nets : (n : ℕ) → IsNetSelectable netlist (slice_get netlist.nets n)
+abbrev pub HasNarrowSelectors : Netlist → Type 0
+HasNarrowSelectors netlist = AllPass (is_selector netlist) (selectors netlist)
 
 -- ---- all of them
 

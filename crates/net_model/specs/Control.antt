@@ -1,6 +1,7 @@
--- What control may depend on: enables on the instruction word alone, selectors on it or on one bit.
-use Rattle.std.specs.Prelude.{ℕ, ◌≡◌, ◌⊎◌, List, [], ◌∷◌, Option, Some, None, slice_get, Bool, true, IsTrue}
+-- Control places and the nets that stand there: enables depend on the instruction word alone, selectors on it or on one bit.
+use Rattle.std.specs.Prelude.{ℕ, ◌≡◌, ◌==◌, ◌||◌, ◌++◌, List, [], ◌∷◌, map, option_to_list, slice_get, Bool, true}
 use Rattle.std.specs.List.{AllByRecursion}
+use Rattle.rec_bits.specs.Faults.{gather}
 use Rattle.net_model.specs.declared.hardware.Netlist.{Netlist}
 use Rattle.net_model.specs.declared.hardware.Net.{Net}
 use Rattle.net_model.specs.declared.hardware.Storage.{Storage}
@@ -11,36 +12,59 @@ use Rattle.net_model.specs.Nets.{width_at, IsRegister, counter_of}
 use Rattle.net_model.specs.Symbolic.{is_static}
 use Rattle.net_model.specs.Widths.{IsTyped}
 
--- each driver's enable is static
-abbrev pub EnablesStatic : (ℕ → Bool) → List (ℕ × ℕ) → Type 0
-EnablesStatic f [] = Unit {0}
-EnablesStatic f (driver ∷ drivers) = IsTrue (f driver.1) × EnablesStatic f drivers
+-- ---- the nets that stand in control places
 
--- a selector is static or one bit wide
-abbrev pub GateControlled : Netlist → Gate → Type 0
-GateControlled netlist (Case sel rows rest) = IsTrue (is_static netlist sel) ⊎ (width_at netlist sel ≡ 1)
-GateControlled netlist (Bus drivers) = EnablesStatic (is_static netlist) drivers
-GateControlled netlist _ = Unit {0}
+abbrev pub storage_enables : Storage → List ℕ
+storage_enables (Register name width input when) = option_to_list when
+storage_enables (Memory name width size addr_width value addr when) = option_to_list when
 
-abbrev pub NetControlled : Netlist → Option Net → Type 0
-NetControlled netlist None = Unit {0}
-NetControlled netlist (Some net) = GateControlled netlist net.gate
+abbrev pub gate_enables : Gate → List ℕ
+gate_enables (Bus drivers) = map (λ (driver : ℕ × ℕ). driver.1) drivers
+gate_enables _ = []
 
+abbrev pub gate_selectors : Gate → List ℕ
+gate_selectors (Case sel rows rest) = sel ∷ []
+gate_selectors _ = []
+
+abbrev pub write_enables : Netlist → List ℕ
+write_enables netlist = gather storage_enables netlist.storages
+
+abbrev pub bus_enables : Netlist → List ℕ
+bus_enables netlist = gather (λ (net : Net). gate_enables net.gate) netlist.nets
+
+abbrev pub enables : Netlist → List ℕ
+enables netlist = write_enables netlist ++ bus_enables netlist
+
+-- the selectors of cases
+abbrev pub selectors : Netlist → List ℕ
+selectors netlist = gather (λ (net : Net). gate_selectors net.gate) netlist.nets
+
+abbrev pub control_places : Netlist → List ℕ
+control_places netlist = enables netlist ++ selectors netlist
+
+-- ---- what is asked of them
+
+-- each of these nets passes a test
+abbrev pub AllPass : (ℕ → Bool) → List ℕ → Type 0
+AllPass test ns = AllByRecursion (λ n. test n ≡ true) ns
+
+-- static or one bit wide
+abbrev pub is_selector : Netlist → ℕ → Bool
+is_selector netlist n = is_static netlist n || (width_at netlist n == 1)
+
+-- the enables of a bus are static, and the selector of a case is static or one bit wide
+pub record GateControlled (netlist : Netlist) (gate : Gate) : Type 0 where
+  pub enables : AllPass (is_static netlist) (gate_enables gate)
+  pub selectors : AllPass (is_selector netlist) (gate_selectors gate)
+
+-- so are those of all gates
 pub record IsControlled (netlist : Netlist) : Type 0 where
-  pub nets : (n : ℕ) → NetControlled netlist (slice_get netlist.nets n)
-
--- a storage's write enable is static
-abbrev pub IsWhenStatic : Netlist → Option ℕ → Type 0
-IsWhenStatic netlist None = Unit {0}
-IsWhenStatic netlist (Some when) = is_static netlist when ≡ true
-
-abbrev pub IsStorageControlled : Netlist → Storage → Type 0
-IsStorageControlled netlist (Register name width input when) = IsWhenStatic netlist when
-IsStorageControlled netlist (Memory name width size addr_width value addr when) = IsWhenStatic netlist when
+  pub enables : AllPass (is_static netlist) (bus_enables netlist)
+  pub selectors : AllPass (is_selector netlist) (selectors netlist)
 
 -- widths fit, control is static, and the program counter is a register
 pub record IsSound (netlist : Netlist) : Type 0 where
   pub typed : IsTyped netlist
   pub controlled : IsControlled netlist
-  pub storages : AllByRecursion (IsStorageControlled netlist) netlist.storages
+  pub storages : AllPass (is_static netlist) (write_enables netlist)
   pub counter : IsRegister (slice_get netlist.storages (counter_of netlist.codes))

@@ -1,7 +1,7 @@
 -- Which items of a text have a netlist that keeps the rules: their names, widths, bindings and numbers.
 use Rattle.std.specs.Prelude.{ℕ, ◌^◌, ◌<◌, ◌≤◌, ◌≡◌, List, [], length, map, Option, Some, None, Bool, true, false, nat_le, IsTrue}
 use Rattle.std.specs.List.{AllByRecursion}
-use Rattle.net_model.specs.declared.units.Ident.{Ident}
+use Rattle.grammar.specs.declared.words.Ident.{Ident}
 use Rattle.net_model.specs.declared.units.Port.{Port}
 use Rattle.net_model.specs.Written.{Entry, code, register, memory, net, bus, module_item, part, Phrase}
 use Rattle.net_model.specs.TextNames.{own_name, item_named, Scope, in_text, in_module}

@@ -1,11 +1,14 @@
 -- The grammar of netlist texts.
 use Rattle.std.specs.Prelude.{◌≡◌, ℕ, zero, suc, Bool, true, false, List, [], ◌∷◌, Option, Some, None}
-use Rattle.grammar.specs.Reading.{Return, Token, Bind, ◌>>=◌, Maybe, ListOf}
-use Rattle.net_model.specs.declared.units.Ident.{Ident}
+use Rattle.grammar.specs.Reading.{Return, Token, ◌>>=◌, Maybe, ListOf}
+use Rattle.grammar.specs.declared.words.Ident.{Ident}
 use Rattle.net_model.specs.declared.units.Port.{Port}
-use Rattle.net_model.specs.declared.words.Lexed.{Lexed}
-use Rattle.net_model.specs.declared.words.Word.{Word}
-use Rattle.net_model.specs.declared.words.Word.TheVariants.{Name, Number, Item, Operator as Operates, Symbol as Shows}
+use Rattle.grammar.specs.Tokens.{Sign, IsName, IsNumber, ByWord, IsNothing, Behind, Before}
+use Rattle.grammar.specs.declared.words.Lexed.{Lexed as LexedOf}
+use Rattle.grammar.specs.declared.words.Word.{Word as WordOf}
+use Rattle.grammar.specs.declared.words.Word.TheVariants.{Name, Number, Symbol as Shows, Key as Keyed}
+use Rattle.net_model.specs.declared.words.Key.{Key}
+use Rattle.net_model.specs.declared.words.Key.TheVariants.{Item, Operator as Operates}
 use Rattle.net_model.specs.declared.words.ItemWord.{ItemWord}
 use Rattle.net_model.specs.declared.words.ItemWord.TheVariants.{Code, Register, Memory, Net, Bus, Module, Part}
 use Rattle.net_model.specs.declared.words.Operator.{Operator}
@@ -16,30 +19,11 @@ use Rattle.net_model.specs.Written.{Phrase, named, const, un, bin, cat, slice, z
 
 -- ---- tokens
 
--- a sign or a reserved word
-abbrev pub Sign : Symbol → List Lexed → Unit {0} → Type 0
-Sign s = Token (λ t u. t.word ≡ Shows s)
+abbrev pub Word : Type 0
+Word = WordOf Symbol Key
 
-abbrev pub IsName : List Lexed → Ident → Type 0
-IsName = Token (λ t i. t ≡ record { word = Name i.name; at = i.at })
-
-abbrev pub IsNumber : List Lexed → ℕ → Type 0
-IsNumber = Token (λ t n. t.word ≡ Number n)
-
--- what stands behind a first word tells by that word
-abbrev pub ByWord : {V : Type 0} → (Word → ℕ → List Lexed → V → Type 0) → List Lexed → V → Type 0
-ByWord B = Bind (Token (λ t u. u ≡ t)) (λ _ t. B t.word t.at)
-
-abbrev pub IsNothing : {V : Type 0} → List Lexed → V → Type 0
-IsNothing ts v = ⊥
-
--- a sign or word, and what stands behind it
-abbrev pub Behind : {V : Type 0} → Symbol → (List Lexed → V → Type 0) → List Lexed → V → Type 0
-Behind s X = Bind (Sign s) (λ _ u. X)
-
--- X and then a sign
-abbrev pub Before : {V : Type 0} → (List Lexed → V → Type 0) → Symbol → List Lexed → V → Type 0
-Before X s = Bind X (λ _ v. Bind (Sign s) (λ _ u. Return v))
+abbrev pub Lexed : Type 0
+Lexed = LexedOf Symbol Key
 
 -- { ',' X }
 abbrev pub Others : {V : Type 0} → (List Lexed → V → Type 0) → List Lexed → List V → Type 0
@@ -200,7 +184,7 @@ IsOperated E Case = do
   Return (case sel (rows_of arms.0) (rest_of arms.1))
 
 abbrev pub ExprBehind : (List Lexed → Phrase → Type 0) → Word → ℕ → List Lexed → Phrase → Type 0
-ExprBehind E (Operates o) at = IsOperated E o
+ExprBehind E (Keyed (Operates o)) at = IsOperated E o
 ExprBehind E w at = LeafBehind w at
 
 abbrev pub IsLeaf : List Lexed → Phrase → Type 0
@@ -350,7 +334,7 @@ ItemBehind Part = do
   Return (part name of links)
 
 abbrev pub ItemByWord : Word → ℕ → List Lexed → Entry → Type 0
-ItemByWord (Item w) at = ItemBehind w
+ItemByWord (Keyed (Item w)) at = ItemBehind w
 ItemByWord _ at = IsNothing
 
 abbrev pub IsItem : List Lexed → Entry → Type 0

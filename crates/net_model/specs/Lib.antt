@@ -6,6 +6,10 @@ pub mod Clock
 pub mod Symbolic
 pub mod Meaning
 pub mod Transfers
+pub mod Fields
+pub mod Occurs
+pub mod WorkedTerms
+pub mod WorkedViews
 pub mod Control
 pub mod Texts
 pub mod Patterns
@@ -30,3 +34,4 @@ pub mod CheckedRules
 pub mod Depends
 pub mod Flags
 pub mod NetFaults
+pub mod MemoryText

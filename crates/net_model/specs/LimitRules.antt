@@ -1,15 +1,12 @@
 -- The limits of a netlist text, N11.
-use Rattle.std.specs.Prelude.{ℕ, ◌+◌, ◌-◌, ◌^◌, if◌then◌else◌, List, [], ◌∷◌, min, max, Option, Some, None, nat_le}
+use Rattle.std.specs.Prelude.{ℕ, ◌+◌, if◌then◌else◌, List, [], ◌∷◌, max, Option, Some, None, nat_le}
+use Rattle.rec_bits.specs.Counts.{capped}
 use Rattle.net_model.specs.declared.fault.NetFault.{NetFault}
 use Rattle.net_model.specs.declared.fault.NetFault.TheVariants.{Limit}
 use Rattle.net_model.specs.declared.fault.NetKind.{NetKind}
 use Rattle.net_model.specs.declared.fault.NetKind.TheVariants.{Nets, Registers, Cells, Words}
 use Rattle.net_model.specs.Written.{Entry, code, register, memory}
 use Rattle.net_model.specs.Numbering.{count_items}
-
--- what is counted is told up to 2 ^ 64 - 1
-abbrev pub told : ℕ → ℕ
-told n = min n (2 ^ 64 - 1)
 
 abbrev pub count_register : Entry → ℕ
 count_register (register name width input when) = 1
@@ -43,6 +40,6 @@ or_else (Some fault) later = Some fault
 -- N11: the nets, the registers, the cells of a memory and the words of a code, in this order
 abbrev pub limit_fault : List Entry → Option NetFault
 limit_fault text =
-    or_else (over Nets 4096 (told (count_items text text)))
-    (or_else (over Registers 13 (told (count_registers text)))
+    or_else (over Nets 4096 (capped (count_items text text)))
+    (or_else (over Registers 13 (capped (count_registers text)))
     (or_else (over Cells 65536 (greatest cells_of text)) (over Words 65536 (greatest words_of text))))

@@ -74,6 +74,11 @@ IsRegister None = ⊥
 IsRegister (Some (Register name width input when)) = Unit {0}
 IsRegister (Some (Memory name width size addr_width value addr when)) = ⊥
 
+abbrev pub IsMemory : Option Storage → Type 0
+IsMemory None = ⊥
+IsMemory (Some (Register name width input when)) = ⊥
+IsMemory (Some (Memory name width size addr_width value addr when)) = Unit {0}
+
 -- ---- the nets that a gate names
 
 abbrev pub row_nets : List (ℕ × ℕ) → Option ℕ → List ℕ

@@ -2,7 +2,7 @@
 use Rattle.std.specs.Prelude.{ℕ, ◌+◌, ◌-◌, ◌==◌, ◌&&◌, ◌^◌, if◌then◌else◌, List, [], ◌∷◌, Option, Some, None, Bool, true, false, nat_le}
 use Rattle.rec_bits.specs.declared.operator.Op2.{Op2}
 use Rattle.rec_bits.specs.Operators.{result_width}
-use Rattle.net_model.specs.declared.units.Ident.{Ident}
+use Rattle.grammar.specs.declared.words.Ident.{Ident}
 use Rattle.net_model.specs.declared.units.Port.{Port}
 use Rattle.net_model.specs.Written.{Entry, code, register, memory, net, bus, module_item, part, Phrase, named, const, un, bin, cat, slice, zext, sext, read, case, Rows, no_rows, row, Rest, no_rest, rest}
 use Rattle.net_model.specs.TextNames.{item_named, port_named, Scope, in_text, in_module}

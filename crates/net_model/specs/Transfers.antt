@@ -14,10 +14,18 @@ use Rattle.net_model.specs.Meaning.{mean}
 
 -- ---- words without clash
 
--- a word of the code under which no bus clashes; enables are static, so they are read in the blank state
+-- the first bus that clashes under the word; enables are static, so they are read in the blank state
+abbrev pub clash_at : Netlist → ℕ → Option ℕ
+clash_at netlist i = clash_in (value_of netlist blank i) netlist.nets
+
+-- a word of the code under which no bus clashes
 pub record IsClean (netlist : Netlist) (i : ℕ) : Type 0 where
   pub fits : WordFits netlist i
-  pub clean : clash_in (value_of netlist blank i) netlist.nets ≡ None
+  pub clean : clash_at netlist i ≡ None
+
+-- under each word of the code some bus clashes
+abbrev pub ClashesAlways : Netlist → Type 0
+ClashesAlways netlist = (i : ℕ) → IsClean netlist i → ⊥
 
 -- ---- transfers
 
@@ -52,6 +60,16 @@ memory_move netlist i = move_at netlist i (memory_id netlist.storages)
 pub record Steps (netlist : Netlist) (i : ℕ) : Type 0 where
   pub step : (counter_move netlist i ≡ write (next_of (counter_of netlist.codes) (counter_width netlist)))
       ⊎ (counter_move netlist i ≡ write (swapped_next_of (counter_of netlist.codes) (counter_width netlist)))
+
+-- the word doesn't clash, and the storage keeps what it holds
+pub record Keeps (netlist : Netlist) (storage i : ℕ) : Type 0 where
+  pub clean : IsClean netlist i
+  pub keeps : move_at netlist i storage ≡ keep
+
+-- the word doesn't clash, and it steps
+pub record StepsOn (netlist : Netlist) (i : ℕ) : Type 0 where
+  pub clean : IsClean netlist i
+  pub steps : Steps netlist i
 
 -- ---- what transfers do
 

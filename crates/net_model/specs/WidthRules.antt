@@ -2,7 +2,7 @@
 use Rattle.std.specs.Prelude.{ℕ, ◌==◌, ◌&&◌, List, Option, Some, None, Bool, true, false, not}
 use Rattle.std.specs.List.{list_all}
 use Rattle.rec_bits.specs.Faults.{broken, gather}
-use Rattle.net_model.specs.declared.units.Ident.{Ident}
+use Rattle.grammar.specs.declared.words.Ident.{Ident}
 use Rattle.net_model.specs.declared.units.Port.{Port}
 use Rattle.net_model.specs.Written.{Entry, code, register, memory, net, bus, module_item, part, Phrase}
 use Rattle.net_model.specs.TextNames.{own_name, item_named, port_named, Scope, in_text, in_module}

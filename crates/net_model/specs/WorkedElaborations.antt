@@ -3,12 +3,18 @@ use Rattle.std.specs.Prelude.{ℕ, ◌≡◌, refl, List, [], ◌∷◌, Some, N
 use Rattle.rec_bits.specs.declared.operator.Op1.TheVariants.{Not}
 use Rattle.rec_bits.specs.declared.operator.Op2.TheVariants.{Add, Sub, Eq}
 use Rattle.net_model.specs.declared.hardware.Storage.TheVariants.{Register}
+use Rattle.net_model.specs.declared.hardware.Net.{Net}
+use Rattle.net_model.specs.declared.hardware.Gate.{Gate}
 use Rattle.net_model.specs.declared.hardware.Gate.TheVariants.{Word, Reg, Const, Wire, Un, Bin}
-use Rattle.net_model.specs.declared.units.Ident.{Ident}
+use Rattle.grammar.specs.declared.words.Ident.{Ident}
 use Rattle.net_model.specs.declared.units.Port.{Port}
 use Rattle.net_model.specs.Written.{Entry, code, register, memory, net, bus, module_item, part, Phrase, named, const, un, bin, zext, read, case, no_rows, row, no_rest, rest}
 use Rattle.net_model.specs.Elaborated.{netlist_of}
 use Rattle.net_model.specs.Worked.{s8, a16, b2}
+
+-- a net of an item at the beginning of the text
+abbrev gate_net : ℕ → Gate → Net
+gate_net width gate = record { width = width; name_at = 0; gate = gate }
 
 -- a name at the beginning of the text
 abbrev ident : List ℕ → Ident
@@ -124,3 +130,30 @@ pub part_elaborated : netlist_of part_items ≡ record {
   codes = record { name = codes "I"; bits = 4; words = 2; counter = 0 } ∷ [];
 }
 part_elaborated = refl
+
+-- code I : 4 size 2 at R;
+-- module M (in a : 4, out y : 1, out z : 4) { z = not(a); y = eq(a, 3#4); }
+-- part p : M (a = I);
+-- register R : 1 in p.y;
+-- register Q : 4 in p.z;
+abbrev pub outputs_items : List Entry
+outputs_items =
+    code (ident (codes "I")) 4 2 (ident (codes "R"))
+    ∷ module_item (ident (codes "M")) (input_port (codes "a") 4 ∷ output_port (codes "y") 1 ∷ output_port (codes "z") 4 ∷ [])
+    ((ident (codes "z"), un Not (of (codes "a"))) ∷ (ident (codes "y"), bin Eq (of (codes "a")) (const 3 4)) ∷ [])
+    ∷ part (ident (codes "p")) (ident (codes "M")) ((ident (codes "a"), of (codes "I")) ∷ [])
+    ∷ register (ident (codes "R")) 1 (output (codes "p") (codes "y")) None
+    ∷ register (ident (codes "Q")) 4 (output (codes "p") (codes "z")) None
+    ∷ []
+
+-- the wires of the outputs and the nets of their equations come in the order of the ports, and not of the equations
+pub outputs_elaborated : netlist_of outputs_items ≡ record {
+  nets =
+      gate_net 4 (Word 0) ∷ gate_net 4 (Wire 0)
+      ∷ gate_net 1 (Wire 5) ∷ gate_net 4 (Wire 6)
+      ∷ gate_net 4 (Const 3) ∷ gate_net 1 (Bin Eq 1 4) ∷ gate_net 4 (Un Not 1)
+      ∷ gate_net 1 (Reg 0) ∷ gate_net 4 (Reg 1) ∷ [];
+  storages = Register (codes "R") 1 2 None ∷ Register (codes "Q") 4 3 None ∷ [];
+  codes = record { name = codes "I"; bits = 4; words = 2; counter = 0 } ∷ [];
+}
+outputs_elaborated = refl

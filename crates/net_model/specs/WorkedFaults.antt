@@ -1,7 +1,7 @@
 -- The faults of small netlist texts, computed.
 use Rattle.std.specs.Prelude.{ℕ, ◌≡◌, refl, List, [], ◌∷◌, ◌++◌, Some, None, codes, true, false}
 use Rattle.rec_bits.specs.declared.operator.Op2.TheVariants.{Add}
-use Rattle.net_model.specs.declared.units.Ident.{Ident}
+use Rattle.grammar.specs.declared.words.Ident.{Ident}
 use Rattle.net_model.specs.declared.fault.NetFault.TheVariants.{Duplicate, Unknown, Width, Driver, Limit}
 use Rattle.net_model.specs.declared.fault.NetKind.TheVariants.{Cells, Words}
 use Rattle.net_model.specs.Written.{Entry, code, register, memory, net, module_item, part, Phrase, named, const, bin, cat, read, case, no_rows, row, no_rest}

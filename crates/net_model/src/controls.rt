@@ -1,9 +1,7 @@
 //! The nets that enable writes and the drivers of buses.
 
 ghost use Rattle.std.specs.Prelude.{◌≡◌, ◌++◌, map, option_to_list, IfOk, OnOk};
-ghost use Rattle.rec_bits.specs.Faults.{gather};
-ghost use Rattle.net_model.specs.CheckedRules.{storage_controls};
-ghost use Rattle.net_model.specs.NetFaults.{gate_enables};
+ghost use Rattle.net_model.specs.Control.{control_places, enables, gate_enables, selectors, storage_enables, write_enables};
 
 use crate::{Gate, Netlist, Storage};
 use rec_bits::{Items, NoMemory};
@@ -12,7 +10,7 @@ use std::alloc::Global;
 impl Storage {
     /// The net of the write enable, or None where the storage takes its input at each clock.
     pub fn when(&self) -> Option<u32>
-        ensures { option_to_list result ≡ storage_controls self.now }
+        ensures { option_to_list result ≡ storage_enables self.now }
     {
         match self {
             Storage::Register { when, .. } | Storage::Memory { when, .. } => *when,
@@ -21,9 +19,9 @@ impl Storage {
 }
 
 impl Netlist {
-    /// The nets of the write enables, in order of the storages.
-    pub fn write_enables(&self, alloc: Global) -> Result<Items<u32>, NoMemory>
-        ensures { IfOk result (λ nets. nets ≡ gather storage_controls self.now.storages) }
+    // The nets of the write enables, in order of the storages.
+    fn write_enables(&self, alloc: Global) -> Result<Items<u32>, NoMemory>
+        ensures { IfOk result (λ nets. nets ≡ write_enables self.now) }
     {
         let mut nets = Items::new(alloc);
         for storage in self.storages.as_slice() {
@@ -33,11 +31,51 @@ impl Netlist {
         }
         Ok(nets)
     }
+
+    /// The nets of write enables, in order of the storages, then those of bus enables, in order of the nets and of their drivers.
+    pub fn enables(&self, alloc: Global) -> Result<Items<u32>, NoMemory>
+        ensures { IfOk result (λ nets. nets ≡ enables self.now) }
+    {
+        let mut nets = self.write_enables(alloc)?;
+        for net in self.nets.as_slice() {
+            net.gate.push_enables(&mut nets)?;
+        }
+        Ok(nets)
+    }
+
+    /// The nets of the selectors of cases, in order of the nets.
+    pub fn selectors(&self, alloc: Global) -> Result<Items<u32>, NoMemory>
+        ensures { IfOk result (λ nets. nets ≡ selectors self.now) }
+    {
+        let mut nets = Items::new(alloc);
+        self.push_selectors(&mut nets)?;
+        Ok(nets)
+    }
+
+    /// The nets that stand in control places: enables, then selectors.
+    pub fn control_places(&self, alloc: Global) -> Result<Items<u32>, NoMemory>
+        ensures { IfOk result (λ nets. nets ≡ control_places self.now) }
+    {
+        let mut nets = self.enables(alloc)?;
+        self.push_selectors(&mut nets)?;
+        Ok(nets)
+    }
+
+    fn push_selectors(&self, nets: &mut Items<u32>) -> Result<(), NoMemory>
+        ensures { OnOk result (nets.new ≡ nets.old ++ selectors self.now) }
+    {
+        for net in self.nets.as_slice() {
+            if let Gate::Case { sel, .. } = &net.gate {
+                nets.push(*sel)?;
+            }
+        }
+        Ok(())
+    }
 }
 
 impl Gate {
-    /// Adds the nets that enable the drivers of a bus, in order of the drivers; any other gate adds none.
-    pub fn push_enables(&self, nets: &mut Items<u32>) -> Result<(), NoMemory>
+    // Adds the nets that enable the drivers of a bus, in order of the drivers; any other gate adds none.
+    fn push_enables(&self, nets: &mut Items<u32>) -> Result<(), NoMemory>
         ensures { OnOk result (nets.new ≡ nets.old ++ gate_enables self.now) }
     {
         match self {

@@ -61,10 +61,10 @@ pub enum NetKind {
     Words,
 }
 
-/// Why a netlist that keeps N1 to N4 and N11 was not accepted.
+/// Why a netlist was not accepted: by the call that asks some of the rules.
 #[derive(Clone, Copy, Debug, PartialEq, Eq)]
 pub enum CheckFault {
-    /// It breaks one of the rules N5 to N9.
+    /// It breaks this rule, which is the first of those that are asked.
     Fault(NetFault),
     /// Want of memory.
     Memory,

@@ -1,13 +1,7 @@
 //! The items of a netlist text, as written.
 
-use rec_bits::{Items, Name, Op1, Op2};
-
-/// A name and the offset of its first byte in the text.
-#[derive(Debug, Drop)]
-pub struct Ident {
-    pub name: Name,
-    pub at: u64,
-}
+use grammar::Ident;
+use rec_bits::{Items, Op1, Op2};
 
 /// The items of a text, in their order.
 #[derive(Debug, Drop)]

@@ -1,24 +1,21 @@
 //! The words of a netlist text.
 
-use rec_bits::{Name, Op1, Op2};
+ghost use Rattle.std.proofs.Common.{rules};
 
-/// A token: its word, and the offset of its first byte.
-#[derive(Debug, Drop)]
-pub struct Lexed {
-    pub word: Word,
-    pub at: u64,
-}
+use grammar::Exact;
+use rec_bits::{Op1, Op2};
 
-/// A word, by what it may begin or stand for.
-#[derive(Debug, Drop)]
-pub enum Word {
-    Name(Name),
-    Number(u64),
+/// A word of a netlist text.
+pub type Word = grammar::Word<Symbol, Key>;
+
+/// A token of a netlist text.
+pub type Lexed = grammar::Lexed<Symbol, Key>;
+
+/// A reserved word that tells what stands behind it.
+#[derive(Clone, Copy, Debug, PartialEq, Eq)]
+pub enum Key {
     Item(ItemWord),
     Operator(Operator),
-    Symbol(Symbol),
-    /// What stands in no text.
-    Other,
 }
 
 /// A reserved word that begins an item.
@@ -69,4 +66,8 @@ pub enum Symbol {
     Addr,
     Write,
     Else,
+}
+
+impl Exact for Symbol {
+    ghost exact = { Prim.search rules };
 }

@@ -2,7 +2,7 @@
 use Rattle.std.specs.Prelude.{◌≡◌, ℕ, ◌+◌, List, [], ◌∷◌, drop, slice_get, if◌then◌else◌, Option, Some, None, Bool, true, false}
 use Rattle.std.specs.Map.{lookup}
 use Rattle.std.proofs.Common.{Bor}
-use Rattle.net_model.specs.declared.units.Ident.{Ident}
+use Rattle.grammar.specs.declared.words.Ident.{Ident}
 use Rattle.net_model.specs.declared.units.Port.{Port}
 use Rattle.net_model.specs.Written.{Phrase}
 use Rattle.net_model.specs.TextNames.{same_name}
@@ -39,6 +39,15 @@ bound_place (b ∷ bindings) name = if same_name b.0.name name then 0 else bound
 pub record HasPortPlaces (inputs outputs : List (List ℕ × ℕ)) (ports : List Port) (before : ℕ) : Type 0 where
   pub inputs_there : HasPlaces inputs before (port_place false (drop before ports)) (port_place false ports)
   pub outputs_there : HasPlaces outputs before (port_place true (drop before ports)) (port_place true ports)
+
+-- what is lent
+abbrev pub lent : {A : Type 0} → Bor A → A
+lent b = b.now
+
+-- the inputs among some ports, in their order
+abbrev pub inputs_of : List Port → List Port
+inputs_of [] = []
+inputs_of (port ∷ ports) = if port.output then inputs_of ports else port ∷ inputs_of ports
 
 -- the item at a place, if there is a place
 abbrev pub item_at : {A : Type 0} → List A → Option ℕ → Option A

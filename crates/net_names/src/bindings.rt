@@ -21,7 +21,7 @@ impl<'a> Model for Bindings<'a> {
     ghost use Rattle.std.specs.Prelude.{List, [], map, length};
     ghost use Rattle.std.specs.Coded.{codes};
     ghost use Rattle.net_model.specs.contracts.units.NetExpr as e;
-    ghost use Rattle.net_model.specs.declared.units.Ident.{Ident as Named};
+    ghost use Rattle.grammar.specs.declared.words.Ident.{Ident as Named};
     ghost use Rattle.net_model.specs.declared.units.NetExpr.{NetExpr as Expression};
     ghost use Rattle.net_model.specs.Written.{binding_of};
     ghost use Rattle.net_names.specs.Places.{HasPlaces, bound_place};

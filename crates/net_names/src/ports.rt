@@ -1,12 +1,12 @@
 //! The ports of a module by their names.
 
-ghost use Rattle.std.specs.Prelude.{◌≡◌, [], IfOk, OnOk, length, option_copied, true, false};
+ghost use Rattle.std.specs.Prelude.{◌≡◌, [], IfOk, OnOk, length, map, option_copied, true, false};
 ghost use Rattle.net_model.specs.TextNames.{port_named};
-ghost use Rattle.net_names.specs.Places.{HasPortPlaces};
+ghost use Rattle.net_names.specs.Places.{HasPortPlaces, inputs_of, lent};
 
 use crate::table::{Table, item_at};
 use net_model::Port;
-use rec_bits::{Name, NoMemory};
+use rec_bits::{Items, Name, NoMemory};
 use std::alloc::Global;
 use std::marker::Model;
 
@@ -14,20 +14,22 @@ use std::marker::Model;
 #[derive(Drop)]
 pub struct Ports<'a> {
     ports: &'a [Port],
+    input_ports: Items<&'a Port>,
     inputs: Table<'a>,
     outputs: Table<'a>,
 }
 
 impl<'a> Model for Ports<'a> {
-    ghost use Rattle.std.specs.Prelude.{List, length};
+    ghost use Rattle.std.specs.Prelude.{◌≡◌, List, length, map};
     ghost use Rattle.net_model.specs.declared.units.Port.{Port as Written};
-    ghost use Rattle.net_names.specs.Places.{HasPortPlaces};
+    ghost use Rattle.net_names.specs.Places.{HasPortPlaces, inputs_of, lent};
 
     ghost Value = { List Written };
 
     ghost view = { λ table. table.ports.now };
 
-    ghost invariant = { λ table. HasPortPlaces table.inputs table.outputs table.ports.now (length table.ports.now) };
+    ghost invariant = { λ table.
+        HasPortPlaces table.inputs table.outputs table.ports.now (length table.ports.now) × (map lent table.input_ports ≡ inputs_of table.ports.now) };
 }
 
 /// Gives the names of ports their first places, each in the table of its direction. The tables are empty before.
@@ -50,16 +52,31 @@ fn enter_ports<'a>(
     Ok(())
 }
 
+/// The inputs among some ports, in their order.
+fn inputs_of<'a>(alloc: Global, ports: &'a [Port]) -> Result<Items<&'a Port>, NoMemory>
+    ensures { IfOk result (λ inputs. map lent inputs ≡ inputs_of ports.now) }
+{
+    let mut inputs = Items::new(alloc);
+    for port in ports {
+        if !port.output {
+            inputs.push(port)?;
+        }
+    }
+    Ok(inputs)
+}
+
 impl<'a> Ports<'a> {
     /// The names of some ports.
     pub fn new(alloc: Global, ports: &'a [Port]) -> Result<Ports<'a>, NoMemory>
         ensures { IfOk result (λ table. table ≡ ports.now) }
     {
+        let input_ports = inputs_of(alloc, ports)?;
         let mut inputs = Table::new(alloc);
         let mut outputs = Table::new(alloc);
         enter_ports(&mut inputs, &mut outputs, ports)?;
         Ok(Ports {
             ports,
+            input_ports,
             inputs,
             outputs,
         })
@@ -70,6 +87,13 @@ impl<'a> Ports<'a> {
         ensures { result.now ≡ self.now }
     {
         self.ports
+    }
+
+    /// The inputs in their order.
+    pub fn inputs(&self) -> &[&'a Port]
+        ensures { map lent result.now ≡ inputs_of self.now }
+    {
+        self.input_ports.as_slice()
     }
 
     /// The first input of a name, or None where there is none.

@@ -6,17 +6,17 @@ use Rattle.grammar.specs.Reading.{Return, Bind, ListOf, head, never, Reads, Lead
 use Rattle.grammar.proofs.Steps.{token_reads, leads_as}
 use Rattle.grammar.proofs.Passing.{There, there_bind, there_return, there_many, Apart, maybe_apart, starts_bind, returned}
 use Rattle.grammar.proofs.Repeats.{Repeated}
-use Rattle.net_model.specs.declared.words.Lexed.{Lexed}
-use Rattle.net_model.specs.declared.words.Word.{Word}
-use Rattle.net_model.specs.declared.words.Word.TheVariants.{Name, Number, Item, Operator as Operates, Symbol as Shows, Other}
+use Rattle.net_model.specs.Grammar.{Lexed, Word, LeafBehind, IsLeaf, IsExpr, ExprBehind, IsOperated, NumbersBehind, IsArm, IsRow, RowsBehind, IsElse, Arms, ArmsBehind}
+use Rattle.grammar.specs.declared.words.Word.TheVariants.{Name, Number, Symbol as Shows, Key as Keyed, Other}
+use Rattle.net_model.specs.declared.words.Key.TheVariants.{Item, Operator as Operates}
 use Rattle.net_model.specs.declared.words.Operator.{Operator}
 use Rattle.net_model.specs.declared.words.Symbol.TheVariants.{Comma, Else}
 use Rattle.net_model.specs.declared.units.NetExpr.{NetExpr, Case}
 use Rattle.net_model.specs.Written.{Phrase, case, phrase_of, row_of, rows_of, rest_of, other_of}
 use Rattle.net_model.proofs.Cases.{Row, phrase_Case}
-use Rattle.net_model.specs.Grammar.{Behind, ByWord, IsNumber, LeafBehind, IsLeaf, IsExpr, ExprBehind, IsOperated, NumbersBehind, IsArm, IsRow, RowsBehind, IsElse, Arms, ArmsBehind}
+use Rattle.grammar.specs.Tokens.{Behind, ByWord, IsNumber}
 use Rattle.net_parser.specs.Steps.{HasNoOperator, HasNoNumber, OpensNumber, comma_word, number_word, arms_word, after_list, after_rows, after_arms}
-use Rattle.net_parser.proofs.Tokens.{Shown, begun, there_number, there_behind, there_before, there_word, word_leads}
+use Rattle.grammar.proofs.Tokens.{Shown, begun, there_number, there_behind, there_before, there_word, word_leads}
 use Rattle.net_parser.proofs.Leaves.{there_leaf}
 
 map_same : (xs : List ℕ) → map (λ n. n) xs ≡ xs
@@ -33,24 +33,24 @@ unfolding IsExpr
 there_expr zero = there_leaf
 there_expr (suc d) = there_word (ExprBehind (IsExpr d)) (Number 0) 0 (there_bind (there_behind there_number) (λ w. there_return))
 
-pub operated_leads : (d e : ℕ) → d ≡ suc e → {more : Lexed → Bool} {ts rest : List Lexed} {t : Lexed} {o : Operator} → ts ≡ t ∷ rest → t.word ≡ Operates o
+pub operated_leads : (d e : ℕ) → d ≡ suc e → {more : Lexed → Bool} {ts rest : List Lexed} {t : Lexed} {o : Operator} → ts ≡ t ∷ rest → t.word ≡ Keyed (Operates o)
     → Leads (λ v. v) (IsOperated (IsExpr e) o) more rest (IsExpr d) more ts
 unfolding IsExpr
 operated_leads d e s parts is = rw s (word_leads (ExprBehind (IsExpr e)) parts is)
 
 leaf_word : (E : List Lexed → Phrase → Type 0) (w : Word) (at : ℕ) (x : List Lexed) (v : Phrase) → LeafBehind w at x v → ExprBehind E w at x v
-leaf_word E (Operates o) at x v h = absurd h
+leaf_word E (Keyed (Operates o)) at x v h = absurd h
 leaf_word E (Name n) at x v h = h
 leaf_word E (Number n) at x v h = h
-leaf_word E (Item i) at x v h = h
+leaf_word E (Keyed (Item i)) at x v h = h
 leaf_word E (Shows s) at x v h = h
 leaf_word E Other at x v h = h
 
-word_leaf : (E : List Lexed → Phrase → Type 0) (w : Word) (at : ℕ) (x : List Lexed) (v : Phrase) → ((o : Operator) → w ≡ Operates o → ⊥) → ExprBehind E w at x v → LeafBehind w at x v
-word_leaf E (Operates o) at x v f h = absurd (f o refl)
+word_leaf : (E : List Lexed → Phrase → Type 0) (w : Word) (at : ℕ) (x : List Lexed) (v : Phrase) → ((o : Operator) → w ≡ Keyed (Operates o) → ⊥) → ExprBehind E w at x v → LeafBehind w at x v
+word_leaf E (Keyed (Operates o)) at x v f h = absurd (f o refl)
 word_leaf E (Name n) at x v f h = h
 word_leaf E (Number n) at x v f h = h
-word_leaf E (Item i) at x v f h = h
+word_leaf E (Keyed (Item i)) at x v f h = h
 word_leaf E (Shows s) at x v f h = h
 word_leaf E Other at x v f h = h
 

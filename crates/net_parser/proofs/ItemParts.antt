@@ -5,19 +5,19 @@ use Rattle.grammar.specs.Reading.{Return, Bind, without, with_one, ListOf, head,
 use Rattle.grammar.proofs.Steps.{fails_here}
 use Rattle.grammar.proofs.Passing.{There, there_token, there_bind, there_return, there_maybe, there_many, Apart, Starts, starts_bind, starts_inner, starts_apart, stops_at, returned}
 use Rattle.grammar.proofs.Repeats.{Repeated}
-use Rattle.net_model.specs.declared.units.Ident.{Ident}
+use Rattle.grammar.specs.declared.words.Ident.{Ident}
 use Rattle.net_model.specs.declared.units.Port.{Port}
-use Rattle.net_model.specs.declared.words.Lexed.{Lexed}
-use Rattle.net_model.specs.declared.words.Word.{Word}
-use Rattle.net_model.specs.declared.words.Word.TheVariants.{Name, Number, Item as Begins, Operator as Operates, Symbol as Shows}
+use Rattle.net_model.specs.Grammar.{Lexed, Word, LeafBehind, ExprBehind, IsExpr, IsSized, IsWhen, IsFed, IsWrite, IsDirection, IsDriver, IsDrivers, IsBinding, IsBindings, IsEquation, IsLinks, IsPort, IsPorts, ItemByWord, IsItem, direction}
+use Rattle.grammar.specs.declared.words.Word.TheVariants.{Name, Number, Symbol as Shows, Key as Keyed}
+use Rattle.net_model.specs.declared.words.Key.TheVariants.{Item as Begins, Operator as Operates}
 use Rattle.net_model.specs.declared.words.ItemWord.{ItemWord}
 use Rattle.net_model.specs.declared.words.ItemWord.TheVariants.{Code}
 use Rattle.net_model.specs.declared.words.Symbol.{Symbol}
 use Rattle.net_model.specs.declared.words.Symbol.TheVariants.{Semicolon, Comma, In, Out, When}
 use Rattle.net_model.specs.Written.{Phrase, Entry}
-use Rattle.net_model.specs.Grammar.{Behind, Before, ByWord, IsName, LeafBehind, ExprBehind, IsExpr, IsSized, IsWhen, IsFed, IsWrite, IsDirection, IsDriver, IsDrivers, IsBinding, IsBindings, IsEquation, IsLinks, IsPort, IsPorts, ItemByWord, IsItem, direction}
-use Rattle.net_parser.specs.Steps.{BeginsSo, HasNoItem, expr_word, first_word, name_word, when_word, link_word, item_word, after_expr, after_when, after_drivers, after_equations, after_links, after_list, after_items}
-use Rattle.net_parser.proofs.Tokens.{Shown, begun, there_name, there_number, there_behind, there_before, there_word}
+use Rattle.grammar.specs.Tokens.{Behind, Before, ByWord, IsName, BeginsSo}
+use Rattle.net_parser.specs.Steps.{HasNoItem, expr_word, first_word, name_word, when_word, link_word, item_word, after_expr, after_when, after_drivers, after_equations, after_links, after_list, after_items}
+use Rattle.grammar.proofs.Tokens.{Shown, begun, there_name, there_number, there_behind, there_before, there_word}
 use Rattle.net_parser.proofs.Expressions.{there_expr}
 
 pub there_sized : There IsSized
@@ -54,7 +54,7 @@ pub there_ports : There IsPorts
 there_ports = there_bind there_port (λ f. there_bind there_many (λ o. there_return))
 
 pub there_item : There IsItem
-there_item = there_word ItemByWord (Begins Code) 0 (there_bind there_sized (λ s. there_bind (there_behind there_number) (λ n. there_bind (there_before (there_behind there_name)) (λ c. there_return))))
+there_item = there_word ItemByWord (Keyed (Begins Code)) 0 (there_bind there_sized (λ s. there_bind (there_behind there_number) (λ n. there_bind (there_before (there_behind there_name)) (λ c. there_return))))
 
 -- ---- what they begin with
 
@@ -75,7 +75,7 @@ leaf_first (Number n) at x v h = refl
 leaf_first _ at x v h = absurd h
 
 expr_first : (E : List Lexed → Phrase → Type 0) (w : Word) (at : ℕ) (x : List Lexed) (v : Phrase) → ExprBehind E w at x v → first_word w ≡ true
-expr_first E (Operates o) at x v h = refl
+expr_first E (Keyed (Operates o)) at x v h = refl
 expr_first E (Name n) at x v h = refl
 expr_first E (Number n) at x v h = refl
 expr_first E _ at x v h = absurd h
@@ -128,14 +128,14 @@ pub when_narrow : (c : List Lexed) → Stops after_when c → Stops after_expr c
 when_narrow [] h = tt
 when_narrow (t ∷ c) h = when_goes_on t.word h
 
-pub itemed : Repeated (λ t. (i : ItemWord) × (t.word ≡ Begins i)) IsItem never after_items
+pub itemed : Repeated (λ t. (i : ItemWord) × (t.word ≡ Keyed (Begins i))) IsItem never after_items
 itemed = record { starts = item_starts; opens = λ t h. ap item_word h.1; apart = λ t h. refl; wider = λ t h. refl }
   where
-    item_words : (w : Word) (at : ℕ) (x : List Lexed) (v : Entry) → ItemByWord w at x v → (i : ItemWord) × (w ≡ Begins i)
-    item_words (Begins i) at x v h = (i, refl)
+    item_words : (w : Word) (at : ℕ) (x : List Lexed) (v : Entry) → ItemByWord w at x v → (i : ItemWord) × (w ≡ Keyed (Begins i))
+    item_words (Keyed (Begins i)) at x v h = (i, refl)
     item_words _ at x v h = absurd h
 
-    item_starts : Starts (λ t. (i : ItemWord) × (t.word ≡ Begins i)) IsItem
+    item_starts : Starts (λ t. (i : ItemWord) × (t.word ≡ Keyed (Begins i))) IsItem
     item_starts = record {
       at = λ x v r. (
         r.first.token,

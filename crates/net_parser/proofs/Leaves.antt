@@ -2,15 +2,13 @@
 use Rattle.std.proofs.Common.{◌≡◌, ℕ, false, List, Option, refl, ap}
 use Rattle.grammar.specs.Reading.{Return, Bind}
 use Rattle.grammar.proofs.Passing.{There, there_bind, there_return, there_maybe, Apart, maybe_apart}
-use Rattle.net_model.specs.declared.units.Ident.{Ident}
-use Rattle.net_model.specs.declared.words.Lexed.{Lexed}
-use Rattle.net_model.specs.declared.words.Word.{Word}
-use Rattle.net_model.specs.declared.words.Word.TheVariants.{Name, Number, Symbol as Shows}
+use Rattle.grammar.specs.declared.words.Ident.{Ident}
+use Rattle.net_model.specs.Grammar.{Lexed, Word, IsRange, IsBits, LeafBehind, IsLeaf}
+use Rattle.grammar.specs.declared.words.Word.TheVariants.{Name, Number, Symbol as Shows}
 use Rattle.net_model.specs.declared.words.Symbol.TheVariants.{Dot}
-use Rattle.net_model.specs.Grammar.{IsRange, IsBits, LeafBehind, IsLeaf}
 use Rattle.net_model.specs.Written.{Phrase}
 use Rattle.net_parser.specs.Steps.{dot_word, expr_word, after_field, after_expr}
-use Rattle.net_parser.proofs.Tokens.{there_number, there_behind, there_word, begun}
+use Rattle.grammar.proofs.Tokens.{there_number, there_behind, there_word, begun}
 
 pub there_range : There IsRange
 there_range = there_bind there_number (λ hi. there_bind there_maybe (λ lo. there_return))

@@ -2,4 +2,3 @@ pub mod Expressions
 pub mod ItemParts
 pub mod Leaves
 pub mod TextFaults
-pub mod Tokens

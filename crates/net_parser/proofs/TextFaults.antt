@@ -1,24 +1,19 @@
 -- Texts as bytes: what is a text has no fault, a fault is at one place, and a text has no more items than bytes.
-use Rattle.std.proofs.Common.{◌≡◌, ◌≤◌, ℕ, List, length, sym, ap, ◌∙◌, arith, length-append}
-use Rattle.std.proofs.lemmas.List.{length-map}
-use Rattle.grammar.proofs.Faults.{no_fault_of_text, one_fault}
+use Rattle.std.proofs.Common.{◌≡◌, ◌≤◌, ℕ, List, length, ap, arith, length-append}
+use Rattle.grammar.proofs.Faults.{none_in_text, one_offset}
 use Rattle.grammar.specs.Reading.{ListOf, none, some}
-use Rattle.net_lexer.specs.Netlists.{netlists, net_tokens}
-use Rattle.net_model.specs.declared.words.Lexed.{Lexed}
-use Rattle.net_model.specs.Grammar.{IsItem, IsText}
+use Rattle.net_lexer.specs.Netlists.{netlists}
+use Rattle.net_model.specs.Grammar.{Lexed, IsItem, IsText}
 use Rattle.net_model.specs.Written.{Entry}
-use Rattle.net_parser.specs.Parses.{offset_of}
-use Rattle.net_parser.specs.Words.{lexed_of}
+use Rattle.net_parser.specs.Words.{reserved_of, sign_word}
 use Rattle.net_parser.specs.Texts.{words_of, IsNetText, IsNoNetText}
-use Rattle.lexing.proofs.TokenLaws.{few_tokens}
+use Rattle.lexing.proofs.TokenLaws.{few_words}
 
 pub no_fault_of_net_text : (bytes : List ℕ) (entries : List Entry) (offset : ℕ) → IsNetText bytes entries → IsNoNetText bytes offset → ⊥
-no_fault_of_net_text bytes entries offset text faulty =
-    no_fault_of_text IsText (words_of bytes) faulty.fault.rest faulty.fault.fault entries text.spelled
+no_fault_of_net_text bytes entries offset text faulty = none_in_text IsText bytes (words_of bytes) offset faulty.fault entries text.spelled
 
 pub one_net_fault : (bytes : List ℕ) (offset later : ℕ) → IsNoNetText bytes offset → IsNoNetText bytes later → offset ≡ later
-one_net_fault bytes offset later a b =
-    a.fault.at ∙ ap (offset_of (length bytes)) (one_fault IsText (words_of bytes) a.fault.rest b.fault.rest a.fault.fault b.fault.fault) ∙ sym b.fault.at
+one_net_fault bytes offset later a b = one_offset IsText bytes (words_of bytes) offset later a.fault b.fault
 
 -- ---- no more items than bytes
 
@@ -47,4 +42,4 @@ text_long ts es t =
 -- a text has no more items than bytes
 pub short_text : (bytes : List ℕ) (entries : List Entry) → IsNetText bytes entries → length entries ≤ length bytes
 short_text bytes entries text =
-    omega (arith, text_long (words_of bytes) entries text.spelled, length-map (net_tokens bytes) (lexed_of bytes), few_tokens netlists 0 0 bytes)
+    omega (arith, text_long (words_of bytes) entries text.spelled, few_words reserved_of sign_word netlists bytes)

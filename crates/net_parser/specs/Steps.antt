@@ -3,18 +3,10 @@ use Rattle.std.specs.Prelude.{◌≡◌, ℕ, Bool, true, false, List, ◌∷◌
 use Rattle.grammar.specs.Reading.{head}
 use Rattle.net_model.specs.declared.words.ItemWord.{ItemWord}
 use Rattle.net_model.specs.declared.words.Operator.{Operator}
-use Rattle.net_model.specs.declared.words.Lexed.{Lexed}
-use Rattle.net_model.specs.declared.words.Word.{Word}
-use Rattle.net_model.specs.declared.words.Word.TheVariants.{Name, Number, Item, Operator as Operates, Symbol as Shows}
-use Rattle.net_model.specs.declared.words.Symbol.{Symbol}
+use Rattle.net_model.specs.Grammar.{Lexed, Word}
+use Rattle.grammar.specs.declared.words.Word.TheVariants.{Name, Number, Symbol as Shows, Key as Keyed}
+use Rattle.net_model.specs.declared.words.Key.TheVariants.{Item, Operator as Operates}
 use Rattle.net_model.specs.declared.words.Symbol.TheVariants.{Dot, Colon, Comma, LeftBracket, When, Else}
-
--- the first token is this symbol
-pub record BeginsWith (symbol : Symbol) (ts : List Lexed) : Type 0 where
-  pub token : Lexed
-  pub rest : List Lexed
-  pub parts : ts ≡ token ∷ rest
-  pub is : token.word ≡ Shows symbol
 
 -- ---- what may go on behind a text
 
@@ -71,10 +63,10 @@ after_arms t = arms_word t.word
 pub record OpensOperator (operator : Operator) (ts rest : List Lexed) : Type 0 where
   pub token : Lexed
   pub parts : ts ≡ token ∷ rest
-  pub is : token.word ≡ Operates operator
+  pub is : token.word ≡ Keyed (Operates operator)
 
 pub record HasNoOperator (ts : List Lexed) : Type 0 where
-  pub never_so : (t : Lexed) → head ts ≡ Some t → (operator : Operator) → t.word ≡ Operates operator → ⊥
+  pub never_so : (t : Lexed) → head ts ≡ Some t → (operator : Operator) → t.word ≡ Keyed (Operates operator) → ⊥
 
 pub record OpensNumber (number : ℕ) (ts rest : List Lexed) : Type 0 where
   pub token : Lexed
@@ -96,7 +88,7 @@ after_when t = when_word t.word
 abbrev pub first_word : Word → Bool
 first_word (Name n) = true
 first_word (Number n) = true
-first_word (Operates o) = true
+first_word (Keyed (Operates o)) = true
 first_word _ = false
 
 abbrev pub after_drivers : Lexed → Bool
@@ -121,23 +113,16 @@ after_links t = link_word t.word
 
 -- behind items
 abbrev pub item_word : Word → Bool
-item_word (Item i) = true
+item_word (Keyed (Item i)) = true
 item_word _ = false
 
 abbrev pub after_items : Lexed → Bool
 after_items t = item_word t.word
 
--- the word of the first token passes a test
-pub record BeginsSo (test : Word → Bool) (ts : List Lexed) : Type 0 where
-  pub token : Lexed
-  pub rest : List Lexed
-  pub parts : ts ≡ token ∷ rest
-  pub is : test token.word ≡ true
-
 pub record OpensItem (word : ItemWord) (ts rest : List Lexed) : Type 0 where
   pub token : Lexed
   pub parts : ts ≡ token ∷ rest
-  pub is : token.word ≡ Item word
+  pub is : token.word ≡ Keyed (Item word)
 
 pub record HasNoItem (ts : List Lexed) : Type 0 where
-  pub never_so : (t : Lexed) → head ts ≡ Some t → (word : ItemWord) → t.word ≡ Item word → ⊥
+  pub never_so : (t : Lexed) → head ts ≡ Some t → (word : ItemWord) → t.word ≡ Keyed (Item word) → ⊥

@@ -1,18 +1,15 @@
 -- The words that tokens stand for.
-use Rattle.std.specs.Prelude.{ℕ, List, codes, Option, Some, None, if◌then◌else◌, map}
+use Rattle.std.specs.Prelude.{ℕ, List, codes, Option, Some, None, if◌then◌else◌}
 use Rattle.std.specs.Str.{bytes_eq}
 use Rattle.rec_bits.specs.declared.operator.Op1.{Op1}
 use Rattle.rec_bits.specs.declared.operator.Op1.TheVariants.{Not, Neg}
 use Rattle.rec_bits.specs.declared.operator.Op2.{Op2}
 use Rattle.rec_bits.specs.declared.operator.Op2.TheVariants.{Add, Sub, Mul, And, Or, Xor, Shl, Shr, Sar, Eq, Ltu, Lts}
 use Rattle.lexing.specs.declared.token.Token.{Token}
-use Rattle.lexing.specs.declared.token.Kind.{Kind}
-use Rattle.lexing.specs.declared.token.Kind.TheVariants.{Name, Reserved, Number, Sign, Bad}
-use Rattle.lexing.specs.Numbers.{written_number}
-use Rattle.lexing.specs.Tokens.{token_bytes}
-use Rattle.net_model.specs.declared.words.Lexed.{Lexed}
-use Rattle.net_model.specs.declared.words.Word.{Word}
-use Rattle.net_model.specs.declared.words.Word.TheVariants.{Name as Named, Number as Counts, Item, Operator as Operates, Symbol as Shows, Other}
+use Rattle.lexing.specs.Words.{or_else, lexed_all}
+use Rattle.net_model.specs.Grammar.{Lexed, Word}
+use Rattle.grammar.specs.declared.words.Word.TheVariants.{Symbol as Shows, Key as Keyed, Other}
+use Rattle.net_model.specs.declared.words.Key.TheVariants.{Item, Operator as Operates}
 use Rattle.net_model.specs.declared.words.ItemWord.{ItemWord}
 use Rattle.net_model.specs.declared.words.ItemWord.TheVariants.{Code, Register, Memory, Net, Bus, Module, Part}
 use Rattle.net_model.specs.declared.words.Operator.{Operator}
@@ -96,31 +93,17 @@ sign_of text =
     if bytes_eq text (codes "]") then Some RightBracket else (
     None))))))))))))
 
--- the first that is there
-abbrev pub or_else : {A : Type 0} → (A → Word) → Option A → Word → Word
-or_else make None next = next
-or_else make (Some a) next = make a
-
 abbrev pub reserved_of : List ℕ → Word
 reserved_of text =
-    or_else Item (item_of text) (
-    or_else (λ op. Operates (Unary op)) (unary_of text) (
-    or_else (λ op. Operates (Binary op)) (binary_of text) (
-    or_else Operates (form_of text) (
+    or_else (λ item. Keyed (Item item)) (item_of text) (
+    or_else (λ op. Keyed (Operates (Unary op))) (unary_of text) (
+    or_else (λ op. Keyed (Operates (Binary op))) (binary_of text) (
+    or_else (λ form. Keyed (Operates form)) (form_of text) (
     or_else Shows (symbol_of text) Other))))
 
--- the word that a text of some kind is
-abbrev pub word_of : Kind → List ℕ → Word
-word_of Name text = Named text
-word_of Reserved text = reserved_of text
-word_of Number text = Counts (written_number text)
-word_of Sign text = or_else Shows (sign_of text) Other
-word_of Bad text = Other
+abbrev pub sign_word : List ℕ → Word
+sign_word text = or_else Shows (sign_of text) Other
 
--- a token of a text, with the word that it is
-abbrev pub lexed_of : List ℕ → Token → Lexed
-lexed_of bytes token = record { word = word_of token.kind (token_bytes bytes token); at = token.at }
-
--- all tokens of a text
-abbrev pub lexed_all : List ℕ → List Token → List Lexed
-lexed_all bytes tokens = map (lexed_of bytes) tokens
+-- all tokens of a netlist text, with the words that they are
+abbrev pub net_words : List ℕ → List Token → List Lexed
+net_words = lexed_all reserved_of sign_word

@@ -3,16 +3,16 @@
 ghost use Rattle.std.specs.Prelude.{◌≡◌, MatchOption, false, map};
 ghost use Rattle.grammar.specs.Reading.{Gives, never};
 ghost use Rattle.net_model.specs.declared.words.Operator.TheVariants.{Case};
-ghost use Rattle.net_model.specs.declared.words.Word.TheVariants.{Number, Symbol as Shows};
+ghost use Rattle.grammar.specs.declared.words.Word.TheVariants.{Number, Symbol as Shows};
 ghost use Rattle.net_model.specs.declared.words.Symbol.TheVariants.{Comma, RightParen};
-ghost use Rattle.net_model.specs.Grammar.{ArmsBehind, Before, Behind, ByWord, IsArms, IsElse, IsExpr, IsNumber, IsOperated, IsPair, IsReading, IsSliced, IsWidened, NumbersBehind, RowBehind, RowsBehind};
+ghost use Rattle.net_model.specs.Grammar.{ArmsBehind, IsArms, IsElse, IsExpr, IsOperated, IsPair, IsReading, IsSliced, IsWidened, NumbersBehind, RowBehind, RowsBehind};
+ghost use Rattle.grammar.specs.Tokens.{Before, Behind, ByWord, IsNumber};
 ghost use Rattle.net_model.specs.Written.{other_of, phrase_of, row_of};
 ghost use Rattle.net_parser.specs.Steps.{HasNoNumber, HasNoOperator, OpensNumber, OpensOperator, after_arms, after_expr, after_list, after_rows, expr_word};
 
 use crate::leaf::leaf;
-use crate::step::{begins_with, expect, front, name_behind, number_behind};
-use grammar::Stop;
-use net_model::{Ident, Lexed, NetExpr, Operator, Symbol, Word};
+use grammar::{Stop, begins_with, expect, front, name_behind, number_behind, number_between};
+use net_model::{Ident, Key, Lexed, NetExpr, Operator, Symbol, Word};
 use std::alloc::Global;
 
 /// The operator that the first token is, and the other tokens.
@@ -21,7 +21,7 @@ fn operator_at(ts: &[Lexed]) -> Option<(Operator, &[Lexed])>
 {
     match front(ts) {
         Some((t, rest)) => match t.word {
-            Word::Operator(operator) => Some((operator, rest)),
+            Word::Key(Key::Operator(operator)) => Some((operator, rest)),
             _ => None,
         },
         None => None,
@@ -39,15 +39,6 @@ fn number_at(ts: &[Lexed]) -> Option<(u64, &[Lexed])>
         },
         None => None,
     }
-}
-
-/// A comma, a number and a parenthesis.
-fn last_number(ts: &[Lexed]) -> Result<(u64, &[Lexed]), Stop>
-    ensures { Gives (λ x. (x.0, x.1.now)) (Before (Behind Comma IsNumber) RightParen) never ts.now result }
-{
-    let (number, rest) = number_behind(Symbol::Comma, ts)?;
-    let rest = expect(Symbol::RightParen, rest)?;
-    Ok((number, rest))
 }
 
 /// The numbers of a row behind its first one.
@@ -176,7 +167,7 @@ fn widened(alloc: Global, depth: u8, ts: &[Lexed]) -> Result<((Box<NetExpr>, u64
 {
     let (a, rest) = expr_behind(alloc, Symbol::LeftParen, depth, ts)?;
     let a = Box::new(alloc, a)?;
-    let (width, rest) = last_number(rest)?;
+    let (width, rest) = number_between(Symbol::Comma, Symbol::RightParen, rest)?;
     Ok(((a, width), rest))
 }
 
@@ -192,7 +183,7 @@ fn sliced(
     let (a, rest) = expr_behind(alloc, Symbol::LeftParen, depth, ts)?;
     let a = Box::new(alloc, a)?;
     let (high, rest) = number_behind(Symbol::Comma, rest)?;
-    let (low, rest) = last_number(rest)?;
+    let (low, rest) = number_between(Symbol::Comma, Symbol::RightParen, rest)?;
     Ok(((a, high, low), rest))
 }
 

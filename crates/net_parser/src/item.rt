@@ -4,7 +4,8 @@ ghost use Rattle.std.specs.Prelude.{◌≡◌, MatchOption, map};
 ghost use Rattle.grammar.specs.Reading.{Gives, never};
 ghost use Rattle.net_model.specs.declared.words.ItemWord.TheVariants.{Bus, Code, Memory as Holds, Module, Net, Part, Register};
 ghost use Rattle.net_model.specs.declared.words.Symbol.TheVariants.{At, Semicolon};
-ghost use Rattle.net_model.specs.Grammar.{Before, Behind, IsFed, IsItem, IsName, IsText, IsWrite, ItemBehind};
+ghost use Rattle.grammar.specs.Tokens.{Before, Behind, IsName};
+ghost use Rattle.net_model.specs.Grammar.{IsFed, IsItem, IsText, IsWrite, ItemBehind};
 ghost use Rattle.net_model.specs.Written.{entry_of, phrase_of, when_of};
 ghost use Rattle.net_parser.specs.Steps.{HasNoItem, OpensItem, after_items};
 
@@ -12,9 +13,8 @@ use crate::expression::{enclosed, expr_behind};
 use crate::parts::{
     LEVELS, braced_drivers, braced_equations, enclosed_links, enclosed_ports, sized_name, when_end,
 };
-use crate::step::{expect, front, name, name_behind, number_behind};
-use grammar::Stop;
-use net_model::{Ident, ItemWord, Lexed, NetExpr, Symbol, Unit, Word};
+use grammar::{Stop, expect, front, name, name_behind, number_behind};
+use net_model::{Ident, ItemWord, Key, Lexed, NetExpr, Symbol, Unit, Word};
 use rec_bits::Items;
 use std::alloc::Global;
 
@@ -24,7 +24,7 @@ fn item_at(ts: &[Lexed]) -> Option<(ItemWord, &[Lexed])>
 {
     match front(ts) {
         Some((t, rest)) => match t.word {
-            Word::Item(word) => Some((word, rest)),
+            Word::Key(Key::Item(word)) => Some((word, rest)),
             _ => None,
         },
         None => None,

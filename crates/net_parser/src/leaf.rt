@@ -2,14 +2,14 @@
 
 ghost use Rattle.std.specs.Prelude.{◌≡◌};
 ghost use Rattle.grammar.specs.Reading.{Gives, Maybe, never};
-ghost use Rattle.net_model.specs.declared.words.Word.TheVariants.{Name as IsNamed, Number as IsNumbered};
+ghost use Rattle.grammar.specs.declared.words.Word.TheVariants.{Name as IsNamed, Number as IsNumbered};
 ghost use Rattle.net_model.specs.declared.words.Symbol.TheVariants.{Colon, LeftBracket, RightBracket};
-ghost use Rattle.net_model.specs.Grammar.{Before, Behind, IsBits, IsField, IsLeaf, IsNumber, IsRange, LeafBehind, range_of};
+ghost use Rattle.grammar.specs.Tokens.{Before, Behind, IsNumber};
+ghost use Rattle.net_model.specs.Grammar.{IsBits, IsField, IsLeaf, IsRange, LeafBehind, range_of};
 ghost use Rattle.net_model.specs.Written.{phrase_of};
 ghost use Rattle.net_parser.specs.Steps.{after_expr, after_field, after_range};
 
-use crate::step::{begins_with, expect, front, name_behind, number, number_behind};
-use grammar::Stop;
+use grammar::{Stop, begins_with, expect, front, name_behind, number, number_behind};
 use net_model::{Ident, Lexed, NetExpr, Symbol, Word};
 use rec_bits::{Items, Name};
 use std::alloc::Global;

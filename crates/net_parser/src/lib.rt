@@ -5,7 +5,6 @@ mod expression;
 mod item;
 mod leaf;
 mod parts;
-mod step;
 mod text;
 mod whole;
 mod words;

@@ -3,14 +3,14 @@
 ghost use Rattle.std.specs.Prelude.{◌≡◌, ◌↔◌, IsTrue, map};
 ghost use Rattle.grammar.specs.Reading.{Gives, ListOf, never};
 ghost use Rattle.net_model.specs.declared.words.Symbol.TheVariants.{LeftBrace, LeftParen, RightBrace, RightParen, Semicolon};
-ghost use Rattle.net_model.specs.Grammar.{Before, Behind, IsBinding, IsBindings, IsDirection, IsDriver, IsDrivers, IsEquation, IsLinks, IsPort, IsPorts, IsSized, IsWhen};
+ghost use Rattle.grammar.specs.Tokens.{Before, Behind, BeginsSo};
+ghost use Rattle.net_model.specs.Grammar.{IsBinding, IsBindings, IsDirection, IsDriver, IsDrivers, IsEquation, IsLinks, IsPort, IsPorts, IsSized, IsWhen};
 ghost use Rattle.net_model.specs.Written.{binding_of, driver_of, phrase_of, when_of};
-ghost use Rattle.net_parser.specs.Steps.{BeginsSo, after_drivers, after_equations, after_expr, after_links, after_list, after_when, first_word, name_word};
+ghost use Rattle.net_parser.specs.Steps.{after_drivers, after_equations, after_expr, after_links, after_list, after_when, first_word, name_word};
 
 use crate::expression::{enclosed, expr, expr_behind};
-use crate::step::{begins_with, expect, front, is_symbol, name, number_behind};
-use grammar::Stop;
-use net_model::{Ident, Lexed, NetExpr, Port, Symbol, Word};
+use grammar::{Stop, begins_with, expect, front, is_symbol, name, number_behind};
+use net_model::{Ident, Key, Lexed, NetExpr, Port, Symbol, Word};
 use rec_bits::Items;
 use std::alloc::Global;
 
@@ -52,7 +52,10 @@ fn begins_expr(ts: &[Lexed]) -> bool
     ensures { IsTrue result ↔ BeginsSo first_word ts.now }
 {
     match front(ts) {
-        Some((t, _)) => matches!(&t.word, Word::Name(_) | Word::Number(_) | Word::Operator(_)),
+        Some((t, _)) => matches!(
+            &t.word,
+            Word::Name(_) | Word::Number(_) | Word::Key(Key::Operator(_))
+        ),
         None => false,
     }
 }

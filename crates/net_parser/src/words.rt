@@ -1,13 +1,11 @@
 //! The words that tokens stand for.
 
-ghost use Rattle.std.specs.Prelude.{◌≡◌, IfOk};
-ghost use Rattle.lexing.specs.Tokens.{token_bytes};
-ghost use Rattle.net_parser.specs.Words.{binary_of, form_of, item_of, lexed_all, lexed_of, reserved_of, sign_of, symbol_of, unary_of, word_of};
+ghost use Rattle.std.specs.Prelude.{◌≡◌};
+ghost use Rattle.net_parser.specs.Words.{binary_of, form_of, item_of, sign_of, symbol_of, unary_of};
 
-use lexing::{Kind, Token, number_of};
-use net_model::{ItemWord, Lexed, Operator, Symbol, Word};
-use rec_bits::{Items, NoMemory, Op1, Op2};
-use std::alloc::Global;
+use lexing::Vocabulary;
+use net_model::{ItemWord, Key, Operator, Symbol, Word};
+use rec_bits::{Op1, Op2};
 
 /// The reserved words that begin an item.
 fn item_of(text: &[u8]) -> Option<ItemWord>
@@ -145,59 +143,39 @@ fn sign_of(text: &[u8]) -> Option<Symbol>
     }
 }
 
-/// The word of a reserved word's bytes.
-fn reserved_of(text: &[u8]) -> Word
-    ensures { result ≡ reserved_of text.now }
-{
-    if let Some(item) = item_of(text) {
-        return Word::Item(item);
-    }
-    if let Some(op) = unary_of(text) {
-        return Word::Operator(Operator::Unary(op));
-    }
-    if let Some(op) = binary_of(text) {
-        return Word::Operator(Operator::Binary(op));
-    }
-    if let Some(form) = form_of(text) {
-        return Word::Operator(form);
-    }
-    match symbol_of(text) {
-        Some(symbol) => Word::Symbol(symbol),
-        None => Word::Other,
-    }
-}
+/// The words of netlists.
+pub struct Words;
 
-/// The word of a sign's bytes.
-fn sign_word(text: &[u8]) -> Word
-    ensures { result ≡ word_of Kind.Sign text.now }
-{
-    match sign_of(text) {
-        Some(sign) => Word::Symbol(sign),
-        None => Word::Other,
-    }
-}
+impl Vocabulary<Symbol, Key> for Words {
+    ghost use Rattle.net_parser.specs.Words.{reserved_of, sign_word};
 
-/// The word of a token's bytes.
-fn word_of(alloc: Global, kind: Kind, text: &[u8]) -> Result<Word, NoMemory>
-    ensures { IfOk result (λ word. word ≡ word_of kind text.now) }
-{
-    Ok(match kind {
-        Kind::Name => Word::Name(Items::from_slice(alloc, text)?),
-        Kind::Reserved => reserved_of(text),
-        Kind::Number => Word::Number(number_of(text)),
-        Kind::Sign => sign_word(text),
-        Kind::Bad => Word::Other,
-    })
-}
+    ghost reserved = { reserved_of };
 
-/// The tokens of a text, each with the word that it is.
-pub fn lexed(alloc: Global, bytes: &[u8], tokens: &[Token]) -> Result<Vec<Lexed>, NoMemory>
-    ensures { IfOk result (λ list. list.items ≡ lexed_all bytes.now tokens.now) }
-{
-    let mut list = Vec::new(alloc);
-    for token in tokens {
-        let word = word_of(alloc, token.kind, token.bytes(bytes))?;
-        list.push(Lexed { word, at: token.at })?;
+    ghost sign = { sign_word };
+
+    fn reserved(text: &[u8]) -> Word {
+        if let Some(item) = item_of(text) {
+            return Word::Key(Key::Item(item));
+        }
+        if let Some(op) = unary_of(text) {
+            return Word::Key(Key::Operator(Operator::Unary(op)));
+        }
+        if let Some(op) = binary_of(text) {
+            return Word::Key(Key::Operator(Operator::Binary(op)));
+        }
+        if let Some(form) = form_of(text) {
+            return Word::Key(Key::Operator(form));
+        }
+        match symbol_of(text) {
+            Some(symbol) => Word::Symbol(symbol),
+            None => Word::Other,
+        }
     }
-    Ok(list)
+
+    fn sign(text: &[u8]) -> Word {
+        match sign_of(text) {
+            Some(sign) => Word::Symbol(sign),
+            None => Word::Other,
+        }
+    }
 }

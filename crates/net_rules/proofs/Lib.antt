@@ -5,3 +5,4 @@ pub mod Bits
 pub mod Counts
 pub mod Faults
 pub mod RowNumbers
+pub mod Inputs

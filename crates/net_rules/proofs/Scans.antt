@@ -3,7 +3,7 @@ use Rattle.std.proofs.Common.{◌≡◌, ℕ, ◌+◌, ◌<◌, Bool, true, fals
 use Rattle.std.specs.Map.{lookup}
 use Rattle.rec_bits.specs.Faults.{sooner, least, broken, gather}
 use Rattle.rec_bits.proofs.Faults.{drop_item, least_append, sooner_assoc}
-use Rattle.net_model.specs.declared.units.Ident.{Ident}
+use Rattle.grammar.specs.declared.words.Ident.{Ident}
 use Rattle.net_model.specs.declared.units.Unit.{Unit as Item}
 use Rattle.net_model.specs.Written.{entry_of}
 use Rattle.net_model.specs.TextNames.{own_name, same_name}

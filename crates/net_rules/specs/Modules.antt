@@ -1,9 +1,11 @@
 -- The ports of items.
-use Rattle.std.specs.Prelude.{List, [], Option, Some, None}
+use Rattle.std.specs.Prelude.{List, [], Option, Some, None, Bool, is_some}
+use Rattle.grammar.specs.declared.words.Ident.{Ident}
 use Rattle.net_model.specs.declared.units.Port.{Port}
 use Rattle.net_model.specs.declared.units.Unit.{Unit as Item}
-use Rattle.net_model.specs.Written.{entry_of}
+use Rattle.net_model.specs.Written.{Phrase, entry_of}
 use Rattle.net_model.specs.TextWidths.{ports_of}
+use Rattle.net_model.specs.Numbering.{bound}
 
 abbrev pub item_ports : Item → List Port
 item_ports item = ports_of (Some (entry_of item))
@@ -11,3 +13,7 @@ item_ports item = ports_of (Some (entry_of item))
 abbrev pub ports_or_none : Option (List Port) → List Port
 ports_or_none None = []
 ports_or_none (Some ports) = ports
+
+-- an expression is bound to the name of a port
+abbrev pub is_bound : List (Ident × Phrase) → Port → Bool
+is_bound bindings port = is_some (bound bindings port.name.name)

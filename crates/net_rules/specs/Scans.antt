@@ -2,7 +2,7 @@
 use Rattle.std.specs.Prelude.{◌≡◌, ℕ, List, Option, Bool, is_some}
 use Rattle.std.specs.Map.{lookup}
 use Rattle.rec_bits.specs.Faults.{sooner, least}
-use Rattle.net_model.specs.declared.units.Ident.{Ident}
+use Rattle.grammar.specs.declared.words.Ident.{Ident}
 use Rattle.net_model.specs.TextNames.{same_name}
 use Rattle.net_model.specs.NameRules.{is_among, repeated}
 use Rattle.net_model.specs.DriverRules.{names_new}

@@ -1,15 +1,18 @@
 //! How many nets there are. Counts stop at 2^64 - 1.
 
 ghost use Rattle.std.specs.Prelude.{◌≡◌, IfOk, map, option_copied, option_map};
-ghost use Rattle.net_model.specs.LimitRules.{told};
-ghost use Rattle.net_model.specs.Numbering.{count, count_drivers, count_equations, count_if, count_input, count_inputs, count_item, count_items, count_outputs, count_rest, count_rows};
+ghost use Rattle.rec_bits.specs.Counts.{capped};
+ghost use Rattle.net_model.specs.Numbering.{count, count_drivers, count_equations, count_if, count_inputs, count_item, count_items, count_outputs, count_rest, count_rows};
+ghost use Rattle.net_model.specs.TextNames.{item_named};
+ghost use Rattle.net_model.specs.TextWidths.{ports_of};
 ghost use Rattle.net_model.specs.Written.{binding_of, driver_of, entry_of, other_of, phrase_of, rest_of, row_of, rows_of, when_of};
-ghost use Rattle.net_rules.specs.Counts.{count_part_of, told_module};
+ghost use Rattle.net_names.specs.Places.{lent};
+ghost use Rattle.net_rules.specs.Counts.{count_linked, count_part_of, told_module};
 
 use crate::text::Text;
 use net_model::{Ident, NetExpr, Port, Unit};
 use net_names::Bindings;
-use rec_bits::{Items, NoMemory};
+use rec_bits::{Items, Name, NoMemory};
 use std::alloc::Global;
 
 // ---- expressions
@@ -17,7 +20,7 @@ use std::alloc::Global;
 #[cycle(count)]
 #[tactic(auto, using(crate::proofs::Counts::counts))]
 fn count(e: &NetExpr) -> u64
-    ensures { result ≡ told (count (phrase_of e.now)) }
+    ensures { result ≡ capped (count (phrase_of e.now)) }
 {
     match e {
         NetExpr::Named { bits, .. } => match bits {
@@ -42,7 +45,7 @@ fn count(e: &NetExpr) -> u64
 
 #[cycle(count)]
 fn count_rows(rows: &[(Vec<u64>, NetExpr)]) -> u64
-    ensures { result ≡ told (count_rows (rows_of (map row_of rows.now))) }
+    ensures { result ≡ capped (count_rows (rows_of (map row_of rows.now))) }
 {
     let mut total: u64 = 0;
     for row in rows {
@@ -53,7 +56,7 @@ fn count_rows(rows: &[(Vec<u64>, NetExpr)]) -> u64
 
 #[cycle(count)]
 fn count_rest(other: &Option<Box<NetExpr>>) -> u64
-    ensures { result ≡ told (count_rest (rest_of (other_of other.now))) }
+    ensures { result ≡ capped (count_rest (rest_of (other_of other.now))) }
 {
     match other {
         Some(a) => count(a),
@@ -62,7 +65,7 @@ fn count_rest(other: &Option<Box<NetExpr>>) -> u64
 }
 
 fn count_if(e: Option<&NetExpr>) -> u64
-    ensures { result ≡ told (count_if (option_map phrase_of (option_copied e.entry))) }
+    ensures { result ≡ capped (count_if (option_map phrase_of (option_copied e.entry))) }
 {
     match e {
         Some(e) => count(e),
@@ -71,7 +74,7 @@ fn count_if(e: Option<&NetExpr>) -> u64
 }
 
 fn count_drivers(drivers: &[(NetExpr, NetExpr)]) -> u64
-    ensures { result ≡ told (count_drivers (map driver_of drivers.now)) }
+    ensures { result ≡ capped (count_drivers (map driver_of drivers.now)) }
 {
     let mut total: u64 = 0;
     for driver in drivers {
@@ -83,21 +86,30 @@ fn count_drivers(drivers: &[(NetExpr, NetExpr)]) -> u64
 
 // ---- parts
 
-fn count_inputs(links: &Bindings, ports: &[Port]) -> u64
-    ensures { result ≡ told (count_inputs (map binding_of links.now) ports.now) }
+fn count_linked(links: &Bindings, inputs: &[&Port]) -> u64
+    ensures { result ≡ capped (count_linked (map binding_of links.now) (map lent inputs.now)) }
 {
     let mut total: u64 = 0;
-    for port in ports {
-        if !port.output {
-            let link = count_if(links.bound(&port.name.name));
-            total = total.saturating_add(link.saturating_add(1));
-        }
+    for input in inputs {
+        let link = count_if(links.bound(&input.name.name));
+        total = total.saturating_add(link.saturating_add(1));
     }
     total
 }
 
+// The nets that a part has for the inputs of its module. The module's outputs aren't looked at.
+fn count_inputs(text: &Text, owner: &Name, links: &Bindings) -> u64
+    ensures { result ≡
+        capped (count_inputs (map binding_of links.now) (ports_of (item_named (map entry_of text.now) owner.now))) }
+{
+    match text.ports(owner) {
+        Some(ports) => count_linked(links, ports.inputs()),
+        None => 0,
+    }
+}
+
 fn count_outputs(ports: &[Port]) -> u64
-    ensures { result ≡ told (count_outputs ports.now) }
+    ensures { result ≡ capped (count_outputs ports.now) }
 {
     let mut total: u64 = 0;
     for port in ports {
@@ -109,7 +121,7 @@ fn count_outputs(ports: &[Port]) -> u64
 }
 
 fn count_equations(equations: &Bindings, ports: &[Port]) -> u64
-    ensures { result ≡ told (count_equations (map binding_of equations.now) ports.now) }
+    ensures { result ≡ capped (count_equations (map binding_of equations.now) ports.now) }
 {
     let mut total: u64 = 0;
     for port in ports {
@@ -158,10 +170,10 @@ fn count_part(
     links: &[(Ident, NetExpr)],
 ) -> Result<u64, NoMemory>
     requires { modules.now ≡ map told_module text.now }
-    ensures { IfOk result (λ n. n ≡ told (count_part_of (map entry_of text.now) owner.now (map binding_of links.now))) }
+    ensures { IfOk result (λ n. n ≡ capped (count_part_of (map entry_of text.now) owner.now (map binding_of links.now))) }
 {
     let links = Bindings::new(alloc, links)?;
-    let inputs = count_inputs(&links, text.ports_at(&owner.name));
+    let inputs = count_inputs(text, &owner.name, &links);
     match modules.get(text.place(&owner.name)) {
         Some(outputs) => Ok(inputs.saturating_add(*outputs)),
         None => Ok(inputs),
@@ -175,7 +187,7 @@ fn count_item(
     unit: &Unit,
 ) -> Result<u64, NoMemory>
     requires { modules.now ≡ map told_module text.now }
-    ensures { IfOk result (λ n. n ≡ told (count_item (map entry_of text.now) (entry_of unit.now))) }
+    ensures { IfOk result (λ n. n ≡ capped (count_item (map entry_of text.now) (entry_of unit.now))) }
 {
     match unit {
         Unit::Code { .. } => Ok(1),
@@ -208,7 +220,7 @@ fn count_item(
 /// How many nets the items of a text give.
 pub(crate) fn count_items(alloc: Global, text: &Text, units: &[Unit]) -> Result<u64, NoMemory>
     requires { text.now ≡ units.now }
-    ensures { IfOk result (λ n. n ≡ told (count_items (map entry_of units.now) (map entry_of units.now))) }
+    ensures { IfOk result (λ n. n ≡ capped (count_items (map entry_of units.now) (map entry_of units.now))) }
 {
     let modules = count_modules(alloc, units)?;
     let mut total: u64 = 0;

@@ -1,42 +1,68 @@
 //! N4 in items: inputs, outputs and cases without an expression, or with two.
 
-ghost use Rattle.std.specs.Prelude.{◌≡◌, ◌&&◌, IfOk, [], map};
+ghost use Rattle.std.specs.Prelude.{◌≡◌, ◌&&◌, IfOk, [], map, true, false};
 ghost use Rattle.std.specs.List.{list_all};
 ghost use Rattle.rec_bits.specs.Faults.{least};
 ghost use Rattle.net_model.specs.DriverRules.{binding_name, covers_binding, covers_driver, covers, covers_if, drives_once, is_driven, is_driven_item, names_new, undriven, undrivens};
+ghost use Rattle.net_model.specs.TextNames.{item_named, in_module, in_text};
+ghost use Rattle.net_model.specs.TextWidths.{ports_of};
 ghost use Rattle.net_model.specs.Written.{binding_of, driver_of, entry_of, phrase_of, when_of};
-ghost use Rattle.net_rules.specs.Modules.{item_ports};
+ghost use Rattle.net_names.specs.Places.{lent};
+ghost use Rattle.net_rules.specs.Modules.{is_bound, item_ports};
 ghost use Rattle.net_rules.specs.Scopes.{scope_of};
 
 use crate::cases::covers;
-use crate::least::{broken, sooner};
 use crate::text::{Place, Text};
 use net_model::{Ident, NetExpr, Port, Unit};
 use net_names::{Bindings, Ports, Table, name_of};
-use rec_bits::NoMemory;
+use rec_bits::{Name, NoMemory, broken, sooner};
 use std::alloc::Global;
 
 // ---- ports
 
-fn is_driven(output: bool, bindings: &Bindings, port: &Port) -> bool
-    ensures { result ≡ is_driven output (map binding_of bindings.now) port.now }
+fn is_bound(bindings: &Bindings, port: &Port) -> bool
+    ensures { result ≡ is_bound (map binding_of bindings.now) port.now }
 {
-    if output {
-        !port.output || bindings.bound(&port.name.name).is_some()
-    } else {
-        port.output || bindings.bound(&port.name.name).is_some()
-    }
+    bindings.bound(&port.name.name).is_some()
 }
 
-fn are_driven(output: bool, bindings: &Bindings, ports: &[Port]) -> bool
-    ensures { result ≡ list_all (is_driven output (map binding_of bindings.now)) ports.now }
+fn is_output_driven(equations: &Bindings, port: &Port) -> bool
+    ensures { result ≡ is_driven true (map binding_of equations.now) port.now }
+{
+    !port.output || is_bound(equations, port)
+}
+
+fn are_outputs_driven(equations: &Bindings, ports: &[Port]) -> bool
+    ensures { result ≡ list_all (is_driven true (map binding_of equations.now)) ports.now }
 {
     for port in ports {
-        if !is_driven(output, bindings, port) {
+        if !is_output_driven(equations, port) {
             return false;
         }
     }
     true
+}
+
+fn are_bound(links: &Bindings, inputs: &[&Port]) -> bool
+    ensures { result ≡ list_all (is_bound (map binding_of links.now)) (map lent inputs.now) }
+{
+    for input in inputs {
+        if !is_bound(links, input) {
+            return false;
+        }
+    }
+    true
+}
+
+// Whether the inputs of a module are driven. Its outputs, which may be many for each of many parts, aren't looked at.
+fn are_inputs_driven(text: &Text, owner: &Name, links: &Bindings) -> bool
+    ensures { result ≡
+        list_all (is_driven false (map binding_of links.now)) (ports_of (item_named (map entry_of text.now) owner.now)) }
+{
+    match text.ports(owner) {
+        Some(ports) => are_bound(links, ports.inputs()),
+        None => true,
+    }
 }
 
 fn are_names_new(alloc: Global, bindings: &[(Ident, NetExpr)]) -> Result<bool, NoMemory>
@@ -52,17 +78,29 @@ fn are_names_new(alloc: Global, bindings: &[(Ident, NetExpr)]) -> Result<bool, N
     Ok(true)
 }
 
-fn drives_once(
+fn drives_outputs(
     alloc: Global,
-    output: bool,
     ports: &[Port],
-    bindings: &[(Ident, NetExpr)],
+    equations: &[(Ident, NetExpr)],
 ) -> Result<bool, NoMemory>
-    ensures { IfOk result (λ once. once ≡ drives_once output ports.now (map binding_of bindings.now)) }
+    ensures { IfOk result (λ once. once ≡ drives_once true ports.now (map binding_of equations.now)) }
 {
-    let new = are_names_new(alloc, bindings)?;
-    let table = Bindings::new(alloc, bindings)?;
-    Ok(are_driven(output, &table, ports) & new)
+    let new = are_names_new(alloc, equations)?;
+    let table = Bindings::new(alloc, equations)?;
+    Ok(are_outputs_driven(&table, ports) & new)
+}
+
+fn drives_inputs(
+    alloc: Global,
+    text: &Text,
+    owner: &Name,
+    links: &[(Ident, NetExpr)],
+) -> Result<bool, NoMemory>
+    ensures { IfOk result (λ once. once ≡ drives_once false (ports_of (item_named (map entry_of text.now) owner.now)) (map binding_of links.now)) }
+{
+    let new = are_names_new(alloc, links)?;
+    let table = Bindings::new(alloc, links)?;
+    Ok(are_inputs_driven(text, owner, &table) & new)
 }
 
 // ---- items
@@ -140,18 +178,29 @@ fn covers_memory(
     Ok(written & covers_if(alloc, place, when)?)
 }
 
-// Whether ports are driven once, and cases in what drives them cover every number.
-fn covers_ports(
+// Whether the outputs of a module are driven once, and cases in its equations cover every number.
+fn covers_module(
     alloc: Global,
-    place: &Place,
-    output: bool,
-    ports: &[Port],
-    bindings: &[(Ident, NetExpr)],
+    ports: &Ports,
+    equations: &[(Ident, NetExpr)],
 ) -> Result<bool, NoMemory>
-    ensures { IfOk result (λ covered. covered ≡ (drives_once output ports.now (map binding_of bindings.now) && list_all (covers_binding (scope_of place.now)) (map binding_of bindings.now))) }
+    ensures { IfOk result (λ covered. covered ≡ (drives_once true ports.now (map binding_of equations.now) && list_all (covers_binding (in_module ports.now)) (map binding_of equations.now))) }
 {
-    let once = drives_once(alloc, output, ports, bindings)?;
-    Ok(once & covers_bindings(alloc, place, bindings)?)
+    let once = drives_outputs(alloc, ports.as_slice(), equations)?;
+    Ok(once & covers_bindings(alloc, &Place::Ports(ports), equations)?)
+}
+
+// Whether the inputs of a part are driven once, and cases in its links cover every number.
+fn covers_part(
+    alloc: Global,
+    text: &Text,
+    owner: &Name,
+    links: &[(Ident, NetExpr)],
+) -> Result<bool, NoMemory>
+    ensures { IfOk result (λ covered. covered ≡ (drives_once false (ports_of (item_named (map entry_of text.now) owner.now)) (map binding_of links.now) && list_all (covers_binding (in_text (map entry_of text.now))) (map binding_of links.now))) }
+{
+    let once = drives_inputs(alloc, text, owner, links)?;
+    Ok(once & covers_bindings(alloc, &Place::Items(text), links)?)
 }
 
 fn is_driven_item(alloc: Global, text: &Text, ports: &Ports, unit: &Unit) -> Result<bool, NoMemory>
@@ -170,13 +219,9 @@ fn is_driven_item(alloc: Global, text: &Text, ports: &Ports, unit: &Unit) -> Res
         } => covers_memory(alloc, &place, value, addr, when),
         Unit::Net { value, .. } => covers(alloc, &place, value),
         Unit::Bus { drivers, .. } => covers_drivers(alloc, &place, drivers.as_slice()),
-        Unit::Module { equations, .. } => {
-            let inside = Place::Ports(ports);
-            covers_ports(alloc, &inside, true, ports.as_slice(), equations.as_slice())
-        }
+        Unit::Module { equations, .. } => covers_module(alloc, ports, equations.as_slice()),
         Unit::Part { module, links, .. } => {
-            let ports = text.ports_at(&module.name);
-            covers_ports(alloc, &place, false, ports, links.as_slice())
+            covers_part(alloc, text, &module.name, links.as_slice())
         }
     }
 }

@@ -8,10 +8,9 @@ ghost use Rattle.net_model.specs.TextNames.{own_name, same_name};
 ghost use Rattle.net_model.specs.Written.{entry_of};
 ghost use Rattle.net_names.specs.Places.{Enters};
 
-use crate::least::{broken, sooner};
 use net_model::{Ident, Port, Unit, Units};
 use net_names::{Table, name_of};
-use rec_bits::NoMemory;
+use rec_bits::{NoMemory, broken, sooner};
 use std::alloc::Global;
 
 /// The least offset of a name that an earlier item has, or an earlier port of the same module.

@@ -6,7 +6,6 @@ mod count;
 mod drivers;
 mod duplicates;
 mod fault;
-mod least;
 mod limits;
 mod numbers;
 mod text;

@@ -1,7 +1,8 @@
 //! N11: too much of something.
 
 ghost use Rattle.std.specs.Prelude.{◌≡◌, IfOk, map};
-ghost use Rattle.net_model.specs.LimitRules.{cells_of, count_register, count_registers, greatest, limit_fault, over, told, words_of};
+ghost use Rattle.net_model.specs.LimitRules.{cells_of, count_register, count_registers, greatest, limit_fault, over, words_of};
+ghost use Rattle.rec_bits.specs.Counts.{capped};
 ghost use Rattle.net_model.specs.Written.{entry_of};
 
 use crate::count::count_items;
@@ -39,7 +40,7 @@ fn count_register(unit: &Unit) -> u64
 }
 
 fn count_registers(units: &[Unit]) -> u64
-    ensures { result ≡ told (count_registers (map entry_of units.now)) }
+    ensures { result ≡ capped (count_registers (map entry_of units.now)) }
 {
     let mut total: u64 = 0;
     for unit in units {

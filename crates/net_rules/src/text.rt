@@ -73,16 +73,6 @@ impl<'a> Text<'a> {
         self.names.place(name)
     }
 
-    /// The ports of the module of a name, which has none where it is no module.
-    pub(crate) fn ports_at(&self, name: &Name) -> &'a [Port]
-        ensures { result.now ≡ ports_of (item_named (map entry_of self.now) name.now) }
-    {
-        match self.ports(name) {
-            Some(ports) => ports.as_slice(),
-            None => &[],
-        }
-    }
-
     /// The ports of the item at a place.
     pub(crate) fn own_ports(&self, place: usize) -> &Ports<'a>
         requires { place < length self.now }

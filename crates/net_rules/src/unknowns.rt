@@ -9,10 +9,10 @@ ghost use Rattle.net_model.specs.Written.{binding_of, driver_of, entry_of, other
 ghost use Rattle.net_rules.specs.Modules.{item_ports};
 ghost use Rattle.net_rules.specs.Scopes.{scope_of};
 
-use crate::least::{broken, sooner};
 use crate::text::{Place, Text};
 use net_model::{Ident, NetExpr, Unit};
 use net_names::Ports;
+use rec_bits::{broken, sooner};
 
 // ---- what names stand for
 

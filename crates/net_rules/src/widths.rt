@@ -11,11 +11,10 @@ ghost use Rattle.net_rules.specs.Modules.{item_ports};
 ghost use Rattle.net_rules.specs.Scopes.{scope_of};
 ghost use Rattle.net_rules.specs.Widths.{seen_of, widths_of};
 
-use crate::least::{broken, sooner};
 use crate::text::{Place, Text};
 use net_model::{Ident, NetExpr, Port, Unit};
 use net_names::{Ports, name_of};
-use rec_bits::{Name, Op2, written_result_width};
+use rec_bits::{Name, Op2, broken, sooner, written_result_width};
 
 const LEAST_WIDTH: u64 = 1;
 

@@ -8,9 +8,10 @@ use Rattle.net_model.specs.CheckedRules.{Ordered}
 use Rattle.net_model.specs.Elaborated.{netlist_of}
 use Rattle.code_model.specs.declared.image.Image.{Image}
 use Rattle.code_model.specs.Places.{words_of}
-use Rattle.image_text.specs.Lines.{CodeFits, IsImageText, limits_of}
+use Rattle.code_model.specs.ImageFits.{CodeFits, limits_of}
+use Rattle.code_model.specs.ImageLines.{IsImageText}
 use Rattle.net_run.proofs.LimitLaws.{words_fit}
-use Rattle.state_text.specs.Settings.{IsStateText}
+use Rattle.net_model.specs.MemoryText.{IsMemoryText}
 use Rattle.net_run.specs.Runs.{IsLoaded, IsImageFile, IsNetRead, ShowsState, IsEndText, IsEndFault, IsRunFault}
 use Rattle.net_run.specs.declared.machine.RunFault.{RunFault}
 use Rattle.net_run.specs.declared.machine.RunFault.TheVariants.{NetText, Net, ImageText, MemText, Clash, Memory}
@@ -26,9 +27,9 @@ module _ (net image memory : List ℕ) (clocks : ℕ) (checked : Ordered) (read 
     abbrev image_file : IsImageFile net image
     image_file = record { entries = read.entries; said = said; net_file = read.file; image_text = subst (λ (n : Netlist). IsImageText (limits_of n) image said) read.netlist image_is }
 
-    module _ (start : State) (memory_is : IsStateText checked.netlist memory start) where
+    module _ (start : State) (memory_is : IsMemoryText checked.netlist memory start) where
       taken : IsLoaded net image memory (record { entries = read.entries; image = said; start = start })
-      taken = record { net_file = read.file; image_text = image_file.image_text; memory_text = subst (λ (n : Netlist). IsStateText n memory start) read.netlist memory_is }
+      taken = record { net_file = read.file; image_text = image_file.image_text; memory_text = subst (λ (n : Netlist). IsMemoryText n memory start) read.netlist memory_is }
 
       pub shows_of_end : (out : List ℕ) → IsEndText checked.netlist (words_of said) start clocks out → ShowsState net image memory clocks out
       shows_of_end out h =

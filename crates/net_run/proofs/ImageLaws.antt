@@ -5,8 +5,8 @@ use Rattle.std.specs.List.{concat}
 use Rattle.std.proofs.lemmas.Bool.{cases_lt}
 use Rattle.std.proofs.lemmas.List.{append-nil}
 use Rattle.code_model.specs.declared.image.Image.{Image}
-use Rattle.image_text.specs.declared.limits.Limits.{Limits}
-use Rattle.image_text.specs.Lines.{IsImageText, IsFault}
+use Rattle.code_model.specs.declared.limits.Limits.{Limits}
+use Rattle.code_model.specs.ImageLines.{IsImageText, IsFault}
 use Rattle.image_text.proofs.Whole.{Narrow, text_is_read}
 
 -- of two ways to cut a list, what the shorter front lacks of the longer one stands at the front of its rest

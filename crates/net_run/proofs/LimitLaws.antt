@@ -11,7 +11,7 @@ use Rattle.net_model.specs.Widths.{WordFits}
 use Rattle.net_model.specs.Written.{Entry}
 use Rattle.net_front.specs.Fronts.{IsNetFile}
 use Rattle.code_model.specs.declared.image.Word.{Word}
-use Rattle.image_text.specs.Lines.{CodeFits, limits_in, limits_of}
+use Rattle.code_model.specs.ImageFits.{CodeFits, limits_in, limits_of}
 use Rattle.image_text.proofs.Whole.{Narrow}
 
 narrow_code : (netlist : Netlist) (codes : List Code) → AllByRecursion (CodeKeeps netlist) codes → AllByRecursion (λ (code : Code). code.words ≤ 65536) codes → length codes ≡ 1 → Narrow (limits_in codes)

@@ -1,40 +1,51 @@
 -- A fault of a memory text is at one place, and a memory text has none.
-use Rattle.std.proofs.Common.{◌≡◌, ℕ, ◌<◌, List, [], ◌∷◌, ◌++◌, length, Option, Some, None, sym, ap, ◌∙◌, arith, inl, inr, length-append}
+use Rattle.std.proofs.Common.{◌≡◌, ℕ, ◌<◌, List, [], ◌∷◌, ◌++◌, length, inl, inr, sym, ap, subst, ◌∙◌, arith, length-append}
 use Rattle.std.specs.List.{concat}
 use Rattle.std.proofs.lemmas.Bool.{cases_lt}
 use Rattle.std.proofs.lemmas.List.{append-nil}
+use Rattle.std.proofs.lemmas.Option.{same_Some}
+use Rattle.text_lines.specs.Lines.{lines_of}
 use Rattle.net_model.specs.declared.hardware.Netlist.{Netlist}
 use Rattle.net_model.specs.declared.states.State.{State}
-use Rattle.state_text.specs.declared.setting.Setting.{Setting}
-use Rattle.state_text.specs.Settings.{blank, setting_of, state_after, with_setting, IsStateText, IsStateFault}
+use Rattle.net_model.specs.CheckedRules.{KeepsRules}
+use Rattle.net_model.specs.MemoryText.{blank, Leads, AllLead, SetsNothing, IsMemoryText, IsMemoryFault}
+use Rattle.state_text.specs.Settings.{with_setting}
+use Rattle.state_text.proofs.Told.{leads_told}
 use Rattle.net_run.proofs.ImageLaws.{cut}
-use Rattle.text_lines.specs.Fields.{◌>>=◌}
 
 module _ (netlist : Netlist) where
-  -- lines that set a state have no line among them that sets nothing
-  all_set : (s : State) (before : List (List ℕ)) (line : List ℕ) (behind : List (List ℕ)) (t : State) → state_after netlist s (before ++ line ∷ behind) ≡ Some t → setting_of netlist line ≡ None → ⊥
-  unfolding state_after
-  all_set s [] line behind t is none = go (setting_of netlist line) none is
-    where
-      go : (found : Option Setting) → found ≡ None → (found >>= λ setting. state_after netlist (with_setting s setting) behind) ≡ Some t → ⊥
-      go None e f = cc
-      go (Some setting) e f = cc
-  all_set s (first ∷ before) line behind t is none = go (setting_of netlist first) is (λ next. all_set next before line behind t)
-    where
-      go : (found : Option Setting) → (found >>= λ setting. state_after netlist (with_setting s setting) (before ++ line ∷ behind)) ≡ Some t
-          → ((next : State) → state_after netlist next (before ++ line ∷ behind) ≡ Some t → setting_of netlist line ≡ None → ⊥) → ⊥
-      go None f later = cc
-      go (Some setting) f later = later (with_setting s setting) f none
+  no_lead : (s t : State) (line : List ℕ) → SetsNothing netlist line → Leads netlist s line t → ⊥
+  no_lead s t line none (inl (id, value, h, e)) = none.no_register id value h
+  no_lead s t line none (inr (address, value, h, e)) = none.no_cell address value h
+
+  -- lines that lead on have no line among them that sets nothing
+  all_set : (s : State) (before : List (List ℕ)) (line : List ℕ) (behind : List (List ℕ)) (t : State) → AllLead netlist s (before ++ line ∷ behind) t → SetsNothing netlist line → ⊥
+  all_set s [] line behind t (next, leads, more) none = no_lead s next line none leads
+  all_set s (first ∷ before) line behind t (next, leads, more) none = all_set next before line behind t more none
+
+  -- a line leads to one state
+  one_lead : (order : List ℕ) → KeepsRules netlist order → (s t u : State) (line : List ℕ) → Leads netlist s line t → Leads netlist s line u → t ≡ u
+  one_lead order rules s t u line p q =
+      let a = leads_told netlist order rules s line t p in
+      let b = leads_told netlist order rules s line u q in
+      a.state ∙ (ap (with_setting s) (same_Some a.setting b.setting (sym a.read ∙ b.read)) ∙ sym b.state)
+
+  all_one : (order : List ℕ) → KeepsRules netlist order → (lines : List (List ℕ)) (s t u : State) → AllLead netlist s lines t → AllLead netlist s lines u → t ≡ u
+  all_one order rules [] s t u p q = sym p ∙ q
+  all_one order rules (line ∷ lines) s t u p q =
+      let same : p.0 ≡ q.0 = one_lead order rules s p.0 q.0 line p.1 q.1 in
+      all_one order rules lines q.0 t u (subst (λ (next : State). AllLead netlist next lines t) same p.2) q.2
 
   module _ (bytes : List ℕ) where
-    pub no_state_fault : (s : State) (at : ℕ) → IsStateText netlist bytes s → IsStateFault netlist bytes at → ⊥
-    no_state_fault s at text fault = all_set (blank netlist.storages) fault.before fault.line fault.after s (ap (state_after netlist (blank netlist.storages)) (sym fault.lines) ∙ text.all) fault.bad
+    pub no_state_fault : (s : State) (at : ℕ) → IsMemoryText netlist bytes s → IsMemoryFault netlist bytes at → ⊥
+    no_state_fault s at text fault =
+        all_set (blank netlist.storages) fault.before fault.line fault.after s (subst (λ (lines : List (List ℕ)). AllLead netlist (blank netlist.storages) lines s) fault.lines text.lead) fault.bad
 
-    pub one_state : (s t : State) → IsStateText netlist bytes s → IsStateText netlist bytes t → s ≡ t
-    one_state s t p q = let a = p.all in let b = q.all in cc
+    pub one_state : (order : List ℕ) → KeepsRules netlist order → (s t : State) → IsMemoryText netlist bytes s → IsMemoryText netlist bytes t → s ≡ t
+    one_state order rules s t p q = all_one order rules (lines_of bytes) (blank netlist.storages) s t p.lead q.lead
 
     -- a fault isn't behind another one
-    not_behind : (a b : ℕ) (p : IsStateFault netlist bytes a) (q : IsStateFault netlist bytes b) → length p.before < length q.before → ⊥
+    not_behind : (a b : ℕ) (p : IsMemoryFault netlist bytes a) (q : IsMemoryFault netlist bytes b) → length p.before < length q.before → ⊥
     not_behind a b p q lt =
         let m = cut p.before (p.line ∷ p.after) q.before (q.line ∷ q.after) (sym p.lines ∙ q.lines) (omega arith) in
         go m.0 m.1 m.2
@@ -43,9 +54,9 @@ module _ (netlist : Netlist) where
         go [] same rest = omega (arith, lt, ap length (same ∙ append-nil p.before))
         go (line ∷ m) same rest =
             let e : p.line ≡ line = cc in
-            all_set (blank netlist.storages) p.before line m q.state (ap (state_after netlist (blank netlist.storages)) (sym same) ∙ q.good) (ap (setting_of netlist) (sym e) ∙ p.bad)
+            all_set (blank netlist.storages) p.before line m q.state (subst (λ (lines : List (List ℕ)). AllLead netlist (blank netlist.storages) lines q.state) same q.good) (subst (SetsNothing netlist) e p.bad)
 
-    same_front : (a b : ℕ) (p : IsStateFault netlist bytes a) (q : IsStateFault netlist bytes b) → length p.before ≡ length q.before → a ≡ b
+    same_front : (a b : ℕ) (p : IsMemoryFault netlist bytes a) (q : IsMemoryFault netlist bytes b) → length p.before ≡ length q.before → a ≡ b
     same_front a b p q same =
         let m = cut p.before (p.line ∷ p.after) q.before (q.line ∷ q.after) (sym p.lines ∙ q.lines) (omega arith) in
         sym p.place ∙ (ap (λ (ls : List (List ℕ)). length (concat ls)) (fronts m.0 m.1 (omega (arith, same, ap length m.1, length-append p.before m.0))) ∙ q.place)
@@ -54,7 +65,7 @@ module _ (netlist : Netlist) where
         fronts [] e none = sym (e ∙ append-nil p.before)
         fronts (line ∷ m) e none = absurd (omega arith)
 
-    pub one_state_fault : (a b : ℕ) → IsStateFault netlist bytes a → IsStateFault netlist bytes b → a ≡ b
+    pub one_state_fault : (a b : ℕ) → IsMemoryFault netlist bytes a → IsMemoryFault netlist bytes b → a ≡ b
     one_state_fault a b p q = elim (cases_lt (length p.before) (length q.before)) [
       | inl lt ↦ absurd (not_behind a b p q lt)
       | inr le ↦ elim (cases_lt (length q.before) (length p.before)) [

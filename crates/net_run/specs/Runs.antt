@@ -9,10 +9,15 @@ use Rattle.net_model.specs.NetFaults.{name_at}
 use Rattle.net_model.specs.Written.{Entry}
 use Rattle.net_parser.specs.Texts.{IsNoNetText}
 use Rattle.net_front.specs.Fronts.{IsNetFile, BreaksRule}
+use Rattle.net_front.specs.declared.front.NetRefusal.{NetRefusal}
+use Rattle.net_front.specs.declared.front.NetRefusal.TheVariants.{Text as NoNet, Fault as Breaks, Memory as NetMemory}
+use Rattle.rec_bits.specs.declared.fault.ParseFault.{ParseFault}
+use Rattle.rec_bits.specs.declared.fault.ParseFault.TheVariants.{Text as NoText, Memory as ParseMemory}
 use Rattle.code_model.specs.declared.image.Image.{Image}
 use Rattle.code_model.specs.Places.{words_of}
-use Rattle.image_text.specs.Lines.{IsImageText, IsFault, limits_of}
-use Rattle.state_text.specs.Settings.{IsStateText, IsStateFault}
+use Rattle.code_model.specs.ImageFits.{limits_of}
+use Rattle.code_model.specs.ImageLines.{IsImageText, IsFault}
+use Rattle.net_model.specs.MemoryText.{IsMemoryText, IsMemoryFault}
 use Rattle.state_text.specs.Shown.{state_text}
 use Rattle.net_run.specs.declared.machine.RunFault.{RunFault}
 use Rattle.net_run.specs.declared.machine.RunFault.TheVariants.{NetText, Net, ImageText, MemText, Clash, Memory}
@@ -29,7 +34,7 @@ pub record Loaded : Type 0 where
 pub record IsLoaded (net image memory : List ℕ) (loaded : Loaded) : Type 0 where
   pub net_file : IsNetFile net loaded.entries
   pub image_text : IsImageText (limits_of (netlist_of loaded.entries)) image loaded.image
-  pub memory_text : IsStateText (netlist_of loaded.entries) memory loaded.start
+  pub memory_text : IsMemoryText (netlist_of loaded.entries) memory loaded.start
 
 -- the first bytes are a netlist's, and the second an image's for it
 pub record IsImageFile (net image : List ℕ) : Type 0 where
@@ -89,7 +94,21 @@ pub record IsNoImageFile (net image : List ℕ) (at : ℕ) : Type 0 where
 pub record IsNoMemoryFile (net memory : List ℕ) (at : ℕ) : Type 0 where
   pub entries : List Entry
   pub net_file : IsNetFile net entries
-  pub none : IsStateFault (netlist_of entries) memory at
+  pub none : IsMemoryFault (netlist_of entries) memory at
+
+-- what a refusal of the netlist's bytes, a fault of the image's and one of the memory's are told as
+abbrev pub net_fault : NetRefusal → RunFault
+net_fault (NoNet at) = NetText at
+net_fault (Breaks fault) = Net fault
+net_fault NetMemory = Memory
+
+abbrev pub image_fault : ParseFault → RunFault
+image_fault (NoText at) = ImageText at
+image_fault ParseMemory = Memory
+
+abbrev pub memory_fault : ParseFault → RunFault
+memory_fault (NoText at) = MemText at
+memory_fault ParseMemory = Memory
 
 -- why the netlist's bytes were not taken
 abbrev pub IsNetFault : List ℕ → RunFault → Type 0
@@ -104,10 +123,10 @@ IsImageFault netlist image (ImageText at) = IsFault (limits_of netlist) image at
 IsImageFault netlist image Memory = Unit {0}
 IsImageFault netlist image _ = ⊥
 
-abbrev pub IsStateFaultOf : Netlist → List ℕ → RunFault → Type 0
-IsStateFaultOf netlist memory (MemText at) = IsStateFault netlist memory at
-IsStateFaultOf netlist memory Memory = Unit {0}
-IsStateFaultOf netlist memory _ = ⊥
+abbrev pub IsMemoryFaultOf : Netlist → List ℕ → RunFault → Type 0
+IsMemoryFaultOf netlist memory (MemText at) = IsMemoryFault netlist memory at
+IsMemoryFaultOf netlist memory Memory = Unit {0}
+IsMemoryFaultOf netlist memory _ = ⊥
 
 -- how the clocks on these words end: with the text of the state that is reached, or with the first clash
 abbrev pub IsEndText : Netlist → List ℕ → State → ℕ → List ℕ → Type 0

@@ -5,9 +5,11 @@ ghost use Rattle.std.specs.List.{AllByRecursion};
 ghost use Rattle.net_model.specs.NetFaults.{name_at};
 ghost use Rattle.net_model.specs.Widths.{IsState, WordFits};
 ghost use Rattle.code_model.specs.Places.{words_of};
-ghost use Rattle.image_text.specs.Lines.{IsImageText, limits_of};
-ghost use Rattle.state_text.specs.Settings.{IsStart, IsStateText};
-ghost use Rattle.net_run.specs.Runs.{AreImageWords, IsEndFault, IsEndText, IsImageFault, IsNetFault, IsNetRead, IsRunFault, IsStateFaultOf, ShowsState};
+ghost use Rattle.code_model.specs.ImageFits.{limits_of};
+ghost use Rattle.code_model.specs.ImageLines.{IsImageText};
+ghost use Rattle.state_text.specs.Settings.{IsStart};
+ghost use Rattle.net_model.specs.MemoryText.{IsMemoryText};
+ghost use Rattle.net_run.specs.Runs.{AreImageWords, IsEndFault, IsEndText, IsImageFault, IsNetFault, IsNetRead, IsRunFault, IsMemoryFaultOf, ShowsState, image_fault, memory_fault};
 ghost use Rattle.net_run.specs.declared.machine.RunFault.{RunFault};
 
 use crate::clocks::{Clash, clock_all};
@@ -44,17 +46,48 @@ impl From<NoMemory> for RunFault {
     }
 }
 
+impl From<NetRefusal> for RunFault {
+    ghost from_gives = { λ refusal fault. fault ≡ net_fault refusal };
+
+    ghost use Rattle.std.specs.Prelude.{◌≡◌};
+    ghost use Rattle.net_run.specs.Runs.{net_fault};
+
+    fn from(refusal: NetRefusal) -> RunFault {
+        match refusal {
+            NetRefusal::Text(at) => RunFault::NetText(at),
+            NetRefusal::Fault(fault) => RunFault::Net(fault),
+            NetRefusal::Memory => RunFault::Memory,
+        }
+    }
+}
+
 // The netlist.
 fn netlist(alloc: Global, net: &[u8]) -> Result<Checked, RunFault>
     requires { length net.now < 2 ^ 32 }
     ensures found { IfOk result (IsNetRead net.now) }
     ensures refused { IfErr result (IsNetFault net.now) }
 {
-    match read_net(alloc, net) {
-        Ok((_, checked)) => Ok(checked),
-        Err(NetRefusal::Text(at)) => Err(RunFault::NetText(at)),
-        Err(NetRefusal::Fault(fault)) => Err(RunFault::Net(fault)),
-        Err(NetRefusal::Memory) => Err(RunFault::Memory),
+    let (_, checked) = read_net(alloc, net)?;
+    Ok(checked)
+}
+
+// A fault of the image's text.
+fn image_fault(fault: ParseFault) -> RunFault
+    ensures { result ≡ image_fault fault }
+{
+    match fault {
+        ParseFault::Text(at) => RunFault::ImageText(at),
+        ParseFault::Memory => RunFault::Memory,
+    }
+}
+
+// A fault of the memory's text.
+fn memory_fault(fault: ParseFault) -> RunFault
+    ensures { result ≡ memory_fault fault }
+{
+    match fault {
+        ParseFault::Text(at) => RunFault::MemText(at),
+        ParseFault::Memory => RunFault::Memory,
     }
 }
 
@@ -64,25 +97,19 @@ fn image_of(alloc: Global, bytes: &[u8], checked: &Checked) -> Result<Image, Run
     ensures found { IfOk result (IsImageText (limits_of checked.now.netlist) bytes.now) }
     ensures refused { IfErr result (IsImageFault checked.now.netlist bytes.now) }
 {
-    match image_text::read(alloc, bytes, checked) {
-        Ok(image) => Ok(image),
-        Err(ParseFault::Text(at)) => Err(RunFault::ImageText(at)),
-        Err(ParseFault::Memory) => Err(RunFault::Memory),
-    }
+    let image = image_text::read(alloc, bytes, checked).map_err(image_fault)?;
+    Ok(image)
 }
 
 // The state that the netlist starts from.
 fn start_of(alloc: Global, bytes: &[u8], checked: &Checked) -> Result<State, RunFault>
     requires { length bytes.now < 2 ^ 32 }
-    ensures found { IfOk result (IsStateText checked.now.netlist bytes.now) }
+    ensures found { IfOk result (IsMemoryText checked.now.netlist bytes.now) }
     ensures fits { IfOk result (IsStart checked.now.netlist) }
-    ensures refused { IfErr result (IsStateFaultOf checked.now.netlist bytes.now) }
+    ensures refused { IfErr result (IsMemoryFaultOf checked.now.netlist bytes.now) }
 {
-    match state_text::read_state(alloc, bytes, checked) {
-        Ok(state) => Ok(state),
-        Err(ParseFault::Text(at)) => Err(RunFault::MemText(at)),
-        Err(ParseFault::Memory) => Err(RunFault::Memory),
-    }
+    let state = state_text::read_state(alloc, bytes, checked).map_err(memory_fault)?;
+    Ok(state)
 }
 
 // The words of an image.

@@ -1,3 +1,4 @@
+pub mod Counts
 pub mod Operators
 pub mod Ranges
 pub mod Worked

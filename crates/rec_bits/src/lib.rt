@@ -2,6 +2,7 @@
 #![tactic(auto)]
 
 mod fault;
+mod least;
 mod list;
 mod operator;
 mod ranges;
@@ -9,6 +10,7 @@ mod ranges;
 mod tests;
 
 pub use fault::{NoMemory, ParseFault};
+pub use least::{broken, sooner};
 pub use list::{Items, Name};
 pub use operator::{
     Op1, Op2, apply1, apply2, cat, mask, result_width, sext, slice, written_result_width,

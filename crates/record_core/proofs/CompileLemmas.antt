@@ -1,5 +1,5 @@
 -- What `compile` answers for two texts.
-use Rattle.std.proofs.Common.{◌≡◌, ℕ, List, inl, inr, refl}
+use Rattle.std.proofs.Common.{◌≡◌, ◌⊎◌, ℕ, List, inl, inr, refl}
 use Rattle.net_model.specs.declared.fault.NetFault.{NetFault}
 use Rattle.net_parser.specs.Texts.{IsNoNetText}
 use Rattle.net_extract.specs.Extracts.{BreaksAnyRule}
@@ -7,15 +7,18 @@ use Rattle.src_front.proofs.FrontLaws.{no_text_fault as no_src_fault}
 use Rattle.src_model.specs.declared.fault.SrcFault.{SrcFault}
 use Rattle.src_parser.specs.Texts.{IsNoSrcText}
 use Rattle.first_path.proofs.FirstLemmas.{has_net, none_broken, weaker, no_full, no_wide, no_crooked, no_wordless, narrow_of_code, straight_of_code}
-use Rattle.first_path.specs.declared.compiler.FirstFault.TheVariants.{WideCode, NotStraight, NoWord as Wordless}
-use Rattle.first_path.specs.Code.{Property, IsFull, IsWide, IsNotStraight, IsWordless, FailsWith, HasRoom, IsNarrow, HasStores}
-use Rattle.first_path.specs.First.{HasNet, Holds, IsCompiled, BreaksSrc}
+use Rattle.first_path.specs.declared.compiler.FirstFault.{FirstFault}
+use Rattle.first_path.specs.declared.compiler.FirstFault.TheVariants.{NetText as FirstNetText, Net as FirstNet, SrcText as FirstSrcText, Src as FirstSrc, DataFull as NoRoom, WideCode, NotStraight, NoWord as Wordless, Memory as FirstMemory}
+use Rattle.first_path.specs.Code.{IsFull, IsWide, IsNotStraight, IsWordless, FailsWith, HasRoom, IsNarrow, HasStores}
+use Rattle.first_path.specs.First.{HasNet, IsCompiled, BreaksSrc, IsFirstFault}
+use Rattle.first_path.specs.Tasks.{Property, Holds}
 use Rattle.record_core.proofs.NetLemmas.{past_rules, stops_at_text, stops_at_rule}
 use Rattle.record_core.proofs.StageLemmas.{By-none}
 use Rattle.record_core.specs.Answers.{CompileAnswers, IsLater}
 use Rattle.record_core.specs.Stages.{By, Then}
+use Rattle.record_core.specs.Told.{first_status}
 use Rattle.record_core.specs.declared.status.Status.{Status}
-use Rattle.record_core.specs.declared.status.Status.TheVariants.{Done, NetText, Net, SrcText, Src, DataFull, Later, NoWord}
+use Rattle.record_core.specs.declared.status.Status.TheVariants.{Done, NetText, Net, SrcText, Src, DataFull, Memory, Later, NoWord}
 
 module _ (line : Status → List ℕ) (net src : List ℕ) where
   -- the later stages, by what the texts passed so far
@@ -41,7 +44,7 @@ module _ (line : Status → List ℕ) (net src : List ℕ) where
   -- a program for it passes those of the program
   past_program : (P : Property) → Holds net src P → (status : Status) (text : List ℕ) → room_answers status text → CompileAnswers line net src status text
   past_program P h status text later = past_net (has_net net src P h) status text (inr (
-    By-none SrcText (IsNoSrcText src) (λ at faulty. no_src_fault src h.listing at h.files.src_file.says faulty),
+    By-none SrcText (IsNoSrcText src) (λ at faulty. no_src_fault src h.task.listing at h.is.src_file.says faulty),
     inr (By-none Src (BreaksSrc net src) (λ fault breaks. none_broken net src P fault h breaks), later),
   ))
 
@@ -53,7 +56,7 @@ module _ (line : Status → List ℕ) (net src : List ℕ) where
   ))
 
   past_wide : Holds net src IsNarrow → (status : Status) (text : List ℕ) → straight_answers status text → CompileAnswers line net src status text
-  past_wide h status text later = past_room (weaker net src IsNarrow HasRoom (λ n w l narrow. narrow.room) h) status text (inr (
+  past_wide h status text later = past_room (weaker net src IsNarrow HasRoom (λ task narrow. narrow.room) h) status text (inr (
     By-none Later (IsLater 0 net src IsWide) (λ file reason. no_wide net src h reason.1),
     later,
   ))
@@ -70,38 +73,50 @@ module _ (line : Status → List ℕ) (net src : List ℕ) where
     (refl, code),
   ))
 
-  pub answers_no_net_text : (at : ℕ) → IsNoNetText net at → CompileAnswers line net src (NetText at) (line (NetText at))
+  answers_no_net_text : (at : ℕ) → IsNoNetText net at → CompileAnswers line net src (NetText at) (line (NetText at))
   answers_no_net_text = stops_at_text line net source_answers
 
-  pub answers_broken : (fault : NetFault) → BreaksAnyRule net fault → CompileAnswers line net src (Net fault) (line (Net fault))
+  answers_broken : (fault : NetFault) → BreaksAnyRule net fault → CompileAnswers line net src (Net fault) (line (Net fault))
   answers_broken = stops_at_rule line net source_answers
 
-  pub answers_no_src_text : (at : ℕ) → HasNet net × IsNoSrcText src at → CompileAnswers line net src (SrcText at) (line (SrcText at))
+  answers_no_src_text : (at : ℕ) → HasNet net × IsNoSrcText src at → CompileAnswers line net src (SrcText at) (line (SrcText at))
   answers_no_src_text at (has, none) = past_net has (SrcText at) (line (SrcText at)) (inl ((at, none, refl), refl))
 
-  pub answers_broken_src : (fault : SrcFault) → BreaksSrc net src fault → CompileAnswers line net src (Src fault) (line (Src fault))
+  answers_broken_src : (fault : SrcFault) → BreaksSrc net src fault → CompileAnswers line net src (Src fault) (line (Src fault))
   answers_broken_src fault breaks = past_net (record { entries = breaks.entries; file = breaks.net_file }) (Src fault) (line (Src fault)) (inr (
     By-none SrcText (IsNoSrcText src) (λ at faulty. no_src_fault src breaks.breaks.listing at breaks.breaks.says faulty),
     inl ((fault, breaks, refl), refl),
   ))
 
-  pub answers_full : (need have : ℕ) → Holds net src (IsFull need have) → CompileAnswers line net src (DataFull need have) (line (DataFull need have))
+  answers_full : (need have : ℕ) → Holds net src (IsFull need have) → CompileAnswers line net src (DataFull need have) (line (DataFull need have))
   answers_full need have full = past_program (IsFull need have) full (DataFull need have) (line (DataFull need have)) (inl (((need, have), full, refl), refl))
 
-  pub answers_wide : Holds net src (FailsWith WideCode) → CompileAnswers line net src (Later 0) (line (Later 0))
-  answers_wide h = past_room (weaker net src (FailsWith WideCode) HasRoom (λ n w l both. both.0) h) (Later 0) (line (Later 0))
-      (inl ((0, (refl, weaker net src (FailsWith WideCode) IsWide (λ n w l both. both.1) h), refl), refl))
+  answers_wide : Holds net src (FailsWith WideCode) → CompileAnswers line net src (Later 0) (line (Later 0))
+  answers_wide h = past_room (weaker net src (FailsWith WideCode) HasRoom (λ task both. both.0) h) (Later 0) (line (Later 0))
+      (inl ((0, (refl, weaker net src (FailsWith WideCode) IsWide (λ task both. both.1) h), refl), refl))
 
-  pub answers_crooked : Holds net src (FailsWith NotStraight) → CompileAnswers line net src (Later 1) (line (Later 1))
-  answers_crooked h = past_wide (weaker net src (FailsWith NotStraight) IsNarrow (λ n w l both. both.0) h) (Later 1) (line (Later 1))
-      (inl ((1, (refl, weaker net src (FailsWith NotStraight) IsNotStraight (λ n w l both. both.1) h), refl), refl))
+  answers_crooked : Holds net src (FailsWith NotStraight) → CompileAnswers line net src (Later 1) (line (Later 1))
+  answers_crooked h = past_wide (weaker net src (FailsWith NotStraight) IsNarrow (λ task both. both.0) h) (Later 1) (line (Later 1))
+      (inl ((1, (refl, weaker net src (FailsWith NotStraight) IsNotStraight (λ task both. both.1) h), refl), refl))
 
-  pub answers_wordless : (number : ℕ) → Holds net src (FailsWith (Wordless number)) → CompileAnswers line net src (NoWord number) (line (NoWord number))
+  answers_wordless : (number : ℕ) → Holds net src (FailsWith (Wordless number)) → CompileAnswers line net src (NoWord number) (line (NoWord number))
   answers_wordless number h =
-      past_straight (weaker net src (FailsWith (Wordless number)) IsNarrow (λ n w l both. both.0) h)
-      (weaker net src (FailsWith (Wordless number)) HasStores (λ n w l both. record { stores = both.1.stores; are = both.1.are }) h)
+      past_straight (weaker net src (FailsWith (Wordless number)) IsNarrow (λ task both. both.0) h)
+      (weaker net src (FailsWith (Wordless number)) HasStores (λ task both. record { stores = both.1.stores; are = both.1.are }) h)
       (NoWord number) (line (NoWord number))
-      (inl ((number, weaker net src (FailsWith (Wordless number)) (IsWordless number) (λ n w l both. both.1) h, refl), refl))
+      (inl ((number, weaker net src (FailsWith (Wordless number)) (IsWordless number) (λ task both. both.1) h, refl), refl))
+
+  -- a fault of the compiler is what is answered
+  pub answers_fault : (fault : FirstFault) → IsFirstFault net src fault → (first_status fault ≡ Memory) ⊎ CompileAnswers line net src (first_status fault) (line (first_status fault))
+  answers_fault (FirstNetText at) is = inr (answers_no_net_text at is)
+  answers_fault (FirstNet fault) is = inr (answers_broken fault is)
+  answers_fault (FirstSrcText at) is = inr (answers_no_src_text at is)
+  answers_fault (FirstSrc fault) is = inr (answers_broken_src fault is)
+  answers_fault (NoRoom need have) is = inr (answers_full need have is)
+  answers_fault WideCode is = inr (answers_wide is)
+  answers_fault NotStraight is = inr (answers_crooked is)
+  answers_fault (Wordless number) is = inr (answers_wordless number is)
+  answers_fault FirstMemory is = inl refl
 
 -- what is written on `Done` is an image
 pub right_of : (line : Status → List ℕ) (net src text : List ℕ) → CompileAnswers line net src Done text → IsCompiled net src text

@@ -9,7 +9,7 @@ use Rattle.std.specs.declared.option.Option.{Option}
 use Rattle.rec_io.specs.Files.{Files}
 use Rattle.rec_io.specs.Shelf.{ShelfState, IsFailed, IsLong}
 use Rattle.record_core.specs.Answers.{file_limit, place_from, IsFile, AreFiles, HasFirst}
-use Rattle.record_core.specs.Fetch.{contents, FetchStops}
+use Rattle.record_core.specs.Fetch.{contents, AreShort, FetchStops}
 use Rattle.record_core.specs.Words.{texts_of, name_in}
 use Rattle.record_core.specs.declared.status.Status.{Status}
 use Rattle.record_core.specs.declared.status.Status.TheVariants.{ReadFault, TooLong}
@@ -111,3 +111,11 @@ AreFiles-next files names got i file h held is =
 -- the bytes of the file at a place
 pub contents-at : (got : List (Vec ℕ Global)) (i : ℕ) (file : Vec ℕ Global) (bytes : List ℕ) → i < length got → file ≡ get_or got i file → bytes ≡ file.items → bytes ≡ get_or (contents got) i []
 contents-at got i file bytes h is same = let e = get_or-map (λ (f : Vec ℕ Global). f.items) got i file [] h in let k = ap (λ (f : Vec ℕ Global). f.items) is in same ∙ k ∙ sym e
+
+-- the files that were fetched are short
+pub files_short : (told : Option Files) (names files : List (List ℕ)) → AreFiles told names files → AreShort files
+files_short told [] [] held place = omega arith
+files_short told (name ∷ names) (file ∷ files) held zero = held.0.short
+files_short told (name ∷ names) (file ∷ files) held (suc place) = files_short told names files held.1 place
+files_short told [] (file ∷ files) held place = absurd held
+files_short told (name ∷ names) [] held place = absurd held

@@ -2,10 +2,10 @@ mod AnswerLemmas
 mod CompileLemmas
 mod ExtractLemmas
 mod FetchLemmas
-mod ImageLemmas
 mod StageLemmas
 mod UniqueLemmas
 mod WordLemmas
+mod WroteLemmas
 mod NameLemmas
 mod NetLemmas
 mod RunLemmas

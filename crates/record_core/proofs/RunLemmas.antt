@@ -1,5 +1,5 @@
 -- What `run` answers for three texts.
-use Rattle.std.proofs.Common.{ℕ, List, Some, None, inl, inr, refl}
+use Rattle.std.proofs.Common.{◌≡◌, ◌⊎◌, ℕ, List, Some, None, inl, inr, refl}
 use Rattle.std.specs.declared.option.Option.{Option}
 use Rattle.net_front.proofs.FrontLaws.{no_text_fault, no_broken_rule}
 use Rattle.net_front.specs.Fronts.{IsNetFile, BreaksRule}
@@ -7,12 +7,15 @@ use Rattle.net_model.specs.Written.{Entry}
 use Rattle.net_model.specs.declared.fault.NetFault.{NetFault}
 use Rattle.net_parser.specs.Texts.{IsNoNetText}
 use Rattle.net_run.proofs.RunLaws.{no_image_fault, no_memory_fault}
-use Rattle.net_run.specs.Runs.{Loaded, IsLoaded, IsImageFile, IsNoImageFile, IsNoMemoryFile, ClashedAt, Clashes, ShowsState}
+use Rattle.net_run.specs.Runs.{Loaded, IsLoaded, IsImageFile, IsNoImageFile, IsNoMemoryFile, ClashedAt, Clashes, ShowsState, IsRunFault}
+use Rattle.net_run.specs.declared.machine.RunFault.{RunFault}
+use Rattle.net_run.specs.declared.machine.RunFault.TheVariants.{NetText as RunNetText, Net as RunNet, ImageText as NoImage, MemText as NoMemoryText, Clash as Clashed, Memory as RunMemory}
 use Rattle.record_core.proofs.StageLemmas.{By-none}
 use Rattle.record_core.specs.Answers.{RunAnswers, RunEnds}
 use Rattle.record_core.specs.Stages.{By, Then}
+use Rattle.record_core.specs.Told.{run_stop}
 use Rattle.record_core.specs.declared.status.Status.{Status}
-use Rattle.record_core.specs.declared.status.Status.TheVariants.{Done, NetText, Net, ImageText, MemText, Clash}
+use Rattle.record_core.specs.declared.status.Status.TheVariants.{Done, NetText, Net, Memory, ImageText, MemText, Clash}
 
 module _ (line : Option ℕ → Status → List ℕ) (net image memory : List ℕ) (clocks : ℕ) where
   -- the later stages, by what the texts passed so far
@@ -39,21 +42,31 @@ module _ (line : Option ℕ → Status → List ℕ) (net image memory : List �
   pub answers_state : (out : List ℕ) → ShowsState net image memory clocks out → RunAnswers line net image memory clocks Done out
   answers_state out shows = past_memory shows.loaded shows.taken Done out (inr (refl, shows))
 
-  pub answers_clash : (c : ClashedAt) → Clashes net image memory clocks c → RunAnswers line net image memory clocks (Clash c.cycle c.bus) (line (Some c.at) (Clash c.cycle c.bus))
+  answers_clash : (c : ClashedAt) → Clashes net image memory clocks c → RunAnswers line net image memory clocks (Clash c.cycle c.bus) (line (Some c.at) (Clash c.cycle c.bus))
   answers_clash c clashes = past_memory clashes.loaded clashes.taken (Clash c.cycle c.bus) (line (Some c.at) (Clash c.cycle c.bus)) (inl (c, clashes, refl, refl))
 
-  pub answers_no_net_text : (at : ℕ) → IsNoNetText net at → RunAnswers line net image memory clocks (NetText at) (line None (NetText at))
+  answers_no_net_text : (at : ℕ) → IsNoNetText net at → RunAnswers line net image memory clocks (NetText at) (line None (NetText at))
   answers_no_net_text at none = inl ((at, none, refl), refl)
 
-  pub answers_broken : (fault : NetFault) → BreaksRule net fault → RunAnswers line net image memory clocks (Net fault) (line None (Net fault))
+  answers_broken : (fault : NetFault) → BreaksRule net fault → RunAnswers line net image memory clocks (Net fault) (line None (Net fault))
   answers_broken fault breaks =
       inr (By-none NetText (IsNoNetText net) (λ at faulty. no_text_fault net breaks.entries at breaks.says faulty), inl ((fault, breaks, refl), refl))
 
-  pub answers_no_image : (at : ℕ) → IsNoImageFile net image at → RunAnswers line net image memory clocks (ImageText at) (line None (ImageText at))
+  answers_no_image : (at : ℕ) → IsNoImageFile net image at → RunAnswers line net image memory clocks (ImageText at) (line None (ImageText at))
   answers_no_image at none = past_net none.entries none.net_file (ImageText at) (line None (ImageText at)) (inl ((at, none, refl), refl))
 
-  pub answers_no_memory : (at : ℕ) → IsImageFile net image → IsNoMemoryFile net memory at → RunAnswers line net image memory clocks (MemText at) (line None (MemText at))
+  answers_no_memory : (at : ℕ) → IsImageFile net image → IsNoMemoryFile net memory at → RunAnswers line net image memory clocks (MemText at) (line None (MemText at))
   answers_no_memory at has none = past_image has (MemText at) (line None (MemText at)) (inl ((at, none, refl), refl))
+
+  -- a fault of the run is what is answered
+  pub answers_fault : (fault : RunFault) → IsRunFault net image memory clocks fault
+      → ((run_stop fault).status ≡ Memory) ⊎ RunAnswers line net image memory clocks (run_stop fault).status (line (run_stop fault).bus (run_stop fault).status)
+  answers_fault (RunNetText at) is = inr (answers_no_net_text at is)
+  answers_fault (RunNet fault) is = inr (answers_broken fault is)
+  answers_fault (NoImage at) is = inr (answers_no_image at is)
+  answers_fault (NoMemoryText at) is = inr (answers_no_memory at is.0 is.1)
+  answers_fault (Clashed cycle bus at) is = inr (answers_clash (record { cycle = cycle; bus = bus; at = at }) is)
+  answers_fault RunMemory is = inl refl
 
 -- what is written on `Done` is the state
 pub state_of : (line : Option ℕ → Status → List ℕ) (net image memory : List ℕ) (clocks : ℕ) (text : List ℕ) → RunAnswers line net image memory clocks Done text → ShowsState net image memory clocks text

@@ -1,12 +1,13 @@
 -- At most one status applies, and what follows.
-use Rattle.std.proofs.Common.{◌≡◌, ℕ, ◌⊎◌, List, [], Some, None, IsSome, sym, ap, ◌∙◌, inl, inr, rules}
+use Rattle.std.proofs.Common.{◌≡◌, ℕ, ◌⊎◌, List, [], ◌∷◌, Some, None, IsSome, refl, sym, ap, subst, ◌∙◌, inl, inr, rules}
 use Rattle.std.specs.declared.option.Option.{Option}
 use Rattle.net_parser.proofs.TextFaults.{one_net_fault}
 use Rattle.net_front.proofs.FrontLaws.{one_broken_rule}
 use Rattle.src_parser.proofs.TextFaults.{one_src_fault}
 use Rattle.net_extract.specs.Extracts.{IsExtracted}
 use Rattle.first_path.proofs.FirstLemmas.{one_broken, one_full, one_wordless}
-use Rattle.first_path.specs.Code.{Property, IsWide, IsNotStraight}
+use Rattle.first_path.specs.Code.{IsWide, IsNotStraight}
+use Rattle.first_path.specs.Tasks.{Property}
 use Rattle.net_run.proofs.RunLaws.{one_image_fault, one_memory_fault, one_clash, no_clash_shown}
 use Rattle.net_run.specs.Runs.{ClashedAt}
 use Rattle.first_path.specs.First.{IsCompiled}
@@ -16,9 +17,11 @@ use Rattle.rec_io.specs.Shelf.{ShelfState}
 use Rattle.rec_io.specs.Sink.{SinkState}
 use Rattle.record_core.proofs.NetLemmas.{NetStages-unique}
 use Rattle.record_core.proofs.StageLemmas.{AtMostOne, By-unique, Then-unique}
-use Rattle.record_core.specs.Answers.{Answers, FilesAnswer, CompileAnswers, ExtractAnswers, RunEnds, RunAnswers, FormAnswers, IsReadFault, IsTooLong, IsLater, IsFile, Gives, IsExact, IsAccepted}
+use Rattle.record_core.specs.Answers.{Answers, FilesAnswer, CompileAnswers, ExtractAnswers, RunEnds, RunAnswers, TextAnswers, CommandAnswers, file_at, AreFiles, IsReadFault, IsTooLong, IsLater, IsFile, Gives, IsExact, IsAccepted}
 use Rattle.record_core.specs.Lines.{due_line}
-use Rattle.record_core.specs.Words.{Form, Compile, Extract, Run, form_of, names_of}
+use Rattle.record_core.specs.Words.{command_of, names_of}
+use Rattle.record_core.specs.declared.words.Command.{Command}
+use Rattle.record_core.specs.declared.words.Command.TheVariants.{Compile, Extract, Run}
 use Rattle.record_core.specs.declared.status.Status.{Status}
 use Rattle.record_core.specs.declared.status.Status.TheVariants.{Done, Usage, ReadFault, TooLong, NetText, Net, SrcText, Src, DataFull, ImageText, MemText, Clash, Memory, Later, NoWord}
 
@@ -67,33 +70,38 @@ RunAnswers-unique line net image memory clocks =
     Then-unique (line None) _ _ (By-unique ImageText _ (one_image_fault net image)) (
     Then-unique (line None) _ _ (By-unique MemText _ (one_memory_fault net memory)) (RunEnds-unique line net image memory clocks))))
 
-FormAnswers-unique : (line : List ℕ → Option ℕ → Status → List ℕ) (files : Option Files) (form : Form) → IsSome files → AtMostOne (FormAnswers line files form)
-FormAnswers-unique line files (Compile n m) told s t a b (net, src, p, q, x) (net', src', p', q', y) =
-    let e : net' ≡ net = one_file files n net' net told p' p in
-    let f : src' ≡ src = one_file files m src' src told q' q in
-    CompileAnswers-unique (line net None) net src s t a b x (rw (e, f) at y)
-FormAnswers-unique line files (Extract n) told s t a b (net, p, x) (net', p', y) =
-    let e : net' ≡ net = one_file files n net' net told p' p in
-    ExtractAnswers-unique (line net None) net s t a b x (rw e at y)
-FormAnswers-unique line files (Run n i m clocks) told s t a b (net, image, memory, p, q, r, x) (net', image', memory', p', q', r', y) =
-    let e : net' ≡ net = one_file files n net' net told p' p in
-    let f : image' ≡ image = one_file files i image' image told q' q in
-    let g : memory' ≡ memory = one_file files m memory' memory told r' r in
-    RunAnswers-unique (line net) net image memory clocks s t a b x (rw (e, f, g) at y)
+TextAnswers-unique : (line : Option ℕ → Status → List ℕ) (command : Command) (files : List (List ℕ)) → AtMostOne (TextAnswers line command files)
+TextAnswers-unique line Compile files = CompileAnswers-unique (line None) (file_at files 0) (file_at files 1)
+TextAnswers-unique line Extract files = ExtractAnswers-unique (line None) (file_at files 0)
+TextAnswers-unique line (Run clocks) files = RunAnswers-unique line (file_at files 0) (file_at files 1) (file_at files 2) clocks
+
+-- the files of these names are told
+same_files : (told : Option Files) (names a b : List (List ℕ)) → IsSome told → AreFiles told names a → AreFiles told names b → a ≡ b
+same_files told [] [] [] some p q = refl
+same_files told (name ∷ names) (x ∷ a) (y ∷ b) some p q = let e = one_file told name x y some p.0 q.0 in let f = same_files told names a b some p.1 q.1 in cc
+same_files told [] (x ∷ a) b some p q = absurd p
+same_files told [] [] (y ∷ b) some p q = absurd q
+same_files told (name ∷ names) [] b some p q = absurd p
+same_files told (name ∷ names) (x ∷ a) [] some p q = absurd q
+
+CommandAnswers-unique : (line : List ℕ → Option ℕ → Status → List ℕ) (told : Option Files) (command : Command) (names : List (List ℕ)) → IsSome told → AtMostOne (CommandAnswers line told command names)
+CommandAnswers-unique line told command names some s t a b (files, p, x) (others, q, y) =
+    let e : others ≡ files = same_files told names others files some q p in
+    TextAnswers-unique (line (file_at files 0)) command files s t a b x (subst (λ (fs : List (List ℕ)). TextAnswers (line (file_at fs 0)) command fs t b) e y)
 
 usage_only : (line : List ℕ) → AtMostOne (λ status text. (status ≡ Usage) × (text ≡ line))
 usage_only line s t a b p q = p.0 ∙ sym q.0
 
-FilesAnswer-unique : (line : List ℕ → Option ℕ → Status → List ℕ) (form : Option Form) (before now : ShelfState) → IsSome before.files → AtMostOne (FilesAnswer line form before now)
-FilesAnswer-unique line None before now told = usage_only (line [] None Usage)
-FilesAnswer-unique line (Some form) before now told =
-    Then-unique (line [] None) _ _ (By-unique ReadFault _ (one_read (names_of form) before now)) (
-    Then-unique (line [] None) _ _ (By-unique (λ (p : ℕ × ℕ). TooLong p.0 p.1) _ (one_long (names_of form) before now)) (
-    FormAnswers-unique line before.files form told))
+FilesAnswer-unique : (words : List (List ℕ)) (command : Option Command) (before now : ShelfState) → IsSome before.files → AtMostOne (FilesAnswer words command before now)
+FilesAnswer-unique words None before now told = usage_only (due_line words [] None Usage)
+FilesAnswer-unique words (Some command) before now told =
+    Then-unique (due_line words [] None) _ _ (By-unique ReadFault _ (one_read (names_of command words) before now)) (
+    Then-unique (due_line words [] None) _ _ (By-unique (λ (p : ℕ × ℕ). TooLong p.0 p.1) _ (one_long (names_of command words) before now)) (
+    CommandAnswers-unique (due_line words) before.files command (names_of command words) told))
 
 -- where the files are told, one status applies
 pub Answers-unique : (words : List (List ℕ)) (before now : ShelfState) → IsSome before.files → AtMostOne (Answers words before now)
-Answers-unique words before now told = FilesAnswer-unique (due_line words) (form_of words) before now told
+Answers-unique words before now told = FilesAnswer-unique words (command_of words) before now told
 
 pub exact_of : (words : List (List ℕ)) (before now : ShelfState) (old new : SinkState) (result : Status) → Gives words before now old new result → IsSome before.files → IsExact words before now result
 exact_of words before now old new result gives told status text applies = elim gives.put [

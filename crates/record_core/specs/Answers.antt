@@ -1,13 +1,14 @@
 -- What the call answers: the first refusal that applies, or `Done`.
-use Rattle.std.specs.Prelude.{◌≡◌, ℕ, ◌+◌, ◌<◌, ◌≤◌, ◌⊎◌, true, false, List, [], ◌∷◌, ◌++◌, length, take, Some, None, IfSome, IsSomeAnd, cond, ⊤}
+use Rattle.std.specs.Prelude.{◌≡◌, ℕ, ◌+◌, ◌<◌, ◌≤◌, ◌⊎◌, true, false, List, [], ◌∷◌, ◌++◌, length, take, Some, None, IfSome, IsSomeAnd, cond, slice_index_or, ⊤}
 use Rattle.std.specs.declared.option.Option.{Option}
 use Rattle.std.specs.Str.{bytes_eq}
 use Rattle.net_parser.specs.Texts.{IsNoNetText}
 use Rattle.net_front.specs.Fronts.{BreaksRule}
 use Rattle.net_extract.specs.Extracts.{BreaksAnyRule, IsExtracted}
 use Rattle.src_parser.specs.Texts.{IsNoSrcText}
-use Rattle.first_path.specs.Code.{Property, IsFull, IsWide, IsNotStraight, IsWordless}
-use Rattle.first_path.specs.First.{Holds, IsCompiled, BreaksSrc}
+use Rattle.first_path.specs.Code.{IsFull, IsWide, IsNotStraight, IsWordless}
+use Rattle.first_path.specs.First.{IsCompiled, BreaksSrc}
+use Rattle.first_path.specs.Tasks.{Property, Holds}
 use Rattle.net_run.specs.Runs.{IsNoImageFile, IsNoMemoryFile, ClashedAt, Clashes, ShowsState}
 use Rattle.rec_io.specs.Causes.{Rose}
 use Rattle.rec_io.specs.Files.{Files, file_of}
@@ -16,7 +17,9 @@ use Rattle.rec_io.specs.Sink.{SinkState}
 use Rattle.rec_io.specs.Written.{Takes, TakesPrefix}
 use Rattle.record_core.specs.Lines.{due_line}
 use Rattle.record_core.specs.Stages.{By, Then}
-use Rattle.record_core.specs.Words.{Form, Compile, Extract, Run, form_of, names_of}
+use Rattle.record_core.specs.Words.{command_of, names_of}
+use Rattle.record_core.specs.declared.words.Command.{Command}
+use Rattle.record_core.specs.declared.words.Command.TheVariants.{Compile, Extract, Run}
 use Rattle.record_core.specs.declared.status.Status.{Status}
 use Rattle.record_core.specs.declared.status.Status.TheVariants.{Done, Usage, ReadFault, TooLong, WriteFault, NetText, Net, SrcText, Src, DataFull, Memory, ImageText, MemText, Clash, Later, NoWord}
 
@@ -99,27 +102,32 @@ RunAnswers line net image memory clocks =
     Then (line None) (By MemText (IsNoMemoryFile net memory)) (
     RunEnds line net image memory clocks))))
 
--- what a form answers once its files are there; a line is of a netlist's text, and of the place of a bus's name
-abbrev pub FormAnswers : (List ℕ → Option ℕ → Status → List ℕ) → Option Files → Form → Status → List ℕ → Type 0
-FormAnswers line files (Compile net_name src_name) status text =
-    (net : List ℕ) × (src : List ℕ) × IsFile files net_name net × IsFile files src_name src × CompileAnswers (line net None) net src status text
-FormAnswers line files (Extract net_name) status text =
-    (net : List ℕ) × IsFile files net_name net × ExtractAnswers (line net None) net status text
-FormAnswers line files (Run net_name image_name memory_name clocks) status text =
-    (net : List ℕ) × (image : List ℕ) × (memory : List ℕ) × IsFile files net_name net × IsFile files image_name image × IsFile files memory_name memory
-    × RunAnswers (line net) net image memory clocks status text
+-- the bytes of the file at this place
+abbrev pub file_at : List (List ℕ) → ℕ → List ℕ
+file_at files place = slice_index_or files place []
 
--- what the words answer by their form
-abbrev pub FilesAnswer : (List ℕ → Option ℕ → Status → List ℕ) → Option Form → ShelfState → ShelfState → Status → List ℕ → Type 0
-FilesAnswer line None before now status text = (status ≡ Usage) × (text ≡ line [] None Usage)
-FilesAnswer line (Some form) before now status text =
-    Then (line [] None) (By ReadFault (IsReadFault (names_of form) before now)) (
-    Then (line [] None) (By (λ (p : ℕ × ℕ). TooLong p.0 p.1) (IsTooLong (names_of form) before now)) (
-    FormAnswers line before.files form)) status text
+-- what a command answers for the bytes of its files; a line is of the place of a bus's name
+abbrev pub TextAnswers : (Option ℕ → Status → List ℕ) → Command → List (List ℕ) → Status → List ℕ → Type 0
+TextAnswers line Compile files = CompileAnswers (line None) (file_at files 0) (file_at files 1)
+TextAnswers line Extract files = ExtractAnswers (line None) (file_at files 0)
+TextAnswers line (Run clocks) files = RunAnswers line (file_at files 0) (file_at files 1) (file_at files 2) clocks
+
+-- what it answers once its files are there; a line is of the first file too, which is a netlist's text
+abbrev pub CommandAnswers : (List ℕ → Option ℕ → Status → List ℕ) → Option Files → Command → List (List ℕ) → Status → List ℕ → Type 0
+CommandAnswers line told command names status text =
+    (files : List (List ℕ)) × AreFiles told names files × TextAnswers (line (file_at files 0)) command files status text
+
+-- what the words answer by their command
+abbrev pub FilesAnswer : List (List ℕ) → Option Command → ShelfState → ShelfState → Status → List ℕ → Type 0
+FilesAnswer words None before now status text = (status ≡ Usage) × (text ≡ due_line words [] None Usage)
+FilesAnswer words (Some command) before now status text =
+    Then (due_line words [] None) (By ReadFault (IsReadFault (names_of command words) before now)) (
+    Then (due_line words [] None) (By (λ (p : ℕ × ℕ). TooLong p.0 p.1) (IsTooLong (names_of command words) before now)) (
+    CommandAnswers (due_line words) before.files command (names_of command words))) status text
 
 -- what the call answers: the first refusal that applies and its line, or `Done` and the text; all but want of memory and faults of the sink
 abbrev pub Answers : List (List ℕ) → ShelfState → ShelfState → Status → List ℕ → Type 0
-Answers words before now status text = FilesAnswer (due_line words) (form_of words) before now status text
+Answers words before now status text = FilesAnswer words (command_of words) before now status text
 
 -- that, or want of memory
 abbrev pub MayAnswer : List (List ℕ) → ShelfState → ShelfState → Status → List ℕ → Type 0
@@ -146,43 +154,21 @@ IsExact words before now result = (status : Status) (text : List ℕ) → Answer
 abbrev pub IsAccepted : List (List ℕ) → ShelfState → ShelfState → Type 0
 IsAccepted words before now = (status : Status) (text : List ℕ) → Answers words before now status text → status ≡ Done
 
--- the bytes that were taken are an image of these two files
-pub record HasImage (net_name src_name : List ℕ) (files : Files) (old new : List ℕ) : Type 0 where
-  pub net : List ℕ
-  pub src : List ℕ
-  pub out : List ℕ
-  pub net_file : file_of files net_name ≡ Some net
-  pub src_file : file_of files src_name ≡ Some src
-  pub taken : new ≡ old ++ out
-  pub right : IsCompiled net src out
+-- what is written on `Done`. Of `compile`: an image that is right code for the program on the netlist. Of `extract`: what the instruction
+-- words of the netlist do, each with its least word. Of `run`: the state that the clocks reach
+abbrev pub IsText : Command → List (List ℕ) → List ℕ → Type 0
+IsText Compile files = IsCompiled (file_at files 0) (file_at files 1)
+IsText Extract files = IsExtracted (file_at files 0)
+IsText (Run clocks) files = ShowsState (file_at files 0) (file_at files 1) (file_at files 2) clocks
 
--- the bytes that were taken are the text of the patterns of this file
-pub record HasPatterns (net_name : List ℕ) (files : Files) (old new : List ℕ) : Type 0 where
-  pub net : List ℕ
+-- the bytes that were taken are the text of the command for the files of these names
+pub record HasText (command : Command) (names : List (List ℕ)) (told : Files) (old new : List ℕ) : Type 0 where
+  pub files : List (List ℕ)
   pub out : List ℕ
-  pub net_file : file_of files net_name ≡ Some net
+  pub are : AreFiles (Some told) names files
   pub taken : new ≡ old ++ out
-  pub extracted : IsExtracted net out
-
--- the bytes that were taken are the state after so many clocks of these three files
-pub record HasState (net_name image_name memory_name : List ℕ) (clocks : ℕ) (files : Files) (old new : List ℕ) : Type 0 where
-  pub net : List ℕ
-  pub image : List ℕ
-  pub memory : List ℕ
-  pub out : List ℕ
-  pub net_file : file_of files net_name ≡ Some net
-  pub image_file : file_of files image_name ≡ Some image
-  pub memory_file : file_of files memory_name ≡ Some memory
-  pub taken : new ≡ old ++ out
-  pub shows : ShowsState net image memory clocks out
+  pub text : IsText command files out
 
 -- the same, where files and bytes are told
-abbrev pub WroteImage : List ℕ → List ℕ → Option Files → Option (List ℕ) → Option (List ℕ) → Type 0
-WroteImage net_name src_name files old new = IfSome files (λ all. IfSome old (λ before. IfSome new (HasImage net_name src_name all before)))
-
-abbrev pub WrotePatterns : List ℕ → Option Files → Option (List ℕ) → Option (List ℕ) → Type 0
-WrotePatterns net_name files old new = IfSome files (λ all. IfSome old (λ before. IfSome new (HasPatterns net_name all before)))
-
-abbrev pub WroteState : List ℕ → List ℕ → List ℕ → ℕ → Option Files → Option (List ℕ) → Option (List ℕ) → Type 0
-WroteState net_name image_name memory_name clocks files old new =
-    IfSome files (λ all. IfSome old (λ before. IfSome new (HasState net_name image_name memory_name clocks all before)))
+abbrev pub Wrote : Command → List (List ℕ) → Option Files → Option (List ℕ) → Option (List ℕ) → Type 0
+Wrote command names files old new = IfSome files (λ all. IfSome old (λ before. IfSome new (HasText command names all before)))

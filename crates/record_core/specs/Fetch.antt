@@ -1,8 +1,8 @@
 -- How the fetches of a command end.
-use Rattle.std.specs.Prelude.{◌≡◌, ℕ, ◌≤◌, ◌⊎◌, false, List, Vec, map}
+use Rattle.std.specs.Prelude.{◌≡◌, ℕ, ◌<◌, ◌≤◌, ◌⊎◌, false, List, Vec, length, map}
 use Rattle.std.specs.declared.alloc.Global.{Global}
 use Rattle.rec_io.specs.Shelf.{ShelfState}
-use Rattle.record_core.specs.Answers.{file_limit, IsReadFault, IsTooLong}
+use Rattle.record_core.specs.Answers.{file_at, file_limit, IsReadFault, IsTooLong}
 use Rattle.record_core.specs.Stages.{By}
 use Rattle.record_core.specs.declared.status.Status.{Status}
 use Rattle.record_core.specs.declared.status.Status.TheVariants.{ReadFault, TooLong, Memory}
@@ -17,7 +17,15 @@ FetchStops names before now status =
     (status ≡ Memory)
     ⊎ (By ReadFault (IsReadFault names before now) status ⊎ By (λ (p : ℕ × ℕ). TooLong p.0 p.1) (IsTooLong names before now) status)
 
+-- no file is longer than the limit
+abbrev pub AreShort : List (List ℕ) → Type 0
+AreShort files = (place : ℕ) → length (file_at files place) ≤ file_limit
+
 -- the last fetch neither failed nor got too much
 pub record FetchPasses (now : ShelfState) : Type 0 where
   pub ended : now.failed ≡ false
   pub short : now.taken ≤ file_limit
+
+-- so it was, where there are files of these names
+abbrev pub FetchesPass : List (List ℕ) → ShelfState → Type 0
+FetchesPass names now = 0 < length names → FetchPasses now

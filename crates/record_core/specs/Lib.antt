@@ -5,4 +5,5 @@ pub mod NetLines
 pub mod SrcLines
 pub mod Stages
 pub mod Status
+pub mod Told
 pub mod Words

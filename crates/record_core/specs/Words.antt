@@ -1,11 +1,11 @@
--- The words of the command line, and their forms.
-use Rattle.std.specs.Prelude.{◌≡◌, ℕ, nat_le, List, [], ◌∷◌, Some, None, map, String, string_bytes, codes, slice_index_or, if◌then◌else◌}
+-- The words of the command line, and the command that they ask for.
+use Rattle.std.specs.Prelude.{ℕ, nat_le, List, [], ◌∷◌, Some, None, drop, map, option_map, take, String, string_bytes, codes, slice_index_or, if◌then◌else◌}
 use Rattle.std.specs.declared.alloc.Global.{Global}
 use Rattle.std.specs.declared.option.Option.{Option}
 use Rattle.std.specs.Str.{bytes_eq}
 use Rattle.text_lines.specs.Fields.{number_of}
 use Rattle.record_core.specs.declared.words.Command.{Command}
-use Rattle.record_core.specs.declared.words.Command.TheVariants.{Compile as CompileCommand, Extract as ExtractCommand, Run as RunCommand}
+use Rattle.record_core.specs.declared.words.Command.TheVariants.{Compile, Extract, Run}
 
 -- the words as texts
 abbrev pub texts_of : List (String Global) → List (List ℕ)
@@ -23,35 +23,22 @@ within_limit (Some clocks) = if nat_le clocks clock_limit then Some clocks else 
 abbrev pub clocks_of : List ℕ → Option ℕ
 clocks_of word = within_limit (number_of word)
 
--- a command with the names of its files
-pub data Form : Type 0 where
-  Compile : (net src : List ℕ) → Form
-  Extract : (net : List ℕ) → Form
-  Run : (net image memory : List ℕ) (clocks : ℕ) → Form
+-- the command that the words ask for, if they have the form of one
+abbrev pub command_of : List (List ℕ) → Option Command
+command_of (word ∷ net ∷ []) = if bytes_eq word (codes "extract") then Some Extract else None
+command_of (word ∷ net ∷ src ∷ []) = if bytes_eq word (codes "compile") then Some Compile else None
+command_of (word ∷ net ∷ image ∷ memory ∷ clocks ∷ []) = if bytes_eq word (codes "run") then option_map Run (clocks_of clocks) else None
+command_of _ = None
 
-abbrev pub run_form : List ℕ → List ℕ → List ℕ → Option ℕ → Option Form
-run_form net image memory None = None
-run_form net image memory (Some clocks) = Some (Run net image memory clocks)
+-- how many files a command has
+abbrev pub file_count : Command → ℕ
+file_count Compile = 2
+file_count Extract = 1
+file_count (Run clocks) = 3
 
--- the form of the words, if they have one
-abbrev pub form_of : List (List ℕ) → Option Form
-form_of (command ∷ net ∷ []) = if bytes_eq command (codes "extract") then Some (Extract net) else None
-form_of (command ∷ net ∷ src ∷ []) = if bytes_eq command (codes "compile") then Some (Compile net src) else None
-form_of (command ∷ net ∷ image ∷ memory ∷ clocks ∷ []) = if bytes_eq command (codes "run") then run_form net image memory (clocks_of clocks) else None
-form_of _ = None
-
--- the names of the form's files, in their order
-abbrev pub names_of : Form → List (List ℕ)
-names_of (Compile net src) = net ∷ src ∷ []
-names_of (Extract net) = net ∷ []
-names_of (Run net image memory clocks) = net ∷ image ∷ memory ∷ []
-
--- these words have the form of this command
-abbrev pub IsCommand : List (List ℕ) → Command → Type 0
-IsCommand words CompileCommand = (net : List ℕ) × (src : List ℕ) × (words ≡ codes "compile" ∷ net ∷ src ∷ [])
-IsCommand words ExtractCommand = (net : List ℕ) × (words ≡ codes "extract" ∷ net ∷ [])
-IsCommand words (RunCommand clocks) = (net : List ℕ) × (image : List ℕ) × (memory : List ℕ) × (text : List ℕ)
-    × (words ≡ codes "run" ∷ net ∷ image ∷ memory ∷ text ∷ []) × (clocks_of text ≡ Some clocks)
+-- the names of the command's files, in their order: they are the words after the first
+abbrev pub names_of : Command → List (List ℕ) → List (List ℕ)
+names_of command words = take (file_count command) (drop 1 words)
 
 -- the name at this place
 abbrev pub name_in : List (String Global) → ℕ → List ℕ

@@ -1,18 +1,17 @@
 //! The call of the program.
-ghost use Rattle.std.specs.Prelude.{◌≡◌, ◌⊎◌, ◌≤◌, ℕ, List, Some, IfOk, IfErr, IsSome, string_bytes};
+ghost use Rattle.std.specs.Prelude.{◌≡◌, ◌≢◌, ◌⊎◌, ◌≤◌, Some, IfOk, IfErr, IsSome, OnOk, string_bytes};
 ghost use Rattle.rec_io.specs.Causes.{Rose};
-ghost use Rattle.record_core.specs.Answers.{Answers, Puts, Gives, IsExact, IsAccepted, WroteImage, WrotePatterns, WroteState};
-ghost use Rattle.record_core.specs.Lines.{IsRefusal};
-ghost use Rattle.record_core.specs.Words.{Compile, Extract, Run, form_of, texts_of, IsCommand};
+ghost use Rattle.record_core.specs.Answers.{file_at, TextAnswers, Answers, Puts, Gives, IsExact, IsAccepted, Wrote};
+ghost use Rattle.record_core.specs.Fetch.{contents, AreShort};
+ghost use Rattle.record_core.specs.Lines.{due_line, IsRefusal};
+ghost use Rattle.record_core.specs.Words.{command_of, names_of, texts_of};
 ghost use Rattle.record_core.specs.declared.words.Command.{Command};
 ghost use Rattle.record_core.specs.declared.status.Status.{Status};
 
 use crate::Status;
-use crate::compile::compile_text;
-use crate::extract::extract_text;
 use crate::fetch::fetch_all;
 use crate::line::{fault_line, name_from, told_place};
-use crate::run::run_text;
+use crate::text::{file, text_of};
 use crate::words::{Command, command_of};
 use rec_io::{Shelf, Sink, put_all};
 use std::alloc::Global;
@@ -40,92 +39,46 @@ fn refused(alloc: Global, words: &[String], net: &[u8], bus: Option<u64>, status
     }
 }
 
-// The image text of the files that the words name, or the first refusal that applies.
-fn compile_files<F: Shelf>(
+// The text of the command for the bytes of its files, or the first refusal that applies.
+fn text_for(
     alloc: Global,
     words: &[String],
-    shelf: &mut F,
+    command: Command,
+    files: &[Vec<u8>],
 ) -> Result<Vec<u8>, Refusal>
-    requires { IsCommand (texts_of words.now) Command.Compile }
-    ensures later { (F.state shelf.old).faults ≤ (F.state shelf.new).faults }
-    ensures same { (F.state shelf.new).files ≡ (F.state shelf.old).files }
-    ensures ok { IfOk result (λ text. Answers (texts_of words.now) (F.state shelf.old) (F.state shelf.new) Status.Done text.items) }
-    ensures refused { IfErr result (λ refusal. (refusal.status ≡ Status.Memory) ⊎ Answers (texts_of words.now) (F.state shelf.old) (F.state shelf.new) refusal.status (string_bytes refusal.line)) }
+    requires { AreShort (contents files.now) }
+    ensures ok { IfOk result (λ text. TextAnswers (due_line (texts_of words.now) (file_at (contents files.now) 0)) command (contents files.now) Status.Done text.items) }
+    ensures refused { IfErr result (λ refusal. (refusal.status ≡ Status.Memory) ⊎ TextAnswers (due_line (texts_of words.now) (file_at (contents files.now) 0)) command (contents files.now) refusal.status (string_bytes refusal.line)) }
+    ensures other { IfErr result (λ refusal. refusal.status ≢ Status.Done) }
 {
-    let got = match fetch_all(alloc, &words[1..], shelf) {
-        Ok(got) => got,
-        Err(status) => return Err(refused(alloc, words, &[], None, status)),
-    };
-    match compile_text(alloc, &got[0], &got[1]) {
+    match text_of(alloc, command, files) {
         Ok(text) => Ok(text),
-        Err(status) => Err(refused(alloc, words, &got[0], None, status)),
+        Err(stop) => Err(refused(alloc, words, file(files, 0), stop.bus, stop.status)),
     }
 }
 
-// The text of the patterns of the file that the words name, or the first refusal that applies.
-fn extract_files<F: Shelf>(
-    alloc: Global,
-    words: &[String],
-    shelf: &mut F,
-) -> Result<Vec<u8>, Refusal>
-    requires { IsCommand (texts_of words.now) Command.Extract }
-    ensures later { (F.state shelf.old).faults ≤ (F.state shelf.new).faults }
-    ensures same { (F.state shelf.new).files ≡ (F.state shelf.old).files }
-    ensures ok { IfOk result (λ text. Answers (texts_of words.now) (F.state shelf.old) (F.state shelf.new) Status.Done text.items) }
-    ensures refused { IfErr result (λ refusal. (refusal.status ≡ Status.Memory) ⊎ Answers (texts_of words.now) (F.state shelf.old) (F.state shelf.new) refusal.status (string_bytes refusal.line)) }
-{
-    let got = match fetch_all(alloc, &words[1..], shelf) {
-        Ok(got) => got,
-        Err(status) => return Err(refused(alloc, words, &[], None, status)),
-    };
-    let net = got[0].as_slice();
-    match extract_text(alloc, net) {
-        Ok(text) => Ok(text),
-        Err(status) => Err(refused(alloc, words, net, None, status)),
-    }
-}
-
-// The state text of the files that the words name, or the first refusal that applies.
-fn run_files<F: Shelf>(
-    alloc: Global,
-    words: &[String],
-    clocks: u32,
-    shelf: &mut F,
-) -> Result<Vec<u8>, Refusal>
-    requires { IsCommand (texts_of words.now) (Command.Run clocks) }
-    ensures later { (F.state shelf.old).faults ≤ (F.state shelf.new).faults }
-    ensures same { (F.state shelf.new).files ≡ (F.state shelf.old).files }
-    ensures ok { IfOk result (λ text. Answers (texts_of words.now) (F.state shelf.old) (F.state shelf.new) Status.Done text.items) }
-    ensures refused { IfErr result (λ refusal. (refusal.status ≡ Status.Memory) ⊎ Answers (texts_of words.now) (F.state shelf.old) (F.state shelf.new) refusal.status (string_bytes refusal.line)) }
-{
-    let got = match fetch_all(alloc, &words[1..4], shelf) {
-        Ok(got) => got,
-        Err(status) => return Err(refused(alloc, words, &[], None, status)),
-    };
-    match run_text(alloc, &got[0], &got[1], &got[2], clocks) {
-        Ok(text) => Ok(text),
-        Err(stop) => Err(refused(alloc, words, &got[0], stop.bus, stop.status)),
-    }
-}
-
-// The text, or the first refusal that applies.
+// The text, or the first refusal that applies. No fetch failed where there is a text.
 fn decide<F: Shelf>(alloc: Global, words: &[String], shelf: &mut F) -> Result<Vec<u8>, Refusal>
     ensures later { (F.state shelf.old).faults ≤ (F.state shelf.new).faults }
     ensures same { (F.state shelf.new).files ≡ (F.state shelf.old).files }
+    ensures calm { OnOk result ((F.state shelf.new).faults ≡ (F.state shelf.old).faults) }
     ensures ok { IfOk result (λ text. Answers (texts_of words.now) (F.state shelf.old) (F.state shelf.new) Status.Done text.items) }
     ensures refused { IfErr result (λ refusal. (refusal.status ≡ Status.Memory) ⊎ Answers (texts_of words.now) (F.state shelf.old) (F.state shelf.new) refusal.status (string_bytes refusal.line)) }
+    ensures other { IfErr result (λ refusal. refusal.status ≢ Status.Done) }
 {
-    match command_of(words) {
-        Some(Command::Compile) => compile_files(alloc, words, shelf),
-        Some(Command::Extract) => extract_files(alloc, words, shelf),
-        Some(Command::Run(clocks)) => run_files(alloc, words, clocks, shelf),
-        None => Err(refused(alloc, words, &[], None, Status::Usage)),
+    let Some(command) = command_of(words) else {
+        return Err(refused(alloc, words, &[], None, Status::Usage));
+    };
+    match fetch_all(alloc, &words[1..command.file_count() + 1], shelf) {
+        Ok(files) => text_for(alloc, words, command, &files),
+        Err(status) => Err(refused(alloc, words, &[], None, status)),
     }
 }
 
-// Puts the text of this status.
+// Puts the text of this status. No put failed where another status than `WriteFault` is answered.
 fn put_text<S: Sink>(out: &mut S, text: &[u8], status: Status) -> Status
     ensures later { (S.state out.old).faults ≤ (S.state out.new).faults }
+    ensures calm { result ≢ Status.WriteFault → (S.state out.new).faults ≡ (S.state out.old).faults }
     ensures puts { Puts (S.state out.old) (S.state out.new) text.now status result }
 {
     match put_all(out, text) {
@@ -139,6 +92,8 @@ fn answer<F: Shelf, S: Sink>(alloc: Global, words: &[String], shelf: &mut F, out
     ensures shelf_later { (F.state shelf.old).faults ≤ (F.state shelf.new).faults }
     ensures shelf_same { (F.state shelf.new).files ≡ (F.state shelf.old).files }
     ensures sink_later { (S.state out.old).faults ≤ (S.state out.new).faults }
+    ensures shelf_calm { result ≡ Status.Done → (F.state shelf.new).faults ≡ (F.state shelf.old).faults }
+    ensures sink_calm { result ≢ Status.WriteFault → (S.state out.new).faults ≡ (S.state out.old).faults }
     ensures gives { Gives (texts_of words.now) (F.state shelf.old) (F.state shelf.new) (S.state out.old) (S.state out.new) result }
 {
     match decide(alloc, words, shelf) {
@@ -166,6 +121,10 @@ pub fn record_call<F: Shelf, S: Sink>(
     ensures shelf_same { (F.state shelf.new).files ≡ (F.state shelf.old).files }
     ensures sink_later { (S.state out.old).faults ≤ (S.state out.new).faults }
 
+    // No fault is swallowed: on `Done` neither count of faults has changed, and on no status but `WriteFault` has the output's.
+    ensures shelf_calm { result ≡ Status.Done → (F.state shelf.new).faults ≡ (F.state shelf.old).faults }
+    ensures sink_calm { result ≢ Status.WriteFault → (S.state out.new).faults ≡ (S.state out.old).faults }
+
     // What is due is the first refusal that applies, with its line, or `Done` and the text, or want of memory.
     ensures gives { Gives (texts_of words.now.items) (F.state shelf.old) (F.state shelf.new) (S.state out.old) (S.state out.new) result }
 
@@ -175,14 +134,9 @@ pub fn record_call<F: Shelf, S: Sink>(
     // Where no refusal applies and the output did not fail, the call succeeds.
     ensures complete { IsAccepted (texts_of words.now.items) (F.state shelf.old) (F.state shelf.new) → ¬ Rose (S.state out.old).faults (S.state out.new).faults → (result ≡ Status.Done) ⊎ (result ≡ Status.Memory) }
 
-    // The main promise of `compile`: what was written is an image that is right code for the program on the netlist.
-    ensures image { (net src : List ℕ) → form_of (texts_of words.now.items) ≡ Some (Compile net src) → result ≡ Status.Done → WroteImage net src (F.state shelf.old).files (S.state out.old).written (S.state out.new).written }
-
-    // The main promise of `extract`: what was written is what the instruction words do, each with its least word.
-    ensures patterns { (net : List ℕ) → form_of (texts_of words.now.items) ≡ Some (Extract net) → result ≡ Status.Done → WrotePatterns net (F.state shelf.old).files (S.state out.old).written (S.state out.new).written }
-
-    // The main promise of `run`: what was written is the state that the clocks reach.
-    ensures state { (net image memory : List ℕ) (clocks : ℕ) → form_of (texts_of words.now.items) ≡ Some (Run net image memory clocks) → result ≡ Status.Done → WroteState net image memory clocks (F.state shelf.old).files (S.state out.old).written (S.state out.new).written }
+    // The main promise: what was written is the text of the command for its files, as of `compile` an image that is right code for the
+    // program on the netlist.
+    ensures wrote { (command : Command) → command_of (texts_of words.now.items) ≡ Some command → result ≡ Status.Done → Wrote command (names_of command (texts_of words.now.items)) (F.state shelf.old).files (S.state out.old).written (S.state out.new).written }
 {
     answer(alloc, words, shelf, out)
 }

@@ -1,7 +1,7 @@
 //! The files of a command.
 ghost use Rattle.std.specs.Prelude.{◌≡◌, ◌⊎◌, ◌<◌, ◌≤◌, [], Some, IfSome, IfOk, IfErr, OnOk, length, map, slice_index_or};
 ghost use Rattle.record_core.specs.Answers.{place_from, IsFile, AreFiles, HasFirst};
-ghost use Rattle.record_core.specs.Fetch.{contents, FetchStops, FetchPasses};
+ghost use Rattle.record_core.specs.Fetch.{contents, FetchStops, FetchPasses, FetchesPass};
 ghost use Rattle.record_core.specs.Words.{texts_of, name_in};
 
 use crate::Status;
@@ -73,12 +73,11 @@ pub fn fetch_all<F: Shelf>(
     names: &[String],
     shelf: &mut F,
 ) -> Result<Vec<Vec<u8>>, Status>
-    requires some { 0 < length names.now }
     requires few { length names.now ≤ 8 }
     ensures later { (F.state shelf.old).faults ≤ (F.state shelf.new).faults }
     ensures files { (F.state shelf.new).files ≡ (F.state shelf.old).files }
     ensures ok { IfOk result (λ got. AreFiles (F.state shelf.old).files (texts_of names.now) (contents got.items)) }
-    ensures passed { OnOk result (FetchPasses (F.state shelf.new)) }
+    ensures passed { OnOk result (FetchesPass (texts_of names.now) (F.state shelf.new)) }
     ensures calm { OnOk result ((F.state shelf.new).faults ≡ (F.state shelf.old).faults) }
     ensures stopped { IfErr result (FetchStops (texts_of names.now) (F.state shelf.old) (F.state shelf.new)) }
 {

@@ -8,6 +8,8 @@ mod fetch;
 mod line;
 mod run;
 mod status;
+mod stop;
+mod text;
 mod words;
 
 pub use call::record_call;

@@ -2,6 +2,8 @@
 ghost use Rattle.std.specs.Prelude.{◌≡◌};
 ghost use Rattle.record_core.specs.declared.status.Status.{Status};
 
+use first_path::FirstFault;
+use net_front::NetRefusal;
 use net_model::NetFault;
 use rec_bits::NoMemory;
 use src_model::SrcFault;
@@ -102,5 +104,41 @@ impl<T: Drop> From<AllocFailed<T>> for Status {
 
     fn from(_cause: AllocFailed<T>) -> Status {
         Status::Memory
+    }
+}
+
+impl From<FirstFault> for Status {
+    ghost from_gives = { λ fault status. status ≡ first_status fault };
+
+    ghost use Rattle.std.specs.Prelude.{◌≡◌};
+    ghost use Rattle.record_core.specs.Told.{first_status};
+
+    fn from(fault: FirstFault) -> Status {
+        match fault {
+            FirstFault::NetText(at) => Status::NetText(at),
+            FirstFault::Net(fault) => Status::Net(fault),
+            FirstFault::SrcText(at) => Status::SrcText(at),
+            FirstFault::Src(fault) => Status::Src(fault),
+            FirstFault::DataFull { need, have } => Status::DataFull { need, have },
+            FirstFault::WideCode => Status::Later(0),
+            FirstFault::NotStraight => Status::Later(1),
+            FirstFault::NoWord(number) => Status::NoWord(number),
+            FirstFault::Memory => Status::Memory,
+        }
+    }
+}
+
+impl From<NetRefusal> for Status {
+    ghost from_gives = { λ refusal status. status ≡ net_status refusal };
+
+    ghost use Rattle.std.specs.Prelude.{◌≡◌};
+    ghost use Rattle.record_core.specs.Told.{net_status};
+
+    fn from(refusal: NetRefusal) -> Status {
+        match refusal {
+            NetRefusal::Text(at) => Status::NetText(at),
+            NetRefusal::Fault(fault) => Status::Net(fault),
+            NetRefusal::Memory => Status::Memory,
+        }
     }
 }

@@ -1,6 +1,6 @@
 //! The words of the command line.
-ghost use Rattle.std.specs.Prelude.{◌≡◌, None, MatchOption};
-ghost use Rattle.record_core.specs.Words.{texts_of, form_of, clocks_of, IsCommand};
+ghost use Rattle.std.specs.Prelude.{◌≡◌, ◌<◌, IfSome, length};
+ghost use Rattle.record_core.specs.Words.{texts_of, clocks_of, command_of, file_count};
 
 use text_lines::number;
 
@@ -18,6 +18,23 @@ pub enum Command {
     Run(u32),
 }
 
+impl Command {
+    ghost use Rattle.std.specs.Prelude.{◌≡◌, ◌≤◌};
+    ghost use Rattle.record_core.specs.Words.{file_count};
+
+    /// How many files it has; their names are the words after the first.
+    pub fn file_count(self) -> usize
+        ensures count { result ≡ file_count self }
+        ensures few { result ≤ 8 }
+    {
+        match self {
+            Command::Compile => 2,
+            Command::Extract => 1,
+            Command::Run(_) => 3,
+        }
+    }
+}
+
 // The number of clocks that a word asks for.
 fn clocks(word: &str) -> Option<u32>
     ensures { result ≡ clocks_of word.now }
@@ -30,7 +47,8 @@ fn clocks(word: &str) -> Option<u32>
 
 /// The command of the words, or None where they have no form of one.
 pub fn command_of(words: &[String]) -> Option<Command>
-    ensures { MatchOption result (form_of (texts_of words.now) ≡ None) (IsCommand (texts_of words.now)) }
+    ensures command { result ≡ command_of (texts_of words.now) }
+    ensures named { IfSome result (λ command. file_count command < length words.now) }
 {
     if words.len() == 3 && words[0].as_str() == "compile" {
         return Some(Command::Compile);

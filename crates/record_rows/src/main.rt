@@ -1,6 +1,6 @@
-//! Makes the calls that the rows on standard input ask for, over memory, and prints what each takes and answers.
+//! Makes the calls, runs the programs and looks at the netlists that the rows on standard input ask for, over memory, and prints what is found.
 //!
-//! A row is some of these lines, and is made at its `run`:
+//! A row begins with its kind and its name, and ends at its `run`. A call's lines are
 //!
 //! ```text
 //! row NAME          what the row shows
@@ -16,22 +16,51 @@
 //! room N            all puts together take at most N bytes
 //! run
 //! ```
+//!
+//! and what it took and answered is printed; a program's lines are
+//!
+//! ```text
+//! program NAME
+//! width N           the bits of a word
+//! cells N N ..      what the first cells hold; the others hold 0
+//! | TEXT            a line of the program
+//! skip N            so many checkpoints are passed without a line
+//! show N            so many checkpoints more, with a line each
+//! run
+//! ```
+//!
+//! and a netlist's are
+//!
+//! ```text
+//! netlist NAME
+//! | TEXT            a line of its text
+//! run
+//! ```
+//!
+//! of which is printed how many nets, storages and patterns it has, how many diagram nodes and expressions stand behind these, and, where
+//! instruction words have at most 16 bits, how many words there are, how many of them clash, and for how many what the word does by itself
+//! isn't what the patterns tell of it.
 #![tactic(auto)]
 
+mod call;
+mod netlist;
+mod program;
 mod row;
+mod store;
+mod words;
 
 use anyhow::Result;
 use row::Row;
 
 fn run(rt: &(impl Input + Print + AllocGlobal)) -> Result<()> {
     let alloc = rt.alloc();
-    let mut row = Row::new(alloc);
+    let mut row = Row::Nothing;
     for line in rt.lines(alloc) {
         let line = line?;
         if line.as_str() == "run" {
-            let done = row.call(alloc)?;
-            rt.print(done)?;
-            row = Row::new(alloc);
+            let found = row.found(alloc)?;
+            rt.print(found)?;
+            row = Row::Nothing;
         } else {
             row.take(alloc, line.as_str())?;
         }

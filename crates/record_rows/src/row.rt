@@ -1,129 +1,55 @@
-//! One row: a call, what it is made over, and what it answers.
+//! Rows, by their kinds.
 
+use crate::call::Call;
+use crate::netlist::Netlist;
+use crate::program::Program;
 use anyhow::{Context, Result, bail};
-use rec_io::{MemShelf, MemSink};
-use record_core::record_call;
-use std::alloc::{AllocError, Global};
+use std::alloc::Global;
 
-// What a sink has room for where the row doesn't say.
-const ROOM: usize = 65_536;
-
-/// A call over memory.
+/// What a row asks for.
 #[derive(Drop)]
-pub struct Row {
-    name: String,
-    words: Vec<String>,
-    files: Vec<(String, Vec<u8>)>,
-    fetch_fails: Vec<u64>,
-    put_fails: Vec<u64>,
-    step: usize,
-    room: usize,
+pub enum Row {
+    /// A call of `record_call`.
+    Call(Call),
+    /// A program, and the checkpoints that it passes.
+    Program(Program),
+    /// A netlist, and what its words do.
+    Netlist(Netlist),
+    /// No row has begun.
+    Nothing,
 }
 
 impl Row {
-    /// A call without words and files.
-    pub fn new(alloc: Global) -> Row {
-        Row {
-            name: String::new(alloc),
-            words: Vec::new(alloc),
-            files: Vec::new(alloc),
-            fetch_fails: Vec::new(alloc),
-            put_fails: Vec::new(alloc),
-            step: ROOM,
-            room: ROOM,
-        }
-    }
-
-    // More bytes of the last file.
-    fn add(&mut self, bytes: &[u8]) -> Result<()> {
-        let Some(file) = self.files.last_mut() else {
-            bail!("no file to add to");
-        };
-        file.1.extend_from_slice(bytes)?;
-        Ok(())
-    }
-
-    // More of the last file: the text behind the number so many times, or a space.
-    fn fill(&mut self, what: &str) -> Result<()> {
-        let (count, text) = what.split_once(" ").unwrap_or((what, " "));
-        for _ in 0..number(count)? {
-            self.add(text.as_bytes())?;
-        }
-        Ok(())
-    }
-
-    // One more byte of the last file.
-    fn byte(&mut self, value: u64) -> Result<()> {
-        let byte = u8::try_from(value).context("no byte")?;
-        self.add(&[byte])
-    }
-
-    /// Takes one line of the row.
+    /// Takes one line, of which the first says what kind of row it is.
     pub fn take(&mut self, alloc: Global, line: &str) -> Result<()> {
         let Some((key, rest)) = line.split_once(" ") else {
             bail!("no line of a row: {line}");
         };
-        match key {
-            "row" => self.name = String::from_str(alloc, rest)?,
-            "word" => self.words.push(String::from_str(alloc, rest)?)?,
-            "file" => self
-                .files
-                .push((String::from_str(alloc, rest)?, Vec::new(alloc)))?,
-            "|" => {
-                self.add(rest.as_bytes())?;
-                self.add(b"\n")?;
-            }
-            "+" => self.add(rest.as_bytes())?,
-            "fill" => self.fill(rest)?,
-            "byte" => self.byte(number(rest)?)?,
-            "step" => self.step = number(rest)? as usize,
-            "room" => self.room = number(rest)? as usize,
-            "fail" => self.fail(rest)?,
-            _ => bail!("no line of a row: {line}"),
+        match (key, &mut *self) {
+            ("row", _) => *self = Row::Call(Call::new(alloc, rest)?),
+            ("program", _) => *self = Row::Program(Program::new(alloc, rest)?),
+            ("netlist", _) => *self = Row::Netlist(Netlist::new(alloc, rest)?),
+            (_, Row::Call(call)) => call.take(alloc, key, rest)?,
+            (_, Row::Program(program)) => program.take(key, rest)?,
+            (_, Row::Netlist(netlist)) => netlist.take(key, rest)?,
+            (_, Row::Nothing) => bail!("no kind of a row: {line}"),
         }
         Ok(())
     }
 
-    fn fail(&mut self, what: &str) -> Result<()> {
-        match what.split_once(" ") {
-            Some(("fetch", count)) => self.fetch_fails.push(number(count)?)?,
-            Some(("put", count)) => self.put_fails.push(number(count)?)?,
-            _ => bail!("nothing can fail so: {what}"),
+    /// The text that is printed of the row.
+    pub fn found(self, alloc: Global) -> Result<String> {
+        match self {
+            Row::Call(call) => call.found(alloc),
+            Row::Program(program) => program.found(alloc),
+            Row::Netlist(netlist) => netlist.found(alloc),
+            Row::Nothing => bail!("no row to run"),
         }
-        Ok(())
-    }
-
-    /// Makes the call. The text has the row's name, what the sink took, and the status.
-    pub fn call(self, alloc: Global) -> Result<String> {
-        let Row {
-            name,
-            words,
-            files,
-            fetch_fails,
-            put_fails,
-            step,
-            room,
-        } = self;
-        let mut shelf = MemShelf::new(files, fetch_fails);
-        let mut sink = MemSink::new(alloc, step.max(1), room, put_fails).map_err(|_| AllocError)?;
-        let status = record_call(alloc, &words, &mut shelf, &mut sink);
-        told(alloc, &name, sink.bytes(), status.code())
     }
 }
 
-// The lines that tell of a call; what the sink took ends with a mark where it doesn't end with a line's end.
-fn told(alloc: Global, name: &str, bytes: &[u8], code: u8) -> Result<String> {
-    let taken = String::from_utf8_lossy(alloc, bytes)?;
-    let end = if bytes.is_empty() || bytes.ends_with(b"\n") {
-        ""
-    } else {
-        "$\n"
-    };
-    let text = taken.as_str();
-    Ok(format!(in alloc; "row {name}\n{text}{end}status {code}\n\n")?)
-}
-
-fn number(text: &str) -> Result<u64> {
+/// The number that the text writes.
+pub fn number(text: &str) -> Result<u64> {
     text.parse::<u64>()
         .context(format_args!("a number: {text}"))
 }

@@ -10,14 +10,16 @@ use Rattle.net_model.specs.Depends.{Among, Depends, named_by, direct, via}
 use Rattle.net_model.specs.Symbolic.{all_of, sym_of}
 use Rattle.net_model.specs.Terms.{Term, size_of}
 use Rattle.net_model.specs.Nets.{word_width}
+use Rattle.net_model.specs.Transfers.{IsClean}
 use Rattle.sym_expr.specs.declared.pool.Node.{Node}
-use Rattle.sym_expr.specs.Pools.{capped, term_at, IsOneEach}
+use Rattle.rec_bits.specs.Counts.{capped}
+use Rattle.sym_expr.specs.Pools.{term_at, IsOneEach}
 use Rattle.ctl_bdd.specs.Controls.{IsControl}
 use Rattle.ctl_bdd.specs.declared.ControlBits.{ControlBits}
 use Rattle.transfer_set.specs.declared.route.Route.{Route}
 use Rattle.transfer_set.specs.Routes.{held, Gives, IsTable}
 use Rattle.route_trace.specs.Gates.{AllLegal}
-use Rattle.route_trace.specs.Limits.{AllDiffer, Differ, HasMany, IsBroken, IsCleanWord, IsFirstBroken, IsLarge, IsRefusal, KeepsLimits}
+use Rattle.route_trace.specs.Limits.{AllDiffer, Differ, HasMany, IsBroken, IsFirstBroken, IsLarge, IsRefusal, KeepsLimits}
 use Rattle.route_trace.specs.declared.RouteFault.{RouteFault}
 use Rattle.route_trace.specs.declared.RouteFault.TheVariants.{PatternLarge, TooMany}
 use Rattle.route_trace.specs.Verdicts.{HasBroken, HasLarge, IsFound, IsJudged, fault_of, first_fault, is_kept, kept_at, or_else, verdict_at}
@@ -92,22 +94,20 @@ long_map (route ∷ routes) = ap suc (long_map routes)
 
 -- ---- a net whose cone keeps the limits
 
-module _ (netlist : Netlist) (controls : ControlBits) (old book : Diagrams) (control : IsControl netlist old controls) (grows : Extends old book) (bits : old.bits ≡ word_width netlist) where
+module _ (netlist : Netlist) (controls : ControlBits) (old book : Diagrams) (control : IsControl netlist old controls) (grows : Extends old book) (bits : old.bits ≡ word_width netlist) (some : 0 < word_width netlist) where
   low : (word : ℕ) → word < 2 ^ book.bits → word < 2 ^ old.bits
   low word fits = subst (λ b. word < 2 ^ b) grows.bits fits
 
-  clean : (word : ℕ) → word < 2 ^ book.bits → has_word book controls.legal word ≡ true → IsCleanWord netlist word
-  clean word fits is = (
-    subst (λ b. word < 2 ^ b) bits (low word fits),
-    (control.legal word (low word fits)).0 (sym (same_words old book grows controls.legal control.within word) ∙ is),
-  )
+  clean : (word : ℕ) → word < 2 ^ book.bits → has_word book controls.legal word ≡ true → IsClean netlist word
+  clean word fits is =
+      (control.legal word (low word fits)).0 (sym (same_words old book grows controls.legal control.within word) ∙ is)
 
-  legal_in : (word : ℕ) → IsCleanWord netlist word → (word < 2 ^ book.bits) × (has_word book controls.legal word ≡ true)
+  legal_in : (word : ℕ) → IsClean netlist word → (word < 2 ^ book.bits) × (has_word book controls.legal word ≡ true)
   legal_in word c =
-      let fits : word < 2 ^ old.bits = subst (λ b. word < 2 ^ b) (sym bits) c.0 in
-      (subst (λ b. word < 2 ^ b) (sym grows.bits) fits, same_words old book grows controls.legal control.within word ∙ (control.legal word fits).1 c.1)
+      let fits : word < 2 ^ old.bits = subst (λ b. word < 2 ^ b) (sym bits) (c.fits.fits 0 some) in
+      (subst (λ b. word < 2 ^ b) (sym grows.bits) fits, same_words old book grows controls.legal control.within word ∙ (control.legal word fits).1 c)
 
-  all_clean : (words : List ℕ) → AllLegal book controls.legal words → AllByRecursion (IsCleanWord netlist) words
+  all_clean : (words : List ℕ) → AllLegal book controls.legal words → AllByRecursion (IsClean netlist) words
   all_clean [] h = tt
   all_clean (word ∷ words) h = (clean word h.0 h.1, all_clean words h.2)
 
@@ -122,7 +122,7 @@ module _ (netlist : Netlist) (controls : ControlBits) (old book : Diagrams) (con
   many_found n net alone m = (record { net = net; broken = inr m; alone = alone }, m)
 
   module _ (pool : List Node) (one : IsOneEach pool) (n : ℕ) (routes : List Route) (table : IsTable book pool routes) (gives : Gives book pool controls.legal (λ word. sym_of netlist word n) routes) where
-    covered : (words : List ℕ) → AllByRecursion (IsCleanWord netlist) words → Covered (term_at pool) (λ word. sym_of netlist word n) (map (λ (route : Route). route.expr) routes) words
+    covered : (words : List ℕ) → AllByRecursion (IsClean netlist) words → Covered (term_at pool) (λ word. sym_of netlist word n) (map (λ (route : Route). route.expr) routes) words
     covered [] h = tt
     covered (word ∷ words) h =
         let l = legal_in word h.0 in

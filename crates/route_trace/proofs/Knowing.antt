@@ -1,59 +1,35 @@
 -- What is told of control decides each case and each bus.
-use Rattle.std.proofs.Common.{◌≡◌, ◌⊎◌, inl, inr, ℕ, zero, suc, ◌<◌, ◌&&◌, ◌||◌, nat_eq, Bool, true, false, true≢false, List, [], ◌∷◌, ◌++◌, map, length, Option, Some, slice_get, IsTrue, if◌then◌else◌, refl, sym, ap, subst, ◌∙◌, arith}
+use Rattle.std.proofs.Common.{◌≡◌, inl, inr, ℕ, ◌<◌, ◌&&◌, ◌||◌, nat_eq, Bool, true, false, true≢false, List, [], ◌∷◌, map, length, Some, slice_get, if◌then◌else◌, refl, sym, ap, subst, ◌∙◌}
 use Rattle.std.specs.List.{AllByRecursion, list_any}
 use Rattle.std.proofs.lemmas.Bool.{cases_eq, eqb-true, eq-eqb, ne_eqb}
-use Rattle.std.proofs.lemmas.List.Folds.{list_any-append}
 use Rattle.std.proofs.lemmas.Map.Views.{any-filter_same}
 use Rattle.rec_bits.proofs.Booleans.{or_left, or_right}
-use Rattle.rec_bits.specs.Faults.{gather}
 use Rattle.bit_bdd.specs.Diagrams.{Diagrams, Extends}
 use Rattle.net_model.specs.declared.hardware.Netlist.{Netlist}
 use Rattle.net_model.specs.declared.hardware.Net.{Net}
 use Rattle.net_model.specs.declared.hardware.Gate.{Gate}
 use Rattle.net_model.specs.declared.hardware.Gate.TheVariants.{Case, Bus}
-use Rattle.net_model.specs.Nets.{width_at}
 use Rattle.net_model.specs.Widths.{DriversFit, GateFits, NetFits}
-use Rattle.net_model.specs.Control.{EnablesStatic}
-use Rattle.net_model.specs.CheckedRules.{gate_controls, storage_controls, IsBusStatic, IsGateSelectable, IsNetSelectable, IsNetStatic, KeepsRules}
+use Rattle.net_model.specs.Control.{AllPass, gate_enables, gate_selectors, is_selector, GateControlled}
+use Rattle.net_model.specs.CheckedRules.{KeepsRules}
+use Rattle.net_model.proofs.GateControls.{gate_controlled, is_bit}
+use Rattle.net_model.proofs.KeptRules.{sound_of}
 use Rattle.net_model.specs.Symbolic.{is_static}
 use Rattle.ctl_bdd.specs.Controls.{IsControl, IsNetBits}
 use Rattle.ctl_bdd.specs.Tables.{AreBits}
 use Rattle.ctl_bdd.specs.Places.{is_placed, is_static_control, numbers_below, static_controls}
 use Rattle.ctl_bdd.specs.declared.ControlBits.{ControlBits}
+use Rattle.ctl_bdd.proofs.CallerLemmas.{enable_placed, number_there, selector_placed}
 use Rattle.ctl_bdd.proofs.Filling.{bits_later}
 use Rattle.ctl_bdd.proofs.Sets.{sets_later}
 use Rattle.route_trace.specs.Tests.{HasBits, IsDecided, IsSelector, sets_in}
-
-any_left : (p : ℕ → Bool) (xs ys : List ℕ) → list_any p xs ≡ true → list_any p (xs ++ ys) ≡ true
-any_left p xs ys h = list_any-append p xs ys ∙ or_left (list_any p xs) (list_any p ys) h
-
-any_right : (p : ℕ → Bool) (xs ys : List ℕ) → list_any p ys ≡ true → list_any p (xs ++ ys) ≡ true
-any_right p xs ys h = list_any-append p xs ys ∙ or_right (list_any p xs) (list_any p ys) h
-
-gathered : (p : ℕ → Bool) (f : Net → List ℕ) (nets : List Net) (n : ℕ) (net : Net) → slice_get nets n ≡ Some net → list_any p (f net) ≡ true → list_any p (gather f nets) ≡ true
-gathered p f [] n net at h = absurd (cc)
-gathered p f (x ∷ nets) zero net at h = any_left p (f x) (gather f nets) (let e : x ≡ net = cc in subst (λ y. list_any p (f y) ≡ true) (sym e) h)
-gathered p f (x ∷ nets) (suc n) net at h = any_right p (f x) (gather f nets) (gathered p f nets n net at h)
-
--- what a gate has in a control place stands there in the netlist
-placed : (netlist : Netlist) (n : ℕ) (net : Net) → slice_get netlist.nets n ≡ Some net → (m : ℕ) → list_any (nat_eq m) (gate_controls net.gate) ≡ true → is_placed netlist m ≡ true
-placed netlist n net at m h =
-    any_right (nat_eq m) (gather storage_controls netlist.storages) (gather (λ (net : Net). gate_controls net.gate) netlist.nets)
-    (gathered (nat_eq m) (λ (net : Net). gate_controls net.gate) netlist.nets n net at h)
-
-below : (m n : ℕ) → m < n → list_any (nat_eq m) (numbers_below n) ≡ true
-below m zero h = absurd (omega (arith, h))
-below m (suc n) h = elim (cases_eq m n) as (λ _. list_any (nat_eq m) (numbers_below n ++ n ∷ []) ≡ true) [
-  | inl e ↦ any_right (nat_eq m) (numbers_below n) (n ∷ []) (or_left (nat_eq m n) false (eq-eqb m n e))
-  | inr e ↦ any_left (nat_eq m) (numbers_below n) (n ∷ []) (below m n (omega (arith, h, e)))
-]
 
 -- a net is among the static ones in control places exactly where it is one
 listed : (netlist : Netlist) (m : ℕ) → m < length netlist.nets → is_placed netlist m ≡ true → list_any (nat_eq m) (static_controls netlist) ≡ is_static netlist m
 listed netlist m lt at =
     any-filter_same (nat_eq m) (is_static_control netlist) (is_static netlist m)
     (λ k e. let same : m ≡ k = eqb-true m k e in subst (λ j. is_static_control netlist j ≡ is_static netlist m) same (by (is_static netlist m) (is_placed netlist m) at)) (numbers_below (length netlist.nets))
-    ∙ ap (λ b. is_static netlist m && b) (below m (length netlist.nets) lt) ∙ same_and (is_static netlist m)
+    ∙ ap (λ b. is_static netlist m && b) (number_there m (length netlist.nets) lt) ∙ same_and (is_static netlist m)
   where
     by : (a b : Bool) → b ≡ true → (a && b) ≡ a
     by true b e = e
@@ -93,20 +69,14 @@ module _ (netlist : Netlist) (order : List ℕ) (keeps : KeepsRules netlist orde
       let h = found netlist old controls.bits m control.bits (ap (list_any (nat_eq m)) control.nets ∙ listed netlist m lt at ∙ static) in
       (sets_later old book grows (sets_in controls.bits m) h.0, bits_later netlist old book grows m (sets_in controls.bits m) h.0 h.1)
 
-  selector : (m : ℕ) → m < length netlist.nets → is_placed netlist m ≡ true → IsTrue (is_static netlist m) ⊎ (width_at netlist m ≡ 1) → IsSelector netlist book (sets_in controls.bits m) m
+  selector : (m : ℕ) → m < length netlist.nets → is_placed netlist m ≡ true → is_selector netlist m ≡ true → IsSelector netlist book (sets_in controls.bits m) m
   selector m lt at narrow = by (is_static netlist m) refl
     where
-      bit : is_static netlist m ≡ false → IsTrue (is_static netlist m) ⊎ (width_at netlist m ≡ 1) → width_at netlist m ≡ 1
-      bit e n = elim n as (λ _. width_at netlist m ≡ 1) [
-        | inl t ↦ absurd (true≢false (sym t ∙ e))
-        | inr w ↦ w
-      ]
-
       by : (b : Bool) → is_static netlist m ≡ b → IsSelector netlist book (sets_in controls.bits m) m
       by true e = inl (e, has_bits m lt at e)
-      by false e = inr (e, not_found controls.bits m (ap (list_any (nat_eq m)) control.nets ∙ listed netlist m lt at ∙ e), bit e narrow)
+      by false e = inr (e, not_found controls.bits m (ap (list_any (nat_eq m)) control.nets ∙ listed netlist m lt at ∙ e), is_bit netlist m narrow e)
 
-  enables : (drivers : List (ℕ × ℕ)) → ((m : ℕ) → list_any (nat_eq m) (map (λ (driver : ℕ × ℕ). driver.1) drivers) ≡ true → is_placed netlist m ≡ true) → (width : ℕ) → DriversFit netlist width drivers → EnablesStatic (is_static netlist) drivers
+  enables : (drivers : List (ℕ × ℕ)) → ((m : ℕ) → list_any (nat_eq m) (map (λ (driver : ℕ × ℕ). driver.1) drivers) ≡ true → is_placed netlist m ≡ true) → (width : ℕ) → DriversFit netlist width drivers → AllPass (is_static netlist) (map (λ (driver : ℕ × ℕ). driver.1) drivers)
       → AllByRecursion (λ (driver : ℕ × ℕ). HasBits netlist book (sets_in controls.bits driver.1) driver.1) drivers
   enables [] at width f s = tt
   enables (driver ∷ drivers) at width f s = (
@@ -114,15 +84,12 @@ module _ (netlist : Netlist) (order : List ℕ) (keeps : KeepsRules netlist orde
     enables drivers (λ m e. at m (or_right (nat_eq m driver.1) _ e)) width f.2 s.1,
   )
 
-  by_gate : (n : ℕ) (net : Net) → slice_get netlist.nets n ≡ Some net → (gate : Gate) → net.gate ≡ gate → GateFits netlist net.width gate → IsBusStatic netlist gate → IsGateSelectable netlist gate → IsDecided netlist book controls.bits gate
-  by_gate n net at (Case sel rows rest) e f b s =
-      selector sel f.0 (placed netlist n net at sel (ap (λ g. list_any (nat_eq sel) (gate_controls g)) e ∙ or_left (nat_eq sel sel) false (eq-eqb sel sel refl))) s
-  by_gate n net at (Bus drivers) e f b s =
-      enables drivers (λ m h. placed netlist n net at m (ap (λ g. list_any (nat_eq m) (gate_controls g)) e ∙ h)) net.width f b
-  by_gate n net at _ e f b s = tt
+  by_gate : (n : ℕ) (net : Net) → slice_get netlist.nets n ≡ Some net → (gate : Gate) → net.gate ≡ gate → GateFits netlist net.width gate → GateControlled netlist gate → IsDecided netlist book controls.bits gate
+  by_gate n net at (Case sel rows rest) e f c =
+      selector sel f.0 (selector_placed netlist sel n net at (ap (λ g. list_any (nat_eq sel) (gate_selectors g)) e ∙ or_left (nat_eq sel sel) false (eq-eqb sel sel refl))) c.selectors.0
+  by_gate n net at (Bus drivers) e f c =
+      enables drivers (λ m h. enable_placed netlist m n net at (ap (λ g. list_any (nat_eq m) (gate_enables g)) e ∙ h)) net.width f c.enables
+  by_gate n net at _ e f c = tt
 
   pub decided : (n : ℕ) (net : Net) → slice_get netlist.nets n ≡ Some net → NetFits netlist (Some net) → IsDecided netlist book controls.bits net.gate
-  decided n net at fits =
-      by_gate n net at net.gate refl fits.2
-      (subst (λ (x : Option Net). IsNetStatic netlist x) at (keeps.enables.buses n))
-      (subst (λ (x : Option Net). IsNetSelectable netlist x) at (keeps.selectors.nets n))
+  decided n net at fits = by_gate n net at net.gate refl fits.2 (gate_controlled netlist (sound_of netlist order keeps).controlled n net at)

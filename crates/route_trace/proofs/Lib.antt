@@ -13,4 +13,5 @@ pub mod Judging
 pub mod Turns
 pub mod Choices
 pub mod Stopping
+pub mod Lookups
 pub mod Choosing

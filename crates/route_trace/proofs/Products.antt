@@ -1,5 +1,5 @@
 -- Routes of operators over operands that have routes.
-use Rattle.std.proofs.Common.{◌≡◌, ℕ, zero, suc, ◌+◌, ◌<◌, ◌≤◌, ◌&&◌, Bool, true, false, if◌then◌else◌, true≢false, List, [], ◌∷◌, ◌++◌, map, take, length, Some, slice_get, refl, sym, ap, subst, ◌∙◌, length-append, arith}
+use Rattle.std.proofs.Common.{◌≡◌, ℕ, zero, suc, ◌+◌, ◌<◌, ◌≤◌, Bool, true, false, if◌then◌else◌, List, [], ◌∷◌, ◌++◌, map, take, length, Some, slice_get, refl, sym, ap, subst, ◌∙◌, length-append, arith}
 use Rattle.std.proofs.lemmas.List.{append-nil, map-append}
 use Rattle.bit_bdd.specs.Diagrams.{Diagrams, has_word, Extends}
 use Rattle.net_model.specs.Terms.{Term, read, un, bin, cat, zext, sext, select, term_width}
@@ -83,12 +83,6 @@ added_terms book book1 book2 pool pool1 e g out out2 t expr term is word true c 
 added_terms book book1 book2 pool pool1 e g out out2 t expr term is word false c eb h =
     ap (map (term_at pool1)) (h ∙ ap (λ d. if d then expr ∷ [] else held book1 out word) eb) ∙ both_later book book1 pool pool1 e g out t word
 
--- no word was there to add
-pub kept_terms : (book book1 : Diagrams) (pool : List Node) → Extends book book1 → (out : List Route) → IsTable book pool out → (term : Term) (word : ℕ) (b : Bool) → b ≡ false
-    → held_terms book1 pool out word ≡ (if b then term ∷ [] else held_terms book pool out word)
-kept_terms book book1 pool e out t term word b h =
-    ap (map (term_at pool)) (held_later book book1 e out t.right.sets word) ∙ sym (ap (λ d. if d then term ∷ [] else held_terms book pool out word) h)
-
 -- ---- all routes
 
 take_around : (before after : List Route) (x : Route) → take (length before) (before ++ x ∷ after) ≡ before
@@ -122,51 +116,6 @@ none_before book routes i route at word one h =
     short : (xs ys : List ℕ) → length (held book routes word) ≡ length (xs ++ ((route.expr ∷ []) ++ ys)) → xs ≡ []
     short [] ys e = refl
     short (x ∷ xs) ys e = (let l = length-append xs ((route.expr ∷ []) ++ ys) in absurd (omega (arith, e, one, l)))
-
-module _ (head : Head) (book : Diagrams) (pool : List Node) (routes : List Route) (set : ℕ) (word : ℕ) (i : ℕ) (route : Route) (at : slice_get routes i ≡ Some route) (one : length (held book routes word) ≤ 1) where
-  -- what was added so far is nothing where this route is to be added
-  pub turn_apart : (book' : Diagrams) (pool' : List Node) (out out' : List Route) (b c : Bool) → b ≡ has_word book set word → c ≡ has_word book route.set word
-      → held_terms book' pool' out' word ≡ (if has_word book set word then map (head_term head (term_at pool)) (held_terms book pool (take i routes) word) else held_terms book pool out word)
-      → (b && c) ≡ true → held book' out' word ≡ []
-  turn_apart book' pool' out out' true true eb ec e h =
-      let none = none_before book routes i route at word one (sym ec) in
-      no_terms (held book' out' word) (e ∙ ap (λ d. if d then map (head_term head (term_at pool)) (held_terms book pool (take i routes) word) else held_terms book pool out word) (sym eb)
-      ∙ ap (λ l. map (head_term head (term_at pool)) (map (term_at pool) l)) none)
-    where
-      no_terms : (xs : List ℕ) → map (term_at pool') xs ≡ [] → xs ≡ []
-      no_terms [] q = refl
-      no_terms (x ∷ xs) q = absurd (cc)
-  turn_apart book' pool' out out' true false eb ec e h = absurd (true≢false (sym h))
-  turn_apart book' pool' out out' false c eb ec e h = absurd (true≢false (sym h))
-
-  -- one more route
-  pub turn_terms : (book' : Diagrams) (pool' : List Node) (out : List Route) (new old : List Term) (b c : Bool) → b ≡ has_word book set word → c ≡ has_word book route.set word
-      → old ≡ (if has_word book set word then map (head_term head (term_at pool)) (held_terms book pool (take i routes) word) else held_terms book pool out word)
-      → (term : Term) → term ≡ head_term head (term_at pool) (term_at pool route.expr)
-      → new ≡ (if b && c then term ∷ [] else old)
-      → new ≡ (if has_word book set word then map (head_term head (term_at pool)) (held_terms book pool (take (i + 1) routes) word) else held_terms book pool out word)
-  turn_terms book' pool' out new old b c eb ec eo term et en = en ∙ by b c eb ec ∙ ap (λ d. if d then map f (map (term_at pool) (held book (take (i + 1) routes) word)) else held_terms book pool out word) eb
-    where
-      f : Term → Term
-      f = head_term head (term_at pool)
-
-      before : List ℕ
-      before = held book (take i routes) word
-
-      more : held book (take (i + 1) routes) word ≡ held book (take i routes) word ++ row book route word
-      more = held_more book routes i route at word
-
-      by : (b c : Bool) → b ≡ has_word book set word → c ≡ has_word book route.set word → (if b && c then term ∷ [] else old) ≡ (if b then map (head_term head (term_at pool)) (map (term_at pool) (held book (take (i + 1) routes) word)) else held_terms book pool out word)
-      by true true eb ec =
-          let none = none_before book routes i route at word one (sym ec) in
-          let all : held book (take (i + 1) routes) word ≡ route.expr ∷ [] = more ∙ (λ j. none j ++ (if sym ec j then route.expr ∷ [] else [])) in
-          (λ j. et j ∷ []) ∙ sym (ap (λ l. map (head_term head (term_at pool)) (map (term_at pool) l)) all)
-      by true false eb ec =
-          let all : held book (take (i + 1) routes) word ≡ held book (take i routes) word = more ∙ (λ j. held book (take i routes) word ++ (if sym ec j then route.expr ∷ [] else [])) ∙ append-nil (held book (take i routes) word) in
-          eo ∙ ap (λ d. if d then map (head_term head (term_at pool)) (held_terms book pool (take i routes) word) else held_terms book pool out word) (sym eb)
-          ∙ sym (ap (λ l. map (head_term head (term_at pool)) (map (term_at pool) l)) all)
-      by false c eb ec =
-          eo ∙ ap (λ d. if d then map (head_term head (term_at pool)) (held_terms book pool (take i routes) word) else held_terms book pool out word) (sym eb)
 
 pub fit_at : (head : Head) (pool : List Node) (routes : List Route) (i : ℕ) (route : Route) → slice_get routes i ≡ Some route → AllFit head pool routes → LastFits head (term_at pool) (term_width (term_at pool route.expr))
 fit_at head pool [] i route at f = absurd (cc)

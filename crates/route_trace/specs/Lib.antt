@@ -1,5 +1,6 @@
 pub mod Heads
 pub mod Routing
+pub mod Lookups
 pub mod Gates
 pub mod Selects
 pub mod Tests

@@ -1,23 +1,18 @@
 -- The limits on the symbolic values of nets: none has more than 255 nodes, and no net has more than 4,096 of them.
-use Rattle.std.specs.Prelude.{◌≢◌, ◌⊎◌, ℕ, ◌^◌, ◌<◌, ◌≤◌, List, [], ◌∷◌, length}
+use Rattle.std.specs.Prelude.{◌≢◌, ◌⊎◌, ℕ, ◌<◌, ◌≤◌, List, [], ◌∷◌, length}
 use Rattle.std.specs.List.{AllByRecursion}
 use Rattle.net_model.specs.declared.hardware.Netlist.{Netlist}
 use Rattle.net_model.specs.Depends.{Depends, named_by}
 use Rattle.net_model.specs.Symbolic.{sym_of}
 use Rattle.net_model.specs.Terms.{Term, size_of}
-use Rattle.net_model.specs.Nets.{word_width}
-use Rattle.ctl_bdd.specs.Controls.{IsWithoutClash}
+use Rattle.net_model.specs.Transfers.{IsClean}
 use Rattle.route_trace.specs.declared.RouteFault.{RouteFault}
 use Rattle.route_trace.specs.declared.RouteFault.TheVariants.{PatternLarge, TooMany, Memory}
-
--- an instruction word under which no bus clashes
-abbrev pub IsCleanWord : Netlist → ℕ → Type 0
-IsCleanWord netlist word = (word < 2 ^ word_width netlist) × IsWithoutClash netlist word
 
 -- a net has under some word without clash a symbolic value of more than 255 nodes
 pub record IsLarge (netlist : Netlist) (n : ℕ) : Type 0 where
   pub word : ℕ
-  pub clean : IsCleanWord netlist word
+  pub clean : IsClean netlist word
   pub large : 255 < size_of (sym_of netlist word n)
 
 -- words with other values than one word
@@ -34,7 +29,7 @@ AllDiffer f (word ∷ words) = Differ f word words × AllDiffer f words
 pub record HasMany (netlist : Netlist) (n : ℕ) : Type 0 where
   pub words : List ℕ
   pub many : 4096 < length words
-  pub clean : AllByRecursion (IsCleanWord netlist) words
+  pub clean : AllByRecursion (IsClean netlist) words
   pub apart : AllDiffer (λ word. sym_of netlist word n) words
 
 -- a net breaks one of the limits

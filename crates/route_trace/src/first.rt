@@ -27,7 +27,12 @@ pub(crate) fn routes_of(nets: &[Items<Route>], net: u32) -> &[Route]
 }
 
 // The words of a set that are not in another.
-fn without(alloc: Global, book: &mut Book, set: SetId, other: SetId) -> Result<SetId, NoMemory>
+pub(crate) fn without(
+    alloc: Global,
+    book: &mut Book,
+    set: SetId,
+    other: SetId,
+) -> Result<SetId, NoMemory>
     requires set { set < length book.old.nodes }
     requires other { other < length book.old.nodes }
     ensures book { Extends book.old book.new }
@@ -66,7 +71,7 @@ pub(crate) fn add_first(
     for test in tests {
         let here = book.and(alloc, left, test.0)?;
         let routes = routes_of(nets, test.1);
-        add_all(alloc, book, pool, out, Head::Same, here, routes)?;
+        add_all(alloc, book, pool, out, Head::Same, here, routes, 0)?;
         left = without(alloc, book, left, test.0)?;
     }
     Ok(left)

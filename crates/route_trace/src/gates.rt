@@ -93,7 +93,7 @@ pub(crate) fn routes_under(
 {
     let mut out = Items::new(alloc);
     let routes = routes_of(nets, a);
-    add_all(alloc, book, pool, &mut out, head, legal, routes)?;
+    add_all(alloc, book, pool, &mut out, head, legal, routes, 0)?;
     Ok(out)
 }
 
@@ -121,7 +121,7 @@ pub(crate) fn routes_over(
     let mut out = Items::new(alloc);
     let firsts = routes_of(nets, a);
     let seconds = routes_of(nets, b);
-    add_pairs(alloc, book, pool, &mut out, two, legal, firsts, seconds)?;
+    add_pairs(alloc, book, pool, &mut out, two, legal, firsts, seconds, 0)?;
     Ok(out)
 }
 
@@ -152,7 +152,7 @@ pub(crate) fn routes_of_first(
     match rest {
         Some(net) => {
             let routes = routes_of(nets, net);
-            add_all(alloc, book, pool, &mut out, Head::Same, left, routes)?;
+            add_all(alloc, book, pool, &mut out, Head::Same, left, routes, 0)?;
             Ok(out)
         }
         None => {

@@ -8,6 +8,7 @@ mod first;
 mod gates;
 mod heads;
 mod laws;
+mod lookup;
 mod merge;
 mod pairs;
 mod product;

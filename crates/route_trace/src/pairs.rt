@@ -1,14 +1,16 @@
 //! Operators over two operands that have routes.
 
-ghost use Rattle.std.specs.Prelude.{◌≡◌, ℕ, ◌+◌, ◌^◌, ◌<◌, ◌≤◌, [], length, IfErr, OnOk, true, if◌then◌else◌};
+ghost use Rattle.std.specs.Prelude.{◌≡◌, ℕ, ◌+◌, ◌^◌, ◌<◌, ◌≤◌, ◌&&◌, not, [], map, length, IfErr, IfOk, OnOk, true, if◌then◌else◌};
 ghost use Rattle.bit_bdd.specs.Diagrams.{Extends, has_word};
 ghost use Rattle.sym_expr.specs.Pools.{AllBelow, Grows, term_at};
-ghost use Rattle.route_trace.specs.Heads.{two_parts};
-ghost use Rattle.route_trace.specs.Routing.{AllTwoFit, pairs};
+ghost use Rattle.route_trace.specs.Heads.{head_parts, head_term, two_head, two_parts};
+ghost use Rattle.route_trace.specs.Routing.{AllFit, AllTwoFit, pairs};
 ghost use Rattle.route_trace.specs.Stops.{IfMany, IsOver};
 ghost use Rattle.transfer_set.specs.Routes.{IsTable, held, held_terms};
 
-use crate::heads::{Two, with_first};
+use crate::first::without;
+use crate::heads::{Head, Two, with_first};
+use crate::lookup::{held_words, place_of};
 use crate::product::add_all;
 use crate::stop::Stop;
 use bit_bdd::{Book, SetId};
@@ -17,7 +19,43 @@ use std::alloc::Global;
 use sym_expr::Pool;
 use transfer_set::Route;
 
-// Adds the words of a set, with an operator over what two lists of routes give them.
+// Adds the words of a set that are in another, with what some routes give them under a head, and gives the other words
+// of the set.
+fn add_part(
+    alloc: Global,
+    book: &mut Book,
+    pool: &mut Pool,
+    out: &mut Items<Route>,
+    head: Head,
+    set: SetId,
+    part: SetId,
+    routes: &[Route],
+    start: usize,
+) -> Result<SetId, Stop>
+    requires set { set < length book.old.nodes }
+    requires part { part < length book.old.nodes }
+    requires parts { AllBelow (length pool.old) (head_parts head) }
+    requires source { IsTable book.old pool.old routes.now }
+    requires one { (word : ℕ) → word < 2 ^ book.old.bits → length (held book.old routes.now word) ≤ 1 }
+    requires fits { AllFit head pool.old routes.now }
+    requires table { IsTable book.old pool.old out.old }
+    requires apart { (word : ℕ) → word < 2 ^ book.old.bits → (has_word book.old set word && has_word book.old part word) ≡ true → held book.old out.old word ≡ [] }
+    ensures book { Extends book.old book.new }
+    ensures pool { Grows pool.old pool.new }
+    ensures table { OnOk result (IsTable book.new pool.new out.new) }
+    ensures terms { OnOk result ((word : ℕ) → word < 2 ^ book.old.bits → held_terms book.new pool.new out.new word ≡ (if has_word book.old set word && has_word book.old part word then map (head_term head (term_at pool.old)) (held_terms book.old pool.old routes.now word) else held_terms book.old pool.old out.old word)) }
+    ensures left_within { IfOk result (λ left. left < length book.new.nodes) }
+    ensures left { IfOk result (λ left. (word : ℕ) → has_word book.new left word ≡ (has_word book.old set word && not (has_word book.old part word))) }
+    ensures many { IfErr result (λ stop. IfMany stop (IsOver book.new pool.new (λ word terms. terms ≡ (if has_word book.old set word && has_word book.old part word then map (head_term head (term_at pool.old)) (held_terms book.old pool.old routes.now word) else held_terms book.old pool.old out.old word)))) }
+{
+    let left = without(alloc, book, set, part)?;
+    let both = book.and(alloc, set, part)?;
+    add_all(alloc, book, pool, out, head, both, routes, start)?;
+    Ok(left)
+}
+
+// Adds the words of a set, with an operator over what two lists of routes give them. Only pairs with a word of the set
+// are looked up, from the place `start` on, and the second of a pair from the place of the first on.
 pub(crate) fn add_pairs(
     alloc: Global,
     book: &mut Book,
@@ -27,6 +65,7 @@ pub(crate) fn add_pairs(
     set: SetId,
     firsts: &[Route],
     seconds: &[Route],
+    start: usize,
 ) -> Result<(), Stop>
     requires set { set < length book.old.nodes }
     requires parts { AllBelow (length pool.old) (two_parts two) }
@@ -43,17 +82,19 @@ pub(crate) fn add_pairs(
     ensures terms { OnOk result ((word : ℕ) → word < 2 ^ book.old.bits → held_terms book.new pool.new out.new word ≡ (if has_word book.old set word then pairs two (term_at pool.old) (held_terms book.old pool.old firsts.now word) (held_terms book.old pool.old seconds.now word) else held_terms book.old pool.old out.old word)) }
     ensures many { IfErr result (λ stop. IfMany stop (IsOver book.new pool.new (λ word terms. terms ≡ (if has_word book.old set word then pairs two (term_at pool.old) (held_terms book.old pool.old firsts.now word) (held_terms book.old pool.old seconds.now word) else held_terms book.old pool.old out.old word)))) }
 {
-    for route in firsts {
-        let both = book.and(alloc, set, route.set)?;
-        add_all(
-            alloc,
-            book,
-            pool,
-            out,
-            with_first(two, route.expr),
-            both,
-            seconds,
+    let mut left = set;
+    let mut start = start;
+    while let Some(word) = book.least(left) {
+        let Some(place) = place_of(book, firsts, start, word) else {
+            left = held_words(alloc, book, left, firsts)?;
+            continue;
+        };
+        let route = firsts[place];
+        let head = with_first(two, route.expr);
+        left = add_part(
+            alloc, book, pool, out, head, left, route.set, seconds, place,
         )?;
+        start = place;
     }
     Ok(())
 }

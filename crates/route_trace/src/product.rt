@@ -1,15 +1,18 @@
 //! Products of routes: operators over operands that have routes.
 
-ghost use Rattle.std.specs.Prelude.{◌≡◌, ℕ, ◌+◌, ◌^◌, ◌<◌, ◌≤◌, ◌&&◌, [], ◌∷◌, map, length, IfErr, IfOk, OnOk, true, if◌then◌else◌};
+ghost use Rattle.std.specs.Prelude.{◌≡◌, ℕ, ◌+◌, ◌^◌, ◌<◌, ◌≤◌, ◌&&◌, not, [], ◌∷◌, map, length, IfErr, IfOk, OnOk, true, if◌then◌else◌};
 ghost use Rattle.bit_bdd.specs.Diagrams.{Extends, has_word};
 ghost use Rattle.net_model.specs.Terms.{term_width};
 ghost use Rattle.sym_expr.specs.Pools.{AllBelow, Grows, term_at};
 ghost use Rattle.route_trace.specs.Heads.{LastFits, head_parts, head_term};
+ghost use Rattle.route_trace.specs.Lookups.{Meet};
 ghost use Rattle.route_trace.specs.Routing.{AllFit};
 ghost use Rattle.route_trace.specs.Stops.{IfMany, IsOver};
 ghost use Rattle.transfer_set.specs.Routes.{IsTable, held, held_terms};
 
+use crate::first::without;
 use crate::heads::{Head, close};
+use crate::lookup::{held_words, place_of};
 use crate::merge::add_route;
 use crate::stop::Stop;
 use crate::verdict::MOST_VALUES;
@@ -19,7 +22,8 @@ use std::alloc::Global;
 use sym_expr::Pool;
 use transfer_set::Route;
 
-// Adds the words of a set that are in a route, with the route's expression under a head.
+// Adds the words of a set that are in a route, with the route's expression under a head, and gives the other words of
+// the set. There are such words.
 fn add_one(
     alloc: Global,
     book: &mut Book,
@@ -28,11 +32,12 @@ fn add_one(
     head: Head,
     set: SetId,
     route: Route,
-) -> Result<(), NoMemory>
+) -> Result<SetId, NoMemory>
     requires set { set < length book.old.nodes }
     requires parts { AllBelow (length pool.old) (head_parts head) }
     requires route_set { route.set < length book.old.nodes }
     requires route_expr { route.expr < length pool.old }
+    requires meet { Meet book.old set route.set }
     requires fits { LastFits head (term_at pool.old) (term_width (term_at pool.old route.expr)) }
     requires table { IsTable book.old pool.old out.old }
     requires apart { (word : ℕ) → word < 2 ^ book.old.bits → (has_word book.old set word && has_word book.old route.set word) ≡ true → held book.old out.old word ≡ [] }
@@ -40,19 +45,18 @@ fn add_one(
     ensures pool { Grows pool.old pool.new }
     ensures table { OnOk result (IsTable book.new pool.new out.new) }
     ensures terms { OnOk result ((word : ℕ) → word < 2 ^ book.old.bits → held_terms book.new pool.new out.new word ≡ (if has_word book.old set word && has_word book.old route.set word then head_term head (term_at pool.old) (term_at pool.old route.expr) ∷ [] else held_terms book.old pool.old out.old word)) }
+    ensures left_within { IfOk result (λ left. left < length book.new.nodes) }
+    ensures left { IfOk result (λ left. (word : ℕ) → has_word book.new left word ≡ (has_word book.old set word && not (has_word book.old route.set word))) }
 {
+    let left = without(alloc, book, set, route.set)?;
     let both = book.and(alloc, set, route.set)?;
-    match book.least(both) {
-        None => Ok(()),
-        Some(_) => {
-            let expr = close(alloc, pool, head, route.expr)?;
-            add_route(alloc, book, out, expr, both)?;
-            Ok(())
-        }
-    }
+    let expr = close(alloc, pool, head, route.expr)?;
+    add_route(alloc, book, out, expr, both)?;
+    Ok(left)
 }
 
 // Adds the words of a set, with what some routes give them under a head, and gives up once there are too many routes.
+// Only routes with a word of the set are looked up, by the least word that is left, from the place `start` on.
 pub(crate) fn add_all(
     alloc: Global,
     book: &mut Book,
@@ -61,6 +65,7 @@ pub(crate) fn add_all(
     head: Head,
     set: SetId,
     routes: &[Route],
+    start: usize,
 ) -> Result<(), Stop>
     requires set { set < length book.old.nodes }
     requires parts { AllBelow (length pool.old) (head_parts head) }
@@ -75,11 +80,18 @@ pub(crate) fn add_all(
     ensures terms { OnOk result ((word : ℕ) → word < 2 ^ book.old.bits → held_terms book.new pool.new out.new word ≡ (if has_word book.old set word then map (head_term head (term_at pool.old)) (held_terms book.old pool.old routes.now word) else held_terms book.old pool.old out.old word)) }
     ensures many { IfErr result (λ stop. IfMany stop (IsOver book.new pool.new (λ word terms. terms ≡ (if has_word book.old set word then map (head_term head (term_at pool.old)) (held_terms book.old pool.old routes.now word) else held_terms book.old pool.old out.old word)))) }
 {
-    for route in routes {
+    let mut left = set;
+    let mut start = start;
+    while let Some(word) = book.least(left) {
         if out.len() > MOST_VALUES {
             return Err(Stop::Many);
         }
-        add_one(alloc, book, pool, out, head, set, *route)?;
+        let Some(place) = place_of(book, routes, start, word) else {
+            left = held_words(alloc, book, left, routes)?;
+            continue;
+        };
+        left = add_one(alloc, book, pool, out, head, left, routes[place])?;
+        start = place;
     }
     Ok(())
 }

@@ -54,6 +54,7 @@ pub(crate) fn add_selects(
             both,
             firsts,
             seconds,
+            0,
         )?;
     }
     Ok(())

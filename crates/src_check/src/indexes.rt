@@ -8,10 +8,9 @@ ghost use Rattle.src_model.specs.Written.{shape_of, spot_shape};
 ghost use Rattle.src_model.specs.Indexes.{between, times, product_range, masked_range, range_by, index_range, counted_range, length_of, is_within, loose};
 ghost use Rattle.src_check.specs.Rounds.{rounds_of};
 
-use crate::least::{broken, sooner};
 use crate::names::Table;
 use crate::rounds::Rounds;
-use rec_bits::{Name, Op2, Range, range_add, range_mul, range_sub};
+use rec_bits::{Name, Op2, Range, broken, range_add, range_mul, range_sub, sooner};
 use src_model::{Spot, SrcExpr, SrcNode, number_of};
 
 fn between(from: u64, to: u64) -> Range

@@ -2,7 +2,6 @@
 #![tactic(auto)]
 
 mod indexes;
-mod least;
 mod names;
 mod rounds;
 mod walk;

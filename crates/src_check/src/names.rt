@@ -5,9 +5,8 @@ ghost use Rattle.rec_bits.specs.Faults.{least};
 ghost use Rattle.src_model.specs.Names.{declared, is_plain, is_array, repeats, unknown};
 ghost use Rattle.src_model.specs.Written.{shape_of, spot_shape};
 
-use crate::least::{broken, sooner};
 use indexmap::IndexMap;
-use rec_bits::{Name, NoMemory};
+use rec_bits::{Name, NoMemory, broken, sooner};
 use src_model::{Spot, SrcExpr, SrcNode, Var};
 use std::alloc::Global;
 use std::marker::Model;

@@ -10,11 +10,10 @@ ghost use Rattle.src_check.specs.Rounds.{rounds_of};
 ghost use Rattle.src_check.specs.Questions.{rule_of, round};
 
 use crate::indexes::{loose, loose_spot};
-use crate::least::{broken, sooner};
 use crate::names::{Table, is_plain, unknown, unknown_spot};
 use crate::rounds::Rounds;
 use crate::widths::{fits, sides, spot_wide, whole, wide};
-use rec_bits::Name;
+use rec_bits::{Name, broken, sooner};
 use src_model::{Spot, SrcExpr, SrcTest, Stmt};
 
 /// A rule, with what it needs: the declarations, the number of bits of a word, or the name of a variable.

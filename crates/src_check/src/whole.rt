@@ -11,11 +11,10 @@ ghost use Rattle.src_model.specs.declared.fault.SrcFault.TheVariants.{Duplicate}
 ghost use Rattle.src_check.specs.Questions.{rule_of};
 ghost use Rattle.src_check.specs.Refusals.{listing, behind_duplicates, IsRefusal};
 
-use crate::least::{broken, sooner};
 use crate::names::{Table, declare};
 use crate::rounds::Rounds;
 use crate::walk::{Question, of_block};
-use rec_bits::NoMemory;
+use rec_bits::{NoMemory, broken, sooner};
 use src_model::{Program, SrcFault, SrcFault2, SrcKind, Stmt, Typed, Var, block_sizes};
 use std::alloc::Global;
 

@@ -1,16 +1,15 @@
 -- A program text declares no more variables than it has bytes.
-use Rattle.std.proofs.Common.{◌≤◌, ◌-◌, ℕ, List, length, ap, arith, length-append}
-use Rattle.std.proofs.lemmas.List.{length-map}
+use Rattle.std.proofs.Common.{◌≤◌, ℕ, List, length, ap, arith, length-append}
 use Rattle.grammar.specs.Reading.{ListOf, none, some}
-use Rattle.src_lexer.specs.Programs.{programs, src_tokens}
+use Rattle.src_lexer.specs.Programs.{programs}
 use Rattle.src_model.specs.declared.program.Var.{Var as Declared}
-use Rattle.src_model.specs.declared.words.Lexed.{Lexed}
+use Rattle.src_model.specs.Grammar.{Lexed, IsDecl, IsDecls, IsLines, IsText}
 use Rattle.src_model.specs.declared.words.Symbol.TheVariants.{Comma}
-use Rattle.src_model.specs.Grammar.{Behind, IsDecl, IsDecls, IsLines, IsText}
+use Rattle.grammar.specs.Tokens.{Behind}
 use Rattle.src_model.specs.Written.{Listing}
 use Rattle.src_parser.specs.Texts.{words_of, IsSrcText}
-use Rattle.src_parser.specs.Words.{lexed_of}
-use Rattle.lexing.proofs.TokenLaws.{few_tokens}
+use Rattle.src_parser.specs.Words.{reserved_of, sign_word}
+use Rattle.lexing.proofs.TokenLaws.{few_words}
 
 -- a declaration has a comma or `var` before it
 behind_long : (ts : List Lexed) (v : Declared) → Behind Comma IsDecl ts v → 1 ≤ length ts
@@ -55,4 +54,4 @@ text_long ts l t =
 
 pub few_variables : (bytes : List ℕ) (listing : Listing) → IsSrcText bytes listing → length listing.vars ≤ length bytes
 few_variables bytes listing text =
-    omega (arith, text_long (words_of bytes) listing text.spelled, length-map (src_tokens bytes) (lexed_of bytes), few_tokens programs 0 0 bytes)
+    omega (arith, text_long (words_of bytes) listing text.spelled, few_words reserved_of sign_word programs bytes)

@@ -1,2 +1,3 @@
 pub mod FrontLaws
 pub mod Lengths
+pub mod SourceNames

@@ -1,6 +1,9 @@
 -- Which bytes are a program's, and why others are refused.
-use Rattle.std.specs.Prelude.{◌≡◌, ℕ, List, Some, None}
+use Rattle.std.specs.Prelude.{◌≡◌, ℕ, true, List, Some, None}
+use Rattle.std.specs.List.{AllByRecursion}
+use Rattle.text_lines.specs.Fields.{is_name}
 use Rattle.src_model.specs.declared.fault.SrcFault.{SrcFault}
+use Rattle.src_model.specs.declared.program.Var.{Var as Declared}
 use Rattle.src_model.specs.Rules.{first_fault}
 use Rattle.src_model.specs.Written.{Listing}
 use Rattle.src_parser.specs.Texts.{IsSrcText, IsNoSrcText}
@@ -28,3 +31,10 @@ abbrev pub IsSrcRefusal : List ℕ → ℕ → SrcRefusal → Type 0
 IsSrcRefusal bytes width (Text at) = IsNoSrcText bytes at
 IsSrcRefusal bytes width (Fault fault) = BreaksSrcRule bytes width fault
 IsSrcRefusal bytes width Memory = Unit {0}
+
+-- a variable's name is one that a line of an image can say
+abbrev pub IsNamed : Declared → Type 0
+IsNamed var = is_name var.name ≡ true
+
+abbrev pub AreNamed : List Declared → Type 0
+AreNamed = AllByRecursion IsNamed

@@ -10,7 +10,8 @@ use Rattle.src_model.specs.declared.sizes.Subtree.{Subtree}
 use Rattle.src_model.specs.Written.{Shape, num, plain, element, un, bin, zext, sext, low, Listing, acts_of}
 use Rattle.src_model.specs.Widths.{is_literal}
 use Rattle.src_model.specs.Indexes.{number_of}
-use Rattle.src_model.specs.Sizes.{Root, value, store, compare, difference, nodes, nodes_of, read_nodes, part, read_part, sided, all_of, is_word, temps_of, greatest, roots_in, longest, capped}
+use Rattle.src_model.specs.Sizes.{Root, value, store, compare, difference, nodes, nodes_of, read_nodes, part, read_part, sided, all_of, is_word, temps_of, greatest, roots_in, longest}
+use Rattle.rec_bits.specs.Counts.{capped}
 use Rattle.src_model.specs.Rules.{RulesHold, first_fault, or_else, fault_at, above, limits, duplicates, unknown_names, bad_widths, bad_indexes, bad_counters, statement_count, node_count, temp_count}
 use Rattle.rec_bits.specs.Faults.{least}
 use Rattle.rec_bits.proofs.Faults.{least_none}

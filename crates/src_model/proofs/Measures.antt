@@ -6,7 +6,8 @@ use Rattle.src_model.specs.declared.sizes.Sizes.{Sizes}
 use Rattle.src_model.specs.declared.program.Stmt.{Stmt, If, While, For}
 use Rattle.src_model.specs.declared.program.SrcTest.{SrcTest}
 use Rattle.src_model.specs.Written.{Acts, act_of, acts_of, test_of}
-use Rattle.src_model.specs.Sizes.{Root, roots, roots_in, roots_else, start_roots, step_roots, tested_roots, greatest, nodes_of, temps_of, is_word, statements, statements_in, statements_else, capped, measured, together}
+use Rattle.src_model.specs.Sizes.{Root, roots, roots_in, roots_else, start_roots, step_roots, tested_roots, greatest, nodes_of, temps_of, is_word, statements, statements_in, statements_else, measured, together}
+use Rattle.rec_bits.specs.Counts.{capped}
 use Rattle.src_model.proofs.Views.{act_If, act_While, act_For, else_acts}
 
 pub greatest_append : (f : Root → ℕ) (xs ys : List Root) → greatest f (xs ++ ys) ≡ max (greatest f xs) (greatest f ys)

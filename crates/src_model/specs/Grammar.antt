@@ -1,15 +1,18 @@
 -- The grammar of programs. `levels` counts the blocks, brackets, parentheses, calls and unary signs that may still be opened.
 use Rattle.std.specs.Prelude.{◌≡◌, ℕ, zero, suc, List, [], ◌∷◌, ◌++◌, Option, Some, None, ◌==◌, if◌then◌else◌}
-use Rattle.grammar.specs.Reading.{Return, Token, Bind, ◌>>=◌, Within, Maybe, Many, ListOf, Chain}
+use Rattle.grammar.specs.Reading.{Return, Token, ◌>>=◌, Within, Maybe, Many, ListOf, Chain}
 use Rattle.rec_bits.specs.declared.operator.Op1.{Op1}
 use Rattle.rec_bits.specs.declared.operator.Op1.TheVariants.{Not, Neg}
 use Rattle.rec_bits.specs.declared.operator.Op2.{Op2}
 use Rattle.rec_bits.specs.declared.operator.Op2.TheVariants.{Add, Sub, Mul, And, Or, Xor, Shl, Shr, Sar}
 use Rattle.src_model.specs.declared.program.Cmp.{Cmp}
 use Rattle.src_model.specs.declared.program.Var.{Var as Declared}
-use Rattle.src_model.specs.declared.words.Lexed.{Lexed}
-use Rattle.src_model.specs.declared.words.Word.{Word}
-use Rattle.src_model.specs.declared.words.Word.TheVariants.{Name, Number, Operator as Operates, Compare as Compares, Call as Calls, Symbol as Shows}
+use Rattle.grammar.specs.Tokens.{IsName, IsNumber, ByWord, IsNothing, Behind, Before}
+use Rattle.grammar.specs.declared.words.Lexed.{Lexed as LexedOf}
+use Rattle.grammar.specs.declared.words.Word.{Word as WordOf}
+use Rattle.grammar.specs.declared.words.Word.TheVariants.{Name, Number, Symbol as Shows, Key as Keyed}
+use Rattle.src_model.specs.declared.words.Key.{Key}
+use Rattle.src_model.specs.declared.words.Key.TheVariants.{Operator as Operates, Compare as Compares, Call as Calls}
 use Rattle.src_model.specs.declared.words.Call.{Call}
 use Rattle.src_model.specs.declared.words.Call.TheVariants.{Zext, Sext, Low}
 use Rattle.src_model.specs.declared.words.Symbol.{Symbol}
@@ -18,41 +21,14 @@ use Rattle.src_model.specs.Written.{Shape, num, un, bin, zext, sext, low, Phrase
 
 -- ---- tokens
 
--- a sign or a reserved word
-abbrev pub Sign : Symbol → List Lexed → Unit {0} → Type 0
-Sign s = Token (λ t u. t.word ≡ Shows s)
+abbrev pub Word : Type 0
+Word = WordOf Symbol Key
 
--- a name and its offset
-pub record Ident : Type 0 where
-  pub name : List ℕ
-  pub at : ℕ
-
-abbrev pub ident : List ℕ → ℕ → Ident
-ident name at = record { name = name; at = at }
-
-abbrev pub IsName : List Lexed → Ident → Type 0
-IsName = Token (λ t i. t ≡ record { word = Name i.name; at = i.at })
-
-abbrev pub IsNumber : List Lexed → ℕ → Type 0
-IsNumber = Token (λ t n. t.word ≡ Number n)
+abbrev pub Lexed : Type 0
+Lexed = LexedOf Symbol Key
 
 abbrev pub IsCmp : List Lexed → Cmp → Type 0
-IsCmp = Token (λ t cmp. t.word ≡ Compares cmp)
-
--- what stands behind a first word tells by that word
-abbrev pub ByWord : {V : Type 0} → (Word → ℕ → List Lexed → V → Type 0) → List Lexed → V → Type 0
-ByWord B = Bind (Token (λ t u. u ≡ t)) (λ _ t. B t.word t.at)
-
-abbrev pub IsNothing : {V : Type 0} → List Lexed → V → Type 0
-IsNothing ts v = ⊥
-
--- a sign or word, and what stands behind it
-abbrev pub Behind : {V : Type 0} → Symbol → (List Lexed → V → Type 0) → List Lexed → V → Type 0
-Behind s X = Bind (Sign s) (λ _ u. X)
-
--- X and then a sign
-abbrev pub Before : {V : Type 0} → (List Lexed → V → Type 0) → Symbol → List Lexed → V → Type 0
-Before X s = Bind X (λ _ v. Bind (Sign s) (λ _ u. Return v))
+IsCmp = Token (λ t cmp. t.word ≡ Keyed (Compares cmp))
 
 -- ---- operators
 
@@ -71,7 +47,7 @@ rank _ = 7
 
 -- the operator of a rank that a word is
 abbrev pub op_of : ℕ → Word → Option Op2
-op_of k (Operates op) = if rank op == k then Some op else None
+op_of k (Keyed (Operates op)) = if rank op == k then Some op else None
 op_of k _ = None
 
 abbrev pub op_at : ℕ → Lexed → Option Op2
@@ -126,10 +102,10 @@ UnaryBehind U E (Number n) at = Return (record { at = at; shape = num n })
 UnaryBehind U E (Name name) at = do
   place ← PlaceBehind E name at
   Return (placed place)
-UnaryBehind U E (Operates Sub) at = Signed U Neg at
+UnaryBehind U E (Keyed (Operates Sub)) at = Signed U Neg at
 UnaryBehind U E (Shows Tilde) at = Signed U Not at
 UnaryBehind U E (Shows LeftParen) at = Enclosed E at
-UnaryBehind U E (Calls call) at = Called E call at
+UnaryBehind U E (Keyed (Calls call)) at = Called E call at
 UnaryBehind U E _ at = IsNothing
 
 -- chains of the operators up to a rank, over what an operand is; they group to the left

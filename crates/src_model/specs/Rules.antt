@@ -12,7 +12,8 @@ use Rattle.src_model.specs.Names.{declared, is_plain, repeats, unknown}
 use Rattle.src_model.specs.Widths.{wide, whole, sides, misfit, empty_array}
 use Rattle.src_model.specs.Loops.{Rule, place_shape, breaks_in, counters}
 use Rattle.src_model.specs.Indexes.{loose}
-use Rattle.src_model.specs.Sizes.{roots_in, greatest, nodes_of, temps_of, statements_in, longest, capped}
+use Rattle.src_model.specs.Sizes.{roots_in, greatest, nodes_of, temps_of, statements_in, longest}
+use Rattle.rec_bits.specs.Counts.{capped}
 
 -- S2, statement by statement: a counter is a plain variable
 abbrev pub names : List Declared → Rule

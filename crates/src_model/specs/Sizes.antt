@@ -1,7 +1,8 @@
 -- The sizes of a program: its statements, the nodes of its trees, and the temporary cells that the trees may need.
-use Rattle.std.specs.Prelude.{ℕ, ◌+◌, ◌-◌, ◌*◌, ◌^◌, min, max, unwrap_or, Bool, true, false, ◌==◌, if◌then◌else◌, List, [], ◌∷◌, ◌++◌, Option, Some, None}
+use Rattle.std.specs.Prelude.{ℕ, ◌+◌, ◌*◌, max, unwrap_or, Bool, true, false, ◌==◌, if◌then◌else◌, List, [], ◌∷◌, ◌++◌, Option, Some, None}
 use Rattle.rec_bits.specs.Operators.{result_width}
 use Rattle.rec_bits.specs.declared.operator.Op2.TheVariants.{Add}
+use Rattle.rec_bits.specs.Counts.{capped}
 use Rattle.src_model.specs.declared.program.Cmp.{Cmp}
 use Rattle.src_model.specs.declared.program.Cmp.TheVariants.{Eq, Ne}
 use Rattle.src_model.specs.declared.program.Var.{Var as Declared}
@@ -165,10 +166,6 @@ abbrev mutual
 abbrev pub longest : List Declared → ℕ
 longest [] = 0
 longest (v ∷ rest) = max (unwrap_or v.len 0) (longest rest)
-
--- a count as a number of 64 bits; one that doesn't fit stands at the greatest
-abbrev pub capped : ℕ → ℕ
-capped n = min n (2 ^ 64 - 1)
 
 abbrev pub capped_part : Subtree → Subtree
 capped_part p = record { width = p.width; own = p.own; below = capped p.below }

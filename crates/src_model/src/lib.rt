@@ -16,4 +16,4 @@ pub use program::{Cmp, Program, Spot, SrcExpr, SrcNode, SrcTest, Stmt, Var};
 pub use sizes::{Sizes, block_sizes, is_literal, number_of};
 pub use store::Store;
 pub use typed::{SrcFault2, Typed};
-pub use words::{Call, Lexed, Symbol, Word};
+pub use words::{Call, Key, Lexed, Symbol, Word};

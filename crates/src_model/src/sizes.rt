@@ -4,7 +4,8 @@ ghost use Rattle.std.specs.Prelude.{◌≡◌, [], ◌∷◌, map};
 ghost use Rattle.src_model.specs.Written.{shape_of, spot_shape, place_of, test_of, act_of, acts_of};
 ghost use Rattle.src_model.specs.Widths.{is_literal};
 ghost use Rattle.src_model.specs.Indexes.{number_of};
-ghost use Rattle.src_model.specs.Sizes.{nodes, is_word, all_of, paired, part, side_parts, assigned_root, tested_roots, roots, roots_in, statements, statements_in, capped, capped_part, measured, together};
+ghost use Rattle.src_model.specs.Sizes.{nodes, is_word, all_of, paired, part, side_parts, assigned_root, tested_roots, roots, roots_in, statements, statements_in, capped_part, measured, together};
+ghost use Rattle.rec_bits.specs.Counts.{capped};
 
 use crate::{Cmp, Spot, SrcExpr, SrcNode, SrcTest, Stmt};
 use rec_bits::written_result_width;

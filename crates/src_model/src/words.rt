@@ -1,27 +1,24 @@
 //! The words of a program's text.
 
+ghost use Rattle.std.proofs.Common.{rules};
+
 use crate::Cmp;
-use rec_bits::{Name, Op2};
+use grammar::Exact;
+use rec_bits::Op2;
 
-/// A token: its word, and the offset of its first byte.
-#[derive(Debug, Drop)]
-pub struct Lexed {
-    pub word: Word,
-    pub at: u64,
-}
+/// A word of a program's text.
+pub type Word = grammar::Word<Symbol, Key>;
 
-/// A word, by what it may begin or stand for.
-#[derive(Debug, Drop)]
-pub enum Word {
-    Name(Name),
-    Number(u64),
+/// A token of a program's text.
+pub type Lexed = grammar::Lexed<Symbol, Key>;
+
+/// A word that takes operands.
+#[derive(Clone, Copy, Debug, PartialEq, Eq)]
+pub enum Key {
     /// An operator between two operands. That of `-`, which also stands before one operand, is `Sub`.
     Operator(Op2),
     Compare(Cmp),
     Call(Call),
-    Symbol(Symbol),
-    /// What stands in no text.
-    Other,
 }
 
 /// A reserved word that calls for an expression and a number of bits.
@@ -51,4 +48,8 @@ pub enum Symbol {
     While,
     For,
     To,
+}
+
+impl Exact for Symbol {
+    ghost exact = { Prim.search rules };
 }

@@ -6,14 +6,13 @@ use Rattle.grammar.proofs.Steps.{leads_as}
 use Rattle.grammar.proofs.Passing.{There, there_bind, there_return, there_maybe, Apart, Starts, starts_inner, leads_made, then_leads, returned}
 use Rattle.grammar.proofs.Repeats.{Repeated}
 use Rattle.src_model.specs.declared.program.Var.{Var as Declared}
-use Rattle.src_model.specs.declared.words.Lexed.{Lexed}
-use Rattle.src_model.specs.declared.words.Word.{Word}
-use Rattle.src_model.specs.declared.words.Word.TheVariants.{Name, Symbol as Shows}
+use Rattle.src_model.specs.Grammar.{Lexed, Word, DeclsBehind, IsDecl, IsDecls, IsLines, IsBody}
+use Rattle.grammar.specs.declared.words.Word.TheVariants.{Name, Symbol as Shows}
 use Rattle.src_model.specs.declared.words.Symbol.TheVariants.{Comma, Semicolon, LeftBracket, Var, If, Else, While, For}
 use Rattle.src_model.specs.Written.{Act, Listing}
-use Rattle.src_model.specs.Grammar.{Behind, Before, DeclsBehind, IsDecl, IsDecls, IsLines, IsBody}
+use Rattle.grammar.specs.Tokens.{Behind, Before}
 use Rattle.src_parser.specs.Steps.{bracket_word, decls_word, var_word, act_word, acts_word, text_word, after_decl, after_decls, after_lines, after_acts, after_text}
-use Rattle.src_parser.proofs.Tokens.{Shown, begun, there_name}
+use Rattle.grammar.proofs.Tokens.{Shown, begun, there_name}
 use Rattle.src_parser.proofs.Statements.{acted}
 
 pub there_decl : There IsDecl

@@ -12,19 +12,19 @@ use Rattle.grammar.proofs.Limits.{within_reads}
 use Rattle.grammar.proofs.Chains.{Chained, chain_leads, chain_fails, tail_ends, tail_leads, tail_fails}
 use Rattle.rec_bits.specs.declared.operator.Op2.{Op2}
 use Rattle.rec_bits.specs.declared.operator.Op2.TheVariants.{Sub}
-use Rattle.src_model.specs.declared.words.Lexed.{Lexed}
-use Rattle.src_model.specs.declared.words.Word.{Word}
-use Rattle.src_model.specs.declared.words.Word.TheVariants.{Name, Number, Operator as Operates, Call as Calls, Symbol as Shows}
+use Rattle.src_model.specs.Grammar.{Lexed, Word, IsIndex, UnaryBehind, Chains, IsUnary, IsExpr, op_of, op_at, rank, join}
+use Rattle.grammar.specs.declared.words.Word.TheVariants.{Name, Number, Symbol as Shows, Key as Keyed}
+use Rattle.src_model.specs.declared.words.Key.TheVariants.{Operator as Operates, Call as Calls}
 use Rattle.src_model.specs.declared.words.Symbol.{Symbol}
 use Rattle.src_model.specs.declared.words.Symbol.TheVariants.{Comma, Tilde, LeftParen, RightParen, LeftBracket, RightBracket}
 use Rattle.src_model.specs.declared.program.SrcExpr.{SrcExpr}
 use Rattle.src_model.specs.declared.program.SrcNode.{Var}
 use Rattle.src_model.specs.declared.program.Spot.{roll-Spot}
 use Rattle.src_model.specs.Written.{Phrase, num, shape_of, shape_at, index_of}
-use Rattle.src_model.specs.Grammar.{Behind, Before, ByWord, Sign, IsNothing, IsIndex, IsNumber, UnaryBehind, Chains, IsUnary, IsExpr, op_of, op_at, rank, join}
+use Rattle.grammar.specs.Tokens.{Behind, Before, ByWord, Sign, IsNothing, IsNumber, BeginsWith}
 use Rattle.src_parser.specs.declared.expression.Opening.{Opening}
 use Rattle.src_parser.specs.declared.expression.Opening.TheVariants.{Sign as Signs, Paren, Call as Asks}
-use Rattle.src_parser.specs.Steps.{BeginsWith, InExpr, OpenBehind, OpensIndex, opening_of, least_of, word_rank, may_follow, after}
+use Rattle.src_parser.specs.Steps.{InExpr, OpenBehind, OpensIndex, opening_of, least_of, word_rank, may_follow, after}
 use Rattle.src_parser.proofs.Rooms.{Short, AtLeast, AtMost, word_within, word_ends, word_misses, none_within, maybe_within, token_least, token_most, return_most, any_least, bind_least, bind_most, short_token, short_return, short_bind}
 
 -- ---- ranks
@@ -34,7 +34,7 @@ is_true x true e = refl
 is_true x false e = absurd cc
 
 op_rank : (k : ℕ) (w : Word) (o : Op2) → op_of k w ≡ Some o → word_rank w ≡ k
-op_rank k (Operates op) o e = eqb-true (rank op) k (is_true op (rank op == k) e)
+op_rank k (Keyed (Operates op)) o e = eqb-true (rank op) k (is_true op (rank op == k) e)
 op_rank k _ o e = absurd cc
 
 rank_follows : (k n : ℕ) → n ≡ k → nat_le n k ≡ true
@@ -125,17 +125,17 @@ widely : {T V : Type 0} {R : List T → V → Type 0} {room : ℕ} → 1 ≤ roo
 widely long s = (let f : length s.text ≤ 1 = s.fits in record { text = s.text; value = s.value; is = s.is; fits = omega arith })
 
 open_to : (U E : List Lexed → Phrase → Type 0) (w : Word) (o : Opening) (at : ℕ) (x : List Lexed) (v : Phrase) → opening_of w ≡ Some o → OpenBehind U E o at x v → UnaryBehind U E w at x v
-open_to U E (Operates Sub) o at x v e h = subst (λ o. OpenBehind U E o at x v) (some_is (sym e)) h
+open_to U E (Keyed (Operates Sub)) o at x v e h = subst (λ o. OpenBehind U E o at x v) (some_is (sym e)) h
 open_to U E (Shows Tilde) o at x v e h = subst (λ o. OpenBehind U E o at x v) (some_is (sym e)) h
 open_to U E (Shows LeftParen) o at x v e h = subst (λ o. OpenBehind U E o at x v) (some_is (sym e)) h
-open_to U E (Calls call) o at x v e h = subst (λ o. OpenBehind U E o at x v) (some_is (sym e)) h
+open_to U E (Keyed (Calls call)) o at x v e h = subst (λ o. OpenBehind U E o at x v) (some_is (sym e)) h
 open_to U E _ o at x v e h = absurd cc
 
 pub open_from : (U E : List Lexed → Phrase → Type 0) (w : Word) (o : Opening) (at : ℕ) (x : List Lexed) (v : Phrase) → opening_of w ≡ Some o → UnaryBehind U E w at x v → OpenBehind U E o at x v
-open_from U E (Operates Sub) o at x v e h = subst (λ o. OpenBehind U E o at x v) (some_is e) h
+open_from U E (Keyed (Operates Sub)) o at x v e h = subst (λ o. OpenBehind U E o at x v) (some_is e) h
 open_from U E (Shows Tilde) o at x v e h = subst (λ o. OpenBehind U E o at x v) (some_is e) h
 open_from U E (Shows LeftParen) o at x v e h = subst (λ o. OpenBehind U E o at x v) (some_is e) h
-open_from U E (Calls call) o at x v e h = subst (λ o. OpenBehind U E o at x v) (some_is e) h
+open_from U E (Keyed (Calls call)) o at x v e h = subst (λ o. OpenBehind U E o at x v) (some_is e) h
 open_from U E _ o at x v e h = absurd cc
 
 pub open_within : (levels d : ℕ) → levels ≡ suc d → {more : Lexed → Bool} {room : ℕ} {ts rest : List Lexed} {t : Lexed} {o : Opening} → 1 ≤ room → ts ≡ t ∷ rest → opening_of t.word ≡ Some o
@@ -151,19 +151,19 @@ nothing_opens (Signs op) at x v h = h.first
 nothing_opens Paren at x v h = h.first.first
 nothing_opens (Asks call) at x v h = h.first.second
 
-pub width_behind : {make : ℕ → Phrase} → AtLeast {V = Phrase} 3 (Bind (Before (Behind Comma IsNumber) RightParen) (λ _ n. Return (make n)))
+pub width_behind : {make : ℕ → Phrase} → AtLeast {T = Lexed} {V = Phrase} 3 (Bind (Before (Behind Comma IsNumber) RightParen) (λ _ n. Return (make n)))
 width_behind = bind_least 3 0 (bind_least 2 1 (bind_least 1 1 token_least (λ u. token_least)) (λ n. bind_least 1 0 token_least (λ u. any_least))) (λ n. any_least)
 
-pub width_most : {make : ℕ → Phrase} → AtMost {V = Phrase} 3 (Bind (Before (Behind Comma IsNumber) RightParen) (λ _ n. Return (make n)))
+pub width_most : {make : ℕ → Phrase} → AtMost {T = Lexed} {V = Phrase} 3 (Bind (Before (Behind Comma IsNumber) RightParen) (λ _ n. Return (make n)))
 width_most = bind_most 3 0 (bind_most 2 1 (bind_most 1 1 (token_most one) (λ u. token_most one)) (λ n. bind_most 1 0 (token_most one) (λ u. return_most))) (λ n. return_most)
   where
     one : 1 ≤ 1
     one = omega arith
 
-pub short_sign : {s : Symbol} → Short 1 (Sign s)
+pub short_sign : {s : Symbol} → Short {T = Lexed} 1 (Sign s)
 short_sign {s = s} = short_token (record { word = Shows s; at = 0 }) tt refl
 
-pub short_width : {make : ℕ → Phrase} → Short {V = Phrase} 3 (Bind (Before (Behind Comma IsNumber) RightParen) (λ _ n. Return (make n)))
+pub short_width : {make : ℕ → Phrase} → Short {T = Lexed} {V = Phrase} 3 (Bind (Before (Behind Comma IsNumber) RightParen) (λ _ n. Return (make n)))
 short_width = short_bind 3 0 (short_bind 2 1 (short_bind 1 1 short_sign (λ u. short_token (record { word = Number 0; at = 0 }) 0 refl)) (λ n. short_bind 1 0 short_sign (λ u. short_return))) (λ n. short_return)
 
 open_least : (d : ℕ) (o : Opening) (at : ℕ) (x : List Lexed) (v : Phrase) → OpenBehind (IsUnary d) (IsExpr d) o at x v → least_of o ≤ 1 + length x
@@ -184,10 +184,10 @@ not_opened (suc d) {t = t} {o = o} long parts is bar = word_misses (UnaryBehind 
 no_leaf : (U E : List Lexed → Phrase → Type 0) (w : Word) → opening_of w ≡ None → ((n : List ℕ) → w ≡ Name n → ⊥) → ((n : ℕ) → w ≡ Number n → ⊥) → (at : ℕ) (x : List Lexed) (v : Phrase) → UnaryBehind U E w at x v → ⊥
 no_leaf U E (Name n) e a b at x v h = a n refl
 no_leaf U E (Number n) e a b at x v h = b n refl
-no_leaf U E (Operates Sub) e a b at x v h = absurd cc
+no_leaf U E (Keyed (Operates Sub)) e a b at x v h = absurd cc
 no_leaf U E (Shows Tilde) e a b at x v h = absurd cc
 no_leaf U E (Shows LeftParen) e a b at x v h = absurd cc
-no_leaf U E (Calls call) e a b at x v h = absurd cc
+no_leaf U E (Keyed (Calls call)) e a b at x v h = absurd cc
 no_leaf U E _ e a b at x v h = h
 
 pub unary_missed : (levels : ℕ) {more : Lexed → Bool} {room : ℕ} {ts rest : List Lexed} {t : Lexed} → 1 ≤ room → ts ≡ t ∷ rest → opening_of t.word ≡ None → ((n : List ℕ) → t.word ≡ Name n → ⊥) → ((n : ℕ) → t.word ≡ Number n → ⊥)

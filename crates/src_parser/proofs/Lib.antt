@@ -3,4 +3,3 @@ mod Expressions
 mod Rooms
 mod Statements
 pub mod TextFaults
-mod Tokens

@@ -7,9 +7,8 @@ use Rattle.grammar.specs.Reading.{Return, Token, Bind, Within, Maybe, without, w
 use Rattle.grammar.proofs.Steps.{leads_as, token_reads, fails_here, never_stops}
 use Rattle.grammar.proofs.Passing.{Apart, never_apart, then_leads, stops_at, maybe_leads}
 use Rattle.grammar.proofs.Limits.{limited, limited_fails, within_reads, within_made, used_length}
-use Rattle.src_model.specs.declared.words.Lexed.{Lexed}
-use Rattle.src_model.specs.declared.words.Word.{Word}
-use Rattle.src_model.specs.Grammar.{ByWord}
+use Rattle.src_model.specs.Grammar.{Lexed, Word}
+use Rattle.grammar.specs.Tokens.{ByWord}
 
 -- a text of at most so many tokens
 pub record Short {T V : Type 0} (n : ℕ) (R : List T → V → Type 0) : Type 0 where

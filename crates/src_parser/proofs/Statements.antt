@@ -7,32 +7,37 @@ use Rattle.grammar.specs.Reading.{Bind, without, head, never, Reads, FailsAs, Le
 use Rattle.grammar.proofs.Steps.{leads_as, never_stops}
 use Rattle.grammar.proofs.Passing.{There, there_bind, there_return, there_token, there_many, Apart, Starts, starts_bind, starts_apart, maybe_leads, maybe_none, then_leads, same_leads}
 use Rattle.grammar.proofs.Repeats.{Repeated}
+use Rattle.src_model.specs.declared.program.Cmp.{Cmp}
 use Rattle.src_model.specs.declared.program.Cmp.TheVariants.{Eq}
 use Rattle.src_model.specs.declared.program.SrcExpr.{SrcExpr}
 use Rattle.src_model.specs.declared.program.SrcTest.{SrcTest}
 use Rattle.src_model.specs.declared.program.Spot.{roll-Spot}
 use Rattle.src_model.specs.declared.program.Stmt.{Stmt, If as IfMade, While as WhileMade, For as ForMade}
-use Rattle.src_model.specs.declared.words.Lexed.{Lexed}
-use Rattle.src_model.specs.declared.words.Word.{Word}
-use Rattle.src_model.specs.declared.words.Word.TheVariants.{Name, Compare as Compares, Symbol as Shows}
+use Rattle.src_model.specs.Grammar.{Lexed, Word, IsIndex, IsInner, IsOuter, IsCmp, IsBlock, IsBody, IsAct, ActBehind}
+use Rattle.grammar.specs.declared.words.Word.TheVariants.{Name, Symbol as Shows, Key as Keyed}
+use Rattle.src_model.specs.declared.words.Key.TheVariants.{Compare as Compares}
 use Rattle.src_model.specs.declared.words.Symbol.TheVariants.{LeftBrace, RightBrace, LeftBracket, RightBracket, If, Else, While, For}
 use Rattle.src_model.specs.Written.{Act, choice, while, count, act_of, acts_of, other_of, test_of, place_of, index_of}
-use Rattle.src_model.specs.Grammar.{Behind, Before, IsNothing, IsIndex, IsInner, IsOuter, IsCmp, IsBlock, IsBody, IsAct, ActBehind}
+use Rattle.grammar.specs.Tokens.{Behind, Before, IsNothing, BeginsWith, BeginsSo}
 use Rattle.src_model.proofs.Views.{act_If, act_While, act_For, else_acts}
 use Rattle.src_parser.specs.declared.statement.Compound.{Compound}
 use Rattle.src_parser.specs.declared.statement.Compound.TheVariants.{If as Chooses, While as Repeats, For as Counts}
-use Rattle.src_parser.specs.Steps.{BeginsWith, BeginsSo, OpensBracket, CompoundBehind, compound_of, act_word, else_word, acts_word, may_follow, after, after_else, after_acts, others_of}
-use Rattle.src_parser.proofs.Tokens.{Shown, begun, there_behind, there_before, there_word, word_leads, word_ended, word_missed}
+use Rattle.src_parser.specs.Steps.{OpensBracket, CompoundBehind, compound_of, act_word, cmp_of, else_word, acts_word, may_follow, after, after_else, after_acts, others_of}
+use Rattle.grammar.proofs.Tokens.{Shown, begun, there_behind, there_before, there_word, word_leads, word_ended, word_missed}
 use Rattle.src_parser.proofs.Expressions.{short_chain, some_is}
 
 pub there_outer : (d : ℕ) → There (IsOuter d)
 there_outer d = (let s = short_chain 6 d in let f : length s.text ≤ 1 = s.fits in record { text = s.text; value = s.value; is = record { text = s.is; fits = omega arith } })
 
 pub there_cmp : There IsCmp
-there_cmp = there_token (record { word = Compares Eq; at = 0 }) Eq refl
+there_cmp = there_token (record { word = Keyed (Compares Eq); at = 0 }) Eq refl
+
+pub is_cmp : (w : Word) (cmp : Cmp) → cmp_of w ≡ Some cmp → w ≡ Keyed (Compares cmp)
+is_cmp (Keyed (Compares c)) cmp e = (let k : c ≡ cmp = cc in ap (λ (x : Cmp). let w : Word = Keyed (Compares x) in w) k)
+is_cmp _ cmp e = absurd cc
 
 pub cmp_apart : {V W : Type 0} {B : V → List Lexed → _ → List Lexed → W → Type 0} {more : Lexed → Bool} → Apart (after 6) (λ a. Bind IsCmp (B a)) more
-cmp_apart = starts_apart {begins = λ t. (c : _) × (t.word ≡ Compares c)} (λ a. starts_bind (λ t u h. (u, h))) (λ t h. ap (may_follow 6) h.1)
+cmp_apart = starts_apart {begins = λ t. (c : _) × (t.word ≡ Keyed (Compares c))} (λ a. starts_bind (λ t u h. (u, h))) (λ t h. ap (may_follow 6) h.1)
 
 -- ---- the index of an assigned place
 

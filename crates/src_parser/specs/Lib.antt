@@ -1,4 +1,3 @@
-pub mod Parses
 pub mod Steps
 pub mod Texts
 pub mod Words

@@ -1,13 +1,14 @@
 -- What the parts of the parser say of tokens.
-use Rattle.std.specs.Prelude.{◌≡◌, ◌≤◌, ℕ, zero, suc, Bool, true, false, List, ◌∷◌, Option, Some, None, nat_le, map}
-use Rattle.src_model.specs.declared.words.Lexed.{Lexed}
-use Rattle.src_model.specs.declared.words.Word.{Word}
-use Rattle.src_model.specs.declared.words.Word.TheVariants.{Name, Operator as Operates, Call as Calls, Symbol as Shows}
-use Rattle.src_model.specs.declared.words.Symbol.{Symbol}
+use Rattle.std.specs.Prelude.{◌≤◌, ℕ, zero, suc, Bool, true, false, List, Option, Some, None, nat_le, map}
+use Rattle.src_model.specs.Grammar.{Lexed, Word, rank, IsExpr, ActBehind, Signed, Enclosed, Called}
+use Rattle.grammar.specs.declared.words.Word.TheVariants.{Name, Symbol as Shows, Key as Keyed}
+use Rattle.src_model.specs.declared.words.Key.TheVariants.{Operator as Operates, Compare as Compares, Call as Calls}
+use Rattle.src_model.specs.declared.program.Cmp.{Cmp}
+use Rattle.grammar.specs.Tokens.{BeginsWith}
 use Rattle.src_model.specs.declared.words.Symbol.TheVariants.{Comma, LeftBracket, LeftParen, Tilde, Var, If, Else, While, For}
 use Rattle.rec_bits.specs.declared.operator.Op1.TheVariants.{Not, Neg}
 use Rattle.rec_bits.specs.declared.operator.Op2.TheVariants.{Sub}
-use Rattle.src_model.specs.Grammar.{rank, IsExpr, IsNothing, ActBehind, Signed, Enclosed, Called}
+use Rattle.grammar.specs.Tokens.{IsNothing}
 use Rattle.std.specs.Global.{Vec}
 use Rattle.src_model.specs.declared.program.Stmt.{Stmt}
 use Rattle.src_parser.specs.declared.statement.Compound.{Compound}
@@ -16,17 +17,10 @@ use Rattle.src_parser.specs.declared.expression.Opening.{Opening}
 use Rattle.src_parser.specs.declared.expression.Opening.TheVariants.{Sign, Paren, Call as Asks}
 use Rattle.src_model.specs.Written.{Phrase, Act, act_of}
 
--- the first token is this symbol
-pub record BeginsWith (symbol : Symbol) (ts : List Lexed) : Type 0 where
-  pub token : Lexed
-  pub rest : List Lexed
-  pub parts : ts ≡ token ∷ rest
-  pub is : token.word ≡ Shows symbol
-
 -- how tightly a word binds what stands before it: a bracket before all operators, and what is no operator not at all
 abbrev pub word_rank : Word → ℕ
 word_rank (Shows LeftBracket) = 0
-word_rank (Operates op) = rank op
+word_rank (Keyed (Operates op)) = rank op
 word_rank _ = 9
 
 -- what may go on behind an expression with the operators up to a rank
@@ -44,10 +38,10 @@ InExpr (suc levels) = IsExpr levels
 -- ---- what opens a level
 
 abbrev pub opening_of : Word → Option Opening
-opening_of (Operates Sub) = Some (Sign Neg)
+opening_of (Keyed (Operates Sub)) = Some (Sign Neg)
 opening_of (Shows Tilde) = Some (Sign Not)
 opening_of (Shows LeftParen) = Some Paren
-opening_of (Calls call) = Some (Asks call)
+opening_of (Keyed (Calls call)) = Some (Asks call)
 opening_of _ = None
 
 -- the fewest tokens of what is opened, with its first one
@@ -73,16 +67,14 @@ pub record OpensIndex (levels room : ℕ) (ts : List Lexed) : Type 0 where
 
 -- ---- statements
 
+-- the comparison that a word is
+abbrev pub cmp_of : Word → Option Cmp
+cmp_of (Keyed (Compares cmp)) = Some cmp
+cmp_of _ = None
+
 pub record OpensBracket (levels : ℕ) (ts : List Lexed) : Type 0 where
   pub begins : BeginsWith LeftBracket ts
   pub level : 1 ≤ levels
-
--- the word of the first token passes a test
-pub record BeginsSo (test : Word → Bool) (ts : List Lexed) : Type 0 where
-  pub token : Lexed
-  pub rest : List Lexed
-  pub parts : ts ≡ token ∷ rest
-  pub is : test token.word ≡ true
 
 -- what begins a statement
 abbrev pub act_word : Word → Bool

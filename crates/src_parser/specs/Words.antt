@@ -1,18 +1,15 @@
 -- The words that tokens stand for.
-use Rattle.std.specs.Prelude.{ℕ, List, codes, Option, Some, None, if◌then◌else◌, map}
+use Rattle.std.specs.Prelude.{ℕ, List, codes, Option, Some, None, if◌then◌else◌}
 use Rattle.std.specs.Str.{bytes_eq}
 use Rattle.rec_bits.specs.declared.operator.Op2.{Op2}
 use Rattle.rec_bits.specs.declared.operator.Op2.TheVariants.{Add, Sub, Mul, And, Or, Xor, Shl, Shr, Sar}
 use Rattle.lexing.specs.declared.token.Token.{Token}
-use Rattle.lexing.specs.declared.token.Kind.{Kind}
-use Rattle.lexing.specs.declared.token.Kind.TheVariants.{Name, Reserved, Number, Sign, Bad}
-use Rattle.lexing.specs.Numbers.{written_number}
-use Rattle.lexing.specs.Tokens.{token_bytes}
+use Rattle.lexing.specs.Words.{or_else, lexed_all}
 use Rattle.src_model.specs.declared.program.Cmp.{Cmp}
 use Rattle.src_model.specs.declared.program.Cmp.TheVariants.{Eq, Ne, Lt, Le, Gt, Ge, Slt, Sle, Sgt, Sge}
-use Rattle.src_model.specs.declared.words.Lexed.{Lexed}
-use Rattle.src_model.specs.declared.words.Word.{Word}
-use Rattle.src_model.specs.declared.words.Word.TheVariants.{Name as Named, Number as Counts, Operator as Operates, Compare as Compares, Call as Calls, Symbol as Shows, Other}
+use Rattle.src_model.specs.Grammar.{Lexed, Word}
+use Rattle.grammar.specs.declared.words.Word.TheVariants.{Symbol as Shows, Key as Keyed, Other}
+use Rattle.src_model.specs.declared.words.Key.TheVariants.{Operator as Operates, Compare as Compares, Call as Calls}
 use Rattle.src_model.specs.declared.words.Call.{Call}
 use Rattle.src_model.specs.declared.words.Call.TheVariants.{Zext, Sext, Low}
 use Rattle.src_model.specs.declared.words.Symbol.{Symbol}
@@ -86,35 +83,18 @@ sign_of text =
     if bytes_eq text (codes "]") then Some RightBracket else (
     None))))))))))
 
--- the first that is there
-abbrev pub or_else : {A : Type 0} → (A → Word) → Option A → Word → Word
-or_else make None next = next
-or_else make (Some a) next = make a
-
 abbrev pub reserved_of : List ℕ → Word
 reserved_of text =
-    or_else Compares (signed_of text) (
-    or_else Calls (call_of text) (
+    or_else (λ cmp. Keyed (Compares cmp)) (signed_of text) (
+    or_else (λ call. Keyed (Calls call)) (call_of text) (
     or_else Shows (symbol_of text) Other))
 
 abbrev pub sign_word : List ℕ → Word
 sign_word text =
-    or_else Compares (compare_of text) (
-    or_else Operates (operator_of text) (
+    or_else (λ cmp. Keyed (Compares cmp)) (compare_of text) (
+    or_else (λ op. Keyed (Operates op)) (operator_of text) (
     or_else Shows (sign_of text) Other))
 
--- the word that a text of some kind is
-abbrev pub word_of : Kind → List ℕ → Word
-word_of Name text = Named text
-word_of Reserved text = reserved_of text
-word_of Number text = Counts (written_number text)
-word_of Sign text = sign_word text
-word_of Bad text = Other
-
--- a token of a text, with the word that it is
-abbrev pub lexed_of : List ℕ → Token → Lexed
-lexed_of bytes token = record { word = word_of token.kind (token_bytes bytes token); at = token.at }
-
--- all tokens of a text
-abbrev pub lexed_all : List ℕ → List Token → List Lexed
-lexed_all bytes tokens = map (lexed_of bytes) tokens
+-- all tokens of a program's text, with the words that they are
+abbrev pub src_words : List ℕ → List Token → List Lexed
+src_words = lexed_all reserved_of sign_word

@@ -3,11 +3,11 @@
 ghost use Rattle.std.specs.Prelude.{◌≡◌};
 ghost use Rattle.grammar.specs.Reading.{Gives, Maybe, never};
 ghost use Rattle.src_model.specs.declared.words.Symbol.TheVariants.{LeftBracket, RightBracket};
-ghost use Rattle.src_model.specs.Grammar.{Before, Behind, DeclsBehind, IsDecl, IsDecls, IsLines, IsNumber};
+ghost use Rattle.grammar.specs.Tokens.{Before, Behind, IsNumber};
+ghost use Rattle.src_model.specs.Grammar.{DeclsBehind, IsDecl, IsDecls, IsLines};
 ghost use Rattle.src_parser.specs.Steps.{after_decl, after_decls, after_lines};
 
-use crate::step::{begins_with, expect, name, number};
-use grammar::Stop;
+use grammar::{Stop, begins_with, expect, name, number};
 use src_model::{Lexed, Symbol, Var};
 use std::alloc::Global;
 
@@ -37,9 +37,14 @@ fn length(ts: &[Lexed]) -> Result<(Option<u64>, &[Lexed]), Stop>
 fn declared(alloc: Global, ts: &[Lexed]) -> Result<(Var, &[Lexed]), Stop>
     ensures { Gives (λ x. (x.0, x.1.now)) IsDecl after_decl ts.now result }
 {
-    let ((name, at), rest) = name(alloc, ts)?;
+    let (ident, rest) = name(alloc, ts)?;
     let (len, rest) = length(rest)?;
-    Ok((Var { name, at, len }, rest))
+    let var = Var {
+        name: ident.name,
+        at: ident.at,
+        len,
+    };
+    Ok((var, rest))
 }
 
 /// A symbol, and a name with its length.

@@ -3,16 +3,16 @@
 ghost use Rattle.std.specs.Prelude.{◌≡◌, ◌≤◌, ◌-◌, ◌↔◌, IsTrue, IfOk, IfErr, false};
 ghost use Rattle.grammar.specs.Reading.{Gives, Tail, Within, never};
 ghost use Rattle.grammar.specs.declared.stop.Stop.TheVariants.{Memory as Exhausted};
-ghost use Rattle.src_model.specs.declared.words.Word.TheVariants.{Name as Named, Symbol as Shows};
+ghost use Rattle.grammar.specs.declared.words.Word.TheVariants.{Name as Named, Symbol as Shows};
 ghost use Rattle.src_model.specs.declared.words.Symbol.TheVariants.{Comma, LeftBracket, LeftParen, RightBracket, RightParen};
-ghost use Rattle.src_model.specs.Grammar.{Before, Behind, Called, Chains, Enclosed, IsExpr, IsIndex, IsNothing, IsNumber, IsOuter, IsUnary, PlaceBehind, Signed, UnaryBehind, join, op_at, op_of, rank};
+ghost use Rattle.grammar.specs.Tokens.{Before, Behind, IsNothing};
+ghost use Rattle.src_model.specs.Grammar.{Called, Chains, Enclosed, IsExpr, IsIndex, IsOuter, IsUnary, PlaceBehind, Signed, UnaryBehind, join, op_at, op_of, rank};
 ghost use Rattle.src_model.specs.Written.{index_of, phrase_of, place_of};
 ghost use Rattle.src_parser.specs.Steps.{HasRoom, InExpr, OpensIndex, OpenBehind, after, least_of, may_follow, opening_of};
 
-use crate::step::{begins_with, expect, front, number_behind};
-use grammar::Stop;
+use grammar::{Stop, begins_with, expect, front, number_between};
 use rec_bits::{Items, Name, Op1, Op2};
-use src_model::{Call, Lexed, Spot, SrcExpr, SrcNode, Symbol, Word};
+use src_model::{Call, Key, Lexed, Spot, SrcExpr, SrcNode, Symbol, Word};
 use std::alloc::Global;
 
 /// The most tokens of an expression that isn't inside another one.
@@ -34,10 +34,10 @@ fn opening_of(word: &Word) -> Option<Opening>
     ensures { result ≡ opening_of word.now }
 {
     match word {
-        Word::Operator(Op2::Sub) => Some(Opening::Sign(Op1::Neg)),
+        Word::Key(Key::Operator(Op2::Sub)) => Some(Opening::Sign(Op1::Neg)),
         Word::Symbol(Symbol::Tilde) => Some(Opening::Sign(Op1::Not)),
         Word::Symbol(Symbol::LeftParen) => Some(Opening::Paren),
-        Word::Call(call) => Some(Opening::Call(*call)),
+        Word::Key(Key::Call(call)) => Some(Opening::Call(*call)),
         _ => None,
     }
 }
@@ -73,7 +73,7 @@ fn op_of(k: u8, word: &Word) -> Option<Op2>
     ensures { result ≡ op_of k word.now }
 {
     match word {
-        Word::Operator(op) => { if rank(*op) == k { Some(*op) } else { None } }
+        Word::Key(Key::Operator(op)) => { if rank(*op) == k { Some(*op) } else { None } }
         _ => None,
     }
 }
@@ -104,15 +104,6 @@ fn called(alloc: Global, call: Call, at: u64, a: SrcExpr, width: u64) -> Result<
         Call::Low => SrcNode::Low(a, width),
     };
     Ok(SrcExpr { at, node })
-}
-
-/// The number of bits at the end of a call.
-fn width_end(ts: &[Lexed]) -> Result<(u64, &[Lexed]), Stop>
-    ensures { Gives (λ x. (x.0, x.1.now)) (Before (Behind Comma IsNumber) RightParen) never ts.now result }
-{
-    let (width, rest) = number_behind(Symbol::Comma, ts)?;
-    let rest = expect(Symbol::RightParen, rest)?;
-    Ok((width, rest))
 }
 
 /// Whether a level can be opened that takes so many tokens.
@@ -328,7 +319,7 @@ fn call(
     ensures { Gives (λ x. (phrase_of x.0, x.1.now)) (Within room (Called (IsExpr levels) call at)) (after 0) ts.now result }
 {
     let (a, rest) = argument(alloc, levels, room - 3, ts)?;
-    let (width, rest) = width_end(rest)?;
+    let (width, rest) = number_between(Symbol::Comma, Symbol::RightParen, rest)?;
     let e = called(alloc, call, at, a, width)?;
     Ok((e, rest))
 }

@@ -4,7 +4,6 @@
 mod declaration;
 mod expression;
 mod statement;
-mod step;
 mod text;
 mod whole;
 mod words;

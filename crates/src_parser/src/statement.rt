@@ -2,18 +2,28 @@
 
 ghost use Rattle.std.specs.Prelude.{◌≡◌, ◌≤◌, ◌↔◌, IsTrue, false, map};
 ghost use Rattle.grammar.specs.Reading.{Gives, never};
-ghost use Rattle.src_model.specs.declared.words.Word.TheVariants.{Name as Named, Symbol as Shows};
+ghost use Rattle.grammar.specs.declared.words.Word.TheVariants.{Name as Named, Symbol as Shows};
 ghost use Rattle.src_parser.specs.declared.statement.Compound.TheVariants.{For as Counts, If as Chooses, While as Repeats};
-ghost use Rattle.src_model.specs.Grammar.{ActBehind, Before, Behind, IsAct, IsBlock, IsBody, IsCmp, IsElse, IsIndex, IsInner, IsNothing, IsOuter, IsTest};
+ghost use Rattle.src_model.specs.Grammar.{ActBehind, IsAct, IsBlock, IsBody, IsCmp, IsElse, IsIndex, IsInner, IsOuter, IsTest};
+ghost use Rattle.grammar.specs.Tokens.{Before, Behind, IsNothing, BeginsSo};
 ghost use Rattle.src_model.specs.Written.{act_of, index_of, phrase_of, test_of};
-ghost use Rattle.src_parser.specs.Steps.{BeginsSo, CompoundBehind, OpensBracket, act_word, after, after_acts, after_else, compound_of, may_follow, others_of};
+ghost use Rattle.src_parser.specs.Steps.{CompoundBehind, OpensBracket, act_word, after, after_acts, after_else, cmp_of, compound_of, may_follow, others_of};
 
 use crate::expression::expr;
-use crate::step::{begins_with, expect, front, name, number_behind};
-use grammar::Stop;
+use grammar::{Stop, begins_with, expect, front, name, number_behind};
 use rec_bits::{Items, Name};
-use src_model::{Cmp, Lexed, Spot, SrcExpr, SrcTest, Stmt, Symbol, Word};
+use src_model::{Cmp, Key, Lexed, Spot, SrcExpr, SrcTest, Stmt, Symbol, Word};
 use std::alloc::Global;
+
+/// The comparison that the word is.
+fn cmp_of(word: &Word) -> Option<Cmp>
+    ensures { result ≡ cmp_of word.now }
+{
+    match word {
+        Word::Key(Key::Compare(cmp)) => Some(*cmp),
+        _ => None,
+    }
+}
 
 /// A word that compares.
 fn cmp(ts: &[Lexed]) -> Result<(Cmp, &[Lexed]), Stop>
@@ -22,10 +32,10 @@ fn cmp(ts: &[Lexed]) -> Result<(Cmp, &[Lexed]), Stop>
     let Some((t, rest)) = front(ts) else {
         return Err(Stop::At(0));
     };
-    match t.word {
-        Word::Compare(cmp) => Ok((cmp, rest)),
-        _ => Err(Stop::At(ts.len())),
-    }
+    let Some(cmp) = cmp_of(&t.word) else {
+        return Err(Stop::At(ts.len()));
+    };
+    Ok((cmp, rest))
 }
 
 /// A test.
@@ -206,13 +216,13 @@ fn counting(alloc: Global, levels: u8, ts: &[Lexed]) -> Result<(Stmt, &[Lexed]),
     requires { 1 ≤ levels }
     ensures { Gives (λ x. (act_of x.0, x.1.now)) (CompoundBehind levels (IsBlock levels) Counts) after_else ts.now result }
 {
-    let ((counter, at), rest) = name(alloc, ts)?;
+    let (counter, rest) = name(alloc, ts)?;
     let (from, rest) = number_behind(Symbol::Equals, rest)?;
     let (to, rest) = number_behind(Symbol::To, rest)?;
     let (body, rest) = block(alloc, levels, rest)?;
     let act = Stmt::For {
-        counter,
-        at,
+        counter: counter.name,
+        at: counter.at,
         from,
         to,
         body,

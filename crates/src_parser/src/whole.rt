@@ -1,22 +1,22 @@
 //! Whole texts.
 
-ghost use Rattle.std.specs.Prelude.{◌≡◌, ◌-◌, ◌≤◌, length, drop, IfOk, IfErr, MatchResult};
+ghost use Rattle.std.specs.Prelude.{◌≡◌, IfOk, IfErr, MatchResult};
 ghost use Rattle.rec_bits.specs.declared.fault.ParseFault.{ParseFault};
 ghost use Rattle.grammar.specs.Reading.{Gives, IsStop};
 ghost use Rattle.grammar.specs.declared.stop.Stop.{Stop};
 ghost use Rattle.src_model.specs.Grammar.{IsText};
 ghost use Rattle.src_model.specs.Written.{Listing, listing_of};
-ghost use Rattle.src_parser.specs.Parses.{IsParseFault, offset_of};
+ghost use Rattle.grammar.specs.Parses.{IsParseFault};
 ghost use Rattle.src_parser.specs.Steps.{after_text};
-ghost use Rattle.src_parser.specs.Words.{lexed_all};
+ghost use Rattle.src_parser.specs.Words.{src_words};
 
 use crate::declaration::lines;
 use crate::statement::body;
-use crate::words::lexed;
-use grammar::Stop;
-use lexing::Token;
+use crate::words::Words;
+use grammar::{Stop, offset};
+use lexing::{Token, lexed};
 use rec_bits::{Items, ParseFault};
-use src_model::{Lexed, Program};
+use src_model::{Key, Lexed, Program, Symbol};
 use std::alloc::Global;
 
 /// How many levels blocks and expressions may have together.
@@ -46,31 +46,20 @@ fn text(alloc: Global, ts: &[Lexed]) -> Result<Program, Stop>
     }
 }
 
-/// The offset of the token with which so many are left, or the length of the text.
-fn offset(bytes: &[u8], ts: &[Lexed], left: usize) -> u64
-    requires { left ≤ length ts.now }
-    ensures { result ≡ offset_of (length bytes.now) (drop (length ts.now - left) ts.now) }
-{
-    match &ts[ts.len() - left..] {
-        [t, ..] => t.at,
-        [] => bytes.len() as u64,
-    }
-}
-
 /// The program that the tokens of the text `bytes` spell. `Text` comes exactly where they spell none, with the offset of the
 /// first token such that those before it begin some text and with it they don't, or the length of the text where all of them
 /// begin one. `Memory` is want of memory.
 pub fn parse(alloc: Global, bytes: &[u8], tokens: &Items<Token>) -> Result<Program, ParseFault>
     // What is answered is what the tokens spell.
-    ensures found { IfOk result (λ program. IsText (lexed_all bytes.now tokens.now) (listing_of program)) }
+    ensures found { IfOk result (λ program. IsText (src_words bytes.now tokens.now) (listing_of program)) }
 
     // Whatever they spell is answered, and nothing else, unless memory runs out.
-    ensures only { (listing : Listing) → IsText (lexed_all bytes.now tokens.now) listing → MatchResult result (λ program. listing_of program ≡ listing) (λ fault. fault ≡ ParseFault.Memory) }
+    ensures only { (listing : Listing) → IsText (src_words bytes.now tokens.now) listing → MatchResult result (λ program. listing_of program ≡ listing) (λ fault. fault ≡ ParseFault.Memory) }
 
     // Where they spell nothing, the fault is at the first token that shows it.
-    ensures fault { IfErr result (IsParseFault bytes.now (lexed_all bytes.now tokens.now)) }
+    ensures fault { IfErr result (IsParseFault IsText bytes.now (src_words bytes.now tokens.now)) }
 {
-    let ts = lexed(alloc, bytes, tokens.as_slice())?;
+    let ts = lexed::<Symbol, Key, Words>(alloc, bytes, tokens.as_slice())?;
     match text(alloc, ts.as_slice()) {
         Ok(program) => Ok(program),
         Err(Stop::At(left)) => Err(ParseFault::Text(offset(bytes, ts.as_slice(), left))),

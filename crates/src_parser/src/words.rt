@@ -1,13 +1,11 @@
 //! The words that tokens stand for.
 
-ghost use Rattle.std.specs.Prelude.{◌≡◌, IfOk};
-ghost use Rattle.lexing.specs.Tokens.{token_bytes};
-ghost use Rattle.src_parser.specs.Words.{call_of, compare_of, lexed_all, lexed_of, operator_of, reserved_of, sign_of, signed_of, sign_word, symbol_of, word_of};
+ghost use Rattle.std.specs.Prelude.{◌≡◌};
+ghost use Rattle.src_parser.specs.Words.{call_of, compare_of, operator_of, sign_of, signed_of, symbol_of};
 
-use lexing::{Kind, Token, number_of};
-use rec_bits::{Items, NoMemory, Op2};
-use src_model::{Call, Cmp, Lexed, Symbol, Word};
-use std::alloc::Global;
+use lexing::Vocabulary;
+use rec_bits::Op2;
+use src_model::{Call, Cmp, Key, Symbol, Word};
 
 /// The signs that compare.
 fn compare_of(text: &[u8]) -> Option<Cmp>
@@ -114,59 +112,39 @@ fn sign_of(text: &[u8]) -> Option<Symbol>
     }
 }
 
-/// The word of a reserved word's bytes.
-fn reserved_of(text: &[u8]) -> Word
-    ensures { result ≡ reserved_of text.now }
-{
-    if let Some(cmp) = signed_of(text) {
-        return Word::Compare(cmp);
-    }
-    if let Some(call) = call_of(text) {
-        return Word::Call(call);
-    }
-    match symbol_of(text) {
-        Some(symbol) => Word::Symbol(symbol),
-        None => Word::Other,
-    }
-}
+/// The words of programs.
+pub struct Words;
 
-/// The word of a sign's bytes.
-fn sign_word(text: &[u8]) -> Word
-    ensures { result ≡ sign_word text.now }
-{
-    if let Some(cmp) = compare_of(text) {
-        return Word::Compare(cmp);
-    }
-    if let Some(op) = operator_of(text) {
-        return Word::Operator(op);
-    }
-    match sign_of(text) {
-        Some(sign) => Word::Symbol(sign),
-        None => Word::Other,
-    }
-}
+impl Vocabulary<Symbol, Key> for Words {
+    ghost use Rattle.src_parser.specs.Words.{reserved_of, sign_word};
 
-/// The word of a token's bytes.
-fn word_of(alloc: Global, kind: Kind, text: &[u8]) -> Result<Word, NoMemory>
-    ensures { IfOk result (λ word. word ≡ word_of kind text.now) }
-{
-    Ok(match kind {
-        Kind::Name => Word::Name(Items::from_slice(alloc, text)?),
-        Kind::Reserved => reserved_of(text),
-        Kind::Number => Word::Number(number_of(text)),
-        Kind::Sign => sign_word(text),
-        Kind::Bad => Word::Other,
-    })
-}
+    ghost reserved = { reserved_of };
 
-/// The tokens of a text, each with the word that it is.
-pub fn lexed(alloc: Global, bytes: &[u8], tokens: &[Token]) -> Result<Vec<Lexed>, NoMemory>
-    ensures { IfOk result (λ list. list.items ≡ lexed_all bytes.now tokens.now) }
-{
-    let mut list = Vec::new(alloc);
-    for token in tokens {
-        let word = word_of(alloc, token.kind, token.bytes(bytes))?;
-        list.push(Lexed { word, at: token.at })?;
+    ghost sign = { sign_word };
+
+    fn reserved(text: &[u8]) -> Word {
+        if let Some(cmp) = signed_of(text) {
+            return Word::Key(Key::Compare(cmp));
+        }
+        if let Some(call) = call_of(text) {
+            return Word::Key(Key::Call(call));
+        }
+        match symbol_of(text) {
+            Some(symbol) => Word::Symbol(symbol),
+            None => Word::Other,
+        }
     }
-    Ok(list)
+
+    fn sign(text: &[u8]) -> Word {
+        if let Some(cmp) = compare_of(text) {
+            return Word::Key(Key::Compare(cmp));
+        }
+        if let Some(op) = operator_of(text) {
+            return Word::Key(Key::Operator(op));
+        }
+        match sign_of(text) {
+            Some(sign) => Word::Symbol(sign),
+            None => Word::Other,
+        }
+    }
 }

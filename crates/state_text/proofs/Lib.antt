@@ -1,4 +1,6 @@
 mod Storages
+mod Starts
+pub mod Told
 mod Progress
 mod Shown
 mod Rooms

@@ -14,7 +14,8 @@ use Rattle.net_model.specs.Texts.{memory_name}
 use Rattle.net_model.specs.CheckedRules.{StorageKeeps, KeepsRules}
 use Rattle.net_model.specs.Widths.{IsState}
 use Rattle.net_model.proofs.Memories.{few_cells, memory_wide}
-use Rattle.state_text.specs.Shown.{register_line, register_lines, cell_line, cell_lines, state_text, register_room, state_room}
+use Rattle.state_text.specs.Shown.{register_lines, shown_cell, cell_lines, state_text, register_room, state_room}
+use Rattle.net_model.specs.MemoryText.{register_line}
 
 digits_short : (n : ℕ) → n < 2 ^ 64 → length (decimal n) ≤ 20
 digits_short n h = length-decimal-le 20 n (omega arith) (omega (arith, h)) h
@@ -29,7 +30,7 @@ registers_short regs id (Register name width input when ∷ storages) h =
     omega (arith, length-append (register_line name (get_or regs id 0)) (register_lines regs (id + 1) storages), line_short name (get_or regs id 0) (h id), registers_short regs (id + 1) storages h)
 registers_short regs id (Memory name width size addr_width value addr when ∷ storages) h = registers_short regs (id + 1) storages h
 
-cell_short : (name : List ℕ) (address value : ℕ) → address < 2 ^ 64 → value < 2 ^ 64 → length (cell_line name address value) ≤ length name + 43
+cell_short : (name : List ℕ) (address value : ℕ) → address < 2 ^ 64 → value < 2 ^ 64 → length (shown_cell name address value) ≤ length name + 43
 cell_short name address value a h = step (value == 0)
   where
     step : (t : Bool) → length (cond t [] (name ++ (32 ∷ (decimal address ++ (32 ∷ (decimal value ++ (10 ∷ []))))))) ≤ length name + 43
@@ -41,15 +42,15 @@ cells_short name address [] small h = omega arith
 cells_short name address (value ∷ cells) small h =
     let rest = cells_short name (address + 1) cells (omega (arith, small)) (λ k. h (suc k)) in
     let more : length (value ∷ cells) * (length name + 43) ≡ (length name + 43) + length cells * (length name + 43) = grind arith in
-    omega (arith, length-append (cell_line name address value) (cell_lines name (address + 1) cells), cell_short name address value (omega (arith, small)) (h 0), rest, more)
+    omega (arith, length-append (shown_cell name address value) (cell_lines name (address + 1) cells), cell_short name address value (omega (arith, small)) (h 0), rest, more)
 
-storage_narrow : (netlist : Netlist) (storages : List Storage) (k : ℕ) → AllByRecursion (StorageKeeps netlist) storages → storage_bits (slice_get storages k) ≤ 64
+pub storage_narrow : (netlist : Netlist) (storages : List Storage) (k : ℕ) → AllByRecursion (StorageKeeps netlist) storages → storage_bits (slice_get storages k) ≤ 64
 storage_narrow netlist [] k h = omega arith
 storage_narrow netlist (Register name width input when ∷ storages) zero h = h.0.0.1
 storage_narrow netlist (Memory name width size addr_width value addr when ∷ storages) zero h = h.0.0.1
 storage_narrow netlist (s ∷ storages) (suc k) h = storage_narrow netlist storages k h.1
 
-below_64 : (v bits : ℕ) → v < 2 ^ bits → bits ≤ 64 → v < 2 ^ 64
+pub below_64 : (v bits : ℕ) → v < 2 ^ bits → bits ≤ 64 → v < 2 ^ 64
 below_64 v bits h n = let p : 2 ^ bits ≤ 2 ^ 64 = pow-le-pow_right {n = 2} (omega arith) {i = bits} {j = 64} n in omega (arith, h, p)
 
 pub text_short : (netlist : Netlist) (order : List ℕ) (cycles : ℕ) (s : State) → KeepsRules netlist order → IsState netlist s → cycles < 2 ^ 64 → length (state_text netlist cycles s) ≤ state_room netlist

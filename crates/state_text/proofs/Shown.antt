@@ -5,7 +5,8 @@ use Rattle.std.proofs.lemmas.Option.{get_or_from_slice_get, slice_get_within}
 use Rattle.std.specs.Prelude.{slice_get}
 use Rattle.net_model.specs.declared.hardware.Storage.{Storage}
 use Rattle.net_model.specs.declared.hardware.Storage.TheVariants.{Register, Memory}
-use Rattle.state_text.specs.Shown.{register_line, register_lines, cell_line, cell_lines}
+use Rattle.state_text.specs.Shown.{register_lines, shown_cell, cell_lines}
+use Rattle.net_model.specs.MemoryText.{register_line}
 
 one_register : (regs : List ℕ) (id : ℕ) (storage : Storage) (storages : List Storage) → register_lines regs id (storage ∷ storages) ≡ register_lines regs id (storage ∷ []) ++ register_lines regs (id + 1) storages
 one_register regs id (Register name width input when) storages = ap (λ f. f ++ register_lines regs (id + 1) storages) (sym (append-nil (register_line name (get_or regs id 0))))
@@ -18,12 +19,12 @@ register_next regs id storages storage lt e =
     ∙ ap (λ n. register_lines regs id (storage ∷ []) ++ register_lines regs (id + 1) (drop n storages)) (sym (add-one id))
 
 pub cell_next : (name : List ℕ) (address : ℕ) (cells : List ℕ) (value : ℕ) → slice_get cells address ≡ Some value →
-    cell_lines name address (drop address cells) ≡ cell_line name address value ++ cell_lines name (address + 1) (drop (address + 1) cells)
+    cell_lines name address (drop address cells) ≡ shown_cell name address value ++ cell_lines name (address + 1) (drop (address + 1) cells)
 cell_next name address cells value e =
     let lt : address < length cells = slice_get_within cells address value e in
     ap (cell_lines name address) (drop-cons cells address 0 lt)
-    ∙ ap (λ v. cell_line name address v ++ cell_lines name (address + 1) (drop (suc address) cells)) (get_or_from_slice_get cells address value 0 e)
-    ∙ ap (λ n. cell_line name address value ++ cell_lines name (address + 1) (drop n cells)) (sym (add-one address))
+    ∙ ap (λ v. shown_cell name address v ++ cell_lines name (address + 1) (drop (suc address) cells)) (get_or_from_slice_get cells address value 0 e)
+    ∙ ap (λ n. shown_cell name address value ++ cell_lines name (address + 1) (drop n cells)) (sym (add-one address))
 
 -- what is written and what is left are the whole
 pub fits_first : (out initial first more left all : List ℕ) (room : ℕ) → out ++ left ≡ initial ++ all → left ≡ first ++ more → length initial + length all ≤ room → length out + length first ≤ room

@@ -1,10 +1,6 @@
--- What a memory text sets, line by line.
-use Rattle.std.specs.Prelude.{ℕ, ◌+◌, ◌^◌, ◌≡◌, ◌≢◌, ◌<◌, ◌==◌, nat_lt, if◌then◌else◌, List, [], ◌∷◌, ◌++◌, length, codes, position, Option, Some, None, slice_get, slice_set}
-use Rattle.std.proofs.Math.ListN.{replicate}
+-- What is read of a line of a memory text.
+use Rattle.std.specs.Prelude.{ℕ, ◌^◌, ◌≡◌, ◌≢◌, ◌<◌, ◌==◌, nat_lt, if◌then◌else◌, List, length, position, Option, Some, None, slice_get}
 use Rattle.std.specs.Str.{bytes_eq}
-use Rattle.std.specs.List.{concat}
-use Rattle.rec_bits.specs.declared.fault.ParseFault.{ParseFault}
-use Rattle.rec_bits.specs.declared.fault.ParseFault.TheVariants as fault
 use Rattle.net_model.specs.declared.hardware.Netlist.{Netlist}
 use Rattle.net_model.specs.declared.hardware.Storage.{Storage}
 use Rattle.net_model.specs.declared.hardware.Storage.TheVariants.{Register, Memory}
@@ -13,8 +9,8 @@ use Rattle.net_model.specs.Nets.{counter_of, memory_id, memory_size, memory_widt
 use Rattle.net_model.specs.CheckedRules.{storage_name}
 use Rattle.net_model.specs.Widths.{IsState}
 use Rattle.net_model.specs.Clock.{counter_in}
+use Rattle.net_model.specs.MemoryText.{with_register, with_cell}
 use Rattle.text_lines.specs.Fields.{parts_at, number_of, line_end, ◌>>=◌}
-use Rattle.text_lines.specs.Lines.{lines_of}
 use Rattle.state_text.specs.declared.setting.Setting.{Setting}
 use Rattle.state_text.specs.declared.setting.Setting.TheVariants.{Entry, Cell}
 
@@ -54,36 +50,8 @@ unfoldable pub setting_of : Netlist → List ℕ → Option Setting
 setting_of netlist line = parts_at 32 line >>= λ parts. setting_for netlist parts.0 parts.1
 
 abbrev pub with_setting : State → Setting → State
-with_setting s (Entry storage value) = record s { regs = slice_set s.regs storage value }
-with_setting s (Cell address value) = record s { cells = slice_set s.cells address value }
-
--- the state with what the lines set, one after the other
-unfoldable pub state_after : Netlist → State → List (List ℕ) → Option State
-state_after netlist s [] = Some s
-state_after netlist s (line ∷ lines) = setting_of netlist line >>= λ setting. state_after netlist (with_setting s setting) lines
-
--- nothing but zeros: an entry for each storage, and the memory's cells
-abbrev pub blank : List Storage → State
-blank storages = record { regs = replicate (length storages) 0; cells = replicate (memory_size storages) 0 }
-
--- the bytes are a memory text, which sets this state
-pub record IsStateText (netlist : Netlist) (bytes : List ℕ) (s : State) : Type 0 where
-  pub all : state_after netlist (blank netlist.storages) (lines_of bytes) ≡ Some s
-
--- The bytes aren't one: the lines before this byte are of the form, and the one that begins there isn't.
-pub record IsStateFault (netlist : Netlist) (bytes : List ℕ) (at : ℕ) : Type 0 where
-  pub before : List (List ℕ)
-  pub line : List ℕ
-  pub after : List (List ℕ)
-  pub state : State
-  pub lines : lines_of bytes ≡ before ++ (line ∷ after)
-  pub place : length (concat before) ≡ at
-  pub good : state_after netlist (blank netlist.storages) before ≡ Some state
-  pub bad : setting_of netlist line ≡ None
-
-abbrev pub IsStateRefusal : Netlist → List ℕ → ParseFault → Type 0
-IsStateRefusal netlist bytes (fault.Text at) = IsStateFault netlist bytes at
-IsStateRefusal netlist bytes fault.Memory = Unit {0}
+with_setting s (Entry storage value) = with_register s storage value
+with_setting s (Cell address value) = with_cell s address value
 
 -- what a line sets fits: a register that isn't the program counter, or a cell, with a value of its width
 abbrev pub SettingFits : Netlist → Setting → Type 0

@@ -8,10 +8,7 @@ use Rattle.net_model.specs.declared.hardware.Storage.TheVariants.{Register, Memo
 use Rattle.net_model.specs.declared.states.State.{State}
 use Rattle.net_model.specs.Nets.{memory_size}
 use Rattle.net_model.specs.Texts.{memory_name}
-
--- NAME VALUE
-abbrev pub register_line : List ℕ → ℕ → List ℕ
-register_line name value = concat (name ∷ codes " " ∷ decimal value ∷ codes "\n" ∷ [])
+use Rattle.net_model.specs.MemoryText.{register_line, cell_line}
 
 -- a line for each register, where the first of these storages has this number
 abbrev pub register_lines : List ℕ → ℕ → List Storage → List ℕ
@@ -19,14 +16,14 @@ register_lines regs id [] = []
 register_lines regs id (Register name width input when ∷ storages) = register_line name (slice_index regs id) ++ register_lines regs (id + 1) storages
 register_lines regs id (Memory name width size addr_width value addr when ∷ storages) = register_lines regs (id + 1) storages
 
--- MEMORY ADDRESS VALUE, and nothing for a cell of 0
-abbrev pub cell_line : List ℕ → ℕ → ℕ → List ℕ
-cell_line name address value = if value == 0 then [] else concat (name ∷ codes " " ∷ decimal address ∷ codes " " ∷ decimal value ∷ codes "\n" ∷ [])
+-- nothing for a cell of 0
+abbrev pub shown_cell : List ℕ → ℕ → ℕ → List ℕ
+shown_cell name address value = if value == 0 then [] else cell_line name address value
 
 -- a line for each cell that isn't 0, where the first of these cells has this address
 abbrev pub cell_lines : List ℕ → ℕ → List ℕ → List ℕ
 cell_lines name address [] = []
-cell_lines name address (value ∷ cells) = cell_line name address value ++ cell_lines name (address + 1) cells
+cell_lines name address (value ∷ cells) = shown_cell name address value ++ cell_lines name (address + 1) cells
 
 -- cycles N, the registers in order of declaration, the cells by address, done
 abbrev pub state_text : Netlist → ℕ → State → List ℕ

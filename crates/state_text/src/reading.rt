@@ -3,7 +3,9 @@
 ghost use Rattle.std.specs.Prelude.{◌≡◌, ◌<◌, ◌^◌, length, IfOk, IfErr};
 ghost use Rattle.std.proofs.Math.ListN.{replicate};
 ghost use Rattle.net_model.specs.Nets.{memory_size};
-ghost use Rattle.state_text.specs.Settings.{blank, with_setting, IsWithin, IsStart, IsStateText, IsStateRefusal};
+ghost use Rattle.net_model.specs.CheckedRules.{KeepsRules};
+ghost use Rattle.net_model.specs.MemoryText.{blank, IsMemoryText, IsMemoryRefusal};
+ghost use Rattle.state_text.specs.Settings.{with_setting, IsWithin, IsStart};
 
 use crate::line::setting_of;
 use crate::setting::Setting;
@@ -18,8 +20,10 @@ fn zeros(alloc: Global, count: usize) -> Result<Items<u64>, NoMemory>
     Ok(Items::from_vec(vec![in alloc; 0; count]?))
 }
 
+// The state of zeros. That a checked netlist keeps its rules is told for the lines that follow.
 fn blank(alloc: Global, checked: &Checked) -> Result<State, NoMemory>
-    ensures { IfOk result (λ state. state ≡ blank checked.now.netlist.storages) }
+    ensures zeros { IfOk result (λ state. state ≡ blank checked.now.netlist.storages) }
+    ensures kept { KeepsRules checked.now.netlist checked.now.order }
 {
     Ok(State {
         regs: zeros(alloc, checked.netlist().storages.len())?,
@@ -42,9 +46,9 @@ fn put(state: &mut State, setting: Setting)
 /// first such line. `Memory` is want of memory.
 pub fn read_state(alloc: Global, bytes: &[u8], checked: &Checked) -> Result<State, ParseFault>
     requires { length bytes.now < 2 ^ 32 }
-    ensures found { IfOk result (IsStateText checked.now.netlist bytes.now) }
+    ensures found { IfOk result (IsMemoryText checked.now.netlist bytes.now) }
     ensures fits { IfOk result (IsStart checked.now.netlist) }
-    ensures refused { IfErr result (IsStateRefusal checked.now.netlist bytes.now) }
+    ensures refused { IfErr result (IsMemoryRefusal checked.now.netlist bytes.now) }
 {
     let mut state = blank(alloc, checked)?;
     let mut rest = bytes;

@@ -3,7 +3,8 @@
 ghost use Rattle.std.specs.Prelude.{◌≡◌, ◌+◌, ◌++◌, ◌∷◌, [], ◌<◌, ◌≤◌, ◌^◌, length, slice_get, vec_capacity, IsOk, OnOk, IfOk, IfSome, Some, ℕ};
 ghost use Rattle.net_model.specs.Texts.{memory_name};
 ghost use Rattle.net_model.specs.Widths.{IsState};
-ghost use Rattle.state_text.specs.Shown.{register_line, register_lines, cell_line, cell_lines, state_text, register_room, state_room};
+ghost use Rattle.state_text.specs.Shown.{register_lines, shown_cell, cell_lines, state_text, register_room, state_room};
+ghost use Rattle.net_model.specs.MemoryText.{register_line};
 ghost use Rattle.net_model.specs.declared.states.State.{State};
 
 use cycle_sim::Sim;
@@ -26,9 +27,9 @@ fn put_register(out: &mut Vec<u8>, name: &[u8], value: u64) -> Result<(), NoMemo
 }
 
 fn put_cell(out: &mut Vec<u8>, name: &[u8], address: u32, value: u64) -> Result<(), NoMemory>
-    ensures text { OnOk result (out.new.items ≡ out.old.items ++ cell_line name.now address value) }
+    ensures text { OnOk result (out.new.items ≡ out.old.items ++ shown_cell name.now address value) }
     ensures room { vec_capacity out.old ≤ vec_capacity out.new }
-    ensures succeeds { length out.old.items + length (cell_line name.now address value) ≤ vec_capacity out.old → IsOk result }
+    ensures succeeds { length out.old.items + length (shown_cell name.now address value) ≤ vec_capacity out.old → IsOk result }
 {
     if value == 0 {
         return Ok(());

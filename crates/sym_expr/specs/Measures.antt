@@ -4,7 +4,8 @@ use Rattle.std.specs.Map.{keys_of, values_of}
 use Rattle.net_model.specs.Terms.{Term, size_of, term_width}
 use Rattle.sym_expr.specs.declared.pool.Node.{Node}
 use Rattle.sym_expr.specs.declared.pool.Measure.{Measure}
-use Rattle.sym_expr.specs.Pools.{IsPool, capped, term_at}
+use Rattle.rec_bits.specs.Counts.{capped}
+use Rattle.sym_expr.specs.Pools.{IsPool, term_at}
 
 pub record IsMeasure (term : Term) (m : Measure) : Type 0 where
   pub width : m.width ≡ term_width term

@@ -1,5 +1,5 @@
 -- What a pool says: the list of its nodes, where a node's place is its id.
-use Rattle.std.specs.Prelude.{◌-◌, min, ◌≡◌, ◌↔◌, ℕ, ◌+◌, ◌^◌, ◌<◌, ◌≤◌, ◌==◌, if◌then◌else◌, List, [], ◌∷◌, ◌++◌, length, reverse, slice_get, slice_index, Some}
+use Rattle.std.specs.Prelude.{◌≡◌, ◌↔◌, ℕ, ◌+◌, ◌^◌, ◌<◌, ◌≤◌, ◌==◌, if◌then◌else◌, List, [], ◌∷◌, ◌++◌, length, reverse, slice_get, slice_index, Some}
 use Rattle.std.specs.List.{AllByRecursion}
 use Rattle.net_model.specs.Terms.{Term, term_width, word, reg, const, read, un, bin, slice, cat, zext, sext, select}
 use Rattle.net_model.specs.Meaning.{mean}
@@ -47,10 +47,6 @@ term_of_newest (node ∷ older) id = if id == length older then node_term node (
 -- the expression of an id
 unfoldable pub term_at : List Node → ℕ → Term
 term_at nodes id = term_of_newest (reverse nodes) id
-
--- a number, or 2^64 - 1 where it is greater
-abbrev pub capped : ℕ → ℕ
-capped n = min n (2 ^ 64 - 1)
 
 -- the new pool has the old one's nodes first
 pub record Grows (old new : List Node) : Type 0 where

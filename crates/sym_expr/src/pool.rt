@@ -1,14 +1,15 @@
 //! A pool of expressions that share their parts.
 
 ghost use Rattle.std.specs.Prelude.{◌≡◌, ℕ, ◌+◌, ◌<◌, ◌≤◌, max, List, [], length, IfOk, OnErr, slice_index};
+ghost use Rattle.rec_bits.specs.Counts.{capped};
 ghost use Rattle.net_model.specs.Meaning.{mean};
-ghost use Rattle.net_model.specs.Terms.{size_of, term_width};
-ghost use Rattle.sym_expr.specs.Pools.{AllBelow, Grows, HeadFits, IsOneEach, KeepsTerms, Suits, TermFits, capped, node_term, parts_of, term_at};
+ghost use Rattle.net_model.specs.Terms.{size_of, term_of, term_width};
+ghost use Rattle.sym_expr.specs.Pools.{AllBelow, Grows, HeadFits, IsOneEach, KeepsTerms, Suits, TermFits, node_term, parts_of, term_at};
 ghost use Rattle.sym_expr.specs.Measures.{IsMeasure};
 ghost use Rattle.sym_expr.specs.declared.pool.Node.{Node as TheNode};
 
 use indexmap::IndexMap;
-use net_model::State;
+use net_model::{Expr, State};
 use rec_bits::{NoMemory, Op1, Op2, apply1, apply2, cat, result_width, sext, slice};
 use std::alloc::Global;
 use std::marker::Model;
@@ -43,7 +44,7 @@ struct Measure {
 }
 
 /// Expressions of widths from 1 to 64 bits, with one id for each. A pool only grows: an id means the same expression for as long as the
-/// pool lives, and want of memory leaves the pool as it was. All calls but `new` and `intern` take no memory.
+/// pool lives, and want of memory leaves the pool as it was. All calls but `new`, `intern` and `expr` take no memory.
 #[derive(Drop)]
 pub struct Pool {
     nodes: IndexMap<Node, Measure>,
@@ -167,6 +168,42 @@ impl Pool {
                 }
             }
         }
+    }
+
+    /// The expression of an id as a tree of its own.
+    #[cycle(expr)]
+    pub fn expr(&self, alloc: Global, id: ExprId) -> Result<Expr, NoMemory>
+        requires { id < length self.now }
+        ensures { IfOk result (λ expr. term_of expr ≡ term_at self.now id) }
+    {
+        Ok(match self.node(id) {
+            Node::Word(width) => Expr::Word(width),
+            Node::Reg(register, width) => Expr::Reg(register, width),
+            Node::Const { width, value } => Expr::Const { width, value },
+            Node::Read(addr, width) => Expr::Read(self.boxed(alloc, addr)?, width),
+            Node::Un(op, a) => Expr::Un(op, self.boxed(alloc, a)?),
+            Node::Bin(op, a, b) => Expr::Bin(op, self.boxed(alloc, a)?, self.boxed(alloc, b)?),
+            Node::Slice(a, hi, lo) => Expr::Slice(self.boxed(alloc, a)?, hi, lo),
+            Node::Cat(a, b) => Expr::Cat(self.boxed(alloc, a)?, self.boxed(alloc, b)?),
+            Node::Zext(a, width) => Expr::Zext(self.boxed(alloc, a)?, width),
+            Node::Sext(a, width) => Expr::Sext(self.boxed(alloc, a)?, width),
+            Node::Select(c, a, b) => Expr::Select(
+                self.boxed(alloc, c)?,
+                self.boxed(alloc, a)?,
+                self.boxed(alloc, b)?,
+            ),
+        })
+    }
+
+    // The expression of an operand.
+    #[cycle(expr)]
+    fn boxed(&self, alloc: Global, id: ExprId) -> Result<Box<Expr>, NoMemory>
+        requires { id < length self.now }
+        ensures { IfOk result (λ held. term_of held.value ≡ term_at self.now id) }
+    {
+        let expr = self.expr(alloc, id)?;
+        let held = Box::new(alloc, expr)?;
+        Ok(held)
     }
 
     // What is known of the expression of an id.

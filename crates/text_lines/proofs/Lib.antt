@@ -3,3 +3,4 @@ pub mod Parts
 pub mod Numbers
 pub mod Steps
 pub mod Joined
+pub mod Ends

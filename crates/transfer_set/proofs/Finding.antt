@@ -1,11 +1,11 @@
 -- The patterns of a netlist are those of the entries.
-use Rattle.std.proofs.Common.{◌≡◌, ◌≢◌, ℕ, suc, ◌^◌, ◌<◌, ◌==◌, ◌&&◌, Bool, true, false, List, [], ◌∷◌, ◌++◌, length, Option, None, Some, slice_get, refl, sym, ap, subst, ◌∙◌, arith}
+use Rattle.std.proofs.Common.{◌≡◌, ◌≢◌, ℕ, suc, ◌^◌, ◌<◌, ◌==◌, ◌&&◌, Bool, true, false, List, [], ◌∷◌, ◌++◌, Option, None, Some, slice_get, refl, sym, ap, subst, ◌∙◌, arith}
 use Rattle.std.specs.List.{AllByRecursion, Contains}
 use borrow.Author.Tests.{eqb-true}
 use Rattle.bit_bdd.specs.Diagrams.{Diagrams, has_word}
 use Rattle.net_model.specs.declared.hardware.Netlist.{Netlist}
-use Rattle.net_model.specs.declared.hardware.Code.{Code}
-use Rattle.net_model.specs.CheckedRules.{CodeKeeps, KeepsRules}
+use Rattle.net_model.specs.CheckedRules.{KeepsRules}
+use Rattle.net_model.proofs.WordWidths.{clean_below}
 use Rattle.net_model.specs.Nets.{code_bits}
 use Rattle.net_model.specs.Patterns.{Pattern, IsPattern, IsWordOf}
 use Rattle.net_model.specs.Terms.{Move, keep, write, write_at}
@@ -44,16 +44,12 @@ found book pool id word m (x ∷ entries) e = by (x.storage == id) (has_word boo
     by true false ek rest q = (let r = rest q in (suc r.0, omega (arith, r.1), r.2))
     by false b ek rest q = (let r = rest q in (suc r.0, omega (arith, r.1), r.2))
 
-pub some_bits : (netlist : Netlist) (codes : List Code) → length codes ≡ 1 → AllByRecursion (CodeKeeps netlist) codes → 0 < code_bits (slice_get codes 0)
-some_bits netlist [] e h = absurd (omega (arith, e))
-some_bits netlist (code ∷ codes) e h = omega (arith, h.0.0.0)
-
 pub every_is : (netlist : Netlist) (order : List ℕ) → KeepsRules netlist order → (old book : Diagrams) (pool : List Node) (legal : ℕ) (entries : List Entry) → old.bits ≡ code_bits (slice_get netlist.codes 0)
     → ((pattern : Pattern) → (i : ℕ) → i < 2 ^ old.bits → IsWordOf netlist pattern i → has_word old legal i ≡ true)
     → ((n word : ℕ) → word < 2 ^ old.bits → moves_held book pool entries n word ≡ given (has_word old legal word) (changes (move_at netlist word n)))
     → (pattern : Pattern) → IsPattern netlist pattern → Contains (patterns_of pool entries) pattern
 every_is netlist order kept old book pool legal entries bits is_legal moves pattern is =
-    let low : is.word < 2 ^ code_bits (slice_get netlist.codes 0) = is.given.clean.fits.fits 0 (some_bits netlist netlist.codes kept.roles.code kept.formed.codes) in
+    let low : is.word < 2 ^ code_bits (slice_get netlist.codes 0) = clean_below netlist order kept is.word is.given.clean in
     let fits : is.word < 2 ^ old.bits = subst (λ b. is.word < 2 ^ b) (sym bits) low in
     let l = is_legal pattern is.word fits is.given in
     found book pool pattern.storage is.word pattern.move entries

@@ -8,9 +8,11 @@ pub mod KeptWords
 pub mod Moved
 pub mod OnceEach
 pub mod Printing
+pub mod ReadyLaws
 pub mod SetsFound
 pub mod Sourcing
 pub mod Stepped
 pub mod TermsOf
 pub mod TextsDiffer
+pub mod TextsOf
 pub mod TransfersDiffer

@@ -14,7 +14,7 @@ use Rattle.transfer_set.specs.declared.row.Row.{Row}
 use Rattle.transfer_set.specs.PatternsText.{AreLeastWords, AreLines, IsLeastOf, IsLine, IsPatternsText, line_of, text_of}
 use Rattle.transfer_set.specs.Rows.{row_pattern, told_patterns}
 use Rattle.transfer_set.specs.Tables.{IsRow}
-use Rattle.transfer_set.proofs.Finding.{some_bits}
+use Rattle.net_model.proofs.WordWidths.{clean_below}
 
 -- the least word of a pattern's set is the least that gives its transfer
 pub line_is : (netlist : Netlist) (order : List ℕ) → KeepsRules netlist order → (book : Diagrams) → book.bits ≡ word_width netlist → (pool : List Node) (number : ℕ) (row : Row) (word : ℕ) (line : List ℕ)
@@ -25,7 +25,7 @@ line_is netlist order kept book bits pool number row word line least e is = reco
   least = record {
     given = (is.whole word least.fits).0 least.holds;
     least = λ other given.
-        let low = given.clean.fits.fits 0 (some_bits netlist netlist.codes kept.roles.code kept.formed.codes) in
+        let low = clean_below netlist order kept other given.clean in
         least.least other ((is.whole other (subst (λ b. other < 2 ^ b) (sym bits) low)).1 given);
   };
   is = e ∙ ap (λ transfer. line_of number transfer (bytes_of (word_width netlist)) word) is.told.text;

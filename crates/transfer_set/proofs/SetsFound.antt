@@ -5,12 +5,12 @@ use Rattle.bit_bdd.proofs.CallerLemmas.{same_words}
 use Rattle.net_model.specs.declared.hardware.Netlist.{Netlist}
 use Rattle.net_model.specs.Nets.{counter_of, counter_width}
 use Rattle.net_model.specs.Terms.{write, next_of, swapped_next_of}
-use Rattle.net_model.specs.Transfers.{IsClean, move_at}
+use Rattle.net_model.specs.Transfers.{IsClean, Keeps, StepsOn, move_at}
 use Rattle.sym_expr.specs.declared.pool.Node.{Node}
 use Rattle.transfer_set.specs.declared.entries.Entry.{Entry}
 use Rattle.transfer_set.specs.declared.stepping.Counter.{Counter}
 use Rattle.transfer_set.specs.Entries.{AreLeft, given, keeps_all, moves_held}
-use Rattle.transfer_set.specs.Sets.{IsKeepSet, IsStepSet, Keeps, StepsOn}
+use Rattle.transfer_set.specs.Sets.{IsKeepSet, IsStepSet}
 use Rattle.transfer_set.specs.Sources.{changes}
 use Rattle.transfer_set.specs.Stepping.{any_step}
 use Rattle.transfer_set.proofs.KeptWords.{keeps_when, none_held}

@@ -2,9 +2,9 @@ pub mod Routes
 pub mod Entries
 pub mod Sources
 pub mod Stepping
-pub mod Fields
 pub mod Rows
 pub mod PatternsText
 pub mod Tables
+pub mod Ready
 pub mod Sets
 pub mod TextMarks

@@ -9,7 +9,7 @@ use Rattle.net_model.specs.Texts.{move_text}
 use Rattle.net_model.specs.Terms.{Move}
 use Rattle.sym_expr.specs.declared.pool.Node.{Node}
 use Rattle.transfer_set.specs.Entries.{ids_move}
-use Rattle.transfer_set.specs.Fields.{move_fields}
+use Rattle.net_model.specs.Fields.{move_fields}
 use Rattle.transfer_set.specs.declared.entries.Entry.{Entry}
 use Rattle.transfer_set.specs.declared.row.Row.{Row}
 

@@ -2,7 +2,7 @@
 
 ghost use Rattle.std.specs.Prelude.{◌≡◌, ◌<◌, ◌≤◌, length};
 ghost use Rattle.sym_expr.specs.Pools.{term_at};
-ghost use Rattle.transfer_set.specs.Fields.{bits_between, fields as fields_in};
+ghost use Rattle.net_model.specs.Fields.{bits_between, fields as fields_in};
 
 use rec_bits::mask;
 use sym_expr::{ExprId, Node, Pool};

@@ -4,6 +4,7 @@
 mod entries;
 mod fields;
 mod keeping;
+mod laws;
 mod patterns;
 mod print;
 mod route;
@@ -12,5 +13,6 @@ mod sources;
 mod stepping;
 mod texts;
 
+pub use laws::law_of_growth;
 pub use patterns::{Patterns, collect_patterns};
 pub use route::{Route, Routes};

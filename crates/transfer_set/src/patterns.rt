@@ -5,9 +5,11 @@ ghost use Rattle.bit_bdd.specs.Diagrams.{Extends};
 ghost use Rattle.ctl_bdd.specs.Controls.{IsControl};
 ghost use Rattle.net_model.specs.Nets.{counter_of, counter_width, word_width};
 ghost use Rattle.transfer_set.specs.PatternsText.{IsPatternsText};
+ghost use Rattle.transfer_set.specs.Ready.{IsReady};
 ghost use Rattle.transfer_set.specs.Routes.{AreRoutes};
 ghost use Rattle.transfer_set.specs.Rows.{told_patterns};
-ghost use Rattle.transfer_set.specs.Tables.{IsPatternTable};
+
+mod told;
 
 use crate::keeping::keep_sets;
 use crate::print::text;
@@ -71,7 +73,7 @@ pub fn collect_patterns(
     requires routes { AreRoutes checked.now.netlist book.old pool.now controls.now.legal routes.now.of }
     requires word { book.old.bits ≡ word_width checked.now.netlist }
     ensures grows { Extends book.old book.new }
-    ensures patterns { IfOk result (IsPatternTable checked.now.netlist book.new pool.now) }
+    ensures ready { IfOk result (IsReady checked.now.netlist book.new pool.now) }
 {
     // the size tells what the first two ids mean
     let _ = book.size();
@@ -168,8 +170,7 @@ impl Patterns {
         _pool: &Pool,
         checked: &Checked,
     ) -> Result<Vec<u8>, NoMemory>
-        requires table { IsPatternTable checked.now.netlist book.now _pool.now self.now }
-        requires word { book.now.bits ≡ word_width checked.now.netlist }
+        requires { IsReady checked.now.netlist book.now _pool.now self.now }
         ensures { IfOk result (λ text. IsPatternsText checked.now.netlist (told_patterns _pool.now self.now.rows) text.items) }
     {
         let text = text(alloc, checked, book, &self.rows)?;

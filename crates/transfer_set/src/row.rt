@@ -2,7 +2,7 @@
 
 ghost use Rattle.std.specs.Prelude.{◌≡◌, ◌^◌, ◌<◌, All, length, IfOk};
 ghost use Rattle.transfer_set.specs.Entries.{AreKnown, IsAddrKnown, ids_move};
-ghost use Rattle.transfer_set.specs.Fields.{move_fields};
+ghost use Rattle.net_model.specs.Fields.{move_fields};
 ghost use Rattle.transfer_set.specs.Rows.{AreInOrder, AreRowsOf, IsTold, entries_of, entry_of};
 
 use crate::entries::Entry;

@@ -12,6 +12,8 @@ use Rattle.net_model.specs.Value.{value_of}
 use Rattle.net_model.specs.Widths.{IsTyped}
 use Rattle.net_model.specs.Order.{place_of, IsOrder}
 use Rattle.net_model.specs.Symbolic.{blank, is_static, gate_term, net_term, sym_of}
+use Rattle.net_model.specs.Control.{GateControlled, IsControlled}
+use Rattle.net_model.proofs.GateControls.{gate_controlled}
 use Rattle.net_model.proofs.Meanings.{width_is}
 use Rattle.net_model.proofs.Syms.{same_gate, sym_is}
 use Rattle.rec_bits.proofs.Lists.{all_weaker}
@@ -51,6 +53,9 @@ module _ (netlist : Netlist) (word : ℕ) (order : List ℕ) (o : IsOrder netlis
   pub turn_known : IsTyped netlist → AllByRecursion (IsKnown netlist nodes ids) (gate_nets net.gate)
   turn_known t = before (IsKnown netlist nodes ids) (λ m h.
       ((done m h).within, ap term_width (done m h).is ∙ width_is netlist word t (length netlist.nets) m))
+
+  pub turn_controlled : IsControlled netlist → GateControlled netlist net.gate
+  turn_controlled c = gate_controlled netlist c (slice_index order i) net there
 
   turn_term : (values : ℕ → ℕ) → values ≡ value_of netlist blank word → gate_term (net_terms nodes ids) values (is_static netlist) net.width net.gate ≡ sym_of netlist word (slice_index order i)
   turn_term values e =

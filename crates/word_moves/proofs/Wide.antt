@@ -1,5 +1,5 @@
 -- What is known of ids while the pool grows, and of the gates that take what stands at one net.
-use Rattle.std.proofs.Common.{◌≡◌, ℕ, ◌<◌, ◌⊎◌, inl, inr, Bool, true, false, if◌then◌else◌, List, length, Option, Some, None, IfSome, IsTrue, slice_index, refl, sym, ap, subst, ◌∙◌, arith, true≢false}
+use Rattle.std.proofs.Common.{◌≡◌, ℕ, ◌<◌, Bool, true, false, if◌then◌else◌, List, length, Option, Some, None, IfSome, slice_index, refl, sym, ap, subst, ◌∙◌, arith}
 use Rattle.std.specs.List.{AllByRecursion}
 use Rattle.net_model.specs.declared.hardware.Netlist.{Netlist}
 use Rattle.net_model.specs.declared.hardware.Gate.{Gate}
@@ -7,6 +7,7 @@ use Rattle.net_model.specs.declared.hardware.Gate.TheVariants.{Case, Bus}
 use Rattle.net_model.specs.Terms.{Term, select, term_width}
 use Rattle.net_model.specs.Nets.{gate_nets, width_at}
 use Rattle.net_model.specs.Control.{GateControlled}
+use Rattle.net_model.proofs.GateControls.{is_bit}
 use Rattle.net_model.specs.Symbolic.{case_term, gate_term, is_static}
 use Rattle.net_model.specs.Widths.{GateFits}
 use Rattle.sym_expr.specs.declared.pool.Node.{Node}
@@ -73,8 +74,8 @@ module _ (netlist : Netlist) (nodes : List Node) (ids : List ℕ) (width : ℕ) 
   pub selector_wide : (sel : ℕ) (rows : List (ℕ × ℕ)) (rest : Option ℕ) → gate ≡ Case sel rows rest → GateControlled netlist gate → is_static netlist sel ≡ false → IsWide nodes ids 1 sel
   selector_wide sel rows rest e c s =
       let k : AllByRecursion (IsKnown netlist nodes ids) (gate_nets (Case sel rows rest)) = subst (λ x. AllByRecursion (IsKnown netlist nodes ids) (gate_nets x)) e known in
-      let d : IsTrue (is_static netlist sel) ⊎ (width_at netlist sel ≡ 1) = subst (λ x. GateControlled netlist x) e c in
-      (k.0.0, k.0.1 ∙ elim d as (λ _. width_at netlist sel ≡ 1) [ inl p ↦ absurd (true≢false (sym p ∙ s)) | inr p ↦ p ])
+      let d : GateControlled netlist (Case sel rows rest) = subst (GateControlled netlist) e c in
+      (k.0.0, k.0.1 ∙ is_bit netlist sel d.selectors.0 s)
 
 module _ (t : ℕ → Term) (u : ℕ → ℕ) (f : ℕ → Bool) (width : ℕ) (gate : Gate) where
   pub case_static : (sel key : ℕ) (rows : List (ℕ × ℕ)) (rest target : Option ℕ) → gate ≡ Case sel rows rest → f sel ≡ true → key ≡ u sel → target ≡ case_target key rows rest → term_there t width target ≡ gate_term t u f width gate

@@ -3,10 +3,9 @@ use Rattle.std.specs.Prelude.{ℕ, ◌≡◌, ◌<◌, List, Some, length, slice
 use Rattle.net_model.specs.declared.hardware.Netlist.{Netlist}
 use Rattle.net_model.specs.Terms.{Move, keep, write, write_at}
 use Rattle.net_model.specs.Value.{value_of}
-use Rattle.net_model.specs.Clock.{clash_in}
 use Rattle.net_model.specs.Flags.{flag_at}
 use Rattle.net_model.specs.Symbolic.{blank, is_static, sym_of}
-use Rattle.net_model.specs.Transfers.{move_at}
+use Rattle.net_model.specs.Transfers.{clash_at, move_at}
 use Rattle.sym_expr.specs.declared.pool.Node.{Node}
 use Rattle.sym_expr.specs.Pools.{term_at}
 use Rattle.word_moves.specs.declared.moves.StorageMove.{StorageMove}
@@ -44,5 +43,5 @@ pub record IsWordMoves (netlist : Netlist) (word : ℕ) (nodes : List Node) (m :
   pub statics_long : length m.statics ≡ length netlist.nets
   pub statics : flag_at m.statics ≡ is_static netlist
   pub ids : AreIds netlist word nodes m.ids
-  pub clash : m.clash ≡ clash_in (value_of netlist blank word) netlist.nets
+  pub clash : m.clash ≡ clash_at netlist word
   pub moves : AreMoves netlist word nodes m.moves

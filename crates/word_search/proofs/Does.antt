@@ -6,14 +6,12 @@ use Rattle.rec_bits.specs.declared.operator.Op2.TheVariants.{Add}
 use Rattle.net_model.specs.Terms.{Term, reg, const, bin, Move, keep, write, write_at, next_of, swapped_next_of}
 use Rattle.net_model.specs.declared.hardware.Netlist.{Netlist}
 use Rattle.net_model.specs.Nets.{storage_bits, counter_of}
-use Rattle.net_model.specs.Value.{value_of}
 use Rattle.net_model.specs.Widths.{WordFits}
-use Rattle.net_model.specs.Clock.{clash_in}
 use Rattle.net_model.specs.Meaning.{mean}
 use Rattle.net_model.specs.Symbolic.{blank}
-use Rattle.net_model.specs.Transfers.{counter_move, memory_move}
+use Rattle.net_model.specs.Transfers.{clash_at, counter_move, memory_move}
 use Rattle.code_model.specs.Words.{is_fixed, IsFixedAt, DoesStore, DoesJump, KeepsMemory, DoesAssign, DoesGoto}
-use Rattle.code_model.specs.Tests.{is_step_term, is_step_move, is_fixed_at, stores, goes_to, keeps, no_clash, steps, does_assign, does_goto}
+use Rattle.code_model.specs.Tests.{is_step_term, is_step_move, is_fixed_at, stores, goes_to, keeps, steps, does_assign, does_goto}
 
 -- a move by which a register becomes itself plus 1
 abbrev IsStepMove : ℕ → ℕ → Move → Type 0
@@ -59,20 +57,20 @@ none_of (Some x) h = absurd (cc)
 
 pub assign_of : (netlist : Netlist) (i address value : ℕ) → WordFits netlist i → does_assign netlist i address value ≡ true → DoesAssign netlist i address value
 assign_of netlist i address value fits h =
-    let p = both (no_clash netlist i) (steps netlist i && stores i (memory_move netlist i) address value) h in
+    let p = both (is_none (clash_at netlist i)) (steps netlist i && stores i (memory_move netlist i) address value) h in
     let q = both (steps netlist i) (stores i (memory_move netlist i) address value) p.1 in
     record {
-      clean = record { fits = fits; clean = none_of (clash_in (value_of netlist blank i) netlist.nets) p.0 };
+      clean = record { fits = fits; clean = none_of (clash_at netlist i) p.0 };
       step = record { step = step_move (counter_of netlist.codes) (storage_bits (slice_get netlist.storages (counter_of netlist.codes))) (counter_move netlist i) q.0 };
       store = store_of netlist i address value (memory_move netlist i) refl q.1;
     }
 
 pub goto_of : (netlist : Netlist) (i address : ℕ) → WordFits netlist i → does_goto netlist i address ≡ true → DoesGoto netlist i address
 goto_of netlist i address fits h =
-    let p = both (no_clash netlist i) (goes_to i (counter_move netlist i) address && keeps (memory_move netlist i)) h in
+    let p = both (is_none (clash_at netlist i)) (goes_to i (counter_move netlist i) address && keeps (memory_move netlist i)) h in
     let q = both (goes_to i (counter_move netlist i) address) (keeps (memory_move netlist i)) p.1 in
     record {
-      clean = record { fits = fits; clean = none_of (clash_in (value_of netlist blank i) netlist.nets) p.0 };
+      clean = record { fits = fits; clean = none_of (clash_at netlist i) p.0 };
       jump = jump_of netlist i address (counter_move netlist i) refl q.0;
       keeps = keep_of netlist i (memory_move netlist i) refl q.1;
     }

@@ -12,7 +12,8 @@ use Rattle.sym_expr.specs.Pools.{Suits, TermFits, term_at}
 use Rattle.rec_bits.proofs.Fits.{room_above}
 use Rattle.sym_expr.proofs.Fits.{value_below}
 use Rattle.rec_bits.proofs.Lists.{get_left, get_seam}
-use Rattle.word_search.specs.Fixed.{word_value, of_two, of_three, choice_of, known_value, AreKnown, WordsFit}
+use Rattle.net_model.specs.Fields.{WordFitsTerm}
+use Rattle.word_search.specs.Fixed.{word_value, of_two, of_three, choice_of, known_value, AreKnown}
 
 -- ---- a value that is known is the one in the blank state
 
@@ -93,7 +94,7 @@ three_if : (f : ℕ → ℕ → ℕ → ℕ) (b c d : Bool) (x y z : ℕ) → of
 three_if f true c d x y z = two_if (f x) c d y z
 three_if f false c d x y z = refl
 
-pub known_exact : (e : Term) (i : ℕ) → WordsFit e i → known_value e i ≡ (if is_fixed e then Some (mean e blank i) else None)
+pub known_exact : (e : Term) (i : ℕ) → WordFitsTerm e i → known_value e i ≡ (if is_fixed e then Some (mean e blank i) else None)
 known_exact (word w) i h = rw (lt-ltb i (2 ^ w) h) refl
 known_exact (reg r w) i h = refl
 known_exact (const w v) i h = refl

@@ -10,7 +10,7 @@ use Rattle.word_search.specs.declared.finder.Store.{Store}
 use Rattle.word_search.specs.Deeds.{does_wanted}
 use Rattle.word_search.specs.Found.{wanted_by, AreCells, AreFound, IsImageOf}
 use Rattle.word_search.proofs.Does.{assign_of, goto_of}
-use Rattle.word_search.proofs.Words.{word_fits}
+use Rattle.net_model.proofs.WordWidths.{word_fits}
 
 split : (n : ℕ) (words : List ℕ) → length words ≡ n + 1 → words ≡ take n words ++ slice_index words n ∷ []
 split zero [] h = absurd (omega arith)

@@ -12,18 +12,19 @@ use Rattle.net_model.specs.Terms.{Term, Move, keep, write, write_at}
 use Rattle.net_model.specs.Nets.{counter_of, counter_width, memory_id as data_memory}
 use Rattle.net_model.specs.Symbolic.{blank}
 use Rattle.net_model.specs.Meaning.{mean}
-use Rattle.net_model.specs.Transfers.{counter_move, memory_move, move_at, transfer_of}
+use Rattle.net_model.specs.Transfers.{clash_at, counter_move, memory_move, move_at, transfer_of}
 use Rattle.code_model.specs.Words.{is_fixed}
-use Rattle.code_model.specs.Tests.{is_step_move, is_fixed_at, stores, goes_to, keeps, no_clash, steps}
+use Rattle.code_model.specs.Tests.{is_step_move, is_fixed_at, stores, goes_to, keeps, steps}
 use Rattle.word_search.specs.declared.finder.Store.{Store}
 use Rattle.word_search.specs.declared.deeds.Deed.{Deed}
 use Rattle.word_search.specs.declared.deeds.Deed.TheVariants.{Other}
 use Rattle.word_search.specs.declared.deeds.Wanted.{Wanted}
 use Rattle.word_search.specs.declared.deeds.Wanted.TheVariants.{Assign as ToAssign, Goto as ToGoto}
-use Rattle.word_search.specs.Fixed.{known_value, WordsFit}
+use Rattle.word_search.specs.Fixed.{known_value}
 use Rattle.word_search.specs.Deeds.{IsDeed, deed_fits, assign_of_two, goto_of_one, goto_by, deed_by, does_wanted, move_there}
 use Rattle.word_search.proofs.Known.{known_exact}
-use Rattle.word_search.proofs.Words.{MoveFits, move_fits}
+use Rattle.net_model.specs.Fields.{WordFitsTerm, WordFitsMove}
+use Rattle.net_model.proofs.WordWidths.{move_fits}
 
 and_false : (b : Bool) → (b && false) ≡ false
 and_false true = refl
@@ -60,7 +61,7 @@ abbrev wanted_by : Bool → ℕ → Move → Move → Wanted → Bool
 wanted_by step i counter memory (ToAssign store) = step && stores i memory store.address store.value
 wanted_by step i counter memory (ToGoto to) = goes_to i counter to && keeps memory
 
-by_keep : (step : Bool) (i : ℕ) (counter : Move) → MoveFits counter i → (wanted : Wanted) → wanted_by step i counter keep wanted ≡ deed_fits (goto_by i counter) wanted
+by_keep : (step : Bool) (i : ℕ) (counter : Move) → WordFitsMove counter i → (wanted : Wanted) → wanted_by step i counter keep wanted ≡ deed_fits (goto_by i counter) wanted
 by_keep step i keep f (ToAssign store) = and_false step
 by_keep step i keep f (ToGoto to) = refl
 by_keep step i (write e) f (ToAssign store) = and_false step ∙ go_other (known_value e i) store
@@ -70,7 +71,7 @@ by_keep step i (write e) f (ToGoto to) =
 by_keep step i (write_at a e) f (ToAssign store) = and_false step
 by_keep step i (write_at a e) f (ToGoto to) = refl
 
-by_write_at : (step : Bool) (i : ℕ) (counter : Move) (a e : Term) → WordsFit a i → WordsFit e i → (wanted : Wanted) → wanted_by step i counter (write_at a e) wanted ≡ deed_fits (if step then assign_of_two (known_value a i) (known_value e i) else Other) wanted
+by_write_at : (step : Bool) (i : ℕ) (counter : Move) (a e : Term) → WordFitsTerm a i → WordFitsTerm e i → (wanted : Wanted) → wanted_by step i counter (write_at a e) wanted ≡ deed_fits (if step then assign_of_two (known_value a i) (known_value e i) else Other) wanted
 by_write_at true i counter a e f g (ToAssign store) =
     pair_same (is_fixed a) (is_fixed e) (mean a blank i) (mean e blank i) store
     ∙ (let p = sym (known_exact a i f) in let q = sym (known_exact e i g) in (λ j. deed_fits (assign_of_two (p j) (q j)) (ToAssign store)))
@@ -78,7 +79,7 @@ by_write_at true i counter a e f g (ToGoto to) = and_false (goes_to i counter to
 by_write_at false i counter a e f g (ToAssign store) = refl
 by_write_at false i counter a e f g (ToGoto to) = and_false (goes_to i counter to)
 
-pub by_moves : (step : Bool) (i : ℕ) (counter memory : Move) → MoveFits counter i → MoveFits memory i → (wanted : Wanted) → wanted_by step i counter memory wanted ≡ deed_fits (deed_by step i counter memory) wanted
+pub by_moves : (step : Bool) (i : ℕ) (counter memory : Move) → WordFitsMove counter i → WordFitsMove memory i → (wanted : Wanted) → wanted_by step i counter memory wanted ≡ deed_fits (deed_by step i counter memory) wanted
 by_moves step i counter keep f g wanted = by_keep step i counter f wanted
 by_moves step i counter (write e) f g (ToAssign store) = and_false step
 by_moves step i counter (write e) f g (ToGoto to) = and_false (goes_to i counter to)
@@ -86,11 +87,11 @@ by_moves step i counter (write_at a e) f g wanted = by_write_at step i counter a
 
 -- ---- by the word
 
-without : (clean : Bool) (netlist : Netlist) (i : ℕ) → clean ≡ true → no_clash netlist i ≡ clean → (wanted : Wanted) → does_wanted netlist wanted i ≡ wanted_by (steps netlist i) i (counter_move netlist i) (memory_move netlist i) wanted
+without : (clean : Bool) (netlist : Netlist) (i : ℕ) → clean ≡ true → is_none (clash_at netlist i) ≡ clean → (wanted : Wanted) → does_wanted netlist wanted i ≡ wanted_by (steps netlist i) i (counter_move netlist i) (memory_move netlist i) wanted
 without clean netlist i t e (ToAssign store) = ap (λ b. b && (steps netlist i && stores i (memory_move netlist i) store.address store.value)) (e ∙ t)
 without clean netlist i t e (ToGoto to) = ap (λ b. b && (goes_to i (counter_move netlist i) to && keeps (memory_move netlist i))) (e ∙ t)
 
-pub is_deed : (netlist : Netlist) (i : ℕ) → no_clash netlist i ≡ true → MoveFits (counter_move netlist i) i → MoveFits (memory_move netlist i) i → (deed : Deed) → deed ≡ deed_by (steps netlist i) i (counter_move netlist i) (memory_move netlist i) → IsDeed netlist i deed
+pub is_deed : (netlist : Netlist) (i : ℕ) → is_none (clash_at netlist i) ≡ true → WordFitsMove (counter_move netlist i) i → WordFitsMove (memory_move netlist i) i → (deed : Deed) → deed ≡ deed_by (steps netlist i) i (counter_move netlist i) (memory_move netlist i) → IsDeed netlist i deed
 is_deed netlist i clean f g deed e wanted =
     without true netlist i refl clean wanted ∙ by_moves (steps netlist i) i (counter_move netlist i) (memory_move netlist i) f g wanted ∙ ap (λ d. deed_fits d wanted) (sym e)
 

@@ -40,17 +40,3 @@ known_value (select c a b) i = of_three choice_of (known_value c i) (known_value
 -- the values of the first ids of a pool
 abbrev pub AreKnown : List Node → ℕ → List (Option ℕ) → Type 0
 AreKnown nodes i values = (id : ℕ) → id < length values → slice_get values id ≡ Some (known_value (term_at nodes id) i)
-
--- the word has the width with which the expression names it
-abbrev pub WordsFit : Term → ℕ → Type 0
-WordsFit (word w) i = i < 2 ^ w
-WordsFit (reg r w) i = Unit {0}
-WordsFit (const w v) i = Unit {0}
-WordsFit (read a w) i = WordsFit a i
-WordsFit (un o a) i = WordsFit a i
-WordsFit (bin o a b) i = WordsFit a i × WordsFit b i
-WordsFit (slice a hi lo) i = WordsFit a i
-WordsFit (cat a b) i = WordsFit a i × WordsFit b i
-WordsFit (zext a w) i = WordsFit a i
-WordsFit (sext a w) i = WordsFit a i
-WordsFit (select c a b) i = WordsFit c i × WordsFit a i × WordsFit b i

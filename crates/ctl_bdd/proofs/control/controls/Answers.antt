@@ -3,9 +3,11 @@ use Rattle.std.specs.Prelude.{filter}
 use Rattle.std.specs.List.{AllByRecursion}
 use Rattle.net_model.specs.Symbolic.{is_static}
 use Rattle.net_model.specs.Nets.{word_width}
+use Rattle.net_model.proofs.WordWidths.{clean_below}
 use Rattle.bit_bdd.specs.Diagrams.{has_word}
 use Rattle.ctl_bdd.specs.Controls.{IsNetBits}
-use Rattle.ctl_bdd.specs.Places.{control_places, static_controls}
+use Rattle.net_model.specs.Control.{control_places}
+use Rattle.ctl_bdd.specs.Places.{static_controls}
 use Rattle.ctl_bdd.specs.Tables.{HasControls, sets_at}
 use Rattle.ctl_bdd.proofs.Placed.{static_inside}
 use Rattle.ctl_bdd.proofs.Listing.{controls_later, listed_are, names_listed}
@@ -15,8 +17,8 @@ use Rattle.ctl_bdd.proofs.control.controls.Goals as goal
 pub control_table-requires-clause-places : goal.control_table-requires-clause-places
 control_table-requires-clause-places c = rw c.as_slice.ensures c.in_ok-places.ensures
 
-pub legal_words-requires : goal.legal_words-requires
-legal_words-requires c = rw c.as_slice-2.ensures c.in_ok-table.ensures.table
+pub legal_words-requires-clause-controls : goal.legal_words-requires-clause-controls
+legal_words-requires-clause-controls c = rw c.as_slice-2.ensures c.in_ok-table.ensures.table
 
 pub listed_bits-requires-clause-places : goal.listed_bits-requires-clause-places
 listed_bits-requires-clause-places c = rw (c.as_slice-in-Some.ensures, c.netlist-netlist.ensures.value) c.in_ok-places.ensures
@@ -34,8 +36,9 @@ pub returns-clause-grows : goal.returns-clause-grows
 returns-clause-grows c = extends_trans c.args.book.now c.control_table.new.book c.legal_words.new.book c.in_ok-table.ensures.grows c.in_ok-legal.ensures.grows
 
 pub returns-in-None-clause-control : goal.returns-in-None-clause-control
-returns-in-None-clause-control c word lt clean =
+returns-in-None-clause-control c word clean =
     let bits : c.legal_words.new.book.bits ≡ word_width c.args.checked.now.netlist = c.in_ok-legal.ensures.grows.bits ∙ c.in_ok-table.ensures.grows.bits ∙ c.requires in
+    let lt : word < 2 ^ word_width c.args.checked.now.netlist = clean_below c.args.checked.now.netlist c.args.checked.now.order c.netlist-netlist.ensures.kept word clean in
     let below : word < 2 ^ c.legal_words.new.book.bits = subst (λ b. word < 2 ^ b) (sym bits) lt in
     let here : has_word c.legal_words.new.book c.in_ok-legal.legal word ≡ true = (c.in_ok-legal.ensures.legal word below).1 clean in
     let none : has_word c.legal_words.new.book c.in_ok-legal.legal word ≡ false = c.in-None.ensures.none word in

@@ -1,7 +1,7 @@
 use Rattle.std.proofs.Common.{◌≡◌, ◌∙◌, ap}
 use Rattle.std.specs.Prelude.{filter}
 use Rattle.net_model.specs.Flags.{flag_at}
-use Rattle.ctl_bdd.specs.Places.{control_places}
+use Rattle.net_model.specs.Control.{control_places}
 use Rattle.ctl_bdd.proofs.control.static_places.Goals as goal
 
 pub returns : goal.returns

@@ -1,3 +1,4 @@
+use Rattle.std.proofs.Common.{ℕ, Bool, ap}
 use Rattle.net_model.proofs.Acyclic.{acyclic_of}
 use Rattle.net_check.proofs.control.control_fault.Goals as goal
 
@@ -5,4 +6,7 @@ pub first_broken-requires-clause-acyclic : goal.first_broken-requires-clause-acy
 first_broken-requires-clause-acyclic c = acyclic_of _ _ c.requires.order
 
 pub first_broken-requires-clause-flags : goal.first_broken-requires-clause-flags
-first_broken-requires-clause-flags c = record { statics = c.in_ok-statics.ensures.told; controls = c.in_ok-controls.ensures.told }
+first_broken-requires-clause-flags c = record {
+  statics = λ n. ap (λ (f : ℕ → Bool). f n) c.in_ok-statics.ensures.told;
+  controls = λ n. ap (λ (f : ℕ → Bool). f n) c.in_ok-controls.ensures.told;
+}

@@ -6,5 +6,5 @@ use Rattle.net_check.proofs.control.least_broken.Given as goal
 
 abbrev pub invariant-loop-net : goal.invariant-loop-net
 invariant-loop-net l =
-    sooner l.found (least (failing (passes l.rule l.netlist l.flags) (name_at l.netlist) (drop l.net-index l.nets)))
-    ≡ least (failing (passes l.rule l.netlist l.flags) (name_at l.netlist) l.nets)
+    sooner l.found (least (failing (passes l.rule l.netlist) (name_at l.netlist) (drop l.net-index l.nets)))
+    ≡ least (failing (passes l.rule l.netlist) (name_at l.netlist) l.nets)

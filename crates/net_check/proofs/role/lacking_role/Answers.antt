@@ -1,5 +1,5 @@
 use Rattle.std.proofs.Common.{◌≡◌, ◌<◌, ◌≤◌, sym, arith, length, get_or, Some, None}
-use Rattle.net_model.specs.NetFaults.{HasSizes}
+use Rattle.net_model.specs.CheckedRules.{HasSizes}
 use Rattle.net_check.specs.Roles.{lone_from, IsShape}
 use Rattle.net_check.proofs.Lacks.{no_shape, shape, addr_bits, no_counter, counter_there, bits_wide, sizes_are, sizes_of}
 use Rattle.net_check.proofs.role.lacking_role.Goals as goal
@@ -78,7 +78,6 @@ returns c =
       code = one_at s;
       memory = memory.one;
       counter = counter_there _ c.requires _ (one_at s) (code_at s) _ (lone_at s) _ c.in-Some-counter_bits.ensures;
-      words = sizes.0;
-      cells = sizes.1;
+      sizes = sizes;
       address = omega (arith, memory.width, memory.addr_width, c.if-memory.false);
     }

@@ -2,5 +2,4 @@ use Rattle.net_extract.proofs.routed.controls_of.Goals as goal
 
 pub returns-in-Err-AlwaysClash-clause-refused : goal.returns-in-Err-AlwaysClash-clause-refused
 returns-in-Err-AlwaysClash-clause-refused c =
-    let cause = rw c.in-Err-AlwaysClash.field-0-is at c.in-Err-AlwaysClash.ensures.control in
-    λ word clean. cause word clean.0 clean.1
+    rw c.in-Err-AlwaysClash.field-0-is at c.in-Err-AlwaysClash.ensures.control

@@ -2,7 +2,7 @@ use Rattle.std.proofs.Common.{[], ◌∷◌, ◌++◌, ap, ◌∙◌}
 use Rattle.std.proofs.lemmas.Result.{err_from_is_err_and}
 use Rattle.grammar.specs.Reading.{head}
 use Rattle.grammar.proofs.Repeats.{list_ends, list_fails, list_goes_on}
-use Rattle.net_parser.proofs.Tokens.{not_there}
+use Rattle.grammar.proofs.Tokens.{not_there}
 use Rattle.net_parser.proofs.Expressions.{listed, numbers_start, numbers_end}
 use Rattle.net_parser.proofs.expression.numbers.Goals as goal
 

@@ -1,7 +1,8 @@
 use Rattle.std.proofs.Common.{◌++◌, length, map}
 use Rattle.grammar.specs.Reading.{Leads, ListOf}
 use Rattle.net_model.specs.declared.words.Symbol.TheVariants.{Comma}
-use Rattle.net_model.specs.Grammar.{Behind, IsNumber, NumbersBehind}
+use Rattle.grammar.specs.Tokens.{Behind, IsNumber}
+use Rattle.net_model.specs.Grammar.{NumbersBehind}
 use Rattle.net_parser.specs.Steps.{after_list}
 use Rattle.net_parser.proofs.expression.numbers.Given as goal
 

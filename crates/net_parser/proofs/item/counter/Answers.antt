@@ -1,7 +1,7 @@
 use Rattle.std.proofs.lemmas.Result.{err_from_is_err_and}
 use Rattle.grammar.proofs.Steps.{return_reads}
 use Rattle.grammar.proofs.Passing.{there_return, there_bind, on, past, stuck}
-use Rattle.net_parser.proofs.Tokens.{there_sign}
+use Rattle.grammar.proofs.Tokens.{there_sign}
 use Rattle.net_parser.proofs.item.counter.Goals as goal
 
 pub returns-in_err-name : goal.returns-in_err-name

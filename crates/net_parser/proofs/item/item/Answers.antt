@@ -1,5 +1,5 @@
 use Rattle.grammar.proofs.Passing.{gives_too}
-use Rattle.net_parser.proofs.Tokens.{word_leads}
+use Rattle.grammar.proofs.Tokens.{word_leads}
 use Rattle.net_parser.proofs.ItemParts.{no_item}
 use Rattle.net_model.specs.Grammar.{ItemByWord}
 use Rattle.net_model.specs.Written.{entry_of}

@@ -1,10 +1,9 @@
 use Rattle.std.proofs.Common.{[], ◌∷◌, ◌++◌, ap, ◌∙◌}
 use Rattle.std.proofs.lemmas.Result.{err_from_is_err_and}
 use Rattle.grammar.specs.Reading.{head}
-use Rattle.grammar.proofs.Passing.{fails_too, there_return, there_bind, there_many, never_apart, beyond, stuck}
+use Rattle.grammar.proofs.Passing.{fails_too, there_return, there_bind, there_many, never_apart, beyond, stuck, reads_too, then_leads}
 use Rattle.grammar.proofs.Repeats.{list_ends, list_fails, list_goes_on}
-use Rattle.net_parser.proofs.Tokens.{word_leads}
-use Rattle.grammar.proofs.Passing.{reads_too, then_leads}
+use Rattle.grammar.proofs.Tokens.{word_leads}
 use Rattle.net_parser.proofs.ItemParts.{itemed, list_start}
 use Rattle.net_model.specs.Grammar.{ItemByWord}
 use Rattle.net_model.specs.Written.{entry_of}

@@ -1,7 +1,7 @@
 use Rattle.std.proofs.lemmas.Result.{err_from_is_err_and}
 use Rattle.grammar.proofs.Steps.{return_reads}
 use Rattle.grammar.proofs.Passing.{there_return, there_bind, there_many, on, past, stuck}
-use Rattle.net_parser.proofs.Tokens.{there_behind, there_before}
+use Rattle.grammar.proofs.Tokens.{there_behind, there_before}
 use Rattle.net_parser.proofs.ItemParts.{there_ports}
 use Rattle.net_parser.proofs.item.module.Goals as goal
 

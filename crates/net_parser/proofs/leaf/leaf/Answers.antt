@@ -1,5 +1,5 @@
 use Rattle.grammar.proofs.Passing.{gives_too}
-use Rattle.net_parser.proofs.Tokens.{word_leads, word_ended, word_missed}
+use Rattle.grammar.proofs.Tokens.{word_leads, word_ended, word_missed}
 use Rattle.net_model.specs.Grammar.{LeafBehind}
 use Rattle.net_model.specs.Written.{phrase_of}
 use Rattle.net_parser.proofs.Leaves.{there_leaf, no_leaf}

@@ -1,6 +1,6 @@
 use Rattle.std.proofs.lemmas.Result.{err_from_is_err_and}
 use Rattle.grammar.proofs.Passing.{fails_too, there_return, there_bind, on, past, stuck, returned, returned_reads}
-use Rattle.net_parser.proofs.Tokens.{there_behind}
+use Rattle.grammar.proofs.Tokens.{there_behind}
 use Rattle.net_parser.proofs.Expressions.{there_expr}
 use Rattle.net_parser.proofs.parts.binding.Goals as goal
 

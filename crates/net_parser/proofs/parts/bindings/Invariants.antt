@@ -1,7 +1,8 @@
 use Rattle.std.proofs.Common.{◌++◌, length, map}
 use Rattle.grammar.specs.Reading.{Leads, ListOf}
 use Rattle.net_model.specs.declared.words.Symbol.TheVariants.{Comma}
-use Rattle.net_model.specs.Grammar.{Behind, IsBinding, IsBindings}
+use Rattle.grammar.specs.Tokens.{Behind}
+use Rattle.net_model.specs.Grammar.{IsBinding, IsBindings}
 use Rattle.net_model.specs.Written.{binding_of}
 use Rattle.net_parser.specs.Steps.{after_links}
 use Rattle.net_parser.proofs.parts.bindings.Given as goal

@@ -1,10 +1,9 @@
 use Rattle.std.proofs.Common.{[], ◌∷◌, ◌++◌, ap, ◌∙◌}
 use Rattle.std.proofs.lemmas.Result.{err_from_is_err_and}
 use Rattle.grammar.specs.Reading.{head}
-use Rattle.grammar.proofs.Passing.{there_return, there_bind, there_many, never_apart, beyond, short_of, on, past, stuck}
+use Rattle.grammar.proofs.Passing.{there_return, there_bind, there_many, never_apart, beyond, short_of, on, past, stuck, then_leads}
 use Rattle.grammar.proofs.Repeats.{list_ends, list_fails, list_goes_on}
-use Rattle.net_parser.proofs.Tokens.{not_there}
-use Rattle.grammar.proofs.Passing.{then_leads}
+use Rattle.grammar.proofs.Tokens.{not_there}
 use Rattle.net_parser.proofs.Expressions.{listed}
 use Rattle.net_parser.proofs.ItemParts.{there_port, list_start, ports_end}
 use Rattle.net_parser.proofs.parts.ports.Goals as goal

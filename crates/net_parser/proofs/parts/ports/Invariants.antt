@@ -1,7 +1,8 @@
 use Rattle.std.proofs.Common.{◌++◌, length, map}
 use Rattle.grammar.specs.Reading.{Leads, ListOf}
 use Rattle.net_model.specs.declared.words.Symbol.TheVariants.{Comma}
-use Rattle.net_model.specs.Grammar.{Behind, IsPort, IsPorts}
+use Rattle.grammar.specs.Tokens.{Behind}
+use Rattle.net_model.specs.Grammar.{IsPort, IsPorts}
 use Rattle.net_parser.specs.Steps.{after_list}
 use Rattle.net_parser.proofs.parts.ports.Given as goal
 

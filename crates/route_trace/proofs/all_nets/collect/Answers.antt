@@ -12,6 +12,7 @@ use Rattle.transfer_set.specs.Routes.{held_terms, only, routes_at}
 use Rattle.route_trace.specs.Verdicts.{kept_at}
 use Rattle.route_trace.specs.declared.verdict.Verdict.TheVariants.{Many, Skipped}
 use Rattle.route_trace.proofs.Firsts.{tables_later}
+use Rattle.net_model.proofs.WordWidths.{has_bits}
 use Rattle.route_trace.proofs.Judging.{alone_by, has_many, judged, lost_by, many_found}
 use Rattle.route_trace.proofs.Knowing.{decided}
 use Rattle.route_trace.proofs.Turns.{all_given, done_later, found_more, lost_done, named_found, new_gives, no_tables, no_widths, none_yet, over_sym, turn_done, turn_tables, turn_widths, widths_later}
@@ -118,7 +119,7 @@ loop-id-preserved c =
           let new = new_gives netlist order o i c.loop-id-test.true c.loop-id.book c.loop-id.pool c.loop-id.routes c.args.controls.now.legal c.loop-id.verdicts c.loop-id.invariant.done
           c.loop-id.invariant.long legal w.net_routes.new.book w.net_routes.new.pool w.in-Ok.ensures.book w.in-Ok.ensures.pool c.loop-id.invariant.tables w.in-Ok.out table c.index-nets-at.result there gives in
           let alone = alone_by netlist c.loop-id.verdicts n before (ap (all_of (kept_at c.loop-id.verdicts)) names ∙ kept) in
-          let verdict = judged netlist c.args.controls.now c.args.book.now w.net_routes.new.book c.requires.controls grows c.requires.word w.net_routes.new.pool w.judge-verdict.ensures.ids n w.in-Ok.out table
+          let verdict = judged netlist c.args.controls.now c.args.book.now w.net_routes.new.book c.requires.controls grows c.requires.word (has_bits netlist c.args.checked.now.order c.netlist-netlist.ensures.kept) w.net_routes.new.pool w.judge-verdict.ensures.ids n w.in-Ok.out table
           (λ word fits. new word (subst (λ b. word < 2 ^ b) w.in-Ok.ensures.book.bits fits)) lt alone w.judge-verdict.result (rw w.as_slice-in-Ok.ensures at w.judge-verdict.ensures.judged) in
           rw (w.book-is, w.pool-is, w.routes-is, w.verdicts-is, w.set.ensures, w.set-in-Ok.ensures)
           (record {
@@ -143,7 +144,7 @@ loop-id-preserved c =
           (rw (w.in-Err-Many.field-0-is, c.netlist-netlist.ensures.value, w.as_slice-then-all_kept.ensures) at w.in-Err-Many.ensures.many) in
           let grows = extends_trans c.args.book.now c.loop-id.book w.net_routes.new.book c.loop-id.invariant.book e in
           let alone = alone_by netlist c.loop-id.verdicts n before (ap (all_of (kept_at c.loop-id.verdicts)) names ∙ kept) in
-          let many = has_many netlist c.args.controls.now c.args.book.now w.net_routes.new.book c.requires.controls grows c.requires.word w.net_routes.new.pool w.give_up.ensures.ids n over.routes over.table over.part over.many in
+          let many = has_many netlist c.args.controls.now c.args.book.now w.net_routes.new.book c.requires.controls grows c.requires.word (has_bits netlist c.args.checked.now.order c.netlist-netlist.ensures.kept) w.net_routes.new.pool w.give_up.ensures.ids n over.routes over.table over.part over.many in
           rw (w.book-is, w.pool-is, w.routes-is, w.verdicts-is, w.set-in-Err-Many.ensures, w.give_up.ensures.many)
           (record {
             book = grows;
@@ -153,7 +154,7 @@ loop-id-preserved c =
             tables = tables_later c.loop-id.book w.net_routes.new.book c.loop-id.pool w.net_routes.new.pool e g c.loop-id.routes c.loop-id.invariant.tables;
             widths = widths_later netlist order o i c.loop-id-test.true c.loop-id.book c.loop-id.pool c.loop-id.routes c.args.controls.now.legal c.loop-id.verdicts c.loop-id.invariant.done
                 c.loop-id.invariant.long legal w.net_routes.new.book w.net_routes.new.pool e g c.loop-id.invariant.tables c.loop-id.invariant.widths;
-            found = found_more netlist order i c.loop-id-test.true c.loop-id.verdicts judged_in c.loop-id.invariant.found Many (many_found netlist c.args.controls.now c.args.book.now w.net_routes.new.book c.requires.controls grows c.requires.word n lt alone many);
+            found = found_more netlist order i c.loop-id-test.true c.loop-id.verdicts judged_in c.loop-id.invariant.found Many (many_found netlist c.args.controls.now c.args.book.now w.net_routes.new.book c.requires.controls grows c.requires.word (has_bits netlist c.args.checked.now.order c.netlist-netlist.ensures.kept) n lt alone many);
             done = λ m word less kept low.
                 lost_done order i c.loop-id-test.true c.loop-id.verdicts judged_in (λ k. (word : ℕ) → word < 2 ^ w.net_routes.new.book.bits → held_terms w.net_routes.new.book w.net_routes.new.pool (routes_at c.loop-id.routes k) word ≡ only w.net_routes.new.book c.args.controls.now.legal word (sym_of netlist word k))
                 (λ k before is word low. done_later netlist order o i c.loop-id-test.true c.loop-id.book c.loop-id.pool c.loop-id.routes c.args.controls.now.legal c.loop-id.verdicts c.loop-id.invariant.done

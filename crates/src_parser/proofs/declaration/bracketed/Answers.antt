@@ -1,7 +1,7 @@
 use Rattle.std.proofs.lemmas.Result.{err_from_is_err_and}
 use Rattle.grammar.proofs.Steps.{return_reads}
 use Rattle.grammar.proofs.Passing.{there_return, there_bind, on, past, stuck}
-use Rattle.src_parser.proofs.Tokens.{there_sign, there_number, there_before}
+use Rattle.grammar.proofs.Tokens.{there_sign, there_number, there_before}
 use Rattle.src_parser.proofs.declaration.bracketed.Goals as goal
 
 pub returns-in_err-rest : goal.returns-in_err-rest

@@ -3,7 +3,7 @@ use Rattle.std.proofs.lemmas.Result.{err_from_is_err_and}
 use Rattle.grammar.specs.Reading.{head}
 use Rattle.grammar.proofs.Passing.{fails_too, same_leads}
 use Rattle.grammar.proofs.Repeats.{many_ends, many_leads, many_fails}
-use Rattle.src_parser.proofs.Tokens.{not_there}
+use Rattle.grammar.proofs.Tokens.{not_there}
 use Rattle.src_parser.proofs.Declarations.{lined, lines_on, lines_end}
 use Rattle.src_parser.proofs.declaration.lines.Goals as goal
 

@@ -2,7 +2,7 @@ use Rattle.std.proofs.Common.{[], ◌∷◌, ◌++◌, ap, ◌∙◌}
 use Rattle.std.proofs.lemmas.Result.{err_from_is_err_and}
 use Rattle.grammar.specs.Reading.{head}
 use Rattle.grammar.proofs.Repeats.{list_ends, list_fails, list_goes_on}
-use Rattle.src_parser.proofs.Tokens.{not_there}
+use Rattle.grammar.proofs.Tokens.{not_there}
 use Rattle.src_parser.proofs.Declarations.{listed, others_start, others_end}
 use Rattle.src_parser.proofs.declaration.others.Goals as goal
 

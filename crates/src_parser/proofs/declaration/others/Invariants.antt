@@ -1,7 +1,8 @@
 use Rattle.std.proofs.Common.{◌++◌, length, map}
 use Rattle.grammar.specs.Reading.{Leads, ListOf}
 use Rattle.src_model.specs.declared.words.Symbol.TheVariants.{Comma}
-use Rattle.src_model.specs.Grammar.{Behind, DeclsBehind, IsDecl}
+use Rattle.grammar.specs.Tokens.{Behind}
+use Rattle.src_model.specs.Grammar.{DeclsBehind, IsDecl}
 use Rattle.src_parser.specs.Steps.{after_decls}
 use Rattle.src_parser.proofs.declaration.others.Given as goal
 

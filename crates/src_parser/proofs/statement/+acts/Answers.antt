@@ -6,7 +6,7 @@ use Rattle.grammar.proofs.Passing.{fails_too, gives_too, reads_too, same_leads, 
 use Rattle.grammar.proofs.Repeats.{list_ends, list_fails, list_goes_on}
 use Rattle.src_model.specs.Written.{act_of}
 use Rattle.src_parser.specs.Steps.{may_follow, else_word, acts_word}
-use Rattle.src_parser.proofs.Tokens.{begun, ends, there_sign, there_number, there_behind, there_before, not_there}
+use Rattle.grammar.proofs.Tokens.{begun, ends, there_sign, there_number, there_behind, there_before, not_there}
 use Rattle.src_parser.proofs.Statements.{block_leads, block_starts, there_block, acted, not_so, compound_leads, no_level, act_missed, act_ended, name_leads, while_reads, for_reads, if_reads}
 use Rattle.src_parser.proofs.statement.+acts.Goals as goal
 
@@ -115,7 +115,7 @@ counting-returns-in_err-body t c =
     rw (p.1, p.2) (past c.in_ok-counter.ensures (past c.in_ok-from.ensures (past c.in_ok-to.ensures (stuck (λ b. there_return) c.in_err-body.ensures))))
 
 pub counting-returns : goal.counting-returns
-counting-returns t c = for_reads c.in_ok-counter.counter c.in_ok-counter.at c.in_ok-from.from c.in_ok-to.to c.in_ok-body.body (on c.in_ok-counter.ensures (on c.in_ok-from.ensures (on c.in_ok-to.ensures (on c.in_ok-body.ensures return_reads))))
+counting-returns t c = for_reads c.in_ok-counter.counter.name c.in_ok-counter.counter.at c.in_ok-from.from c.in_ok-to.to c.in_ok-body.body (on c.in_ok-counter.ensures (on c.in_ok-from.ensures (on c.in_ok-to.ensures (on c.in_ok-body.ensures return_reads))))
 
 pub act-returns-in_default : goal.act-returns-in_default
 act-returns-in_default t c = act_ended c.args.levels c.in_default.ensures

@@ -3,7 +3,7 @@ use Rattle.std.proofs.lemmas.Result.{err_from_is_err_and}
 use Rattle.grammar.specs.declared.stop.Stop.TheVariants.{At, Memory}
 use Rattle.src_model.specs.Grammar.{IsText}
 use Rattle.src_model.specs.Written.{listing_of}
-use Rattle.src_parser.specs.Words.{lexed_all}
+use Rattle.src_parser.specs.Words.{src_words}
 use Rattle.src_parser.proofs.whole.parse.Goals as goal
 
 pub returns-in_err-ts : goal.returns-in_err-ts
@@ -13,7 +13,7 @@ returns-in_err-ts c =
 
 pub returns-in-Ok : goal.returns-in-Ok
 returns-in-Ok c =
-    let same = c.as_slice-2.ensures.value ∙ c.in_ok-ts.ensures ∙ ap (lexed_all c.args.bytes.now) c.as_slice.ensures in
+    let same = c.as_slice-2.ensures.value ∙ c.in_ok-ts.ensures ∙ ap (src_words c.args.bytes.now) c.as_slice.ensures in
     record {
       found = subst (λ ts. IsText ts (listing_of c.in-Ok.program)) same c.in-Ok.ensures.found;
       only = λ entries spelled. c.in-Ok.ensures.only entries (subst (λ ts. IsText ts entries) (sym same) spelled);
@@ -22,7 +22,7 @@ returns-in-Ok c =
 
 pub returns-in-Err-At-clause-only : goal.returns-in-Err-At-clause-only
 returns-in-Err-At-clause-only c entries spelled =
-    let same = c.as_slice-2.ensures.value ∙ c.in_ok-ts.ensures ∙ ap (lexed_all c.args.bytes.now) c.as_slice.ensures in
+    let same = c.as_slice-2.ensures.value ∙ c.in_ok-ts.ensures ∙ ap (src_words c.args.bytes.now) c.as_slice.ensures in
     let e : c.in-Err-At.field-0 ≡ Memory = c.in-Err-At.ensures.only entries (subst (λ ts. IsText ts entries) (sym same) spelled) in
     let f : At c.in-Err-At.left ≡ Memory = sym c.in-Err-At.field-0-is ∙ e in
     absurd cc

@@ -1,6 +1,5 @@
-use Rattle.std.proofs.Common.{◌≡◌, ◌≤◌, length, subst, arith}
+use Rattle.std.proofs.Common.{◌≡◌, ◌≤◌, length, subst, arith, ◌∙◌}
 use Rattle.bit_bdd.proofs.CallerLemmas.{extends_trans}
-use Rattle.ctl_bdd.proofs.CallerLemmas.{clean_is}
 use Rattle.net_model.proofs.KeptRules.{few_storages}
 use Rattle.transfer_set.specs.Entries.{AreLeft}
 use Rattle.transfer_set.proofs.Assembling.{table_is}
@@ -39,17 +38,18 @@ pub returns-clause-grows : goal.returns-clause-grows
 returns-clause-grows c =
     extends_trans c.args.book.now c.keep_sets.new.book c.step_set.new.book (extends_trans c.args.book.now c.collect_entries.new.book c.keep_sets.new.book c.in_ok-entries.ensures.grows c.in_ok-keeps.ensures.grows) c.in_ok-step.ensures.grows
 
-pub returns-clause-patterns : goal.returns-clause-patterns
-returns-clause-patterns c =
+pub returns-clause-ready : goal.returns-clause-ready
+returns-clause-ready c =
     let e : c.len-storages.result ≡ length c.args.checked.now.netlist.storages = rw c.netlist.ensures.value at c.len-storages.ensures in
     let left : AreLeft c.collect_entries.new.book c.keep_sets.new.book c.args.controls.now.legal c.in_ok-entries.entries (length c.args.checked.now.netlist.storages) c.in_ok-keeps.keeps =
     subst (λ count. AreLeft c.collect_entries.new.book c.keep_sets.new.book c.args.controls.now.legal c.in_ok-entries.entries count c.in_ok-keeps.keeps) e (rw c.as_slice.ensures at c.in_ok-keeps.ensures.left) in
-    table_is c.args.checked.now.netlist c.args.checked.now.order c.netlist.ensures.kept c.args.book.now c.collect_entries.new.book c.keep_sets.new.book c.step_set.new.book
+    let patterns = table_is c.args.checked.now.netlist c.args.checked.now.order c.netlist.ensures.kept c.args.book.now c.collect_entries.new.book c.keep_sets.new.book c.step_set.new.book
     c.in_ok-entries.ensures.grows c.in_ok-keeps.ensures.grows c.in_ok-step.ensures.grows
     c.args.pool.now c.in_ok-entries.entries c.in_ok-entries.ensures.held c.in_ok-entries.ensures.known c.in_ok-entries.ensures.whole
     c.args.controls.now.legal c.requires.controls.within
-    (clean_is c.args.checked.now.netlist c.args.book.now c.args.controls.now c.requires.controls c.netlist.ensures.kept.roles.code c.requires.word)
+    c.requires.controls.legal
     c.in_ok-entries.ensures.moves c.in_ok-entries.ensures.every
     c.in_ok-rows.rows.items (rw c.as_slice-3.ensures at c.in_ok-rows.ensures.same) c.in_ok-rows.ensures.told c.in_ok-rows.ensures.ordered
     c.in_ok-keeps.keeps left c.counter.result c.counter.ensures.storage c.counter.ensures.width
-    c.in_ok-step.step c.in_ok-step.ensures.within (rw c.as_slice-2.ensures at c.in_ok-step.ensures.words) c.memory.result c.memory.ensures
+    c.in_ok-step.step c.in_ok-step.ensures.within (rw c.as_slice-2.ensures at c.in_ok-step.ensures.words) c.memory.result c.memory.ensures in
+    record { patterns = patterns; bits = (returns-clause-grows c).bits ∙ c.requires.word }

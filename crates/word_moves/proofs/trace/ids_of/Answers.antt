@@ -5,7 +5,7 @@ use Rattle.sym_expr.specs.Pools.{term_at}
 use Rattle.sym_expr.proofs.CallerLemmas.{grows_trans}
 use Rattle.word_moves.specs.Gates.{net_terms}
 use Rattle.net_model.specs.Flags.{flag_at}
-use Rattle.word_moves.proofs.Traced.{turn_known, turn_traced}
+use Rattle.word_moves.proofs.Traced.{turn_controlled, turn_known, turn_traced}
 use Rattle.word_moves.proofs.trace.ids_of.Goals as goal
 
 pub gate_id-requires-clause-known : goal.gate_id-requires-clause-known
@@ -14,6 +14,13 @@ gate_id-requires-clause-known c =
     let is : c.index-nets-at.result ≡ get_or c.args.checked.now.netlist.nets (slice_index c.as_slice-order.result.now c.loop-id.id-index) c.index-nets-at.result = rw (c.as_slice-nets.ensures, c.netlist-netlist.ensures.value) at c.index-nets-at.is in
     rw (c.netlist-netlist.ensures.value, c.as_slice-current.ensures)
     (turn_known c.args.checked.now.netlist c.args._word c.as_slice-order.result.now o c.loop-id.pool c.loop-id.ids c.loop-id.id-index c.loop-id-test.true c.loop-id.invariant.done c.index-nets-at.result is c.netlist-netlist.ensures.sound.typed)
+
+pub gate_id-requires-clause-control : goal.gate_id-requires-clause-control
+gate_id-requires-clause-control c =
+    let o : IsOrder c.args.checked.now.netlist c.as_slice-order.result.now = rw (c.as_slice-order.ensures, c.order.ensures.value) c.order.ensures.kept.ordered in
+    let is : c.index-nets-at.result ≡ get_or c.args.checked.now.netlist.nets (slice_index c.as_slice-order.result.now c.loop-id.id-index) c.index-nets-at.result = rw (c.as_slice-nets.ensures, c.netlist-netlist.ensures.value) at c.index-nets-at.is in
+    rw c.netlist-netlist.ensures.value
+    (turn_controlled c.args.checked.now.netlist c.args._word c.as_slice-order.result.now o c.loop-id.pool c.loop-id.ids c.loop-id.id-index c.loop-id-test.true c.loop-id.invariant.done c.index-nets-at.result is c.netlist-netlist.ensures.sound.controlled)
 
 pub loop-id-preserved : goal.loop-id-preserved
 loop-id-preserved c =

@@ -1,7 +1,8 @@
 use Rattle.std.proofs.Common.{◌≡◌, ◌<◌, ◌^◌, ◌∙◌, ap, length-append, arith, subst}
 use Rattle.net_model.specs.Nets.{word_width}
 use Rattle.word_search.proofs.Told.{deeds_push}
-use Rattle.word_search.proofs.Words.{one_shift, word_fits}
+use Rattle.word_search.proofs.Words.{one_shift}
+use Rattle.net_model.proofs.WordWidths.{word_fits}
 use Rattle.word_search.proofs.deeds.deeds_of.Goals as goal
 
 pub deed_of-requires : goal.deed_of-requires

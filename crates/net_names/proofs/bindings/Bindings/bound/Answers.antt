@@ -1,5 +1,5 @@
 use Rattle.std.proofs.Common.{map, option_map, ap, ◌∙◌}
-use Rattle.net_model.specs.declared.units.Ident.{Ident}
+use Rattle.grammar.specs.declared.words.Ident.{Ident}
 use Rattle.net_model.specs.declared.units.NetExpr.{NetExpr}
 use Rattle.net_model.specs.Numbering.{bound}
 use Rattle.net_model.specs.Written.{binding_of, phrase_of}

@@ -8,5 +8,5 @@ pub returns : goal.returns
 returns c =
     let ports = c.self.inside.ports.now in
     c.item_at.ensures ∙ ap (item_at ports) c.place.ensures
-    ∙ port_found false c.self.inside.inputs ports c.args.name.now c.self.invariant.inputs_there
+    ∙ port_found false c.self.inside.inputs ports c.args.name.now c.self.invariant.0.inputs_there
     ∙ ap (λ ps. port_named false ps c.args.name.now) c.self.view_is

@@ -8,5 +8,5 @@ pub returns : goal.returns
 returns c =
     let ports = c.self.inside.ports.now in
     c.item_at.ensures ∙ ap (item_at ports) c.place.ensures
-    ∙ port_found true c.self.inside.outputs ports c.args.name.now c.self.invariant.outputs_there
+    ∙ port_found true c.self.inside.outputs ports c.args.name.now c.self.invariant.0.outputs_there
     ∙ ap (λ ps. port_named true ps c.args.name.now) c.self.view_is

@@ -1,0 +1,92 @@
+-- What a memory text says of a netlist's state. Each line is REGISTER VALUE or MEMORY ADDRESS VALUE, decimal without leading zeros; a later
+-- line for the same place counts. What isn't named is 0, and nothing names the program counter.
+use Rattle.std.specs.Prelude.{ℕ, ◌^◌, ◌≡◌, ◌≢◌, ◌<◌, ◌⊎◌, List, [], ◌∷◌, ◌++◌, length, codes, slice_get, slice_set}
+use Rattle.std.proofs.Math.ListN.{replicate}
+use Rattle.std.specs.Fmt.{decimal}
+use Rattle.std.specs.List.{AllByRecursion, concat}
+use Rattle.rec_bits.specs.declared.fault.ParseFault.{ParseFault}
+use Rattle.rec_bits.specs.declared.fault.ParseFault.TheVariants as fault
+use Rattle.text_lines.specs.Lines.{lines_of}
+use Rattle.net_model.specs.declared.hardware.Netlist.{Netlist}
+use Rattle.net_model.specs.declared.hardware.Storage.{Storage}
+use Rattle.net_model.specs.declared.states.State.{State}
+use Rattle.net_model.specs.Nets.{counter_of, memory_size, memory_width, storage_bits, IsRegister}
+use Rattle.net_model.specs.Texts.{name_of, memory_name}
+
+-- ---- lines
+
+-- REGISTER VALUE
+abbrev pub register_line : List ℕ → ℕ → List ℕ
+register_line name value = concat (name ∷ codes " " ∷ decimal value ∷ codes "\n" ∷ [])
+
+-- MEMORY ADDRESS VALUE
+abbrev pub cell_line : List ℕ → ℕ → ℕ → List ℕ
+cell_line name address value = concat (name ∷ codes " " ∷ decimal address ∷ codes " " ∷ decimal value ∷ codes "\n" ∷ [])
+
+-- a name without spaces, as each in a text is
+abbrev pub IsOneWord : List ℕ → Type 0
+IsOneWord name = AllByRecursion (λ b. b ≢ 32) name
+
+-- the line sets this register, which isn't the program counter, to this value, which fits it
+pub record SetsRegister (netlist : Netlist) (line : List ℕ) (id value : ℕ) : Type 0 where
+  pub register : IsRegister (slice_get netlist.storages id)
+  pub other : id ≢ counter_of netlist.codes
+  pub name : IsOneWord (name_of netlist id)
+  pub fits : value < 2 ^ storage_bits (slice_get netlist.storages id)
+  pub line_is : line ≡ register_line (name_of netlist id) value
+
+-- the line sets this cell of the memory to this value, which fits it
+pub record SetsCell (netlist : Netlist) (line : List ℕ) (address value : ℕ) : Type 0 where
+  pub within : address < memory_size netlist.storages
+  pub name : IsOneWord (memory_name netlist)
+  pub fits : value < 2 ^ memory_width netlist.storages
+  pub line_is : line ≡ cell_line (memory_name netlist) address value
+
+pub record SetsNothing (netlist : Netlist) (line : List ℕ) : Type 0 where
+  pub no_register : (id value : ℕ) → SetsRegister netlist line id value → ⊥
+  pub no_cell : (address value : ℕ) → SetsCell netlist line address value → ⊥
+
+-- ---- states
+
+-- the state with this value for a register, and for a cell
+abbrev pub with_register : State → ℕ → ℕ → State
+with_register s id value = record s { regs = slice_set s.regs id value }
+
+abbrev pub with_cell : State → ℕ → ℕ → State
+with_cell s address value = record s { cells = slice_set s.cells address value }
+
+-- the line leads from one state to the other, by a register or by a cell
+abbrev pub Leads : Netlist → State → List ℕ → State → Type 0
+Leads netlist s line t =
+    ((id : ℕ) × (value : ℕ) × SetsRegister netlist line id value × (t ≡ with_register s id value))
+    ⊎ ((address : ℕ) × (value : ℕ) × SetsCell netlist line address value × (t ≡ with_cell s address value))
+
+-- the lines, one after the other, do
+abbrev pub AllLead : Netlist → State → List (List ℕ) → State → Type 0
+AllLead netlist s [] t = s ≡ t
+AllLead netlist s (line ∷ lines) t = (next : State) × Leads netlist s line next × AllLead netlist next lines t
+
+-- nothing but zeros: an entry for each storage, and the memory's cells
+abbrev pub blank : List Storage → State
+blank storages = record { regs = replicate (length storages) 0; cells = replicate (memory_size storages) 0 }
+
+-- ---- texts
+
+-- the bytes are a memory text, which says this state
+pub record IsMemoryText (netlist : Netlist) (bytes : List ℕ) (s : State) : Type 0 where
+  pub lead : AllLead netlist (blank netlist.storages) (lines_of bytes) s
+
+-- The bytes aren't one: each line before this byte sets something, and the one that begins there sets nothing.
+pub record IsMemoryFault (netlist : Netlist) (bytes : List ℕ) (at : ℕ) : Type 0 where
+  pub before : List (List ℕ)
+  pub line : List ℕ
+  pub after : List (List ℕ)
+  pub state : State
+  pub lines : lines_of bytes ≡ before ++ (line ∷ after)
+  pub place : length (concat before) ≡ at
+  pub good : AllLead netlist (blank netlist.storages) before state
+  pub bad : SetsNothing netlist line
+
+abbrev pub IsMemoryRefusal : Netlist → List ℕ → ParseFault → Type 0
+IsMemoryRefusal netlist bytes (fault.Text at) = IsMemoryFault netlist bytes at
+IsMemoryRefusal netlist bytes fault.Memory = Unit {0}

@@ -1,0 +1,77 @@
+-- States that fit a netlist, with the program counter at 0.
+use Rattle.std.proofs.Common.{◌≡◌, ℕ, zero, suc, ◌^◌, ◌<◌, ◌≤◌, List, [], ◌∷◌, length, get_or, refl, sym, ◌∙◌, arith}
+use Rattle.std.proofs.Math.ListN.{replicate, set}
+use Rattle.std.proofs.lemmas.List.{length-replicate, get_or-set_other, length-set}
+use Rattle.std.proofs.Math.Nat.{pow-le-pow_right}
+use Rattle.std.specs.Prelude.{slice_get}
+use Rattle.net_model.specs.declared.hardware.Netlist.{Netlist}
+use Rattle.net_model.specs.declared.hardware.Storage.{Storage}
+use Rattle.net_model.specs.declared.states.State.{State}
+use Rattle.net_model.specs.Nets.{counter_of, memory_size, memory_width, storage_bits, IsRegister}
+use Rattle.net_model.specs.MemoryText.{blank}
+use Rattle.state_text.specs.declared.setting.Setting.{Setting}
+use Rattle.state_text.specs.declared.setting.Setting.TheVariants.{Entry, Cell}
+use Rattle.state_text.specs.Settings.{with_setting, SettingFits, IsWithin, IsStart}
+
+zeros_at : (n i : ℕ) → get_or (replicate {A = ℕ} n 0) i 0 ≡ 0
+zeros_at zero i = refl
+zeros_at (suc n) zero = refl
+zeros_at (suc n) (suc i) = zeros_at n i
+
+some_power : (w : ℕ) → 0 < 2 ^ w
+some_power w = let p : 2 ^ 0 ≤ 2 ^ w = pow-le-pow_right {n = 2} (omega arith) {i = 0} {j = w} (omega arith) in p
+
+pub blank_start : (netlist : Netlist) → IsStart netlist (blank netlist.storages)
+blank_start netlist = record {
+  state = record {
+    regs = length-replicate (length netlist.storages) 0;
+    cells = length-replicate (memory_size netlist.storages) 0;
+    fits = record {
+      regs = λ (id : ℕ). let e = zeros_at (length netlist.storages) id in omega (arith, e, some_power (storage_bits (slice_get netlist.storages id)));
+      cells = λ (a : ℕ). let e = zeros_at (memory_size netlist.storages) a in omega (arith, e, some_power (memory_width netlist.storages));
+    };
+  };
+  counter = zeros_at (length netlist.storages) (counter_of netlist.codes);
+}
+
+-- ---- what a setting keeps
+
+set_below : (xs : List ℕ) (i j v : ℕ) (bound : ℕ → ℕ) → ((k : ℕ) → get_or xs k 0 < bound k) → v < bound i → get_or (set xs i v) j 0 < bound j
+set_below [] i j v bound h k = h j
+set_below (x ∷ xs) zero zero v bound h k = k
+set_below (x ∷ xs) zero (suc j) v bound h k = h (suc j)
+set_below (x ∷ xs) (suc i) zero v bound h k = h 0
+set_below (x ∷ xs) (suc i) (suc j) v bound h k = set_below xs i j v (λ n. bound (suc n)) (λ n. h (suc n)) k
+
+pub keeps_start : (netlist : Netlist) (s : State) (setting : Setting) → IsStart netlist s → SettingFits netlist setting → IsStart netlist (with_setting s setting)
+keeps_start netlist s (Entry id value) h f = record {
+  state = record {
+    regs = length-set s.regs id value ∙ h.state.regs;
+    cells = h.state.cells;
+    fits = record {
+      regs = λ (j : ℕ). set_below s.regs id j value (λ n. 2 ^ storage_bits (slice_get netlist.storages n)) h.state.fits.regs f.2;
+      cells = h.state.fits.cells;
+    };
+  };
+  counter = get_or-set_other s.regs id (counter_of netlist.codes) value 0 (λ e. f.1 (sym e)) ∙ h.counter;
+}
+keeps_start netlist s (Cell address value) h f = record {
+  state = record {
+    regs = h.state.regs;
+    cells = length-set s.cells address value ∙ h.state.cells;
+    fits = record {
+      regs = h.state.fits.regs;
+      cells = λ (j : ℕ). set_below s.cells address j value (λ n. 2 ^ memory_width netlist.storages) h.state.fits.cells f.1;
+    };
+  };
+  counter = h.counter;
+}
+
+pub register_within : (storages : List Storage) (id : ℕ) → IsRegister (slice_get storages id) → id < length storages
+register_within [] id h = absurd h
+register_within (s ∷ storages) zero h = omega arith
+register_within (s ∷ storages) (suc id) h = omega (arith, register_within storages id h)
+
+pub is_within : (netlist : Netlist) (s : State) (setting : Setting) → IsStart netlist s → SettingFits netlist setting → IsWithin s setting
+is_within netlist s (Entry id value) h f = omega (arith, register_within netlist.storages id f.0, h.state.regs)
+is_within netlist s (Cell address value) h f = omega (arith, f.0, h.state.cells)

@@ -1,0 +1,305 @@
+-- The reader's functions tell exactly what a line sets.
+use Rattle.std.proofs.Common.{◌≡◌, ◌≢◌, ◌==◌, ℕ, zero, suc, ◌+◌, ◌^◌, ◌<◌, ◌≤◌, inl, inr, List, [], ◌∷◌, ◌++◌, length, map, Bool, true, false, not, cond, Option, Some, None, refl, sym, ap, subst, ◌∙◌, true≢false, eqb-true, eq-eqb, arith}
+use Rattle.std.proofs.lemmas.Bool.{ltb-true, lt-ltb}
+use Rattle.std.proofs.lemmas.Option.{cond_some, same_Some, some_pair_parts}
+use Rattle.std.proofs.lemmas.Slice.Eq.{bytes_eq-Decides}
+use Rattle.std.specs.Cmp.Lexicographic.{pointwise}
+use Rattle.std.specs.Fmt.{decimal}
+use Rattle.std.specs.List.{AllByRecursion, IsDistinct, position_or_len}
+use Rattle.std.specs.Prelude.{nat_eq, nat_lt, slice_get, option_map}
+use Rattle.std.specs.Str.{bytes_eq}
+use Rattle.text_lines.specs.Fields.{parts_at, longer_front, number_of, line_end, ◌>>=◌}
+use Rattle.text_lines.proofs.Parts.{Avoids, parts_are, parts_again}
+use Rattle.text_lines.proofs.Ends.{end_is, end_again}
+use Rattle.text_lines.proofs.Numbers.{number_is, number_again, avoids-decimal}
+use Rattle.text_lines.proofs.Steps.{bind_ok, bind_again}
+use Rattle.net_model.specs.declared.hardware.Netlist.{Netlist}
+use Rattle.net_model.specs.declared.hardware.Code.{Code}
+use Rattle.net_model.specs.declared.hardware.Storage.{Storage}
+use Rattle.net_model.specs.declared.hardware.Storage.TheVariants.{Register, Memory}
+use Rattle.net_model.specs.declared.states.State.{State}
+use Rattle.net_model.specs.Nets.{counter_of, memory_id, memory_size, memory_width, storage_bits, storage_cells, IsRegister}
+use Rattle.net_model.specs.CheckedRules.{storage_name, KeepsRules}
+use Rattle.net_model.specs.MemoryText.{IsOneWord, SetsRegister, SetsCell, SetsNothing, Leads, blank}
+use Rattle.net_model.specs.Texts.{name_in, name_of, memory_name}
+use Rattle.net_model.proofs.Memories.{memory_found, memory_wide, few_cells}
+use Rattle.state_text.specs.declared.setting.Setting.{Setting}
+use Rattle.state_text.specs.declared.setting.Setting.TheVariants.{Entry, Cell}
+use Rattle.state_text.specs.Settings.{below, number_below, named_at, entry_of, cell_of, setting_at, setting_for, setting_of, with_setting, SettingFits}
+use Rattle.state_text.proofs.Rooms.{storage_narrow, below_64}
+use Rattle.state_text.proofs.Starts.{blank_start, register_within}
+
+-- ---- words
+
+-- what stands before the first space is a word
+front_word : (bs x y : List ℕ) → parts_at 32 bs ≡ Some (x, y) → IsOneWord x
+unfolding parts_at
+front_word [] x y e = absurd cc
+front_word (b ∷ bs) x y e = step (b == 32) refl (parts_at 32 bs) (λ (u : List ℕ × List ℕ). front_word bs u.0 u.1) e
+  where
+    step : (test : Bool) → (b == 32) ≡ test → (o : Option (List ℕ × List ℕ)) → ((u : List ℕ × List ℕ) → o ≡ Some u → IsOneWord u.0) →
+        cond test (Some ([], bs)) (option_map (longer_front b) o) ≡ Some (x, y) → IsOneWord x
+    step true t o ih e =
+        let p : ([] ≡ x) × (bs ≡ y) = some_pair_parts [] x bs y e in
+        subst IsOneWord p.0 tt
+    step false t None ih e = absurd cc
+    step false t (Some u) ih e =
+        let p : ((b ∷ u.0) ≡ x) × (u.1 ≡ y) = some_pair_parts (b ∷ u.0) x u.1 y e in
+        let other : b ≢ 32 = λ same. true≢false (sym (eq-eqb b 32 same) ∙ t) in
+        subst IsOneWord p.0 (other, ih u refl)
+
+avoids_word : (name : List ℕ) → IsOneWord name → Avoids 32 name
+avoids_word [] h = tt
+avoids_word (b ∷ bs) h = (step (b == 32) refl, avoids_word bs h.1)
+  where
+    step : (test : Bool) → (b == 32) ≡ test → test ≡ false
+    step true t = absurd (h.0 (eqb-true b 32 t))
+    step false t = refl
+
+-- ---- names
+
+alike : (name : List ℕ) → pointwise nat_eq name name ≡ true
+alike [] = refl
+alike (b ∷ bs) = rw (eq-eqb b b refl, alike bs) refl
+
+own_name : (storage : Storage) → name_in (Some storage) ≡ storage_name storage
+own_name (Register name width input when) = refl
+own_name (Memory name width size addr_width value addr when) = refl
+
+-- a name that differs from all of these isn't that of one of the storages
+no_other : (name : List ℕ) (storages : List Storage) (more : List (List ℕ)) (id : ℕ) → AllByRecursion (λ y. pointwise nat_eq name y ≡ false) (map storage_name storages ++ more) → id < length storages →
+    name_in (slice_get storages id) ≡ name → ⊥
+no_other name [] more id d lt e = omega (arith, lt)
+no_other name (s ∷ storages) more zero d lt e =
+    let same : storage_name s ≡ name = sym (own_name s) ∙ e in
+    true≢false (sym (alike name) ∙ (ap (pointwise nat_eq name) (sym same) ∙ d.0))
+no_other name (s ∷ storages) more (suc id) d lt e = no_other name storages more id d.1 (omega (arith, lt)) e
+
+module _ (name : List ℕ) where
+  abbrev is_it : Storage → Bool
+  is_it storage = bytes_eq (storage_name storage) name
+
+  -- the storage that is found has the name
+  found_name : (storages : List Storage) (id : ℕ) → position_or_len is_it storages ≡ id → id < length storages → name_in (slice_get storages id) ≡ name
+  found_name [] id e lt = absurd (omega (arith, lt))
+  found_name (s ∷ storages) id e lt = step (is_it s) refl (λ k. found_name storages k) id e lt
+    where
+      step : (test : Bool) → is_it s ≡ test → ((k : ℕ) → position_or_len is_it storages ≡ k → k < length storages → name_in (slice_get storages k) ≡ name) →
+          (id : ℕ) → cond (not test) (1 + position_or_len is_it storages) 0 ≡ id → id < suc (length storages) → name_in (slice_get (s ∷ storages) id) ≡ name
+      step true t later zero e lt = own_name s ∙ (bytes_eq-Decides (storage_name s) name).0 t
+      step true t later (suc id) e lt = absurd (omega (arith, e))
+      step false t later zero e lt = absurd (omega (arith, e))
+      step false t later (suc id) e lt = later id (omega (arith, e)) (omega (arith, lt))
+
+  -- no storage before it does
+  first_at : (storages : List Storage) (more : List (List ℕ)) (id : ℕ) → IsDistinct (pointwise nat_eq) (map storage_name storages ++ more) → id < length storages → name_in (slice_get storages id) ≡ name →
+      position_or_len is_it storages ≡ id
+  unfolding IsDistinct
+  first_at [] more id d lt e = absurd (omega (arith, lt))
+  first_at (s ∷ storages) more zero d lt e = rw ((bytes_eq-Decides (storage_name s) name).1 (sym (own_name s) ∙ e)) refl
+  first_at (s ∷ storages) more (suc id) d lt e = step (is_it s) refl (first_at storages more id d.1 (omega (arith, lt)) e)
+    where
+      step : (test : Bool) → is_it s ≡ test → position_or_len is_it storages ≡ id → cond (not test) (1 + position_or_len is_it storages) 0 ≡ suc id
+      step true t later =
+          let same : storage_name s ≡ name = (bytes_eq-Decides (storage_name s) name).0 t in
+          absurd (no_other (storage_name s) storages more id d.0 (omega (arith, lt)) (e ∙ sym same))
+      step false t later = omega (arith, later)
+
+  named_is : (storages : List Storage) (id : ℕ) → named_at storages name ≡ Some id → name_in (slice_get storages id) ≡ name
+  named_is storages id e =
+      let p = cond_some (nat_lt (position_or_len is_it storages) (length storages)) (position_or_len is_it storages) id e in
+      let lt : position_or_len is_it storages < length storages = ltb-true (position_or_len is_it storages) (length storages) p.0 in
+      found_name storages id p.1 (omega (arith, lt, p.1))
+
+-- ---- what was read
+
+below_fits : (width n v : ℕ) → below width n ≡ Some v → v < 2 ^ width
+below_fits width n v e = let p = cond_some (nat_lt n (2 ^ width)) n v e in omega (arith, ltb-true n (2 ^ width) p.0, p.1)
+
+number_fits : (width : ℕ) (text : List ℕ) (v : ℕ) → number_below width text ≡ Some v → v < 2 ^ width
+unfolding number_below
+number_fits width text v e = let b = bind_ok (line_end text >>= number_of) (below width) v e in below_fits width b.value v b.then
+
+other_id : (id counter : ℕ) (o : Option Setting) (setting : Setting) → cond (id == counter) None o ≡ Some setting → (id ≢ counter) × (o ≡ Some setting)
+other_id id counter o setting e = step (id == counter) (λ f. eq-eqb id counter f) e
+  where
+    step : (t : Bool) → (id ≡ counter → t ≡ true) → cond t None o ≡ Some setting → (id ≢ counter) × (o ≡ Some setting)
+    step true h e = absurd cc
+    step false h e = (λ f. let g = h f in cc, e)
+
+number_below_is : (width : ℕ) (text : List ℕ) (v : ℕ) → number_below width text ≡ Some v → text ≡ decimal v ++ (10 ∷ [])
+unfolding number_below
+number_below_is width text v e =
+    let a = bind_ok (line_end text >>= number_of) (below width) v e in
+    let b = bind_ok (line_end text) number_of a.value a.first in
+    let p = number_is b.value a.value b.then in
+    let q = cond_some (nat_lt a.value (2 ^ width)) a.value v a.then in
+    end_is text b.value b.first ∙ ap (λ digits. digits ++ (10 ∷ [])) (p.0 ∙ ap decimal q.1)
+
+-- the text behind the name of this storage is that of the setting
+abbrev ReadsAs : Netlist → ℕ → List ℕ → Setting → Type 0
+ReadsAs netlist id text (Entry storage value) = (storage ≡ id) × (text ≡ decimal value ++ (10 ∷ []))
+ReadsAs netlist id text (Cell address value) = (id ≡ memory_id netlist.storages) × (text ≡ decimal address ++ (32 ∷ (decimal value ++ (10 ∷ []))))
+
+-- a setting fits, and its text is that
+record IsOf (netlist : Netlist) (id : ℕ) (text : List ℕ) (setting : Setting) : Type 0 where
+  pub fits : SettingFits netlist setting
+  pub reads : ReadsAs netlist id text setting
+
+at_is : (netlist : Netlist) (id : ℕ) (o : Option Storage) (text : List ℕ) (setting : Setting) → slice_get netlist.storages id ≡ o → setting_at (counter_of netlist.codes) (memory_id netlist.storages) id o text ≡ Some setting → IsOf netlist id text setting
+unfolding setting_at entry_of cell_of
+at_is netlist id None text setting q e = absurd cc
+at_is netlist id (Some (Register name width input when)) text setting q e =
+    let p = other_id id (counter_of netlist.codes) (entry_of id width text) setting e in
+    let b = bind_ok (number_below width text) _ setting p.1 in
+    let v : b.value < 2 ^ width = number_fits width text b.value b.first in
+    subst (IsOf netlist id text) (same_Some (Entry id b.value) setting b.then) (record { fits = rw q (tt, p.0, v); reads = (refl, number_below_is width text b.value b.first) })
+at_is netlist id (Some (Memory name width size addr_width value addr when)) text setting q e =
+    let p = cond_some_of (id == memory_id netlist.storages) (cell_of size width text) setting e in
+    let here : id ≡ memory_id netlist.storages = eqb-true id (memory_id netlist.storages) p.0 in
+    let found : slice_get netlist.storages (memory_id netlist.storages) ≡ Some (Memory name width size addr_width value addr when) = ap (slice_get netlist.storages) (sym here) ∙ q in
+    let sized : size ≡ memory_size netlist.storages = sym (ap storage_cells found) ∙ memory_found netlist.storages in
+    let wide : width ≡ memory_width netlist.storages = sym (ap storage_bits found) ∙ memory_wide netlist.storages in
+    let a = bind_ok (parts_at 32 text) _ setting p.1 in
+    let b = bind_ok (number_of a.value.0) _ setting a.then in
+    let d = bind_ok (number_below width a.value.1) _ setting b.then in
+    let r = cond_some (nat_lt b.value size) (Cell b.value d.value) setting d.then in
+    let v : d.value < 2 ^ width = number_fits width a.value.1 d.value d.first in
+    let in_size : b.value < size = ltb-true b.value size r.0 in
+    let P : ℕ → Type 0 = λ w. d.value < 2 ^ w in
+    let front = number_is a.value.0 b.value b.first in
+    let is : text ≡ decimal b.value ++ (32 ∷ (decimal d.value ++ (10 ∷ []))) =
+    parts_are 32 text a.value.0 a.value.1 a.first ∙ ap (λ x. x ++ (32 ∷ a.value.1)) front.0 ∙ ap (λ y. decimal b.value ++ (32 ∷ y)) (number_below_is width a.value.1 d.value d.first) in
+    subst (IsOf netlist id text) r.1 (record { fits = (omega (arith, in_size, sized), subst P wide v); reads = (here, is) })
+  where
+    cond_some_of : (t : Bool) (o : Option Setting) (setting : Setting) → cond t o None ≡ Some setting → (t ≡ true) × (o ≡ Some setting)
+    cond_some_of true o setting e = (refl, e)
+    cond_some_of false o setting e = absurd cc
+
+-- what is read of a line fits, and the line is that which sets it
+record Told (netlist : Netlist) (line : List ℕ) (setting : Setting) : Type 0 where
+  pub id : ℕ
+  pub text : List ℕ
+  pub word : IsOneWord (name_of netlist id)
+  pub line_is : line ≡ name_of netlist id ++ (32 ∷ text)
+  pub is : IsOf netlist id text setting
+
+told : (netlist : Netlist) (line : List ℕ) (setting : Setting) → setting_of netlist line ≡ Some setting → Told netlist line setting
+unfolding setting_of setting_for
+told netlist line setting e =
+    let a = bind_ok (parts_at 32 line) _ setting e in
+    let b = bind_ok (named_at netlist.storages a.value.0) _ setting a.then in
+    let named : name_of netlist b.value ≡ a.value.0 = named_is a.value.0 netlist.storages b.value b.first in
+    record {
+      id = b.value;
+      text = a.value.1;
+      word = subst IsOneWord (sym named) (front_word line a.value.0 a.value.1 a.first);
+      line_is = parts_are 32 line a.value.0 a.value.1 a.first ∙ ap (λ name. name ++ (32 ∷ a.value.1)) (sym named);
+      is = at_is netlist b.value (slice_get netlist.storages b.value) a.value.1 setting refl b.then;
+    }
+
+pub setting_fits : (netlist : Netlist) (line : List ℕ) (setting : Setting) → setting_of netlist line ≡ Some setting → SettingFits netlist setting
+setting_fits netlist line setting e = (told netlist line setting e).is.fits
+
+pub leads_of : (netlist : Netlist) (s : State) (line : List ℕ) (setting : Setting) → setting_of netlist line ≡ Some setting → Leads netlist s line (with_setting s setting)
+leads_of netlist s line setting e = go setting (told netlist line setting e)
+  where
+    go : (setting : Setting) → Told netlist line setting → Leads netlist s line (with_setting s setting)
+    go (Entry id value) t =
+        let same : t.id ≡ id = sym t.is.reads.0 in
+        let written : line ≡ name_of netlist id ++ (32 ∷ (decimal value ++ (10 ∷ []))) = t.line_is ∙ ap (λ text. name_of netlist t.id ++ (32 ∷ text)) t.is.reads.1 ∙ ap (λ k. name_of netlist k ++ (32 ∷ (decimal value ++ (10 ∷ [])))) same in
+        inl (id, value, record { register = t.is.fits.0; other = t.is.fits.1; name = subst (λ k. IsOneWord (name_of netlist k)) same t.word; fits = t.is.fits.2; line_is = written }, refl)
+    go (Cell address value) t =
+        let same : t.id ≡ memory_id netlist.storages = t.is.reads.0 in
+        let digits = decimal address ++ (32 ∷ (decimal value ++ (10 ∷ []))) in
+        let written : line ≡ memory_name netlist ++ (32 ∷ digits) = t.line_is ∙ ap (λ text. name_of netlist t.id ++ (32 ∷ text)) t.is.reads.1 ∙ ap (λ k. name_of netlist k ++ (32 ∷ digits)) same in
+        inr (address, value, record { within = t.is.fits.0; name = subst (λ k. IsOneWord (name_of netlist k)) same t.word; fits = t.is.fits.1; line_is = written }, refl)
+
+-- ---- what is written
+
+number_below_again : (width v : ℕ) → width ≤ 64 → v < 2 ^ width → number_below width (decimal v ++ (10 ∷ [])) ≡ Some v
+unfolding number_below
+number_below_again width v narrow h =
+    let small : v < 2 ^ 64 = below_64 v width h narrow in
+    let text = decimal v ++ (10 ∷ []) in
+    bind_again (line_end text >>= number_of) (below width) v (Some v)
+    (bind_again (line_end text) number_of (decimal v) (Some v) (end_again (decimal v) (avoids-decimal 10 v refl small)) (number_again v small))
+    (rw (lt-ltb v (2 ^ width) h) refl)
+
+at_register : (counter memory id value : ℕ) (o : Option Storage) → IsRegister o → id ≢ counter → value < 2 ^ storage_bits o → storage_bits o ≤ 64 →
+    setting_at counter memory id o (decimal value ++ (10 ∷ [])) ≡ Some (Entry id value)
+unfolding setting_at entry_of
+at_register counter memory id value None r d f narrow = absurd r
+at_register counter memory id value (Some (Register name width input when)) r d f narrow =
+    step (id == counter) refl (bind_again (number_below width (decimal value ++ (10 ∷ []))) _ value (Some (Entry id value)) (number_below_again width value narrow f) refl)
+  where
+    step : (test : Bool) → (id == counter) ≡ test → {o : Option Setting} → o ≡ Some (Entry id value) → cond test None o ≡ Some (Entry id value)
+    step true t e = absurd (d (eqb-true id counter t))
+    step false t e = e
+at_register counter memory id value (Some (Memory name width size addr_width input addr when)) r d f narrow = absurd r
+
+at_cell : (counter memory address value : ℕ) (o : Option Storage) → address < storage_cells o → value < 2 ^ storage_bits o → storage_bits o ≤ 64 → address < 2 ^ 64 →
+    setting_at counter memory memory o (decimal address ++ (32 ∷ (decimal value ++ (10 ∷ [])))) ≡ Some (Cell address value)
+unfolding setting_at cell_of
+at_cell counter memory address value None lt f narrow small = absurd (omega (arith, lt))
+at_cell counter memory address value (Some (Register name width input when)) lt f narrow small = absurd (omega (arith, lt))
+at_cell counter memory address value (Some (Memory name width size addr_width input addr when)) lt f narrow small =
+    let text = decimal value ++ (10 ∷ []) in
+    let cell : Option Setting = Some (Cell address value) in
+    ap (λ test. cond test (cell_of size width (decimal address ++ (32 ∷ text))) None) (eq-eqb memory memory refl)
+    ∙ bind_again (parts_at 32 (decimal address ++ (32 ∷ text))) _ (decimal address, text) cell (parts_again 32 (decimal address) text (avoids-decimal 32 address refl small))
+    (bind_again (number_of (decimal address)) _ address cell (number_again address small)
+    (bind_again (number_below width text) _ value cell (number_below_again width value narrow f) (rw (lt-ltb address size lt) refl)))
+
+cells_within : (storages : List Storage) (id address : ℕ) → address < storage_cells (slice_get storages id) → id < length storages
+cells_within [] id address lt = absurd (omega (arith, lt))
+cells_within (s ∷ storages) zero address lt = omega arith
+cells_within (s ∷ storages) (suc id) address lt = omega (arith, cells_within storages id address lt)
+
+module _ (netlist : Netlist) (order : List ℕ) (rules : KeepsRules netlist order) where
+  named_again : (id : ℕ) → id < length netlist.storages → named_at netlist.storages (name_of netlist id) ≡ Some id
+  named_again id lt =
+      let e = first_at (name_of netlist id) netlist.storages (map (λ (code : Code). code.name) netlist.codes) id rules.formed.names lt refl in
+      rw (e, lt-ltb id (length netlist.storages) lt) refl
+
+  -- a line of this name and this text
+  named_line : (line : List ℕ) (id : ℕ) (text : List ℕ) (setting : Setting) → IsOneWord (name_of netlist id) → id < length netlist.storages → line ≡ name_of netlist id ++ (32 ∷ text) →
+      setting_at (counter_of netlist.codes) (memory_id netlist.storages) id (slice_get netlist.storages id) text ≡ Some setting → setting_of netlist line ≡ Some setting
+  unfolding setting_of setting_for
+  named_line line id text setting word lt written e =
+      let name = name_of netlist id in
+      let cut : parts_at 32 line ≡ Some (name, text) = ap (parts_at 32) written ∙ parts_again 32 name text (avoids_word name word) in
+      bind_again (parts_at 32 line) _ (name, text) (Some setting) cut (bind_again (named_at netlist.storages name) _ id (Some setting) (named_again id lt) e)
+
+  register_told : (line : List ℕ) (id value : ℕ) → SetsRegister netlist line id value → setting_of netlist line ≡ Some (Entry id value)
+  register_told line id value h =
+      named_line line id (decimal value ++ (10 ∷ [])) (Entry id value) h.name (register_within netlist.storages id h.register) h.line_is
+      (at_register (counter_of netlist.codes) (memory_id netlist.storages) id value (slice_get netlist.storages id) h.register h.other h.fits (storage_narrow netlist netlist.storages id rules.formed.storages))
+
+  cell_told : (line : List ℕ) (address value : ℕ) → SetsCell netlist line address value → setting_of netlist line ≡ Some (Cell address value)
+  cell_told line address value h =
+      let id = memory_id netlist.storages in
+      let found = memory_found netlist.storages in
+      let wide = memory_wide netlist.storages in
+      let start = (blank_start netlist).state in
+      let within : address < storage_cells (slice_get netlist.storages id) = omega (arith, h.within, found) in
+      let small : address < 2 ^ 64 = omega (arith, h.within, start.cells, few_cells netlist order (blank netlist.storages) rules start) in
+      let P : ℕ → Type 0 = λ w. value < 2 ^ w in
+      named_line line id (decimal address ++ (32 ∷ (decimal value ++ (10 ∷ [])))) (Cell address value) h.name (cells_within netlist.storages id address within) h.line_is
+      (at_cell (counter_of netlist.codes) id address value (slice_get netlist.storages id) within (subst P (sym wide) h.fits) (storage_narrow netlist netlist.storages id rules.formed.storages) small)
+
+  -- what a line does is read of it
+  pub record IsRead (s : State) (line : List ℕ) (t : State) : Type 0 where
+    pub setting : Setting
+    pub read : setting_of netlist line ≡ Some setting
+    pub state : t ≡ with_setting s setting
+
+  pub leads_told : (s : State) (line : List ℕ) (t : State) → Leads netlist s line t → IsRead s line t
+  leads_told s line t (inl (id, value, h, e)) = record { setting = Entry id value; read = register_told line id value h; state = e }
+  leads_told s line t (inr (address, value, h, e)) = record { setting = Cell address value; read = cell_told line address value h; state = e }
+
+  pub nothing_told : (line : List ℕ) → setting_of netlist line ≡ None → SetsNothing netlist line
+  nothing_told line none = record {
+    no_register = λ (id value : ℕ) (h : SetsRegister netlist line id value). let e = register_told line id value h in cc;
+    no_cell = λ (address value : ℕ) (h : SetsCell netlist line address value). let e = cell_told line address value h in cc;
+  }

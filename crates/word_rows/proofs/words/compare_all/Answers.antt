@@ -1,9 +1,0 @@
-use Rattle.std.proofs.Common.{◌^◌, ◌<◌, ◌≤◌, subst, arith}
-use Rattle.word_search.proofs.Words.{one_shift, word_fits}
-use Rattle.word_rows.proofs.words.compare_all.Goals as goal
-
-pub compare_word-requires-clause-word : goal.compare_word-requires-clause-word
-compare_word-requires-clause-word c =
-    let few : c.word_bits.result ≤ 16 = omega (arith, c.word_bits.ensures, c.requires.few) in
-    let below : c.loop-word.word < 2 ^ c.word_bits.result = subst (λ n. c.loop-word.word < n) (one_shift c.word_bits.result few) c.loop-word-test.true in
-    word_fits c.args.checked.now.netlist c.loop-word.word c.netlist.ensures.kept.roles.code (subst (λ n. c.loop-word.word < 2 ^ n) c.word_bits.ensures below)
