@@ -11,17 +11,43 @@ use Rattle.src_model.specs.Written.{Listing, listing_of}
 use Rattle.src_front.specs.Fronts.{IsSrcFile, BreaksSrcRule}
 use Rattle.src_front.proofs.FrontLaws.{no_broken_rule, one_broken_rule}
 use Rattle.first_path.specs.declared.compiler.FirstFault.{FirstFault}
-use Rattle.first_path.specs.declared.compiler.FirstFault.TheVariants.{NetText, Net, SrcText, Src, DataFull, WideCode, NotStraight, NoWord, Memory}
-use Rattle.first_path.specs.Code.{IsFull, IsWide, IsNotStraight, IsWordless, AreStores, HasStores, HasRoom, IsNarrow, IsCode, IsCodeFault, FailsWith}
-use Rattle.first_path.specs.First.{HasNet, IsCompiled, BreaksSrc, IsFirstFault}
+use Rattle.first_path.specs.declared.compiler.FirstFault.TheVariants.{NetText, Net, SrcText, Src, DataFull, NoStep, NoJump, WideCode, NotStraight, NoWord, Memory}
+use Rattle.first_path.specs.Code.{IsFull, IsWide, IsNotStraight, IsWordless, AreStores, HasStores, HasRoom, HasSteps, HasJumps, IsStepless, IsJumpless, IsNarrow, IsCode, IsCodeFault, FailsWith}
+use Rattle.first_path.specs.First.{HasNet, IsCompiled, BreaksSrc, IsFirstFault, IsSrcFault}
 use Rattle.first_path.specs.Tasks.{Task, Property, IsTask, Holds, read_task, data_width}
 use Rattle.word_search.specs.declared.finder.Store.{Store}
-use Rattle.word_search.specs.Found.{IsMissing}
+use Rattle.word_search.specs.declared.finder.SearchFault.{SearchFault}
+use Rattle.word_search.specs.declared.finder.SearchFault.TheVariants.{NoWord as Missing, Memory as SearchMemory}
+use Rattle.word_search.specs.Found.{Fails, IsMissing}
+use Rattle.first_path.specs.Told.{search_fault}
 use Rattle.first_path.proofs.MissingLemmas.{one_missing, none_missing}
+
+-- what the search for words tells is what its program and netlist lack
+pub fault_of_search : (task : Task) (stores : List Store) → IsNarrow task → AreStores task stores → (fault : SearchFault) → Fails task.netlist stores fault → IsCodeFault task (search_fault fault)
+fault_of_search task stores narrow are (Missing number) lacks = (narrow, record { stores = stores; are = are; lacks = lacks })
+fault_of_search task stores narrow are SearchMemory lacks = tt
 
 -- a program has one list of assignments
 one_stores : (task : Task) (s t : List Store) → AreStores task s → AreStores task t → s ≡ t
 one_stores task s t a b = let e = a.straight in let f = b.straight in cc
+
+-- why the program's bytes were not taken for a netlist that was read
+pub fault_of_program : (net src : List ℕ) (checked : Ordered) (width : ℕ) → IsRoutedNet net checked → width ≡ memory_width checked.netlist.storages → (fault : FirstFault) → IsSrcFault src width fault → IsFirstFault net src fault
+fault_of_program net src checked width read wide (NetText at) h = absurd h
+fault_of_program net src checked width read wide (Net fault) h = absurd h
+fault_of_program net src checked width read wide (SrcText at) h = (record { entries = read.entries; file = read.file }, h)
+fault_of_program net src checked width read wide (Src fault) h = record {
+  entries = read.entries;
+  net_file = read.file;
+  breaks = subst (λ (n : ℕ). BreaksSrcRule src n fault) (wide ∙ ap (λ (n : Netlist). memory_width n.storages) read.netlist.netlist) h;
+}
+fault_of_program net src checked width read wide (DataFull need have) h = absurd h
+fault_of_program net src checked width read wide NoStep h = absurd h
+fault_of_program net src checked width read wide NoJump h = absurd h
+fault_of_program net src checked width read wide WideCode h = absurd h
+fault_of_program net src checked width read wide NotStraight h = absurd h
+fault_of_program net src checked width read wide (NoWord number) h = absurd h
+fault_of_program net src checked width read wide Memory h = tt
 
 -- ---- two texts say one task
 
@@ -69,6 +95,12 @@ module _ (net src : List ℕ) where
   pub no_full : (need have : ℕ) → Holds net src HasRoom → Holds net src (IsFull need have) → ⊥
   no_full need have = together HasRoom (IsFull need have) ⊥ (λ task x y. let a = x.room in let b = y.needs in let c = y.has in let d = y.more in omega arith)
 
+  pub no_stepless : Holds net src HasSteps → Holds net src (λ task. IsStepless task.netlist) → ⊥
+  no_stepless = together HasSteps (λ task. IsStepless task.netlist) ⊥ (λ task x y. x.steps y)
+
+  pub no_jumpless : Holds net src HasJumps → Holds net src (λ task. IsJumpless task.netlist) → ⊥
+  no_jumpless = together HasJumps (λ task. IsJumpless task.netlist) ⊥ (λ task x y. x.jumps y)
+
   pub no_wide : Holds net src IsNarrow → Holds net src IsWide → ⊥
   no_wide = together IsNarrow IsWide ⊥ (λ task x y. let a = x.narrow in omega arith)
 
@@ -114,6 +146,8 @@ module _ (net src : List ℕ) (checked : Ordered) (typed : Typed) (read : IsRout
   fault_of_code (SrcText at) h = absurd h
   fault_of_code (Src fault) h = absurd h
   fault_of_code (DataFull need have) h = holds_of_read (FailsWith (DataFull need have)) h
+  fault_of_code NoStep h = holds_of_read (FailsWith NoStep) h
+  fault_of_code NoJump h = holds_of_read (FailsWith NoJump) h
   fault_of_code WideCode h = holds_of_read (FailsWith WideCode) h
   fault_of_code NotStraight h = holds_of_read (FailsWith NotStraight) h
   fault_of_code (NoWord number) h = holds_of_read (FailsWith (NoWord number)) h

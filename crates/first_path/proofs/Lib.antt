@@ -1,4 +1,5 @@
 pub mod FirstLemmas
+pub mod FormLemmas
 pub mod StraightLemmas
 pub mod Eaches
 pub mod MissingLemmas

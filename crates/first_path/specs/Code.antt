@@ -2,18 +2,21 @@
 use Rattle.std.specs.Prelude.{ℕ, ◌≡◌, ◌≤◌, ◌<◌, List, Some, length}
 use Rattle.net_model.specs.Nets.{memory_size, word_width}
 use Rattle.net_model.specs.CheckedRules.{code_size}
+use Rattle.net_model.specs.declared.hardware.Netlist.{Netlist}
+use Rattle.net_model.specs.Patterns.{IsPattern, Pattern}
 use Rattle.code_model.specs.declared.image.Image.{Image}
 use Rattle.code_model.specs.ImageFits.{limits_of}
 use Rattle.code_model.specs.ImageLines.{IsImageText}
 use Rattle.code_model.specs.Layout.{layout_of, need_of}
 use Rattle.code_model.specs.Programs.{IsRightCode}
+use Rattle.form_set.specs.Listing.{IsJump, IsPlain}
 use Rattle.word_search.specs.declared.finder.Store.{Store}
 use Rattle.word_search.specs.Found.{AreFound, IsMissing}
 use Rattle.first_path.specs.Images.{straight_image}
 use Rattle.first_path.specs.Stores.{stores_in}
 use Rattle.first_path.specs.Tasks.{Task, Property}
 use Rattle.first_path.specs.declared.compiler.FirstFault.{FirstFault}
-use Rattle.first_path.specs.declared.compiler.FirstFault.TheVariants.{DataFull, WideCode, NotStraight, NoWord, Memory}
+use Rattle.first_path.specs.declared.compiler.FirstFault.TheVariants.{DataFull, NoStep, NoJump, WideCode, NotStraight, NoWord, Memory}
 
 -- the most bits of a word that are searched
 abbrev pub searched_bits : ℕ
@@ -24,6 +27,14 @@ pub record IsFull (need have : ℕ) (task : Task) : Type 0 where
   pub needs : need ≡ need_of task.width task.listing
   pub has : have ≡ memory_size task.netlist.storages
   pub more : have < need
+
+-- no pattern of the netlist gives a form that is no jump and no branch; so there is none in the list of its forms
+abbrev pub IsStepless : Netlist → Type 0
+IsStepless netlist = (pattern : Pattern) → IsPattern netlist pattern → IsPlain netlist pattern → ⊥
+
+-- no pattern of the netlist gives a jump
+abbrev pub IsJumpless : Netlist → Type 0
+IsJumpless netlist = (pattern : Pattern) → IsPattern netlist pattern → IsJump netlist pattern → ⊥
 
 abbrev pub IsWide : Property
 IsWide task = searched_bits < word_width task.netlist
@@ -51,8 +62,16 @@ pub record IsWordless (number : ℕ) (task : Task) : Type 0 where
 pub record HasRoom (task : Task) : Type 0 where
   pub room : need_of task.width task.listing ≤ memory_size task.netlist.storages
 
-pub record IsNarrow (task : Task) : Type 0 where
+pub record HasSteps (task : Task) : Type 0 where
   pub room : HasRoom task
+  pub steps : IsStepless task.netlist → ⊥
+
+pub record HasJumps (task : Task) : Type 0 where
+  pub steps : HasSteps task
+  pub jumps : IsJumpless task.netlist → ⊥
+
+pub record IsNarrow (task : Task) : Type 0 where
+  pub jumps : HasJumps task
   pub narrow : word_width task.netlist ≤ searched_bits
 
 -- bytes that are read as an image that is right code, of the least word for each assignment and for the end
@@ -70,7 +89,9 @@ pub record IsCode (out : List ℕ) (task : Task) : Type 0 where
 -- when each refusal comes; nothing is said where memory ran out
 abbrev pub IsCodeFault : Task → FirstFault → Type 0
 IsCodeFault task (DataFull need have) = IsFull need have task
-IsCodeFault task WideCode = HasRoom task × IsWide task
+IsCodeFault task NoStep = HasRoom task × IsStepless task.netlist
+IsCodeFault task NoJump = HasSteps task × IsJumpless task.netlist
+IsCodeFault task WideCode = HasJumps task × IsWide task
 IsCodeFault task NotStraight = IsNarrow task × IsNotStraight task
 IsCodeFault task (NoWord number) = IsNarrow task × IsWordless number task
 IsCodeFault task Memory = Unit {0}

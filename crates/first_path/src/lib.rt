@@ -3,6 +3,7 @@
 
 mod compiler;
 mod image;
+mod kinds;
 mod sizes;
 mod stores;
 

@@ -16,14 +16,14 @@ use Rattle.rec_io.specs.Files.{Files}
 use Rattle.rec_io.specs.Shelf.{ShelfState}
 use Rattle.rec_io.specs.Sink.{SinkState}
 use Rattle.record_core.proofs.NetLemmas.{NetStages-unique}
-use Rattle.record_core.proofs.StageLemmas.{AtMostOne, By-unique, Then-unique}
+use Rattle.record_core.proofs.StageLemmas.{AtMostOne, By-unique, Then-unique, Just-unique}
 use Rattle.record_core.specs.Answers.{Answers, FilesAnswer, CompileAnswers, ExtractAnswers, RunEnds, RunAnswers, TextAnswers, CommandAnswers, file_at, AreFiles, IsReadFault, IsTooLong, IsLater, IsFile, Gives, IsExact, IsAccepted}
 use Rattle.record_core.specs.Lines.{due_line}
 use Rattle.record_core.specs.Words.{command_of, names_of}
 use Rattle.record_core.specs.declared.words.Command.{Command}
 use Rattle.record_core.specs.declared.words.Command.TheVariants.{Compile, Extract, Run}
 use Rattle.record_core.specs.declared.status.Status.{Status}
-use Rattle.record_core.specs.declared.status.Status.TheVariants.{Done, Usage, ReadFault, TooLong, NetText, Net, SrcText, Src, DataFull, ImageText, MemText, Clash, Memory, Later, NoWord}
+use Rattle.record_core.specs.declared.status.Status.TheVariants.{Done, Usage, ReadFault, TooLong, NetText, Net, SrcText, Src, NoStep, NoJump, DataFull, ImageText, MemText, Clash, Memory, Later, NoWord}
 
 one_read : (names : List (List ℕ)) (before now : ShelfState) (x y : ℕ) → IsReadFault names before now x → IsReadFault names before now y → x ≡ y
 one_read names before now x y p q = let a = p.place in let b = q.place in cc
@@ -43,9 +43,11 @@ CompileAnswers-unique line net src =
     Then-unique line _ _ (By-unique SrcText _ (one_src_fault src)) (
     Then-unique line _ _ (By-unique Src _ (one_broken net src)) (
     Then-unique line _ _ (By-unique (λ (p : ℕ × ℕ). DataFull p.0 p.1) _ (one_full net src)) (
+    Then-unique line _ _ (Just-unique NoStep _) (
+    Then-unique line _ _ (Just-unique NoJump _) (
     Then-unique line _ _ (By-unique Later _ (one_later 0 net src IsWide)) (
     Then-unique line _ _ (By-unique Later _ (one_later 1 net src IsNotStraight)) (
-    Then-unique line _ _ (By-unique NoWord _ (one_wordless net src)) (done_only (IsCompiled net src))))))))
+    Then-unique line _ _ (By-unique NoWord _ (one_wordless net src)) (done_only (IsCompiled net src))))))))))
 
 ExtractAnswers-unique : (line : Status → List ℕ) (net : List ℕ) → AtMostOne (ExtractAnswers line net)
 ExtractAnswers-unique line net = NetStages-unique line net _ (done_only (IsExtracted net))

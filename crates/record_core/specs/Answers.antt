@@ -6,7 +6,7 @@ use Rattle.net_parser.specs.Texts.{IsNoNetText}
 use Rattle.net_front.specs.Fronts.{BreaksRule}
 use Rattle.net_extract.specs.Extracts.{BreaksAnyRule, IsExtracted}
 use Rattle.src_parser.specs.Texts.{IsNoSrcText}
-use Rattle.first_path.specs.Code.{IsFull, IsWide, IsNotStraight, IsWordless}
+use Rattle.first_path.specs.Code.{IsFull, IsJumpless, IsStepless, IsWide, IsNotStraight, IsWordless}
 use Rattle.first_path.specs.First.{IsCompiled, BreaksSrc}
 use Rattle.first_path.specs.Tasks.{Property, Holds}
 use Rattle.net_run.specs.Runs.{IsNoImageFile, IsNoMemoryFile, ClashedAt, Clashes, ShowsState}
@@ -16,12 +16,12 @@ use Rattle.rec_io.specs.Shelf.{ShelfState}
 use Rattle.rec_io.specs.Sink.{SinkState}
 use Rattle.rec_io.specs.Written.{Takes, TakesPrefix}
 use Rattle.record_core.specs.Lines.{due_line}
-use Rattle.record_core.specs.Stages.{By, Then}
+use Rattle.record_core.specs.Stages.{By, Just, Then}
 use Rattle.record_core.specs.Words.{command_of, names_of}
 use Rattle.record_core.specs.declared.words.Command.{Command}
 use Rattle.record_core.specs.declared.words.Command.TheVariants.{Compile, Extract, Run}
 use Rattle.record_core.specs.declared.status.Status.{Status}
-use Rattle.record_core.specs.declared.status.Status.TheVariants.{Done, Usage, ReadFault, TooLong, WriteFault, NetText, Net, SrcText, Src, DataFull, Memory, ImageText, MemText, Clash, Later, NoWord}
+use Rattle.record_core.specs.declared.status.Status.TheVariants.{Done, Usage, ReadFault, TooLong, WriteFault, NetText, Net, SrcText, Src, NoStep, NoJump, DataFull, Memory, ImageText, MemText, Clash, Later, NoWord}
 
 -- the most bytes of a file
 abbrev pub file_limit : ℕ
@@ -75,10 +75,12 @@ CompileAnswers line net src =
     Then line (By SrcText (IsNoSrcText src)) (
     Then line (By Src (BreaksSrc net src)) (
     Then line (By (λ (p : ℕ × ℕ). DataFull p.0 p.1) (λ (p : ℕ × ℕ). Holds net src (IsFull p.0 p.1))) (
+    Then line (Just NoStep (Holds net src (λ task. IsStepless task.netlist))) (
+    Then line (Just NoJump (Holds net src (λ task. IsJumpless task.netlist))) (
     Then line (By Later (IsLater 0 net src IsWide)) (
     Then line (By Later (IsLater 1 net src IsNotStraight)) (
     Then line (By NoWord (λ (number : ℕ). Holds net src (IsWordless number))) (
-    λ status text. (status ≡ Done) × IsCompiled net src text))))))))
+    λ status text. (status ≡ Done) × IsCompiled net src text))))))))))
 
 -- what `extract` answers for this text
 abbrev pub ExtractAnswers : (Status → List ℕ) → List ℕ → Status → List ℕ → Type 0

@@ -120,6 +120,8 @@ impl From<FirstFault> for Status {
             FirstFault::SrcText(at) => Status::SrcText(at),
             FirstFault::Src(fault) => Status::Src(fault),
             FirstFault::DataFull { need, have } => Status::DataFull { need, have },
+            FirstFault::NoStep => Status::NoStep,
+            FirstFault::NoJump => Status::NoJump,
             FirstFault::WideCode => Status::Later(0),
             FirstFault::NotStraight => Status::Later(1),
             FirstFault::NoWord(number) => Status::NoWord(number),

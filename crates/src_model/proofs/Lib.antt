@@ -5,3 +5,9 @@ pub mod Bounds
 pub mod TraceLemmas
 pub mod FittingLemmas
 pub mod LookupLemmas
+pub mod CellLemmas
+pub mod ValueLemmas
+pub mod RangeLemmas
+pub mod CounterLemmas
+pub mod SoundLemmas
+pub mod InsideLemmas

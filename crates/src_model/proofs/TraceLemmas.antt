@@ -76,7 +76,7 @@ mutual
       (loop_whole m (At (tree + 1)) (counting vars counter to) (counted_body word vars counter body (tree + 2)) k (counted_keeps word vars counter body (tree + 2))
       (λ i r a. in_whole word vars body (tree + 2) i (after (stepped word vars counter) r) (after_whole i (stepped word vars counter) r a)) h)
 
-  in_whole : (word : ℕ) (vars : List Declared) (list : Acts) (tree m : ℕ) (k : Onward) → Whole m k → Whole m (run_in word vars list tree k)
+  pub in_whole : (word : ℕ) (vars : List Declared) (list : Acts) (tree m : ℕ) (k : Onward) → Whole m k → Whole m (run_in word vars list tree k)
   in_whole word vars no_acts tree m k h = h
   in_whole word vars (act a rest) tree m k h = run_whole word vars a tree m (run_in word vars rest (tree + statements a) k) (in_whole word vars rest (tree + statements a) m k h)
 
@@ -107,7 +107,7 @@ mutual
       (loop_steady m (At (tree + 1)) (counting vars counter to) (counted_body word vars counter body (tree + 2)) k (counted_keeps word vars counter body (tree + 2))
       (λ i r a. in_steady word vars body (tree + 2) i (after (stepped word vars counter) r) (after_steady i (stepped word vars counter) r a)) h)
 
-  in_steady : (word : ℕ) (vars : List Declared) (list : Acts) (tree m : ℕ) (k : Onward) → Steady m k → Steady m (run_in word vars list tree k)
+  pub in_steady : (word : ℕ) (vars : List Declared) (list : Acts) (tree m : ℕ) (k : Onward) → Steady m k → Steady m (run_in word vars list tree k)
   in_steady word vars no_acts tree m k h = h
   in_steady word vars (act a rest) tree m k h = run_steady word vars a tree m (run_in word vars rest (tree + statements a) k) (in_steady word vars rest (tree + statements a) m k h)
 

@@ -10,5 +10,8 @@ pub mod Rules
 pub mod Meaning
 pub mod Trace
 pub mod Fitting
+pub mod Inside
+pub mod Sound
 pub mod WorkedRules
 pub mod WorkedTrace
+pub mod WorkedInside

@@ -4,6 +4,7 @@
 
 mod checkpoint;
 mod fault;
+mod laws;
 mod program;
 mod sizes;
 mod store;
@@ -12,6 +13,7 @@ mod words;
 
 pub use checkpoint::Checkpoint;
 pub use fault::{SrcFault, SrcKind};
+pub use laws::law_of_indexes;
 pub use program::{Cmp, Program, Spot, SrcExpr, SrcNode, SrcTest, Stmt, Var};
 pub use sizes::{Sizes, block_sizes, is_literal, number_of};
 pub use store::Store;

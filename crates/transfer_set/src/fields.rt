@@ -20,20 +20,22 @@ fn span(hi: u8, lo: u8) -> u64
     }
 }
 
-// The instruction bits that occur in an expression.
-pub(crate) fn fields(pool: &Pool, expr: ExprId) -> u64
+/// The instruction bits that occur in an expression, as a mask.
+pub fn expr_fields(pool: &Pool, expr: ExprId) -> u64
     requires { expr < length pool.now }
     ensures { result ≡ fields_in (term_at pool.now expr) }
 {
     match pool.node(expr) {
         Node::Word(width) => mask(width),
         Node::Reg(..) | Node::Const { .. } => 0,
-        Node::Read(a, _) | Node::Un(_, a) | Node::Zext(a, _) | Node::Sext(a, _) => fields(pool, a),
-        Node::Bin(_, a, b) | Node::Cat(a, b) => fields(pool, a) | fields(pool, b),
+        Node::Read(a, _) | Node::Un(_, a) | Node::Zext(a, _) | Node::Sext(a, _) => expr_fields(
+            pool, a,
+        ),
+        Node::Bin(_, a, b) | Node::Cat(a, b) => expr_fields(pool, a) | expr_fields(pool, b),
         Node::Slice(a, hi, lo) => match pool.node(a) {
             Node::Word(_) => span(hi, lo),
-            _ => fields(pool, a),
+            _ => expr_fields(pool, a),
         },
-        Node::Select(c, a, b) => fields(pool, c) | fields(pool, a) | fields(pool, b),
+        Node::Select(c, a, b) => expr_fields(pool, c) | expr_fields(pool, a) | expr_fields(pool, b),
     }
 }

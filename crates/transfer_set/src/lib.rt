@@ -13,6 +13,9 @@ mod sources;
 mod stepping;
 mod texts;
 
+pub use fields::expr_fields;
 pub use laws::law_of_growth;
 pub use patterns::{Patterns, collect_patterns};
 pub use route::{Route, Routes};
+pub use stepping::{Counter, is_step};
+pub use texts::{word_of_one, word_of_two};

@@ -3,7 +3,7 @@
 ghost use Rattle.std.specs.Prelude.{◌≡◌, ◌==◌, length, option_copied, option_map, slice_get, IfOk};
 ghost use Rattle.bit_bdd.specs.Diagrams.{Extends};
 ghost use Rattle.ctl_bdd.specs.Controls.{IsControl};
-ghost use Rattle.net_model.specs.Nets.{counter_of, counter_width, word_width};
+ghost use Rattle.net_model.specs.Nets.{word_width};
 ghost use Rattle.transfer_set.specs.PatternsText.{IsPatternsText};
 ghost use Rattle.transfer_set.specs.Ready.{IsReady};
 ghost use Rattle.transfer_set.specs.Routes.{AreRoutes};
@@ -19,7 +19,7 @@ use crate::sources::collect_entries;
 use crate::stepping::{Counter, step_set};
 use bit_bdd::{Book, SetId};
 use ctl_bdd::ControlBits;
-use net_model::{Checked, Storage};
+use net_model::Checked;
 use rec_bits::{Items, NoMemory};
 use std::alloc::Global;
 use std::marker::Model;
@@ -46,19 +46,6 @@ impl Model for Patterns {
     ghost invariant = { λ patterns. length patterns.rows.items < 2 ^ 32 };
 }
 
-// The program counter.
-fn counter(checked: &Checked) -> Counter
-    ensures storage { result.storage ≡ counter_of checked.now.netlist.codes }
-    ensures width { result.width ≡ counter_width checked.now.netlist }
-{
-    let storage = checked.pc();
-    let width = match checked.netlist().storages.get(storage as usize) {
-        Some(Storage::Register { width, .. }) | Some(Storage::Memory { width, .. }) => *width,
-        None => 0,
-    };
-    Counter { storage, width }
-}
-
 /// The patterns of a netlist, from its control bits and the routes of its nets: exactly those that it has, each with all its words. The
 /// book grows, and what it held means what it meant.
 pub fn collect_patterns(
@@ -80,7 +67,7 @@ pub fn collect_patterns(
     let storages = checked.netlist().storages.len() as u32;
     let entries = collect_entries(alloc, checked, controls, routes, book, pool)?;
     let keeps = keep_sets(alloc, book, controls.legal, entries.as_slice(), storages)?;
-    let step = step_set(alloc, book, pool, entries.as_slice(), counter(checked))?;
+    let step = step_set(alloc, book, pool, entries.as_slice(), Counter::of(checked))?;
     let rows = sorted_rows(alloc, checked, pool, entries.as_slice())?;
     Ok(Patterns {
         rows,

@@ -6,7 +6,7 @@ ghost use Rattle.net_model.specs.Fields.{move_fields};
 ghost use Rattle.transfer_set.specs.Rows.{AreInOrder, AreRowsOf, IsTold, entries_of, entry_of};
 
 use crate::entries::Entry;
-use crate::fields::fields;
+use crate::fields::expr_fields;
 use crate::texts::transfer_text;
 use bit_bdd::SetId;
 use net_model::Checked;
@@ -33,8 +33,8 @@ fn transfer_fields(pool: &Pool, addr: Option<ExprId>, value: ExprId) -> u64
     ensures { result ≡ move_fields (ids_move pool.now addr value) }
 {
     match addr {
-        None => fields(pool, value),
-        Some(addr) => fields(pool, addr) | fields(pool, value),
+        None => expr_fields(pool, value),
+        Some(addr) => expr_fields(pool, addr) | expr_fields(pool, value),
     }
 }
 

@@ -2,21 +2,38 @@
 
 ghost use Rattle.std.specs.Prelude.{◌≡◌, ℕ, ◌==◌, ◌<◌, ◌&&◌, ◌||◌, length, IfOk};
 ghost use Rattle.bit_bdd.specs.Diagrams.{Extends, has_word};
+ghost use Rattle.net_model.specs.Nets.{counter_of, counter_width};
 ghost use Rattle.sym_expr.specs.Pools.{term_at};
 ghost use Rattle.transfer_set.specs.Entries.{AreHeld, AreKnown};
 ghost use Rattle.transfer_set.specs.Stepping.{any_step, entry_steps, is_next, is_one, is_reg};
 
 use crate::entries::Entry;
 use bit_bdd::{Book, SetId};
+use net_model::{Checked, Storage};
 use rec_bits::{NoMemory, Op2};
 use std::alloc::Global;
 use sym_expr::{ExprId, Node, Pool};
 
-// A register, by its storage and its width.
-#[derive(Clone, Copy)]
-pub(crate) struct Counter {
-    pub(crate) storage: u32,
-    pub(crate) width: u8,
+/// A program counter, by the number of its storage and its width in bits.
+#[derive(Clone, Copy, Debug)]
+pub struct Counter {
+    pub storage: u32,
+    pub width: u8,
+}
+
+impl Counter {
+    /// The program counter of a netlist.
+    pub fn of(checked: &Checked) -> Counter
+        ensures storage { result.storage ≡ counter_of checked.now.netlist.codes }
+        ensures width { result.width ≡ counter_width checked.now.netlist }
+    {
+        let storage = checked.pc();
+        let width = match checked.netlist().storages.get(storage as usize) {
+            Some(Storage::Register { width, .. }) | Some(Storage::Memory { width, .. }) => *width,
+            None => 0,
+        };
+        Counter { storage, width }
+    }
 }
 
 // Whether an expression is the register as it stands.
@@ -41,8 +58,8 @@ fn is_unit(pool: &Pool, expr: ExprId, bits: u8) -> bool
     }
 }
 
-// Whether an expression is the register plus 1, in one of the two ways to write it.
-fn is_step(pool: &Pool, expr: ExprId, counter: Counter) -> bool
+/// Whether an expression is the program counter plus 1, in one of the two ways to write it.
+pub fn is_step(pool: &Pool, expr: ExprId, counter: Counter) -> bool
     requires { expr < length pool.now }
     ensures { result ≡ is_next counter (term_at pool.now expr) }
 {

@@ -33,8 +33,8 @@ fn word_name(checked: &Checked) -> &[u8]
     }
 }
 
-// The word of an operator of one operand.
-fn word_of_one(op: Op1) -> &'static str
+/// The word of an operator of one operand.
+pub fn word_of_one(op: Op1) -> &'static str
     ensures { result.now ≡ op1_text op }
 {
     match op {
@@ -43,8 +43,8 @@ fn word_of_one(op: Op1) -> &'static str
     }
 }
 
-// The word of an operator of two operands.
-fn word_of_two(op: Op2) -> &'static str
+/// The word of an operator of two operands.
+pub fn word_of_two(op: Op2) -> &'static str
     ensures { result.now ≡ op2_text op }
 {
     match op {

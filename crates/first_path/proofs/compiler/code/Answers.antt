@@ -15,6 +15,6 @@ returns-clause-code c =
     (rw c.as_slice.ensures at c.in_ok-words.ensures.found)
     (subst (λ (p : Places). Apart p.temps p.list (memory_size netlist.storages)) c.in_ok-places.ensures.places c.in_ok-places.ensures.apart)
     c.requires.named
-    c.in_ok-stores.ensures.narrow c.in_ok-places.places c.in_ok-text.text.items c.in_ok-image.image c.in_ok-places.ensures.places
+    c.in_ok-are_searched.ensures.narrow c.in_ok-places.places c.in_ok-text.text.items c.in_ok-image.image c.in_ok-places.ensures.places
     (rw (c.code_bits.ensures.bits, c.as_slice-2.ensures, c.len-end.ensures) at c.in_ok-image.ensures)
     c.in_ok-text.ensures

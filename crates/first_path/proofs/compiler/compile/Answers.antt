@@ -1,18 +1,33 @@
 use Rattle.std.proofs.Common.{ℕ, ◌∙◌, sym, subst, arith}
-use Rattle.std.proofs.lemmas.Result.{IfErr-weaker}
+use Rattle.std.proofs.lemmas.Result.{IfErr-weaker, IfOk-weaker, err_from_is_err_and}
 use Rattle.src_model.specs.Written.{listing_of}
 use Rattle.src_front.proofs.Lengths.{few_variables}
 use Rattle.src_front.proofs.SourceNames.{source_names}
 use Rattle.src_front.specs.Fronts.{IsSrcFile}
-use Rattle.first_path.proofs.FirstLemmas.{fault_of_code}
+use Rattle.first_path.specs.Code.{IsCode}
+use Rattle.first_path.proofs.FirstLemmas.{fault_of_code, fault_of_program, holds_of_read}
 use Rattle.first_path.proofs.compiler.compile.Goals as goal
 
-pub code-requires : goal.code-requires
-code-requires c =
-    let listing = listing_of c.in_ok-typed.typed.program in
-    let text = c.in_ok-typed.ensures.found.says.text in
-    let k = few_variables c.args.src.now listing text in
-    record { few = omega (arith, k, c.requires.src); named = source_names c.args.src.now listing text }
+pub code-requires-clause-few : goal.code-requires-clause-few
+code-requires-clause-few c =
+    let k = few_variables c.args.src.now (listing_of c.in_ok-typed.typed.program) c.in_ok-typed.ensures.found.says.text in
+    omega (arith, k, c.requires.src)
+
+pub code-requires-clause-named : goal.code-requires-clause-named
+code-requires-clause-named c = source_names c.args.src.now (listing_of c.in_ok-typed.typed.program) c.in_ok-typed.ensures.found.says.text
+
+pub returns-in_err-typed-clause-refused : goal.returns-in_err-typed-clause-refused
+returns-in_err-typed-clause-refused c =
+    let p = err_from_is_err_and c.from_residual-in_err-typed.result c.from_residual-in_err-typed.ensures.1 in
+    rw (p.1, p.2) (fault_of_program c.args.net.now c.args.src.now c.in_ok-checked.checked _ c.in_ok-checked.ensures.found c.memory_width.ensures.width _ c.in_err-typed.ensures.refused)
+
+pub returns-clause-right : goal.returns-clause-right
+returns-clause-right c =
+    let typed = c.in_ok-typed.typed in
+    IfOk-weaker c.code.result _ _
+    (λ text. holds_of_read c.args.net.now c.args.src.now c.in_ok-checked.checked typed c.in_ok-checked.ensures.found (c.in_ok-typed.ensures.width ∙ c.memory_width.ensures.width)
+    (subst (λ (n : ℕ). IsSrcFile c.args.src.now n (listing_of typed.program)) (sym c.in_ok-typed.ensures.width) c.in_ok-typed.ensures.found) (IsCode text.items))
+    c.code.ensures.code
 
 pub returns-clause-refused : goal.returns-clause-refused
 returns-clause-refused c =

@@ -50,6 +50,6 @@ returns-clause-ready c =
     c.requires.controls.legal
     c.in_ok-entries.ensures.moves c.in_ok-entries.ensures.every
     c.in_ok-rows.rows.items (rw c.as_slice-3.ensures at c.in_ok-rows.ensures.same) c.in_ok-rows.ensures.told c.in_ok-rows.ensures.ordered
-    c.in_ok-keeps.keeps left c.counter.result c.counter.ensures.storage c.counter.ensures.width
+    c.in_ok-keeps.keeps left c.of.result c.of.ensures.storage c.of.ensures.width
     c.in_ok-step.step c.in_ok-step.ensures.within (rw c.as_slice-2.ensures at c.in_ok-step.ensures.words) c.memory.result c.memory.ensures in
     record { patterns = patterns; bits = (returns-clause-grows c).bits ∙ c.requires.word }

@@ -1,0 +1,90 @@
+-- Which values a field has, and under which words.
+use Rattle.std.proofs.Common.{lit<, ◌≡◌, ℕ, ◌+◌, ◌-◌, ◌*◌, ◌/◌, ◌%◌, ◌^◌, ◌<◌, ◌≤◌, nat_lt, Bool, true, false, true≢false, Some, refl, sym, ap, subst, ◌∙◌, arith}
+use Rattle.std.specs.Prelude.{is_some}
+use Rattle.std.proofs.lemmas.Nat.{pow_pos, mod_below, shl-shr, shl_below}
+use Rattle.std.proofs.Math.Nat.{pow-le-pow_right, mod-eq_of_lt}
+use Rattle.net_model.specs.Terms.{Term, word, reg, const, read, un, bin, slice, cat, zext, sext, select, term_width}
+use Rattle.net_model.specs.Symbolic.{blank}
+use Rattle.net_model.specs.Meaning.{mean}
+use Rattle.form_model.specs.Shapes.{FieldFits, field_setting, then_some, is_field}
+
+-- ---- a number where a test holds
+
+pub then_some_true : (b : Bool) (n m : ℕ) → then_some b n ≡ Some m → (b ≡ true) × (n ≡ m)
+then_some_true true n m e = (refl, cc)
+then_some_true false n m e = absurd (cc)
+
+pub then_some_is : (b : Bool) (n : ℕ) → b ≡ true → is_some (then_some b n) ≡ true
+then_some_is true n e = refl
+then_some_is false n e = absurd (true≢false (sym e))
+
+pub less_true : (a b : ℕ) → nat_lt a b ≡ true → a < b
+less_true a b e = grind (arith, e)
+
+pub true_less : (a b : ℕ) → a < b → nat_lt a b ≡ true
+true_less a b e = grind (arith, e)
+
+-- ---- a field
+
+-- a word that gives a field a value, with no other bits
+pub record IsFieldAt (bits : ℕ) (field : Term) (v b : ℕ) : Type 0 where
+  pub fits : b < 2 ^ bits
+  pub small : v < 2 ^ term_width field
+  pub is : mean field blank b ≡ v
+
+slice_at : (bits hi lo v : ℕ) → lo ≤ hi → hi < bits → v < 2 ^ (hi + 1 - lo) → (v * 2 ^ lo < 2 ^ bits) × ((v * 2 ^ lo / 2 ^ lo) % 2 ^ (hi + 1 - lo) ≡ v)
+slice_at bits hi lo v p q h =
+    let room : 2 ^ ((hi + 1 - lo) + lo) ≤ 2 ^ bits = pow-le-pow_right (lit< tt) (omega (arith, p, q)) in
+    let low : v * 2 ^ lo < 2 ^ ((hi + 1 - lo) + lo) = shl_below v (hi + 1 - lo) lo h in
+    (omega (arith, room, low), ap (λ n. n % 2 ^ (hi + 1 - lo)) (shl-shr v lo) ∙ mod-eq_of_lt h)
+
+pub setting_of_field : (bits : ℕ) (t : Term) → is_field t ≡ true → FieldFits bits t → (v b : ℕ) → field_setting t v ≡ Some b → IsFieldAt bits t v b
+setting_of_field bits (word w) i f v b e =
+    let g = then_some_true (nat_lt v (2 ^ w)) v b e in
+    let lt : v < 2 ^ w = less_true v (2 ^ w) g.0 in
+    record { fits = subst (λ n. n < 2 ^ bits) g.1 (subst (λ k. v < 2 ^ k) f lt); small = lt; is = sym g.1 }
+setting_of_field bits (slice (word w) hi lo) i f v b e =
+    let g = then_some_true (nat_lt v (2 ^ (hi + 1 - lo))) (v * 2 ^ lo) b e in
+    let lt : v < 2 ^ (hi + 1 - lo) = less_true v (2 ^ (hi + 1 - lo)) g.0 in
+    let s = slice_at bits hi lo v f.1 (subst (λ k. hi < k) f.0 f.2) lt in
+    record { fits = subst (λ n. n < 2 ^ bits) g.1 s.0; small = lt; is = ap (λ n. (n / 2 ^ lo) % 2 ^ (hi + 1 - lo)) (sym g.1) ∙ s.1 }
+setting_of_field bits (reg r w) i f v b e = absurd (true≢false (sym i))
+setting_of_field bits (const w c) i f v b e = absurd (true≢false (sym i))
+setting_of_field bits (read a w) i f v b e = absurd (true≢false (sym i))
+setting_of_field bits (un o a) i f v b e = absurd (true≢false (sym i))
+setting_of_field bits (bin o a c) i f v b e = absurd (true≢false (sym i))
+setting_of_field bits (slice _ hi lo) i f v b e = absurd (true≢false (sym i))
+setting_of_field bits (cat a c) i f v b e = absurd (true≢false (sym i))
+setting_of_field bits (zext a w) i f v b e = absurd (true≢false (sym i))
+setting_of_field bits (sext a w) i f v b e = absurd (true≢false (sym i))
+setting_of_field bits (select a c d) i f v b e = absurd (true≢false (sym i))
+
+-- each word gives a field a value of its width
+pub field_small : (bits : ℕ) (t : Term) → is_field t ≡ true → FieldFits bits t → (i : ℕ) → i < 2 ^ bits → mean t blank i < 2 ^ term_width t
+field_small bits (word w) p f i lt = subst (λ k. i < 2 ^ k) (sym f) lt
+field_small bits (slice (word w) hi lo) p f i lt = mod_below _ _ (pow_pos (hi + 1 - lo))
+field_small bits (reg r w) p f i lt = absurd (true≢false (sym p))
+field_small bits (const w c) p f i lt = absurd (true≢false (sym p))
+field_small bits (read a w) p f i lt = absurd (true≢false (sym p))
+field_small bits (un o a) p f i lt = absurd (true≢false (sym p))
+field_small bits (bin o a c) p f i lt = absurd (true≢false (sym p))
+field_small bits (slice _ hi lo) p f i lt = absurd (true≢false (sym p))
+field_small bits (cat a c) p f i lt = absurd (true≢false (sym p))
+field_small bits (zext a w) p f i lt = absurd (true≢false (sym p))
+field_small bits (sext a w) p f i lt = absurd (true≢false (sym p))
+field_small bits (select a c d) p f i lt = absurd (true≢false (sym p))
+
+-- and has each of these under some word
+pub field_has_setting : (bits : ℕ) (t : Term) → is_field t ≡ true → FieldFits bits t → (v : ℕ) → v < 2 ^ term_width t → is_some (field_setting t v) ≡ true
+field_has_setting bits (word w) p f v lt = then_some_is (nat_lt v (2 ^ w)) v (true_less v (2 ^ w) lt)
+field_has_setting bits (slice (word w) hi lo) p f v lt = then_some_is (nat_lt v (2 ^ (hi + 1 - lo))) (v * 2 ^ lo) (true_less v (2 ^ (hi + 1 - lo)) lt)
+field_has_setting bits (reg r w) p f v lt = absurd (true≢false (sym p))
+field_has_setting bits (const w c) p f v lt = absurd (true≢false (sym p))
+field_has_setting bits (read a w) p f v lt = absurd (true≢false (sym p))
+field_has_setting bits (un o a) p f v lt = absurd (true≢false (sym p))
+field_has_setting bits (bin o a c) p f v lt = absurd (true≢false (sym p))
+field_has_setting bits (slice _ hi lo) p f v lt = absurd (true≢false (sym p))
+field_has_setting bits (cat a c) p f v lt = absurd (true≢false (sym p))
+field_has_setting bits (zext a w) p f v lt = absurd (true≢false (sym p))
+field_has_setting bits (sext a w) p f v lt = absurd (true≢false (sym p))
+field_has_setting bits (select a c d) p f v lt = absurd (true≢false (sym p))

@@ -1,0 +1,126 @@
+-- Orderly covers of a tree, and the one that is chosen.
+use Rattle.std.specs.Prelude.{ℕ, ◌+◌, ◌<◌, ◌≡◌, ◌⊎◌, Bool, true, false, List, [], ◌∷◌, Option, Some, None, slice_get, remove, bit_or, bit_and, ◌^◌}
+use Rattle.net_model.specs.Terms.{Term}
+use Rattle.form_model.specs.Rules.{Rule, Destination, into, temporary, tested}
+use Rattle.form_model.specs.Matches.{Site, operand, cut, Found, taken}
+use Rattle.form_model.specs.Plans.{Plan, use_form, Operands, no_operands, operand_then, Cuts, no_cuts, cut_then, cost, operands_cost, cuts_cost}
+
+-- ---- sites: operands and cuts apart, each from left to right
+
+-- an operand: its register, its tree, and whether it is whole
+pub record Operand : Type 0 where
+  pub id : ℕ
+  pub tree : Term
+  pub whole : Bool
+
+abbrev pub operands_of : List Site → List Operand
+operands_of [] = []
+operands_of (operand id tree whole ∷ sites) = record { id = id; tree = tree; whole = whole } ∷ operands_of sites
+operands_of (cut shape tree ∷ sites) = operands_of sites
+
+abbrev pub cuts_of : List Site → List Term
+cuts_of [] = []
+cuts_of (operand id tree whole ∷ sites) = cuts_of sites
+cuts_of (cut shape tree ∷ sites) = tree ∷ cuts_of sites
+
+-- ---- the registers that a cover writes
+
+abbrev pub form_clobbers : Option Rule → ℕ
+form_clobbers None = 0
+form_clobbers (Some rule) = rule.clobbers
+
+-- the clobbers of the form and of the operands' covers; cuts are stored before, so what they write doesn't count
+abbrev mutual
+  pub written : List Rule → Plan → ℕ
+  written rules (use_form k ps cs) = bit_or (form_clobbers (slice_get rules k)) (all_written rules ps)
+
+  pub all_written : List Rule → Operands → ℕ
+  all_written rules no_operands = 0
+  all_written rules (operand_then i p ps) = bit_or (written rules p) (all_written rules ps)
+
+-- ---- orderly covers
+
+-- what a netlist and a program give: the forms in order and the number of temporary cells
+pub record Stock : Type 0 where
+  pub rules : List Rule
+  pub temps : ℕ
+
+abbrev mutual
+  -- the plan is an orderly cover of a tree that goes to a destination
+  pub IsOrderly : Stock → Destination → Term → Bool → Plan → Type 0
+  IsOrderly stock destination tree whole (use_form k ps cs) =
+      (rule : Rule) × (slice_get stock.rules k ≡ Some rule)
+      × (found : Found) × (taken stock.temps rule destination tree whole ≡ Some found)
+      × AreOrderly stock (operands_of found.sites) ps × AreCut stock (cuts_of found.sites) cs
+
+  -- each operand has an orderly cover into its register, and no later one writes an earlier one's register
+  pub AreOrderly : Stock → List Operand → Operands → Type 0
+  AreOrderly stock left no_operands = left ≡ []
+  AreOrderly stock left (operand_then i p ps) =
+      (o : Operand) × (slice_get left i ≡ Some o) × IsOrderly stock (into o.id) o.tree o.whole p
+      × (bit_and (all_written stock.rules ps) (2 ^ o.id) ≡ 0) × AreOrderly stock (remove left i) ps
+
+  -- each cut has an orderly cover into a temporary cell
+  pub AreCut : Stock → List Term → Cuts → Type 0
+  AreCut stock cuts no_cuts = cuts ≡ []
+  AreCut stock cuts (cut_then p cs) =
+      (tree : Term) × (later : List Term) × (cuts ≡ tree ∷ later) × IsOrderly stock temporary tree false p × AreCut stock later cs
+
+-- ---- which of two covers comes first: by the form's place, then the order of the operands, then their covers in that order, then the cuts'
+
+abbrev mutual
+  pub IsBefore : Plan → Plan → Type 0
+  IsBefore (use_form k ps cs) (use_form l qs ds) =
+      (k < l) ⊎ ((k ≡ l) × (IsSooner ps qs ⊎ ((SamePlaces ps qs) × (AreBefore ps qs ⊎ ((ps ≡ qs) × CutsBefore cs ds)))))
+
+  pub AreBefore : Operands → Operands → Type 0
+  AreBefore (operand_then i p ps) (operand_then j q qs) = IsBefore p q ⊎ ((p ≡ q) × AreBefore ps qs)
+  AreBefore _ _ = ⊥
+
+  pub CutsBefore : Cuts → Cuts → Type 0
+  CutsBefore (cut_then p cs) (cut_then q ds) = IsBefore p q ⊎ ((p ≡ q) × CutsBefore cs ds)
+  CutsBefore _ _ = ⊥
+
+  -- the order as a list of places; the place among those that are left compares as the place from the left does
+  pub IsSooner : Operands → Operands → Type 0
+  IsSooner (operand_then i p ps) (operand_then j q qs) = (i < j) ⊎ ((i ≡ j) × IsSooner ps qs)
+  IsSooner _ _ = ⊥
+
+  pub SamePlaces : Operands → Operands → Type 0
+  SamePlaces no_operands no_operands = Unit {0}
+  SamePlaces (operand_then i p ps) (operand_then j q qs) = (i ≡ j) × SamePlaces ps qs
+  SamePlaces _ _ = ⊥
+
+-- ---- jobs: a tree, or one of two, that goes to a destination
+
+-- a cover of a job: which tree is used, and its cover
+pub record Choice : Type 0 where
+  pub which : ℕ
+  pub plan : Plan
+
+pub record Covers (stock : Stock) (destination : Destination) (trees : List Term) (choice : Choice) : Type 0 where
+  pub tree : Term
+  pub used : slice_get trees choice.which ≡ Some tree
+  pub orderly : IsOrderly stock destination tree true choice.plan
+
+abbrev pub ChoiceBefore : Choice → Choice → Type 0
+ChoiceBefore a b = (a.which < b.which) ⊎ ((a.which ≡ b.which) × IsBefore a.plan b.plan)
+
+-- the cost without the form's own 1
+abbrev pub parts_cost : Plan → ℕ
+parts_cost (use_form k ps cs) = operands_cost ps + cuts_cost cs
+
+-- the cost of a job's cover; a test's leaves out its branch word
+abbrev pub job_cost : Destination → Plan → ℕ
+job_cost tested plan = parts_cost plan
+job_cost destination plan = cost plan
+
+-- the first of the orderly covers of least cost
+pub record IsChosen (stock : Stock) (destination : Destination) (trees : List Term) (choice : Choice) : Type 0 where
+  pub covers : Covers stock destination trees choice
+  pub first : (other : Choice) → Covers stock destination trees other →
+      (cost choice.plan < cost other.plan) ⊎ ((cost choice.plan ≡ cost other.plan) × ((choice ≡ other) ⊎ ChoiceBefore choice other))
+
+-- no tree of the job has an orderly cover
+pub record HasNoCover (stock : Stock) (destination : Destination) (trees : List Term) : Type 0 where
+  pub none : (choice : Choice) → Covers stock destination trees choice → ⊥

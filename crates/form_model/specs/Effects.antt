@@ -1,0 +1,125 @@
+-- What steps do to a state, one after the other and several at one clock edge. A step is a pattern with the values of its field bits, and the
+-- meaning of its expressions is read under those bits, since they have no others.
+use Rattle.std.specs.Prelude.{ℕ, Bool, true, false, ◌==◌, ◌||◌, ◌&&◌, not, if◌then◌else◌, List, [], ◌∷◌, Option, Some, None, slice_get, slice_set}
+use Rattle.net_model.specs.declared.states.State.{State}
+use Rattle.net_model.specs.Terms.{Term, word, reg, const, read, un, bin, slice, cat, zext, sext, select, Move, keep, write, write_at}
+use Rattle.net_model.specs.Symbolic.{blank}
+use Rattle.net_model.specs.Meaning.{mean}
+use Rattle.net_model.specs.Patterns.{Pattern}
+use Rattle.form_model.specs.declared.forms.Step.{Step}
+use Rattle.form_model.specs.Shapes.{is_shape}
+
+-- ---- what a step does
+
+-- a transfer of a storage under the field bits of a setting
+pub record Operation : Type 0 where
+  pub storage : ℕ
+  pub move : Move
+  pub setting : ℕ
+
+abbrev pub operation_or_none : Option Pattern → ℕ → Operation
+operation_or_none None setting = record { storage = 0; move = keep; setting = setting }
+operation_or_none (Some p) setting = record { storage = p.storage; move = p.move; setting = setting }
+
+-- the transfer of a step; a pattern's number is its place
+abbrev pub operation_of : List Pattern → Step → Operation
+operation_of patterns step = operation_or_none (slice_get patterns step.pattern) step.setting
+
+-- the new state with the transfer done from the old state
+abbrev pub apply_move : ℕ → Move → ℕ → State → State → State
+apply_move storage keep setting old new = new
+apply_move storage (write e) setting old new = record { regs = slice_set new.regs storage (mean e old setting); cells = new.cells }
+apply_move storage (write_at a e) setting old new = record { regs = new.regs; cells = slice_set new.cells (mean a old setting) (mean e old setting) }
+
+abbrev pub apply_operation : Operation → State → State → State
+apply_operation d old new = apply_move d.storage d.move d.setting old new
+
+-- m says what each step does
+abbrev pub apply_all : {A : Type 0} → (A → Operation) → List A → State → State → State
+apply_all m [] old new = new
+apply_all m (x ∷ xs) old new = apply_all m xs old (apply_operation (m x) old new)
+
+-- all steps of a group at one clock edge
+abbrev pub group_effect : {A : Type 0} → (A → Operation) → List A → State → State
+group_effect m g s = apply_all m g s s
+
+-- groups one after the other
+abbrev pub groups_effect : {A : Type 0} → (A → Operation) → List (List A) → State → State
+groups_effect m [] s = s
+groups_effect m (g ∷ gs) s = groups_effect m gs (group_effect m g s)
+
+-- steps one after the other
+abbrev pub steps_effect : {A : Type 0} → (A → Operation) → List A → State → State
+steps_effect m [] s = s
+steps_effect m (x ∷ xs) s = steps_effect m xs (apply_operation (m x) s s)
+
+-- ---- what a step reads and writes
+
+-- a location that is written: a register, a cell whose address the step settles, or some cell
+pub data Location : Type 0 where
+  register : (id : ℕ) → Location
+  cell_at : (address : ℕ) → Location
+  some_cell : Location
+
+-- an address that is a field shape is settled by the setting, a constant's too; any other may be every address
+abbrev pub location_at : ℕ → Term → Location
+location_at setting a = if is_shape a then cell_at (mean a blank setting) else some_cell
+
+abbrev pub move_location : ℕ → ℕ → Move → Location
+move_location storage setting keep = register storage
+move_location storage setting (write e) = register storage
+move_location storage setting (write_at a e) = location_at setting a
+
+-- the location that a step writes
+abbrev pub location_of : Operation → Location
+location_of d = move_location d.storage d.setting d.move
+
+-- a read at the first location may see a write at the second
+abbrev pub may_see : Location → Location → Bool
+may_see x (register r) = false
+may_see (register r) y = false
+may_see (cell_at v) (cell_at w) = v == w
+may_see x y = true
+
+abbrev pub is_register : Location → ℕ → Bool
+is_register (register q) r = q == r
+is_register _ r = false
+
+abbrev pub term_reads : ℕ → Term → Location → Bool
+term_reads setting (word w) p = false
+term_reads setting (reg r w) p = is_register p r
+term_reads setting (const w v) p = false
+term_reads setting (read a w) p = may_see (location_at setting a) p || term_reads setting a p
+term_reads setting (un o a) p = term_reads setting a p
+term_reads setting (bin o a b) p = term_reads setting a p || term_reads setting b p
+term_reads setting (slice a hi lo) p = term_reads setting a p
+term_reads setting (cat a b) p = term_reads setting a p || term_reads setting b p
+term_reads setting (zext a w) p = term_reads setting a p
+term_reads setting (sext a w) p = term_reads setting a p
+term_reads setting (select c a b) p = term_reads setting c p || (term_reads setting a p || term_reads setting b p)
+
+abbrev pub move_reads : ℕ → Move → Location → Bool
+move_reads setting keep p = false
+move_reads setting (write e) p = term_reads setting e p
+move_reads setting (write_at a e) p = term_reads setting a p || term_reads setting e p
+
+-- a step reads a location
+abbrev pub reads : Operation → Location → Bool
+reads d p = move_reads d.setting d.move p
+
+-- a register that a step writes
+abbrev pub move_writes : ℕ → Move → ℕ → Bool
+move_writes storage keep r = false
+move_writes storage (write e) r = storage == r
+move_writes storage (write_at a e) r = false
+
+abbrev pub writes : Operation → ℕ → Bool
+writes d r = move_writes d.storage d.move r
+
+abbrev pub is_store : Move → Bool
+is_store (write_at a e) = true
+is_store _ = false
+
+-- two steps have one destination: a register, or the memory
+abbrev pub same_destination : Operation → Operation → Bool
+same_destination c d = if is_store c.move then is_store d.move else not (is_store d.move) && (c.storage == d.storage)

@@ -1,0 +1,10 @@
+pub mod Trees
+pub mod Shapes
+pub mod Rules
+pub mod Matches
+pub mod Plans
+pub mod Covers
+pub mod Effects
+pub mod Live
+pub mod Steps
+pub mod Worked

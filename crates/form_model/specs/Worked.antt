@@ -1,0 +1,148 @@
+-- Worked field shapes and matches: a netlist of 12 instruction bits, whose words name a cell or a number by their low 8.
+use Rattle.std.specs.Prelude.{ℕ, ◌≡◌, refl, true, false, [], ◌∷◌, List, Option, Some, None}
+use Rattle.rec_bits.specs.declared.operator.Op2.TheVariants.{Add, Mul}
+use Rattle.net_model.specs.Terms.{Term, word, reg, const, read, bin, slice, cat, zext, sext}
+use Rattle.form_model.specs.Shapes.{is_shape, reach_of, shape_setting, shows, shows_below}
+use Rattle.form_model.specs.Rules.{Rule, into_reg, into_memory, into, cell, stored, temporary, tested}
+use Rattle.form_model.specs.Matches.{Site, operand, cut, Found, matched, taken}
+
+-- ---- field shapes
+
+abbrev low_byte : Term
+low_byte = slice (word 12) 7 0
+
+-- a field that is extended with zeros shows 255 and not 256
+last_shown : shows (zext low_byte 16) 255 ≡ true
+last_shown = refl
+
+one_past : shows (zext low_byte 16) 256 ≡ false
+one_past = refl
+
+-- one that is extended with its top bit shows the numbers below 128, and those from 65408 on
+signed_low : shows (sext low_byte 16) 127 ≡ true
+signed_low = refl
+
+signed_between : shows (sext low_byte 16) 128 ≡ false
+signed_between = refl
+
+signed_high : shape_setting (sext low_byte 16) 65535 ≡ Some 255
+signed_high = refl
+
+-- the bits of a slice stand in their places
+in_place : shape_setting (slice (word 12) 11 8) 5 ≡ Some 1280
+in_place = refl
+
+-- a constant shows itself, under no bits
+constant_shown : shape_setting (const 8 3) 3 ≡ Some 0
+constant_shown = refl
+
+constant_other : shape_setting (const 8 3) 4 ≡ None
+constant_other = refl
+
+-- a constant that is extended is no field shape, nor is a slice of something else, nor a field beside another
+constant_extended : is_shape (zext (const 8 3) 16) ≡ false
+constant_extended = refl
+
+slice_of_register : is_shape (slice (reg 1 16) 7 0) ≡ false
+slice_of_register = refl
+
+two_fields : is_shape (cat (slice (word 12) 11 8) low_byte) ≡ false
+two_fields = refl
+
+-- how far they reach
+reach_of_word : reach_of (word 12) ≡ 4096
+reach_of_word = refl
+
+reach_of_field : reach_of (zext low_byte 16) ≡ 256
+reach_of_field = refl
+
+reach_of_signed : reach_of (sext low_byte 16) ≡ 128
+reach_of_signed = refl
+
+reach_of_zero : reach_of (const 8 0) ≡ 1
+reach_of_zero = refl
+
+reach_of_three : reach_of (const 8 3) ≡ 0
+reach_of_three = refl
+
+all_below : shows_below low_byte 5 ≡ true
+all_below = refl
+
+-- ---- matches of expressions
+
+-- ACC := add(ACC, read(M, slice(I,7,0))), and with its operands swapped
+abbrev variable : Term
+variable = read low_byte 16
+
+abbrev extracted : Term
+extracted = bin Add (reg 1 16) variable
+
+abbrev swapped : Term
+swapped = bin Add variable (reg 1 16)
+
+-- the cell at address 1 plus 5
+abbrev sum : Term
+sum = bin Add (read (const 8 1) 16) (const 16 5)
+
+abbrev found : ℕ → List Site → Option Found
+found setting sites = Some (record { setting = setting; sites = sites })
+
+-- the swapped form takes it with the number in the register
+swapped_takes : matched 1 swapped sum false ≡ found 1 (operand 1 (const 16 5) false ∷ [])
+swapped_takes = refl
+
+-- the form as extracted only with the number as a cut
+extracted_takes : matched 1 extracted sum false ≡ found 0 (operand 1 (read (const 8 1) 16) false ∷ cut low_byte (const 16 5) ∷ [])
+extracted_takes = refl
+
+-- which it isn't where there are more temporary cells than the field shows
+too_many_cells : matched 257 extracted sum false ≡ None
+too_many_cells = refl
+
+-- a whole tree is no cut, nor is a number that is the address of a read, be it an operand or where a read stands for it
+no_cut_at_root : matched 1 variable sum true ≡ None
+no_cut_at_root = refl
+
+address_operand : matched 1 (read (reg 2 8) 16) (read (const 8 5) 16) false ≡ found 0 (operand 2 (const 8 5) true ∷ [])
+address_operand = refl
+
+no_cut_at_address : matched 1 (read (read low_byte 8) 16) (read (const 8 5) 16) false ≡ None
+no_cut_at_address = refl
+
+-- another operator, and another width
+other_operator : matched 1 extracted (bin Mul (read (const 8 1) 16) (read (const 8 1) 16)) false ≡ None
+other_operator = refl
+
+other_width : matched 1 (reg 1 16) (const 8 5) false ≡ None
+other_width = refl
+
+-- ---- matches of forms
+
+-- M[slice(I,7,0)] := ACC, whose pattern's number is 7
+abbrev store : Rule
+store = record { pattern = 7; goal = into_memory; addr = Some low_byte; value = reg 1 16; fields = 255; clobbers = 5 }
+
+-- ACC := add(ACC, read(M, slice(I,7,0)))
+abbrev sum_into : Rule
+sum_into = record { pattern = 3; goal = into_reg 1; addr = None; value = extracted; fields = 255; clobbers = 3 }
+
+-- the address of a cell is settled, that of a temporary cell isn't yet
+to_cell : taken 1 store (cell 2) sum false ≡ found 2 (operand 1 sum true ∷ [])
+to_cell = refl
+
+to_temporary : taken 1 store temporary sum false ≡ found 0 (operand 1 sum false ∷ [])
+to_temporary = refl
+
+-- an address that is computed isn't one that the field shows, and a number is
+to_computed : taken 1 store (stored (read (const 8 1) 8)) sum false ≡ None
+to_computed = refl
+
+to_number : taken 1 store (stored (const 8 9)) sum false ≡ found 9 (operand 1 sum false ∷ [])
+to_number = refl
+
+-- no memory form takes a test, nor a form for a register what goes into another
+no_test : taken 1 store tested sum true ≡ None
+no_test = refl
+
+into_another : taken 1 sum_into (into 2) sum false ≡ None
+into_another = refl

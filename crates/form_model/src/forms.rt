@@ -1,0 +1,62 @@
+//! The forms of a netlist: the transfers that code is made of.
+
+use net_model::Expr;
+
+/// A set of storages: bit `s` stands for the storage of number `s`, below 16.
+pub type RegSet = u16;
+
+/// What a form's transfer goes to.
+#[derive(Debug, Drop)]
+pub enum Goal {
+    /// The register of this number.
+    Reg(u32),
+    /// The data memory.
+    Memory,
+    /// The program counter, in every case; `reach` is the least address that no setting of the form's bits gives.
+    Jump { reach: u64 },
+    /// The program counter: the target where the condition is 1, or where it is 0, and otherwise the next word.
+    Branch { when_one: bool, target: Target },
+}
+
+/// Where a branch goes. The expression is a field shape.
+#[derive(Debug, Drop)]
+pub enum Target {
+    /// The address that the expression gives.
+    Absolute(Expr),
+    /// So many words on as the expression gives.
+    Relative(Expr),
+}
+
+/// A transfer of which code can be made: for each choice of its field bits some word does it, steps, and changes nothing that it needn't but
+/// the clobbers.
+#[derive(Debug, Drop)]
+pub struct Form {
+    /// The number of its pattern.
+    pub pattern: u32,
+    pub goal: Goal,
+    /// The address of a write of the memory, with the form's swaps.
+    pub addr: Option<Expr>,
+    /// The value that is written, or the condition of a branch, with the form's swaps.
+    pub value: Expr,
+    /// The instruction bits that occur in the pattern.
+    pub fields: u64,
+    /// The storages that it may change, its own among them.
+    pub clobbers: RegSet,
+}
+
+/// The forms of a netlist in their order.
+#[derive(Debug, Drop)]
+pub struct Forms {
+    pub list: Vec<Form>,
+    /// The greatest reach of the jump forms, and 0 where there is none.
+    pub reach: u64,
+}
+
+/// A pattern with the values of its field bits.
+#[derive(Clone, Copy, Debug, PartialEq, Eq)]
+pub struct Step {
+    /// The number of the pattern.
+    pub pattern: u32,
+    /// The values of the field bits, in their places in the word, and 0 in all other bits.
+    pub setting: u64,
+}

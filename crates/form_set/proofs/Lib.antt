@@ -1,0 +1,16 @@
+pub mod Bits
+pub mod Deciding
+pub mod Registers
+pub mod Holding
+pub mod Chosen
+pub mod FieldsBelow
+pub mod Looking
+pub mod Swapping
+pub mod Classifying
+pub mod RuleLists
+pub mod ShapeBits
+pub mod SwapLaws
+pub mod FormLaws
+pub mod NoForms
+pub mod LinearLaws
+pub mod OneList

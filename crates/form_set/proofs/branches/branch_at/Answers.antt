@@ -1,0 +1,15 @@
+use Rattle.std.proofs.Common.{◌≡◌, ◌∙◌, ap, sym}
+use Rattle.sym_expr.specs.Pools.{term_at}
+use Rattle.transfer_set.specs.declared.stepping.Counter.{Counter}
+use Rattle.form_set.specs.Listing.{counter_at}
+use Rattle.form_set.specs.Targets.{select_branch, term_branch}
+use Rattle.form_set.proofs.branches.branch_at.Goals as goal
+
+pub returns-in-Select-clause-branch : goal.returns-in-Select-clause-branch
+returns-in-Select-clause-branch c =
+    let pool = c.args.pool.now in
+    let netlist = c.args.checked.now.netlist in
+    let counter : c.of-counter.result ≡ counter_at netlist = (λ j. record { storage = c.of-counter.ensures.storage j; width = c.of-counter.ensures.width j }) in
+    c.choice_at.ensures.branch
+    ∙ ap (λ (pc : Counter). select_branch pc c.args.reach (term_at pool c.in-Select.test) (term_at pool c.in-Select.a) (term_at pool c.in-Select.b)) counter
+    ∙ sym (ap (term_branch (counter_at netlist) c.args.reach) c.in-Select.ensures.term)

@@ -1,0 +1,30 @@
+use Rattle.bit_bdd.proofs.CallerLemmas.{extends_trans}
+use Rattle.form_model.specs.Rules.{rules_of}
+use Rattle.transfer_set.specs.Rows.{told_patterns}
+use Rattle.transfer_set.proofs.ReadyLaws.{ready_later}
+use Rattle.form_set.proofs.RuleLists.{greatest_is}
+use Rattle.form_set.proofs.listing.forms.Goals as goal
+
+pub list_of-requires : goal.list_of-requires
+list_of-requires c = record { ready = ready_later c.args.checked.now.netlist c.args.book.now c.reach_of.new.book c.args.pool.now c.args.patterns.now c.reach_of.ensures.grows c.requires.ready }
+
+pub returns-clause-forms : goal.returns-clause-forms
+returns-clause-forms c = record {
+  list = c.in_ok-list.ensures.list;
+  greatest_is = greatest_is c.args.checked.now.netlist c.in_ok-reach.reach 0 (told_patterns c.args.pool.now c.args.patterns.now.rows) (rules_of c.in_ok-list.list.items)
+      c.in_ok-reach.reach c.in_ok-list.ensures.list c.in_ok-reach.ensures.reach;
+}
+
+pub returns-clause-ready : goal.returns-clause-ready
+returns-clause-ready c =
+    ready_later c.args.checked.now.netlist c.args.book.now c.list_of.new.book c.args.pool.now c.args.patterns.now
+    (extends_trans c.args.book.now c.reach_of.new.book c.list_of.new.book c.reach_of.ensures.grows c.list_of.ensures.grows) c.requires.ready
+
+pub returns-in_err-reach-clause-ready : goal.returns-in_err-reach-clause-ready
+returns-in_err-reach-clause-ready c =
+    ready_later c.args.checked.now.netlist c.args.book.now c.reach_of.new.book c.args.pool.now c.args.patterns.now c.reach_of.ensures.grows c.requires.ready
+
+pub returns-in_err-list-clause-ready : goal.returns-in_err-list-clause-ready
+returns-in_err-list-clause-ready c =
+    ready_later c.args.checked.now.netlist c.args.book.now c.list_of.new.book c.args.pool.now c.args.patterns.now
+    (extends_trans c.args.book.now c.reach_of.new.book c.list_of.new.book c.reach_of.ensures.grows c.list_of.ensures.grows) c.requires.ready

@@ -1,0 +1,11 @@
+use Rattle.std.proofs.Common.{◌≡◌, ◌++◌}
+use Rattle.form_model.specs.Rules.{rules_of}
+use Rattle.form_set.specs.Copies.{ids_branch}
+use Rattle.form_set.specs.Listing.{branch_rule}
+use Rattle.form_set.specs.PatternIds.{ids_pattern}
+use Rattle.form_set.specs.Swaps.{map_below}
+use Rattle.form_set.proofs.making.add_branches.Given as goal
+
+abbrev pub invariant-loop-choice : goal.invariant-loop-choice
+invariant-loop-choice l =
+    rules_of l.list.items ≡ rules_of l.initial.list.items ++ map_below (branch_rule l.checked.netlist l.number (ids_pattern l.pool l.ids) (ids_branch l.pool l.parts)) l.choice

@@ -1,0 +1,11 @@
+use Rattle.form_set.proofs.Holding.{ids_later}
+use Rattle.transfer_set.proofs.ReadyLaws.{ready_later}
+use Rattle.form_set.proofs.words.kept_registers.Goals as goal
+
+pub joined-requires-clause-ready : goal.joined-requires-clause-ready
+joined-requires-clause-ready c =
+    ready_later c.args.checked.now.netlist c.args.book.now c.loop-id.book c.args.pool.now c.args.patterns.now c.loop-id.invariant.grows c.requires.ready
+
+pub joined-requires-clause-ids : goal.joined-requires-clause-ids
+joined-requires-clause-ids c =
+    ids_later c.args.checked.now.netlist c.args.book.now c.loop-id.book c.args.pool.now c.args.ids c.loop-id.invariant.grows c.requires.ids

@@ -1,0 +1,11 @@
+use Rattle.bit_bdd.specs.Diagrams.{Extends}
+use Rattle.form_set.specs.PatternIds.{ids_pattern}
+use Rattle.form_set.specs.Words.{AreKept, IsSetOf, KeepsOthers}
+use Rattle.form_set.proofs.words.kept_registers.Given as goal
+
+abbrev pub invariant-loop-id : goal.invariant-loop-id
+invariant-loop-id l = record {
+  grows : Extends l.initial.book l.book;
+  words : IsSetOf l.book (KeepsOthers l.checked.netlist (ids_pattern l.pool l.ids) l.kept.registers) l.kept.words;
+  are : AreKept l.checked.netlist (ids_pattern l.pool l.ids) l.id l.kept.registers;
+}

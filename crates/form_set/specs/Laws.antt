@@ -1,0 +1,73 @@
+-- What the forms of a netlist promise, as statements.
+use Rattle.std.specs.Prelude.{◌≡◌, ◌↔◌, ℕ, ◌^◌, ◌<◌, true, bit_and, List, Some, slice_get}
+use Rattle.std.specs.Int.{bit_at}
+use Rattle.net_model.specs.declared.hardware.Netlist.{Netlist}
+use Rattle.net_model.specs.declared.states.State.{State}
+use Rattle.net_model.specs.Fields.{fields}
+use Rattle.net_model.specs.Meaning.{mean}
+use Rattle.net_model.specs.Nets.{IsRegister, counter_of, word_width}
+use Rattle.net_model.specs.Patterns.{Pattern}
+use Rattle.net_model.specs.Terms.{Term}
+use Rattle.form_model.specs.Rules.{Rule}
+use Rattle.form_model.specs.Shapes.{IsReach, ShapeFits, is_shape, reach_of, shape_setting}
+use Rattle.sym_expr.specs.Pools.{TermFits}
+use Rattle.transfer_set.specs.TextMarks.{IsTermOf}
+use Rattle.form_set.specs.Listing.{AreForms, IsJump, IsPlain}
+use Rattle.form_set.specs.Promises.{AreAlike, HasWords, IsForm, no_jumps, only_control}
+use Rattle.form_set.specs.Swaps.{Sides, swapped}
+use Rattle.form_set.specs.Words.{AreClobbers}
+
+-- patterns have one list of forms, and one greatest reach
+abbrev pub FormsAreOne : Type 0
+FormsAreOne =
+    (netlist : Netlist) (patterns : List Pattern) (rules others : List Rule) (reach other : ℕ) →
+    AreForms netlist patterns rules reach → AreForms netlist patterns others other → (rules ≡ others) × (reach ≡ other)
+
+-- each form of the list is that of the pattern whose number it has, plain, a jump or a branch
+abbrev pub FormsAreOfPatterns : Type 0
+FormsAreOfPatterns =
+    (netlist : Netlist) (patterns : List Pattern) (rules : List Rule) (reach : ℕ) → AreForms netlist patterns rules reach →
+    (k : ℕ) (rule : Rule) → slice_get rules k ≡ Some rule → IsForm netlist reach 0 patterns rule
+
+-- for every setting of a plain pattern some word does its transfer, steps, and changes nothing that code sees but what it writes and the clobbers
+abbrev pub SettingsHaveWords : Type 0
+SettingsHaveWords = (netlist : Netlist) (pattern : Pattern) (clobbers : ℕ) → IsPlain netlist pattern → AreClobbers netlist pattern clobbers → HasWords netlist pattern clobbers
+
+-- what a pattern writes is among its clobbers
+abbrev pub ClobbersHaveOwn : Type 0
+ClobbersHaveOwn = (netlist : Netlist) (pattern : Pattern) (clobbers : ℕ) → AreClobbers netlist pattern clobbers → bit_at clobbers pattern.storage ≡ 1
+
+-- and so is the program counter
+abbrev pub ClobbersHaveCounter : Type 0
+ClobbersHaveCounter =
+    (netlist : Netlist) (pattern : Pattern) (clobbers : ℕ) → IsRegister (slice_get netlist.storages (counter_of netlist.codes)) →
+    IsPlain netlist pattern → AreClobbers netlist pattern clobbers → bit_at clobbers (counter_of netlist.codes) ≡ 1
+
+-- no choice of swaps changes the width or the meaning of an address or a value
+abbrev pub SwapsChangeNothing : Type 0
+SwapsChangeNothing = (choice : ℕ) (sides : Sides) → AreAlike sides (swapped choice sides)
+
+-- a list has no form but jumps and branches exactly where no pattern is plain
+abbrev pub NoPlainForm : Type 0
+NoPlainForm =
+    (netlist : Netlist) (patterns : List Pattern) (rules : List Rule) (reach : ℕ) → AreForms netlist patterns rules reach →
+    (only_control rules ≡ true) ↔ ((k : ℕ) (pattern : Pattern) → slice_get patterns k ≡ Some pattern → IsPlain netlist pattern → ⊥)
+
+-- and no jump form exactly where no pattern is a jump
+abbrev pub NoJumpForm : Type 0
+NoJumpForm =
+    (netlist : Netlist) (patterns : List Pattern) (rules : List Rule) (reach : ℕ) → AreForms netlist patterns rules reach →
+    (no_jumps rules ≡ true) ↔ ((k : ℕ) (pattern : Pattern) → slice_get patterns k ≡ Some pattern → IsJump netlist pattern → ⊥)
+
+-- the bits that give a shape a value are bits of the shape, and each word with these bits gives it the value
+abbrev pub SettingsAreOfShapes : Type 0
+SettingsAreOfShapes =
+    (bits : ℕ) (shape : Term) → is_shape shape ≡ true → ShapeFits bits shape → (value setting : ℕ) → shape_setting shape value ≡ Some setting →
+    (bit_and setting (fields shape) ≡ setting)
+    × ((s : State) (word : ℕ) → word < 2 ^ bits → bit_and word (fields shape) ≡ setting → mean shape s word ≡ value)
+
+-- the reach that is told of a jump is the least address that no word gives its target
+abbrev pub ReachIsExact : Type 0
+ReachIsExact =
+    (netlist : Netlist) (pattern : Pattern) (h : IsJump netlist pattern) → IsTermOf netlist h.target → TermFits h.target →
+    IsReach (word_width netlist) h.target (reach_of h.target)

@@ -1,0 +1,130 @@
+-- The forms of a netlist, in their order.
+use Rattle.std.specs.Prelude.{◌≡◌, ℕ, ◌+◌, ◌^◌, ◌==◌, true, if◌then◌else◌, max, List, [], ◌∷◌, ◌++◌, Some, None}
+use Rattle.net_model.specs.declared.hardware.Netlist.{Netlist}
+use Rattle.net_model.specs.Nets.{counter_of, counter_width, memory_id}
+use Rattle.net_model.specs.Patterns.{Pattern}
+use Rattle.net_model.specs.Terms.{Term, const, Move, keep, write, write_at}
+use Rattle.net_model.specs.Fields.{move_fields}
+use Rattle.form_model.specs.Shapes.{is_shape, reach_of}
+use Rattle.form_model.specs.Rules.{Kind as GoalKind, Rule, into_memory, into_reg, jumps, branches}
+use Rattle.net_model.specs.Occurs.{IsLinear}
+use Rattle.form_set.specs.Static.{has_shapes, move_shaped}
+use Rattle.form_set.specs.Swaps.{Sides, map_below, swap_count, swapped}
+use Rattle.form_set.specs.Targets.{Branch, term_branch}
+use Rattle.transfer_set.specs.declared.stepping.Counter.{Counter}
+use Rattle.form_set.specs.Words.{AreClobbers, CanJump, CanKeep, all_registers}
+
+-- ---- patterns as transfers
+
+abbrev pub sides_of : Move → Sides
+sides_of keep = record { addr = None; value = const 0 0 }
+sides_of (write e) = record { addr = None; value = e }
+sides_of (write_at a e) = record { addr = Some a; value = e }
+
+abbrev pub counter_at : Netlist → Counter
+counter_at netlist = record { storage = counter_of netlist.codes; width = counter_width netlist }
+
+abbrev pub goal_at : Netlist → ℕ → GoalKind
+goal_at netlist storage = if storage == memory_id netlist.storages then into_memory else into_reg storage
+
+-- ---- plain forms
+
+-- what gives forms: linear, with field shapes for its outermost static parts, and ok without anything to keep
+pub record IsPlain (netlist : Netlist) (pattern : Pattern) : Type 0 where
+  pub linear : IsLinear 0 pattern.move
+  pub shapes : move_shaped pattern.move ≡ true
+  pub ok : CanKeep netlist pattern 0
+
+abbrev pub plain_rule : Netlist → ℕ → Pattern → ℕ → ℕ → Rule
+plain_rule netlist number pattern clobbers choice = record {
+  pattern = number;
+  goal = goal_at netlist pattern.storage;
+  addr = (swapped choice (sides_of pattern.move)).addr;
+  value = (swapped choice (sides_of pattern.move)).value;
+  fields = move_fields pattern.move;
+  clobbers = clobbers;
+}
+
+-- one for each choice of swaps
+abbrev pub plain_rules : Netlist → ℕ → Pattern → ℕ → List Rule
+plain_rules netlist number pattern clobbers = map_below (plain_rule netlist number pattern clobbers) (2 ^ swap_count (sides_of pattern.move))
+
+-- ---- jump forms
+
+-- a pattern PC := shape
+pub record IsJump (netlist : Netlist) (pattern : Pattern) : Type 0 where
+  pub target : Term
+  pub storage : pattern.storage ≡ counter_of netlist.codes
+  pub move : pattern.move ≡ write target
+  pub shape : is_shape target ≡ true
+  pub can : CanJump netlist pattern
+
+abbrev pub jump_rule : Netlist → ℕ → Term → ℕ → Rule
+jump_rule netlist number target fields = record {
+  pattern = number;
+  goal = jumps (reach_of target);
+  addr = None;
+  value = target;
+  fields = fields;
+  clobbers = all_registers netlist.storages;
+}
+
+-- ---- branch forms
+
+-- a pattern PC := select(c, t, step) or PC := select(c, step, t) with an allowed target, where reach is that of the jump forms
+pub record IsBranch (netlist : Netlist) (reach : ℕ) (pattern : Pattern) (branch : Branch) : Type 0 where
+  pub value : Term
+  pub storage : pattern.storage ≡ counter_of netlist.codes
+  pub move : pattern.move ≡ write value
+  pub parts : term_branch (counter_at netlist) reach value ≡ Some branch
+  pub shapes : has_shapes branch.test ≡ true
+  pub linear : IsLinear (2 ^ counter_of netlist.codes) pattern.move
+  pub can : CanJump netlist pattern
+
+abbrev pub test_sides : Branch → Sides
+test_sides branch = record { addr = None; value = branch.test }
+
+abbrev pub branch_rule : Netlist → ℕ → Pattern → Branch → ℕ → Rule
+branch_rule netlist number pattern branch choice = record {
+  pattern = number;
+  goal = branches branch.when_one branch.to;
+  addr = None;
+  value = (swapped choice (test_sides branch)).value;
+  fields = move_fields pattern.move;
+  clobbers = all_registers netlist.storages;
+}
+
+-- one for each choice of swaps in the condition
+abbrev pub branch_rules : Netlist → ℕ → Pattern → Branch → List Rule
+branch_rules netlist number pattern branch = map_below (branch_rule netlist number pattern branch) (2 ^ swap_count (test_sides branch))
+
+-- ---- all forms
+
+-- the forms of the pattern of this number
+pub data AreRulesOf (netlist : Netlist) (reach number : ℕ) (pattern : Pattern) (rules : List Rule) : Type 0 where
+  plain : (clobbers : ℕ) → IsPlain netlist pattern → AreClobbers netlist pattern clobbers → rules ≡ plain_rules netlist number pattern clobbers
+      → AreRulesOf netlist reach number pattern rules
+  jump : (h : IsJump netlist pattern) → rules ≡ jump_rule netlist number h.target (move_fields pattern.move) ∷ [] → AreRulesOf netlist reach number pattern rules
+  branch : (parts : Branch) → IsBranch netlist reach pattern parts → rules ≡ branch_rules netlist number pattern parts → AreRulesOf netlist reach number pattern rules
+  other : (IsPlain netlist pattern → ⊥) → (IsJump netlist pattern → ⊥) → ((parts : Branch) → IsBranch netlist reach pattern parts → ⊥) → rules ≡ []
+      → AreRulesOf netlist reach number pattern rules
+
+-- the forms of patterns that are numbered from a number on: by the number of the pattern
+abbrev pub AreRules : Netlist → ℕ → ℕ → List Pattern → List Rule → Type 0
+AreRules netlist reach number [] rules = rules ≡ []
+AreRules netlist reach number (pattern ∷ patterns) rules =
+    (first : List Rule) × (rest : List Rule) × AreRulesOf netlist reach number pattern first × AreRules netlist reach (number + 1) patterns rest × (rules ≡ first ++ rest)
+
+abbrev pub goal_reach : GoalKind → ℕ
+goal_reach (jumps reach) = reach
+goal_reach _ = 0
+
+-- the greatest reach of the jump forms, and 0 where there is none
+abbrev pub greatest_reach : List Rule → ℕ
+greatest_reach [] = 0
+greatest_reach (rule ∷ rules) = max (goal_reach rule.goal) (greatest_reach rules)
+
+-- exactly the forms of a netlist with these patterns, in their order, and the greatest reach of the jump forms
+pub record AreForms (netlist : Netlist) (patterns : List Pattern) (rules : List Rule) (reach : ℕ) : Type 0 where
+  pub list : AreRules netlist reach 0 patterns rules
+  pub greatest_is : reach ≡ greatest_reach rules

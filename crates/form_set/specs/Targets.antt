@@ -1,0 +1,57 @@
+-- What jumps and branches consist of.
+use Rattle.std.specs.Prelude.{ℕ, ◌&&◌, Bool, true, false, if◌then◌else◌, nat_le, Option, Some, None}
+use Rattle.net_model.specs.Terms.{Term, bin, select}
+use Rattle.rec_bits.specs.declared.operator.Op2.TheVariants.{Add}
+use Rattle.form_model.specs.Shapes.{is_shape, reach_of, shows}
+use Rattle.form_model.specs.Rules.{BranchTarget, absolute, relative}
+use Rattle.transfer_set.specs.Stepping.{is_next, is_reg}
+use Rattle.transfer_set.specs.declared.stepping.Counter.{Counter}
+
+-- ---- targets
+
+-- an address that the word tells, which reaches as far as jumps do
+abbrev pub is_absolute : ℕ → Term → Bool
+is_absolute reach t = is_shape t && nat_le reach (reach_of t)
+
+abbrev pub absolute_target : ℕ → Term → Option BranchTarget
+absolute_target reach t = if is_absolute reach t then Some (absolute t) else None
+
+abbrev pub distance_if : Bool → Term → Option BranchTarget
+distance_if b t = if b && (is_shape t && shows t 2) then Some (relative t) else None
+
+abbrev pub first_of : {A : Type 0} → Option A → Option A → Option A
+first_of (Some x) later = Some x
+first_of None later = later
+
+-- so many words on, where the word tells how many, among them two
+abbrev pub relative_target : Counter → Term → Option BranchTarget
+relative_target pc (bin Add a b) = first_of (distance_if (is_reg pc a) b) (distance_if (is_reg pc b) a)
+relative_target pc _ = None
+
+-- the targets that are used: absolute ones. With relative ones it is `first_of (absolute_target reach t) (relative_target pc t)`
+abbrev pub allowed_target : Counter → ℕ → Term → Option BranchTarget
+allowed_target pc reach t = absolute_target reach t
+
+-- ---- branches
+
+-- a branch: its condition, its target, and whether it goes there where the condition is 1
+pub record Branch : Type 0 where
+  pub when_one : Bool
+  pub test : Term
+  pub to : BranchTarget
+
+abbrev pub branch_to : Bool → Term → Option BranchTarget → Option Branch
+branch_to when_one test None = None
+branch_to when_one test (Some to) = Some (record { when_one = when_one; test = test; to = to })
+
+abbrev pub branch_if : Bool → Bool → Term → Option BranchTarget → Option Branch
+branch_if b when_one test to = if b then branch_to when_one test to else None
+
+-- one of the two is the step, and the other an allowed target
+abbrev pub select_branch : Counter → ℕ → Term → Term → Term → Option Branch
+select_branch pc reach c a b =
+    first_of (branch_if (is_next pc b) true c (allowed_target pc reach a)) (branch_if (is_next pc a) false c (allowed_target pc reach b))
+
+abbrev pub term_branch : Counter → ℕ → Term → Option Branch
+term_branch pc reach (select c a b) = select_branch pc reach c a b
+term_branch pc reach _ = None

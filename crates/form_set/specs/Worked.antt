@@ -1,0 +1,105 @@
+-- The forms of two small processors, as far as they are computed from expressions alone.
+use Rattle.std.specs.Prelude.{◌≡◌, refl, true, false, [], ◌∷◌, Some, None}
+use Rattle.rec_bits.specs.declared.operator.Op2.TheVariants.{Add, Mul, Eq}
+use Rattle.net_model.specs.Terms.{Term, word, reg, const, read, bin, slice, zext, select, write, write_at}
+use Rattle.net_model.specs.Worked.{a16, z16}
+use Rattle.form_model.specs.Rules.{absolute, branches, into_memory, into_reg}
+use Rattle.form_set.specs.Linear.{move_linear}
+use Rattle.form_set.specs.Static.{move_shaped}
+use Rattle.form_set.specs.Swaps.{swap_count, swapped}
+use Rattle.form_set.specs.Targets.{term_branch}
+use Rattle.form_set.specs.Words.{all_registers}
+use Rattle.form_set.specs.Listing.{branch_rules, counter_at, greatest_reach, jump_rule, plain_rules}
+
+abbrev f : Term
+f = slice (word 12) 7 0
+
+abbrev step : Term
+step = bin Add (reg 0 8) (const 8 1)
+
+abbrev acc : Term
+acc = reg 1 16
+
+-- the patterns of A16 in their order: PC := add(PC,1#8), PC := select(eq(ACC,0#16),f,add(PC,1#8)), PC := f, ACC := add(ACC,read(M,f)),
+-- ACC := read(M,f), ACC := sub(ACC,read(M,f)), ACC := zext(f,16), M[f] := ACC
+abbrev branch_value : Term
+branch_value = select (bin Eq acc (const 16 0)) f step
+
+-- the branch of A16: PC occurs twice in it, and is free
+a16_linear : move_linear 0 (write (bin Add acc (read f 16))) ≡ true
+a16_linear = refl
+
+a16_twice : move_linear 0 (write (bin Add acc acc)) ≡ false
+a16_twice = refl
+
+a16_bits : move_linear 0 (write_at f (bin Add acc (zext f 16))) ≡ false
+a16_bits = refl
+
+a16_branch : move_linear 1 (write branch_value) ≡ true
+a16_branch = refl
+
+-- PC is no more than the step
+a16_branch_bits : move_linear 1 (write (select (bin Eq acc (zext f 16)) f step)) ≡ false
+a16_branch_bits = refl
+
+a16_shaped : move_shaped (write_at f acc) ≡ true
+a16_shaped = refl
+
+-- an operator over instruction bits is no field shape
+a16_unshaped : move_shaped (write (bin Add acc (bin Add (zext f 16) (const 16 1)))) ≡ false
+a16_unshaped = refl
+
+a16_reach : greatest_reach (jump_rule a16 2 f 255 ∷ []) ≡ 256
+a16_reach = refl
+
+a16_test : term_branch (counter_at a16) 256 branch_value ≡ Some (record { when_one = true; test = bin Eq acc (const 16 0); to = absolute f })
+a16_test = refl
+
+-- a target that reaches less
+a16_near : term_branch (counter_at a16) 257 branch_value ≡ None
+a16_near = refl
+
+-- the other way round
+a16_other : term_branch (counter_at a16) 256 (select (bin Eq acc (const 16 0)) step f) ≡ Some (record { when_one = false; test = bin Eq acc (const 16 0); to = absolute f })
+a16_other = refl
+
+a16_registers : all_registers a16.storages ≡ 3
+a16_registers = refl
+
+z16_registers : all_registers z16.storages ≡ 7
+z16_registers = refl
+
+-- pattern 3 of A16 has two forms, in this order
+a16_sums : plain_rules a16 3 (record { storage = 1; move = write (bin Add acc (read f 16)) }) 3
+    ≡ record { pattern = 3; goal = into_reg 1; addr = None; value = bin Add acc (read f 16); fields = 255; clobbers = 3 }
+    ∷ record { pattern = 3; goal = into_reg 1; addr = None; value = bin Add (read f 16) acc; fields = 255; clobbers = 3 } ∷ []
+a16_sums = refl
+
+a16_store : plain_rules a16 7 (record { storage = 2; move = write_at f acc }) 5
+    ≡ record { pattern = 7; goal = into_memory; addr = Some f; value = acc; fields = 255; clobbers = 5 } ∷ []
+a16_store = refl
+
+-- pattern 1 of A16 has two forms, and its step stays as it is
+a16_branches : branch_rules a16 1 (record { storage = 0; move = write branch_value }) (record { when_one = true; test = bin Eq acc (const 16 0); to = absolute f })
+    ≡ record { pattern = 1; goal = branches true (absolute f); addr = None; value = bin Eq acc (const 16 0); fields = 255; clobbers = 3 }
+    ∷ record { pattern = 1; goal = branches true (absolute f); addr = None; value = bin Eq (const 16 0) acc; fields = 255; clobbers = 3 } ∷ []
+a16_branches = refl
+
+-- ---- the numbers of operators
+
+-- by levels: the product at the root is 0, the two sums below are 1 and 2, and the product below the second sum is 3
+abbrev deep : Term
+deep = bin Mul (bin Add (reg 1 4) (reg 2 4)) (bin Add (bin Mul (reg 3 4) (reg 4 4)) (reg 5 4))
+
+deep_count : swap_count (record { addr = None; value = deep }) ≡ 4
+deep_count = refl
+
+-- a root that is swapped carries its operands along, and their numbers stay as they were
+deep_swapped : swapped 11 (record { addr = None; value = deep })
+    ≡ record { addr = None; value = bin Mul (bin Add (bin Mul (reg 4 4) (reg 3 4)) (reg 5 4)) (bin Add (reg 2 4) (reg 1 4)) }
+deep_swapped = refl
+
+-- operators of the address come first, also those below the root of the value
+both_swapped : swapped 5 (record { addr = Some (bin Add (reg 1 4) (bin Mul (reg 2 4) (reg 3 4))); value = bin Add (reg 4 4) (reg 5 4) })
+    ≡ record { addr = Some (bin Add (bin Mul (reg 2 4) (reg 3 4)) (reg 1 4)); value = bin Add (reg 5 4) (reg 4 4) }
+both_swapped = refl

@@ -1,0 +1,134 @@
+//! Expressions of a pool as values of their own.
+
+ghost use Rattle.std.specs.Prelude.{◌≡◌, ◌+◌, ◌-◌, ◌^◌, ◌<◌, ◌≤◌, length, IfOk, option_map};
+ghost use Rattle.form_set.specs.Copies.{ids_sides, told_sides};
+ghost use Rattle.form_set.specs.Swaps.{AreWithin, IsAddrWithin, levels, swap_count as swap_count_of, swapped};
+ghost use Rattle.net_model.specs.Terms.{term_of};
+ghost use Rattle.sym_expr.specs.Pools.{term_at};
+ghost use Rattle.transfer_set.specs.Entries.{IsAddrKnown};
+
+use crate::swaps::{Sides, swap_chosen, swap_count};
+use net_model::Expr;
+use rec_bits::NoMemory;
+use std::alloc::Global;
+use sym_expr::{ExprId, Node, Pool};
+
+// The expression of an id.
+pub(crate) fn expr_at(alloc: Global, pool: &Pool, expr: ExprId) -> Result<Expr, NoMemory>
+    requires { expr < length pool.now }
+    ensures copy { IfOk result (λ copy. term_of copy ≡ term_at pool.now expr) }
+    ensures levels { IfOk result (λ copy. levels (term_of copy) ≤ expr + 1) }
+{
+    match pool.node(expr) {
+        Node::Word(width) => Ok(Expr::Word(width)),
+        Node::Reg(id, width) => Ok(Expr::Reg(id, width)),
+        Node::Const { width, value } => Ok(Expr::Const { width, value }),
+        Node::Read(a, width) => {
+            let a = Box::new(alloc, expr_at(alloc, pool, a)?)?;
+            Ok(Expr::Read(a, width))
+        }
+        Node::Un(op, a) => {
+            let a = Box::new(alloc, expr_at(alloc, pool, a)?)?;
+            Ok(Expr::Un(op, a))
+        }
+        Node::Bin(op, a, b) => {
+            let a = Box::new(alloc, expr_at(alloc, pool, a)?)?;
+            let b = Box::new(alloc, expr_at(alloc, pool, b)?)?;
+            Ok(Expr::Bin(op, a, b))
+        }
+        Node::Slice(a, hi, lo) => {
+            let a = Box::new(alloc, expr_at(alloc, pool, a)?)?;
+            Ok(Expr::Slice(a, hi, lo))
+        }
+        Node::Cat(a, b) => {
+            let a = Box::new(alloc, expr_at(alloc, pool, a)?)?;
+            let b = Box::new(alloc, expr_at(alloc, pool, b)?)?;
+            Ok(Expr::Cat(a, b))
+        }
+        Node::Zext(a, width) => {
+            let a = Box::new(alloc, expr_at(alloc, pool, a)?)?;
+            Ok(Expr::Zext(a, width))
+        }
+        Node::Sext(a, width) => {
+            let a = Box::new(alloc, expr_at(alloc, pool, a)?)?;
+            Ok(Expr::Sext(a, width))
+        }
+        Node::Select(c, a, b) => {
+            let c = Box::new(alloc, expr_at(alloc, pool, c)?)?;
+            let a = Box::new(alloc, expr_at(alloc, pool, a)?)?;
+            let b = Box::new(alloc, expr_at(alloc, pool, b)?)?;
+            Ok(Expr::Select(c, a, b))
+        }
+    }
+}
+
+// The address of a transfer, where it has one.
+fn addr_at(alloc: Global, pool: &Pool, addr: Option<ExprId>) -> Result<Option<Expr>, NoMemory>
+    requires { IsAddrKnown (length pool.now) addr }
+    ensures copy { IfOk result (λ copy. option_map term_of copy ≡ option_map (term_at pool.now) addr) }
+    ensures levels { IfOk result (λ copy. IsAddrWithin (2 ^ 64 - 1) (option_map term_of copy)) }
+{
+    // the pool's length bounds the levels of its expressions
+    let _len = pool.len();
+    match addr {
+        Some(addr) => {
+            let copy = expr_at(alloc, pool, addr)?;
+            Ok(Some(copy))
+        }
+        None => Ok(None),
+    }
+}
+
+// The address and the value of a transfer.
+pub(crate) fn sides_at(
+    alloc: Global,
+    pool: &Pool,
+    addr: Option<ExprId>,
+    value: ExprId,
+) -> Result<Sides, NoMemory>
+    requires addr { IsAddrKnown (length pool.now) addr }
+    requires value { value < length pool.now }
+    ensures sides { IfOk result (λ sides. told_sides sides ≡ ids_sides pool.now addr value) }
+    ensures levels { IfOk result (λ sides. AreWithin (2 ^ 64 - 1) (told_sides sides)) }
+{
+    // the pool's length bounds the levels of its expressions
+    let _len = pool.len();
+    let addr = addr_at(alloc, pool, addr)?;
+    let value = expr_at(alloc, pool, value)?;
+    Ok(Sides { addr, value })
+}
+
+// How many operators of a transfer are swapped.
+pub(crate) fn count_at(
+    alloc: Global,
+    pool: &Pool,
+    addr: Option<ExprId>,
+    value: ExprId,
+) -> Result<u8, NoMemory>
+    requires addr { IsAddrKnown (length pool.now) addr }
+    requires value { value < length pool.now }
+    ensures count { IfOk result (λ count. count ≡ swap_count_of (ids_sides pool.now addr value)) }
+    ensures few { IfOk result (λ count. count ≤ 8) }
+{
+    let sides = sides_at(alloc, pool, addr, value)?;
+    let count = swap_count(&sides);
+    Ok(count)
+}
+
+// The address and the value of a transfer with the swaps of a choice.
+pub(crate) fn swapped_at(
+    alloc: Global,
+    pool: &Pool,
+    addr: Option<ExprId>,
+    value: ExprId,
+    choice: u16,
+) -> Result<Sides, NoMemory>
+    requires addr { IsAddrKnown (length pool.now) addr }
+    requires value { value < length pool.now }
+    ensures { IfOk result (λ sides. told_sides sides ≡ swapped choice (ids_sides pool.now addr value)) }
+{
+    let mut sides = sides_at(alloc, pool, addr, value)?;
+    let count = swap_count(&sides);
+    swap_chosen(&mut sides, count, choice);
+    Ok(sides)
+}

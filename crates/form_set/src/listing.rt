@@ -1,0 +1,172 @@
+//! The forms of a netlist.
+
+ghost use Rattle.std.specs.Prelude.{◌≡◌, ◌<◌, length, max, slice_get, Some, IfOk, OnOk};
+ghost use Rattle.bit_bdd.specs.Diagrams.{Extends};
+ghost use Rattle.form_model.specs.Rules.{rules_of};
+ghost use Rattle.form_set.specs.Adding.{HasAdded, IsGreatestReach, IsReachOf};
+ghost use Rattle.form_set.specs.Listing.{AreForms, AreRules};
+ghost use Rattle.form_set.specs.PatternIds.{ArePatternIds, ids_pattern};
+ghost use Rattle.transfer_set.specs.Ready.{IsReady};
+ghost use Rattle.net_model.specs.Patterns.{Pattern as ThePattern};
+ghost use Rattle.transfer_set.specs.Rows.{told_patterns};
+
+use crate::classes::{classify, jump_reach};
+use crate::making::add_class;
+use crate::pattern_ids::{PatternIds, known_ids};
+use bit_bdd::Book;
+use form_model::{Form, Forms};
+use net_model::Checked;
+use rec_bits::NoMemory;
+use std::alloc::Global;
+use sym_expr::Pool;
+use transfer_set::Patterns;
+
+// How far a jump form of the pattern of this number reaches, and 0 where it gives none.
+fn number_reach(
+    alloc: Global,
+    checked: &Checked,
+    pool: &Pool,
+    patterns: &Patterns,
+    book: &mut Book,
+    number: u32,
+) -> Result<u64, NoMemory>
+    requires ready { IsReady checked.now.netlist book.old pool.now patterns.now }
+    ensures grows { Extends book.old book.new }
+    ensures reach { IfOk result (λ reach. (pattern : ThePattern) →
+        slice_get (told_patterns pool.now patterns.now.rows) number ≡ Some pattern → IsReachOf checked.now.netlist pattern reach) }
+{
+    match known_ids(checked, pool, patterns, book, number) {
+        None => Ok(0),
+        Some(ids) => {
+            let reach = jump_reach(alloc, checked, pool, patterns, book, ids)?;
+            Ok(reach)
+        }
+    }
+}
+
+// The larger of two numbers.
+fn larger(a: u64, b: u64) -> u64
+    ensures { result ≡ max a b }
+{
+    if a < b { b } else { a }
+}
+
+// The greatest reach of the jump forms, and 0 where there is none.
+fn reach_of(
+    alloc: Global,
+    checked: &Checked,
+    pool: &Pool,
+    patterns: &Patterns,
+    book: &mut Book,
+) -> Result<u64, NoMemory>
+    requires ready { IsReady checked.now.netlist book.old pool.now patterns.now }
+    ensures grows { Extends book.old book.new }
+    ensures reach { IfOk result (IsGreatestReach checked.now.netlist (told_patterns pool.now patterns.now.rows)) }
+{
+    let mut reach = 0;
+    for number in 0..patterns.len() {
+        let here = number_reach(alloc, checked, pool, patterns, book, number)?;
+        reach = larger(reach, here);
+    }
+    Ok(reach)
+}
+
+// Adds the forms of a pattern.
+fn add_pattern(
+    alloc: Global,
+    checked: &Checked,
+    pool: &Pool,
+    patterns: &Patterns,
+    book: &mut Book,
+    list: &mut Vec<Form>,
+    reach: u64,
+    number: u32,
+    ids: PatternIds,
+) -> Result<(), NoMemory>
+    requires ready { IsReady checked.now.netlist book.old pool.now patterns.now }
+    requires ids { ArePatternIds checked.now.netlist book.old pool.now ids }
+    ensures grows { Extends book.old book.new }
+    ensures added { OnOk result (HasAdded checked.now.netlist reach number (ids_pattern pool.now ids) (rules_of list.old.items) (rules_of list.new.items)) }
+{
+    let class = classify(alloc, checked, pool, patterns, book, ids, reach)?;
+    add_class(alloc, checked, pool, book, list, reach, number, ids, class)?;
+    Ok(())
+}
+
+// Adds the forms of the pattern of this number.
+fn add_number(
+    alloc: Global,
+    checked: &Checked,
+    pool: &Pool,
+    patterns: &Patterns,
+    book: &mut Book,
+    list: &mut Vec<Form>,
+    reach: u64,
+    number: u32,
+) -> Result<(), NoMemory>
+    requires ready { IsReady checked.now.netlist book.old pool.now patterns.now }
+    ensures grows { Extends book.old book.new }
+    ensures added { OnOk result ((pattern : ThePattern) →
+        slice_get (told_patterns pool.now patterns.now.rows) number ≡ Some pattern →
+        HasAdded checked.now.netlist reach number pattern (rules_of list.old.items) (rules_of list.new.items)) }
+{
+    match known_ids(checked, pool, patterns, book, number) {
+        None => Ok(()),
+        Some(ids) => {
+            add_pattern(
+                alloc, checked, pool, patterns, book, list, reach, number, ids,
+            )?;
+            Ok(())
+        }
+    }
+}
+
+// The forms of all patterns.
+fn list_of(
+    alloc: Global,
+    checked: &Checked,
+    pool: &Pool,
+    patterns: &Patterns,
+    book: &mut Book,
+    reach: u64,
+) -> Result<Vec<Form>, NoMemory>
+    requires ready { IsReady checked.now.netlist book.old pool.now patterns.now }
+    ensures grows { Extends book.old book.new }
+    ensures list { IfOk result (λ list. AreRules checked.now.netlist reach 0 (told_patterns pool.now patterns.now.rows) (rules_of list.items)) }
+{
+    let mut list = Vec::new(alloc);
+    for number in 0..patterns.len() {
+        add_number(
+            alloc, checked, pool, patterns, book, &mut list, reach, number,
+        )?;
+    }
+    Ok(list)
+}
+
+/// The forms of a netlist with these patterns, and the greatest reach of its jump forms, 0 where there is none.
+///
+/// A pattern gives a form where no register and no instruction bit occurs twice in it, each part of it that the instruction word settles is a
+/// field shape, and for every setting of its instruction bits some word of its set steps and keeps the data memory unless that is what it
+/// writes. What such a word may change beside are the form's clobbers: the registers are taken in order of declaration, and each that still
+/// leaves a word for every setting is kept from then on. A pattern that jumps, or branches to a target that reaches as far as any jump,
+/// gives a form where every setting has a word that keeps the data memory. The forms stand by the numbers of their patterns, and those of one
+/// pattern by its choices of swaps, of which at most eight operators have part.
+///
+/// The patterns' sets are those of the book, and their expressions those of the pool; the book grows, and what it held means what it meant.
+/// Want of memory is the only refusal.
+pub fn forms(
+    alloc: Global,
+    checked: &Checked,
+    patterns: &Patterns,
+    book: &mut Book,
+    pool: &Pool,
+) -> Result<Forms, NoMemory>
+    requires ready { IsReady checked.now.netlist book.old pool.now patterns.now }
+    ensures grows { Extends book.old book.new }
+    ensures ready { IsReady checked.now.netlist book.new pool.now patterns.now }
+    ensures forms { IfOk result (λ forms. AreForms checked.now.netlist (told_patterns pool.now patterns.now.rows) (rules_of forms.list.items) forms.reach) }
+{
+    let reach = reach_of(alloc, checked, pool, patterns, book)?;
+    let list = list_of(alloc, checked, pool, patterns, book, reach)?;
+    Ok(Forms { list, reach })
+}

@@ -1,0 +1,196 @@
+//! Forms, made of patterns.
+
+ghost use Rattle.std.specs.Prelude.{◌≡◌, ◌<◌, ◌≤◌, ◌++◌, ◌==◌, None, length, IfOk, OnOk};
+ghost use Rattle.form_model.specs.Rules.{kind_of, rule_of, rules_of};
+ghost use Rattle.form_model.specs.Shapes.{is_shape as is_shape_of};
+ghost use Rattle.form_set.specs.Adding.{HasAdded, IsClass};
+ghost use Rattle.form_set.specs.Copies.{AreBranchIds, ids_branch};
+ghost use Rattle.form_set.specs.Listing.{branch_rule, branch_rules, goal_at as goal_at_of, jump_rule, plain_rule, plain_rules};
+ghost use Rattle.form_set.specs.PatternIds.{IsNarrow, ArePatternIds, ids_pattern};
+ghost use Rattle.net_model.specs.Terms.{term_width};
+ghost use Rattle.sym_expr.specs.Pools.{term_at};
+ghost use Rattle.transfer_set.specs.Entries.{IsAddrKnown, ids_move};
+ghost use Rattle.net_model.specs.Fields.{move_fields};
+
+use crate::branches::BranchIds;
+use crate::classes::Class;
+use crate::copies::{count_at, expr_at, swapped_at};
+use crate::pattern_ids::PatternIds;
+use crate::shapes::shape_reach;
+use crate::words::all_registers;
+use bit_bdd::Book;
+use form_model::{Form, Goal, Target};
+use net_model::Checked;
+use rec_bits::NoMemory;
+use std::alloc::Global;
+use sym_expr::Pool;
+
+// What a transfer of a storage goes to.
+fn goal_at(checked: &Checked, storage: u32) -> Goal
+    ensures { kind_of result ≡ goal_at_of checked.now.netlist storage }
+{
+    if storage == checked.memory() {
+        Goal::Memory
+    } else {
+        Goal::Reg(storage)
+    }
+}
+
+// The form of a plain pattern with the swaps of a choice.
+fn plain_form(
+    alloc: Global,
+    checked: &Checked,
+    pool: &Pool,
+    number: u32,
+    ids: PatternIds,
+    clobbers: u16,
+    choice: u16,
+) -> Result<Form, NoMemory>
+    requires addr { IsAddrKnown (length pool.now) ids.addr }
+    requires value { ids.value < length pool.now }
+    requires fields { ids.fields ≡ move_fields (ids_move pool.now ids.addr ids.value) }
+    ensures { IfOk result (λ form. rule_of form ≡ plain_rule checked.now.netlist number (ids_pattern pool.now ids) clobbers choice) }
+{
+    let sides = swapped_at(alloc, pool, ids.addr, ids.value, choice)?;
+    Ok(Form {
+        pattern: number,
+        goal: goal_at(checked, ids.storage),
+        addr: sides.addr,
+        value: sides.value,
+        fields: ids.fields,
+        clobbers,
+    })
+}
+
+// Adds the forms of a plain pattern, one for each choice of swaps.
+fn add_plain(
+    alloc: Global,
+    checked: &Checked,
+    pool: &Pool,
+    list: &mut Vec<Form>,
+    number: u32,
+    ids: PatternIds,
+    clobbers: u16,
+) -> Result<(), NoMemory>
+    requires addr { IsAddrKnown (length pool.now) ids.addr }
+    requires value { ids.value < length pool.now }
+    requires fields { ids.fields ≡ move_fields (ids_move pool.now ids.addr ids.value) }
+    ensures { OnOk result (rules_of list.new.items ≡ rules_of list.old.items ++ plain_rules checked.now.netlist number (ids_pattern pool.now ids) clobbers) }
+{
+    let count = count_at(alloc, pool, ids.addr, ids.value)?;
+    let choices: u16 = 1 << count;
+    for choice in 0..choices {
+        let form = plain_form(alloc, checked, pool, number, ids, clobbers, choice)?;
+        list.push(form)?;
+    }
+    Ok(())
+}
+
+// The form of a pattern PC := shape.
+fn jump_form(
+    alloc: Global,
+    checked: &Checked,
+    pool: &Pool,
+    number: u32,
+    ids: PatternIds,
+) -> Result<Form, NoMemory>
+    requires value { ids.value < length pool.now }
+    requires narrow { term_width (term_at pool.now ids.value) ≤ 16 }
+    ensures { IfOk result (λ form. rule_of form ≡ jump_rule checked.now.netlist number (term_at pool.now ids.value) ids.fields) }
+{
+    let value = expr_at(alloc, pool, ids.value)?;
+    Ok(Form {
+        pattern: number,
+        goal: Goal::Jump {
+            reach: shape_reach(pool, ids.value),
+        },
+        addr: None,
+        value,
+        fields: ids.fields,
+        clobbers: all_registers(checked),
+    })
+}
+
+// The form of a branch with the swaps of a choice in its condition.
+fn branch_form(
+    alloc: Global,
+    checked: &Checked,
+    pool: &Pool,
+    number: u32,
+    ids: PatternIds,
+    parts: BranchIds,
+    choice: u16,
+) -> Result<Form, NoMemory>
+    requires parts { AreBranchIds (length pool.now) parts }
+    requires fields { ids.fields ≡ move_fields (ids_move pool.now ids.addr ids.value) }
+    ensures { IfOk result (λ form. rule_of form ≡ branch_rule checked.now.netlist number (ids_pattern pool.now ids) (ids_branch pool.now parts) choice) }
+{
+    let target = expr_at(alloc, pool, parts.target)?;
+    let sides = swapped_at(alloc, pool, None, parts.test, choice)?;
+    Ok(Form {
+        pattern: number,
+        goal: Goal::Branch {
+            when_one: parts.when_one,
+            target: Target::Absolute(target),
+        },
+        addr: None,
+        value: sides.value,
+        fields: ids.fields,
+        clobbers: all_registers(checked),
+    })
+}
+
+// Adds the forms of a branch, one for each choice of swaps in its condition.
+fn add_branches(
+    alloc: Global,
+    checked: &Checked,
+    pool: &Pool,
+    list: &mut Vec<Form>,
+    number: u32,
+    ids: PatternIds,
+    parts: BranchIds,
+) -> Result<(), NoMemory>
+    requires parts { AreBranchIds (length pool.now) parts }
+    requires fields { ids.fields ≡ move_fields (ids_move pool.now ids.addr ids.value) }
+    ensures { OnOk result (rules_of list.new.items ≡ rules_of list.old.items ++ branch_rules checked.now.netlist number (ids_pattern pool.now ids) (ids_branch pool.now parts)) }
+{
+    let count = count_at(alloc, pool, None, parts.test)?;
+    let choices: u16 = 1 << count;
+    for choice in 0..choices {
+        let form = branch_form(alloc, checked, pool, number, ids, parts, choice)?;
+        list.push(form)?;
+    }
+    Ok(())
+}
+
+// Adds the forms of a pattern of which it is known what it is.
+pub(crate) fn add_class(
+    alloc: Global,
+    checked: &Checked,
+    pool: &Pool,
+    _book: &Book,
+    list: &mut Vec<Form>,
+    _reach: u64,
+    number: u32,
+    ids: PatternIds,
+    class: Class,
+) -> Result<(), NoMemory>
+    requires ids { ArePatternIds checked.now.netlist _book.now pool.now ids }
+    requires class { IsClass checked.now.netlist pool.now _reach (ids_pattern pool.now ids) class }
+    ensures { OnOk result (HasAdded checked.now.netlist _reach number (ids_pattern pool.now ids) (rules_of list.old.items) (rules_of list.new.items)) }
+{
+    match class {
+        Class::Plain(clobbers) => {
+            add_plain(alloc, checked, pool, list, number, ids, clobbers)?;
+        }
+        Class::Jump => {
+            let form = jump_form(alloc, checked, pool, number, ids)?;
+            list.push(form)?;
+        }
+        Class::Branch(parts) => {
+            add_branches(alloc, checked, pool, list, number, ids, parts)?;
+        }
+        Class::Other => {}
+    }
+    Ok(())
+}

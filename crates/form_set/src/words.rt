@@ -1,0 +1,229 @@
+//! The words that do a pattern's transfer and leave other storages alone.
+
+ghost use Rattle.std.specs.Prelude.{◌≡◌, ◌↔◌, ◌<◌, ◌^◌, IfOk, IsTrue, length, slice_get, bit_or};
+ghost use Rattle.bit_bdd.specs.Diagrams.{Extends};
+ghost use Rattle.form_set.specs.PatternIds.{ArePatternIds, ids_pattern};
+ghost use Rattle.transfer_set.specs.Ready.{IsReady};
+ghost use Rattle.form_set.specs.Words.{AreClobbers, AreKept, CanJump, CanKeep, IsSetOf, Joins, KeepsMemory, KeepsOthers, all_registers as all_registers_of, is_register as is_register_of, with};
+
+use crate::decide::has_all;
+use crate::linear::one;
+use crate::pattern_ids::{PatternIds, keep_of};
+use bit_bdd::{Book, SetId};
+use net_model::{Checked, Storage};
+use rec_bits::NoMemory;
+use std::alloc::Global;
+use sym_expr::Pool;
+use transfer_set::Patterns;
+
+// Registers, and the words of a pattern that step and keep them and the data memory.
+#[derive(Clone, Copy)]
+pub(crate) struct Kept {
+    pub(crate) words: SetId,
+    pub(crate) registers: u16,
+}
+
+// Whether the storage of this number is a register.
+fn is_register(checked: &Checked, id: u32) -> bool
+    ensures { result ≡ is_register_of (slice_get checked.now.netlist.storages id) }
+{
+    match checked.netlist().storages.get(id as usize) {
+        Some(Storage::Register { .. }) => true,
+        Some(Storage::Memory { .. }) | None => false,
+    }
+}
+
+// All registers of a netlist.
+pub(crate) fn all_registers(checked: &Checked) -> u16
+    ensures { result ≡ all_registers_of checked.now.netlist.storages }
+{
+    let count = checked.netlist().storages.len() as u32;
+    let mut registers = 0;
+    for id in 0..count {
+        if is_register(checked, id) {
+            registers |= one(id);
+        }
+    }
+    registers
+}
+
+// The words of a pattern that step, and keep the data memory unless that is its storage.
+pub(crate) fn step_words(
+    alloc: Global,
+    _checked: &Checked,
+    _pool: &Pool,
+    patterns: &Patterns,
+    book: &mut Book,
+    ids: PatternIds,
+) -> Result<SetId, NoMemory>
+    requires ready { IsReady _checked.now.netlist book.old _pool.now patterns.now }
+    requires ids { ArePatternIds _checked.now.netlist book.old _pool.now ids }
+    ensures grows { Extends book.old book.new }
+    ensures words { IfOk result (IsSetOf book.new (KeepsOthers _checked.now.netlist (ids_pattern _pool.now ids) 0)) }
+{
+    let words = book.and(alloc, ids.set, patterns.step_set())?;
+    if ids.storage == patterns.memory() {
+        return Ok(words);
+    }
+    let kept = book.and(alloc, words, keep_of(patterns, patterns.memory()))?;
+    Ok(kept)
+}
+
+// The words of a pattern that keep the data memory.
+pub(crate) fn jump_words(
+    alloc: Global,
+    _checked: &Checked,
+    _pool: &Pool,
+    patterns: &Patterns,
+    book: &mut Book,
+    ids: PatternIds,
+) -> Result<SetId, NoMemory>
+    requires ready { IsReady _checked.now.netlist book.old _pool.now patterns.now }
+    requires ids { ArePatternIds _checked.now.netlist book.old _pool.now ids }
+    ensures grows { Extends book.old book.new }
+    ensures words { IfOk result (IsSetOf book.new (KeepsMemory _checked.now.netlist (ids_pattern _pool.now ids))) }
+{
+    let words = book.and(alloc, ids.set, keep_of(patterns, patterns.memory()))?;
+    Ok(words)
+}
+
+// Those that keep one register more.
+fn with_register(
+    alloc: Global,
+    checked: &Checked,
+    _pool: &Pool,
+    patterns: &Patterns,
+    book: &mut Book,
+    _part: PatternIds,
+    kept: Kept,
+    id: u32,
+) -> Result<Kept, NoMemory>
+    requires ready { IsReady checked.now.netlist book.old _pool.now patterns.now }
+    requires words { IsSetOf book.old (KeepsOthers checked.now.netlist (ids_pattern _pool.now _part) kept.registers) kept.words }
+    requires id { id < length checked.now.netlist.storages }
+    ensures grows { Extends book.old book.new }
+    ensures words { IfOk result (λ more. IsSetOf book.new (KeepsOthers checked.now.netlist (ids_pattern _pool.now _part) more.registers) more.words) }
+    ensures registers { IfOk result (λ more. more.registers ≡ with kept.registers id) }
+{
+    // a checked netlist has few storages
+    let _netlist = checked.netlist();
+    let words = book.and(alloc, kept.words, keep_of(patterns, id))?;
+    Ok(Kept {
+        words,
+        registers: kept.registers | one(id),
+    })
+}
+
+// Whether a pattern has for every setting such a word.
+pub(crate) fn can_keep(
+    alloc: Global,
+    _checked: &Checked,
+    _pool: &Pool,
+    _patterns: &Patterns,
+    book: &mut Book,
+    ids: PatternIds,
+    kept: Kept,
+) -> Result<bool, NoMemory>
+    requires ready { IsReady _checked.now.netlist book.old _pool.now _patterns.now }
+    requires ids { ArePatternIds _checked.now.netlist book.old _pool.now ids }
+    requires words { IsSetOf book.old (KeepsOthers _checked.now.netlist (ids_pattern _pool.now ids) kept.registers) kept.words }
+    ensures grows { Extends book.old book.new }
+    ensures ok { IfOk result (λ ok. IsTrue ok ↔ CanKeep _checked.now.netlist (ids_pattern _pool.now ids) kept.registers) }
+{
+    let ok = has_all(alloc, book, kept.words, ids.fields)?;
+    Ok(ok)
+}
+
+// Whether a pattern has for every setting a word that keeps the data memory.
+pub(crate) fn can_jump(
+    alloc: Global,
+    checked: &Checked,
+    pool: &Pool,
+    patterns: &Patterns,
+    book: &mut Book,
+    ids: PatternIds,
+) -> Result<bool, NoMemory>
+    requires ready { IsReady checked.now.netlist book.old pool.now patterns.now }
+    requires ids { ArePatternIds checked.now.netlist book.old pool.now ids }
+    ensures grows { Extends book.old book.new }
+    ensures can { IfOk result (λ can. IsTrue can ↔ CanJump checked.now.netlist (ids_pattern pool.now ids)) }
+{
+    let words = jump_words(alloc, checked, pool, patterns, book, ids)?;
+    let can = has_all(alloc, book, words, ids.fields)?;
+    Ok(can)
+}
+
+// Those that keep one storage more, where it is a register and every setting still has such a word.
+fn joined(
+    alloc: Global,
+    checked: &Checked,
+    pool: &Pool,
+    patterns: &Patterns,
+    book: &mut Book,
+    ids: PatternIds,
+    kept: Kept,
+    id: u32,
+) -> Result<Kept, NoMemory>
+    requires ready { IsReady checked.now.netlist book.old pool.now patterns.now }
+    requires ids { ArePatternIds checked.now.netlist book.old pool.now ids }
+    requires words { IsSetOf book.old (KeepsOthers checked.now.netlist (ids_pattern pool.now ids) kept.registers) kept.words }
+    requires id { id < length checked.now.netlist.storages }
+    ensures grows { Extends book.old book.new }
+    ensures words { IfOk result (λ more. IsSetOf book.new (KeepsOthers checked.now.netlist (ids_pattern pool.now ids) more.registers) more.words) }
+    ensures joins { IfOk result (λ more. Joins checked.now.netlist (ids_pattern pool.now ids) id kept.registers more.registers) }
+{
+    if !is_register(checked, id) {
+        return Ok(kept);
+    }
+    let more = with_register(alloc, checked, pool, patterns, book, ids, kept, id)?;
+    let ok = can_keep(alloc, checked, pool, patterns, book, ids, more)?;
+    if ok { Ok(more) } else { Ok(kept) }
+}
+
+// The registers that join those that must be kept, in order of declaration.
+fn kept_registers(
+    alloc: Global,
+    checked: &Checked,
+    pool: &Pool,
+    patterns: &Patterns,
+    book: &mut Book,
+    ids: PatternIds,
+    words: SetId,
+) -> Result<u16, NoMemory>
+    requires ready { IsReady checked.now.netlist book.old pool.now patterns.now }
+    requires ids { ArePatternIds checked.now.netlist book.old pool.now ids }
+    requires words { IsSetOf book.old (KeepsOthers checked.now.netlist (ids_pattern pool.now ids) 0) words }
+    ensures grows { Extends book.old book.new }
+    ensures kept { IfOk result (AreKept checked.now.netlist (ids_pattern pool.now ids) (length checked.now.netlist.storages)) }
+{
+    let count = checked.netlist().storages.len() as u32;
+    let mut kept = Kept {
+        words,
+        registers: 0,
+    };
+    for id in 0..count {
+        kept = joined(alloc, checked, pool, patterns, book, ids, kept, id)?;
+    }
+    Ok(kept.registers)
+}
+
+// The storages that a pattern's words may change: its own, and the registers that can't all be kept.
+pub(crate) fn clobbers(
+    alloc: Global,
+    checked: &Checked,
+    pool: &Pool,
+    patterns: &Patterns,
+    book: &mut Book,
+    ids: PatternIds,
+    words: SetId,
+) -> Result<u16, NoMemory>
+    requires ready { IsReady checked.now.netlist book.old pool.now patterns.now }
+    requires ids { ArePatternIds checked.now.netlist book.old pool.now ids }
+    requires words { IsSetOf book.old (KeepsOthers checked.now.netlist (ids_pattern pool.now ids) 0) words }
+    ensures grows { Extends book.old book.new }
+    ensures clobbers { IfOk result (AreClobbers checked.now.netlist (ids_pattern pool.now ids)) }
+{
+    let kept = kept_registers(alloc, checked, pool, patterns, book, ids, words)?;
+    let others = all_registers(checked) ^ kept;
+    Ok(one(ids.storage) | others)
+}

@@ -1,0 +1,13 @@
+pub mod Cells
+pub mod Meant
+pub mod Values
+pub mod Done
+pub mod Parts
+pub mod Standing
+pub mod Measured
+pub mod Temps
+pub mod Narrow
+pub mod LowerLemmas
+pub mod LowerCases
+pub mod Plain
+pub mod Behind

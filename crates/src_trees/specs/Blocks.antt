@@ -1,0 +1,47 @@
+-- The blocks of a flow: the longest runs of assignments that no jump enters in their middle.
+use Rattle.std.specs.Prelude.{ℕ, zero, suc, ◌+◌, ◌-◌, ◌==◌, ◌<◌, ◌≤◌, ◌≡◌, nat_lt, Bool, true, false, ◌&&◌, ◌||◌, not, List, [], ◌∷◌, ◌++◌, Option, Some, None, slice_get}
+use Rattle.form_model.specs.declared.flow.Flow.{Flow}
+use Rattle.form_model.specs.declared.flow.Flow.TheVariants.{Assign, Test, Jump, End}
+use Rattle.src_trees.specs.Lowered.{Work}
+
+abbrev pub is_assign : Option Flow → Bool
+is_assign (Some (Assign tree)) = true
+is_assign _ = false
+
+-- a test or a jump goes on at a place
+abbrev pub enters : Flow → ℕ → Bool
+enters (Assign tree) at = false
+enters (Test tree when_one when_zero) at = (when_one == at) || (when_zero == at)
+enters (Jump to) at = to == at
+enters End at = false
+
+abbrev pub is_entered : List Flow → ℕ → Bool
+is_entered [] at = false
+is_entered (f ∷ rest) at = enters f at || is_entered rest at
+
+-- a place continues the block of the place before it: both are assignments, and nothing enters there
+abbrev pub continues : List Flow → ℕ → Bool
+continues flow at = nat_lt 0 at && (is_assign (slice_get flow (at - 1)) && (is_assign (slice_get flow at) && not (is_entered flow at)))
+
+-- so many places from one on are a block
+pub record IsBlock (flow : List Flow) (at n : ℕ) : Type 0 where
+  pub some : 1 ≤ n
+  pub assigns : (k : ℕ) → k < n → is_assign (slice_get flow (at + k)) ≡ true
+  pub first : continues flow at ≡ false
+  pub inner : (k : ℕ) → k < n → 0 < k → continues flow (at + k) ≡ true
+  pub last : continues flow (at + n) ≡ false
+
+-- the job of a tree's number
+abbrev pub job_of : Option Work → List Work
+job_of None = []
+job_of (Some work) = work ∷ []
+
+-- the job at a place
+abbrev pub job_at : List Work → Option Flow → List Work
+job_at works (Some (Assign tree)) = job_of (slice_get works tree)
+job_at works _ = []
+
+-- the jobs at so many places from one on
+abbrev pub jobs_at : List Flow → List Work → ℕ → ℕ → List Work
+jobs_at flow works at zero = []
+jobs_at flow works at (suc n) = jobs_at flow works at n ++ job_at works (slice_get flow (at + n))

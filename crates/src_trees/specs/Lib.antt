@@ -1,0 +1,11 @@
+pub mod Lowered
+pub mod Flows
+pub mod Seen
+pub mod Doing
+pub mod Blocks
+pub mod Placed
+pub mod Measures
+pub mod Worked
+pub mod Near
+pub mod Jobs
+pub mod Lowering

@@ -1,0 +1,69 @@
+-- Programs and the memory that holds their variables: the store that is seen there, and when a tree reads nothing below an address.
+use Rattle.std.specs.Prelude.{ℕ, ◌+◌, ◌^◌, ◌≡◌, ◌<◌, ◌≤◌, true, List, [], length, slice_index}
+use Rattle.net_model.specs.Terms.{Term, word, reg, const, read, un, bin, slice, cat, zext, sext, select}
+use Rattle.net_model.specs.Meaning.{mean}
+use Rattle.src_model.specs.declared.program.Var.{Var as Declared}
+use Rattle.src_model.specs.Meaning.{cell_count}
+use Rattle.code_model.specs.Places.{cells_at, places_from}
+use Rattle.code_model.specs.Layout.{variables_of}
+use Rattle.src_model.specs.Written.{Shape, Phrase, Place, Test}
+use Rattle.src_model.specs.Loops.{place_shape}
+use Rattle.src_model.specs.Fitting.{Fitting, FitsSides}
+use Rattle.src_model.specs.Inside.{Known, is_inside, test_inside}
+use Rattle.src_trees.specs.Lowered.{MemoryMap}
+
+-- the memory that holds these variables from an address on
+abbrev pub memory_of : ℕ → ℕ → ℕ → List Declared → MemoryMap
+memory_of bits addr temps vars = record { word = bits; addr = addr; places = places_from temps (variables_of vars) }
+
+-- the store that it holds
+abbrev pub seen : MemoryMap → List ℕ → List ℕ
+seen m cells = cells_at m.places cells
+
+-- the value of a tree over the cells of the memory
+abbrev pub tree_value : List ℕ → Term → ℕ
+tree_value cells t = mean t (record { regs = []; cells = cells }) 0
+
+-- the tree reads no cell below an address
+abbrev pub ReadsFrom : ℕ → List ℕ → Term → Type 0
+ReadsFrom at cells (word w) = Unit {0}
+ReadsFrom at cells (reg r w) = Unit {0}
+ReadsFrom at cells (const w v) = Unit {0}
+ReadsFrom at cells (read a w) = ReadsFrom at cells a × (at ≤ tree_value cells a)
+ReadsFrom at cells (un o a) = ReadsFrom at cells a
+ReadsFrom at cells (bin o a b) = ReadsFrom at cells a × ReadsFrom at cells b
+ReadsFrom at cells (slice a hi lo) = ReadsFrom at cells a
+ReadsFrom at cells (cat a b) = ReadsFrom at cells a × ReadsFrom at cells b
+ReadsFrom at cells (zext a w) = ReadsFrom at cells a
+ReadsFrom at cells (sext a w) = ReadsFrom at cells a
+ReadsFrom at cells (select c a b) = ReadsFrom at cells c × ReadsFrom at cells a × ReadsFrom at cells b
+
+-- the variables have their cells in reach of an address
+pub record InReach (bits addr temps : ℕ) (vars : List Declared) : Type 0 where
+  pub some : 1 ≤ addr
+  pub narrow : addr ≤ bits
+  pub reach : temps + cell_count vars ≤ 2 ^ addr
+
+-- ---- what keeps the rules, in a store; the laws of trees speak of these
+
+-- an expression, of which a literal has this width
+pub record CanRead (bits : ℕ) (vars : List Declared) (store : List ℕ) (asked : ℕ) (e : Shape) : Type 0 where
+  pub fits : Fitting bits asked e
+  pub known : Known vars e
+  pub inside : is_inside bits vars store e ≡ true
+
+pub record CanAssign (bits : ℕ) (vars : List Declared) (store : List ℕ) (place : Place) (e : Phrase) : Type 0 where
+  pub left : CanRead bits vars store bits (place_shape place)
+  pub right : CanRead bits vars store bits e.shape
+
+pub record CanTest (bits : ℕ) (vars : List Declared) (store : List ℕ) (test : Test) : Type 0 where
+  pub words : (cell : ℕ) → slice_index store cell < 2 ^ bits
+  pub sides : FitsSides bits test.left.shape test.right.shape
+  pub left_known : Known vars test.left.shape
+  pub right_known : Known vars test.right.shape
+  pub inside : test_inside bits vars test store ≡ true
+
+-- cells of the memory, with room for the variables behind the temporary ones
+pub record HasRoom (bits addr temps : ℕ) (vars : List Declared) (cells : List ℕ) : Type 0 where
+  pub reach : InReach bits addr temps vars
+  pub room : temps + cell_count vars ≤ length cells

@@ -1,0 +1,344 @@
+//! The flow of statements.
+
+ghost use Rattle.std.specs.Prelude.{◌≡◌, ◌+◌, ◌<◌, ◌≤◌, ◌^◌, ◌++◌, ◌∷◌, [], IfOk, OnOk, map, length};
+ghost use Rattle.form_model.specs.declared.flow.Flow.TheVariants.{Assign as AssignAt, Jump as JumpTo, End};
+ghost use Rattle.src_model.specs.Written.{act_of, acts_of, test_of, listing_of, choice, while, count, without, otherwise};
+ghost use Rattle.src_model.specs.Sizes.{statements, statements_in};
+ghost use Rattle.src_model.specs.declared.program.Cmp.TheVariants.{Ne};
+ghost use Rattle.code_model.specs.Layout.{layout_of, need_of};
+ghost use Rattle.src_trees.specs.Lowered.{holds_at_one, works_in};
+ghost use Rattle.src_trees.specs.Flows.{asked, flow_in, program_flow, program_works};
+ghost use Rattle.src_trees.specs.Seen.{InReach};
+ghost use Rattle.src_trees.specs.Jobs.{works_of};
+ghost use Rattle.src_trees.specs.Lowering.{IsPlain, ArePlain, IsReady, IsLowered, AreLowered};
+
+use crate::jobs::{assign_job, counting_job, start_job, step_job, test_job};
+use crate::memory::DataMemory;
+use code_model::Places;
+use form_model::{Blocks, Flow, Job};
+use rec_bits::{Items, Name, NoMemory};
+use src_model::{Cmp, SrcTest, Stmt, Typed};
+use std::alloc::Global;
+
+fn holds_at_one(cmp: Cmp) -> bool
+    ensures { result ≡ holds_at_one cmp }
+{
+    match cmp {
+        Cmp::Eq | Cmp::Lt | Cmp::Gt | Cmp::Slt | Cmp::Sgt => true,
+        Cmp::Ne | Cmp::Ge | Cmp::Le | Cmp::Sge | Cmp::Sle => false,
+    }
+}
+
+// A test that goes on at one place where it holds, and at another where it doesn't.
+fn asked(cmp: Cmp, tree: u32, on_true: u32, on_false: u32) -> Flow
+    ensures { result ≡ asked cmp tree on_true on_false }
+{
+    let (when_one, when_zero) = if holds_at_one(cmp) {
+        (on_true, on_false)
+    } else {
+        (on_false, on_true)
+    };
+    Flow::Test {
+        tree,
+        when_one,
+        when_zero,
+    }
+}
+
+// Adds the places of a flow to another.
+fn append(flow: &mut Items<Flow>, more: &[Flow]) -> Result<(), NoMemory>
+    ensures { OnOk result (flow.new ≡ flow.old ++ more.now) }
+{
+    for f in more {
+        flow.push(*f)?;
+    }
+    Ok(())
+}
+
+// A test with what stands behind it, up to a jump.
+fn tested(alloc: Global, test: Flow, inner: &[Flow], back: u32) -> Result<Items<Flow>, NoMemory>
+    ensures { IfOk result (λ flow. flow ≡ test ∷ (inner.now ++ JumpTo back ∷ [])) }
+{
+    let mut flow = Items::new(alloc);
+    flow.push(test)?;
+    append(&mut flow, inner)?;
+    flow.push(Flow::Jump(back))?;
+    Ok(flow)
+}
+
+// The flow of a `while` whose test stands at `at`, from that of its body.
+fn while_flow(
+    alloc: Global,
+    cmp: Cmp,
+    tree: u32,
+    at: u32,
+    inner: &[Flow],
+) -> Result<Items<Flow>, NoMemory>
+    requires { at + length inner.now + 8 < 2 ^ 32 }
+    ensures { IfOk result (λ flow. flow ≡ asked cmp tree (at + 1) (at + 1 + length inner.now + 1) ∷ (inner.now ++ JumpTo at ∷ [])) }
+{
+    let test = asked(cmp, tree, at + 1, at + 1 + inner.len() as u32 + 1);
+    let flow = tested(alloc, test, inner, at)?;
+    Ok(flow)
+}
+
+// The flow of an `if` without an else part.
+fn if_flow(
+    alloc: Global,
+    cmp: Cmp,
+    tree: u32,
+    at: u32,
+    taken: &[Flow],
+) -> Result<Items<Flow>, NoMemory>
+    requires { at + length taken.now + 8 < 2 ^ 32 }
+    ensures { IfOk result (λ flow. flow ≡ asked cmp tree (at + 1) (at + 1 + length taken.now) ∷ (taken.now ++ [])) }
+{
+    let test = asked(cmp, tree, at + 1, at + 1 + taken.len() as u32);
+    let mut flow = Items::new(alloc);
+    flow.push(test)?;
+    append(&mut flow, taken)?;
+    Ok(flow)
+}
+
+// The flow of an `if` with an else part.
+fn else_flow(
+    alloc: Global,
+    cmp: Cmp,
+    tree: u32,
+    at: u32,
+    taken: &[Flow],
+    other: &[Flow],
+) -> Result<Items<Flow>, NoMemory>
+    requires { at + length taken.now + length other.now + 8 < 2 ^ 32 }
+    ensures { IfOk result (λ flow. flow ≡ asked cmp tree (at + 1) (at + 1 + length taken.now + 1) ∷ (taken.now ++ JumpTo (at + 1 + length taken.now + 1 + length other.now) ∷ other.now)) }
+{
+    let over = at + 1 + taken.len() as u32 + 1;
+    let test = asked(cmp, tree, at + 1, over);
+    let mut flow = tested(alloc, test, taken, over + other.len() as u32)?;
+    append(&mut flow, other)?;
+    Ok(flow)
+}
+
+// The flow of a `for` whose start stands at `at`, from that of its body; the start's tree and the step's have these numbers.
+fn for_flow(
+    alloc: Global,
+    tree: u32,
+    step: u32,
+    at: u32,
+    inner: &[Flow],
+) -> Result<Items<Flow>, NoMemory>
+    requires few { at + length inner.now + 8 < 2 ^ 32 }
+    requires tree { tree + 1 < 2 ^ 32 }
+    ensures { IfOk result (λ flow. flow ≡ AssignAt tree ∷ (asked Ne (tree + 1) (at + 2) (at + 2 + length inner.now + 2) ∷ (inner.now ++ AssignAt step ∷ (JumpTo (at + 1) ∷ [])))) }
+{
+    let mut flow = Items::new(alloc);
+    flow.push(Flow::Assign(tree))?;
+    flow.push(asked(Cmp::Ne, tree + 1, at + 2, at + 2 + inner.len() as u32 + 2))?;
+    append(&mut flow, inner)?;
+    flow.push(Flow::Assign(step))?;
+    flow.push(Flow::Jump(at + 1))?;
+    Ok(flow)
+}
+
+// Adds a job, and gives its number.
+fn push_job(jobs: &mut Items<Job>, job: Job) -> Result<u32, NoMemory>
+    requires { length jobs.old < 65536 }
+    ensures pushed { OnOk result (jobs.new ≡ jobs.old ++ job ∷ []) }
+    ensures number { IfOk result (λ number. number ≡ length jobs.old) }
+{
+    let number = jobs.len() as u32;
+    jobs.push(job)?;
+    Ok(number)
+}
+
+// The flow of a statement that stands at `at`. Its jobs are added to the jobs.
+#[cycle(lower)]
+fn lower_statement(
+    alloc: Global,
+    memory: &DataMemory<'_>,
+    jobs: &mut Items<Job>,
+    statement: &Stmt,
+    at: u32,
+) -> Result<Items<Flow>, NoMemory>
+    requires ready { IsReady at jobs.old (statements (act_of statement.now)) }
+    requires plain { IsPlain memory.now.word memory.now.places (act_of statement.now) }
+    ensures { IfOk result (IsLowered memory.now (act_of statement.now) at jobs.old jobs.new) }
+{
+    match statement {
+        Stmt::Assign { place, value } => {
+            let job = assign_job(alloc, memory, place, value)?;
+            let tree = push_job(jobs, job)?;
+            let mut flow = Items::new(alloc);
+            flow.push(Flow::Assign(tree))?;
+            Ok(flow)
+        }
+        Stmt::If { test, yes, no } => match no {
+            None => lower_if(alloc, memory, jobs, test, yes, at),
+            Some(other) => lower_else(alloc, memory, jobs, test, yes, other, at),
+        },
+        Stmt::While { test, body } => lower_while(alloc, memory, jobs, test, body, at),
+        Stmt::For {
+            counter,
+            at: _,
+            from,
+            to,
+            body,
+        } => lower_for(alloc, memory, jobs, counter, (*from, *to), body, at),
+    }
+}
+
+// An `if` without an else part.
+#[cycle(lower)]
+fn lower_if(
+    alloc: Global,
+    memory: &DataMemory<'_>,
+    jobs: &mut Items<Job>,
+    test: &SrcTest,
+    taken: &[Stmt],
+    at: u32,
+) -> Result<Items<Flow>, NoMemory>
+    requires ready { IsReady at jobs.old (1 + statements_in (acts_of (map act_of taken.now)) + 0) }
+    requires plain { IsPlain memory.now.word memory.now.places (choice (test_of test.now) (acts_of (map act_of taken.now)) without) }
+    ensures { IfOk result (IsLowered memory.now (choice (test_of test.now) (acts_of (map act_of taken.now)) without) at jobs.old jobs.new) }
+{
+    let job = test_job(alloc, memory, test)?;
+    let tree = push_job(jobs, job)?;
+    let inner = lower_block(alloc, memory, jobs, taken, at + 1)?;
+    let flow = if_flow(alloc, test.cmp, tree, at, inner.as_slice())?;
+    Ok(flow)
+}
+
+// An `if` with an else part.
+#[cycle(lower)]
+fn lower_else(
+    alloc: Global,
+    memory: &DataMemory<'_>,
+    jobs: &mut Items<Job>,
+    test: &SrcTest,
+    taken: &[Stmt],
+    other: &[Stmt],
+    at: u32,
+) -> Result<Items<Flow>, NoMemory>
+    requires ready { IsReady at jobs.old (1 + statements_in (acts_of (map act_of taken.now)) + statements_in (acts_of (map act_of other.now))) }
+    requires plain { IsPlain memory.now.word memory.now.places (choice (test_of test.now) (acts_of (map act_of taken.now)) (otherwise (acts_of (map act_of other.now)))) }
+    ensures { IfOk result (IsLowered memory.now (choice (test_of test.now) (acts_of (map act_of taken.now)) (otherwise (acts_of (map act_of other.now)))) at jobs.old jobs.new) }
+{
+    let job = test_job(alloc, memory, test)?;
+    let tree = push_job(jobs, job)?;
+    let inner = lower_block(alloc, memory, jobs, taken, at + 1)?;
+    let over = at + 1 + inner.len() as u32 + 1;
+    let after = lower_block(alloc, memory, jobs, other, over)?;
+    let flow = else_flow(
+        alloc,
+        test.cmp,
+        tree,
+        at,
+        inner.as_slice(),
+        after.as_slice(),
+    )?;
+    Ok(flow)
+}
+
+#[cycle(lower)]
+fn lower_while(
+    alloc: Global,
+    memory: &DataMemory<'_>,
+    jobs: &mut Items<Job>,
+    test: &SrcTest,
+    body: &[Stmt],
+    at: u32,
+) -> Result<Items<Flow>, NoMemory>
+    requires ready { IsReady at jobs.old (1 + statements_in (acts_of (map act_of body.now))) }
+    requires plain { IsPlain memory.now.word memory.now.places (while (test_of test.now) (acts_of (map act_of body.now))) }
+    ensures { IfOk result (IsLowered memory.now (while (test_of test.now) (acts_of (map act_of body.now))) at jobs.old jobs.new) }
+{
+    let job = test_job(alloc, memory, test)?;
+    let tree = push_job(jobs, job)?;
+    let inner = lower_block(alloc, memory, jobs, body, at + 1)?;
+    let flow = while_flow(alloc, test.cmp, tree, at, inner.as_slice())?;
+    Ok(flow)
+}
+
+// A `for` whose counter goes from the first of the numbers to the second.
+#[cycle(lower)]
+fn lower_for(
+    alloc: Global,
+    memory: &DataMemory<'_>,
+    jobs: &mut Items<Job>,
+    counter: &Name,
+    ends: (u64, u64),
+    body: &[Stmt],
+    at: u32,
+) -> Result<Items<Flow>, NoMemory>
+    requires ready { IsReady at jobs.old (3 + statements_in (acts_of (map act_of body.now))) }
+    requires plain { IsPlain memory.now.word memory.now.places (count counter.now 0 ends.0 ends.1 (acts_of (map act_of body.now))) }
+    ensures { IfOk result (IsLowered memory.now (count counter.now 0 ends.0 ends.1 (acts_of (map act_of body.now))) at jobs.old jobs.new) }
+{
+    let (from, to) = ends;
+    let start = start_job(alloc, memory, counter, from)?;
+    let tree = push_job(jobs, start)?;
+    let test = counting_job(alloc, memory, counter, to)?;
+    let _test = push_job(jobs, test)?;
+    let inner = lower_block(alloc, memory, jobs, body, at + 2)?;
+    let last = step_job(alloc, memory, counter)?;
+    let step = push_job(jobs, last)?;
+    let flow = for_flow(alloc, tree, step, at, inner.as_slice())?;
+    Ok(flow)
+}
+
+// The flow of statements, of which the first stands at `at`.
+#[cycle(lower)]
+fn lower_block(
+    alloc: Global,
+    memory: &DataMemory<'_>,
+    jobs: &mut Items<Job>,
+    block: &[Stmt],
+    at: u32,
+) -> Result<Items<Flow>, NoMemory>
+    requires ready { IsReady at jobs.old (statements_in (acts_of (map act_of block.now))) }
+    requires plain { ArePlain memory.now.word memory.now.places (acts_of (map act_of block.now)) }
+    ensures { IfOk result (AreLowered memory.now (acts_of (map act_of block.now)) at jobs.old jobs.new) }
+{
+    let mut flow = Items::new(alloc);
+    let mut place = at;
+    for statement in block {
+        let more = lower_statement(alloc, memory, jobs, statement, place)?;
+        append(&mut flow, more.as_slice())?;
+        place += more.len() as u32;
+    }
+    Ok(flow)
+}
+
+/// The flow and the jobs of a program whose variables stand at the places of its layout, for addresses of `addr_width` bits, 1 to the
+/// program's width. The cells of the places lie below 2 to the address width, and below 2^32. The only error is want of memory.
+pub fn lower(
+    alloc: Global,
+    typed: &Typed,
+    places: &Places,
+    addr_width: u8,
+) -> Result<Blocks, NoMemory>
+    requires places { places.now ≡ layout_of typed.now.width (listing_of typed.now.program) }
+    requires reach { InReach typed.now.width addr_width places.now.temps (listing_of typed.now.program).vars }
+    requires few { need_of typed.now.width (listing_of typed.now.program) < 2 ^ 32 }
+    ensures flow { IfOk result (λ blocks. blocks.flow ≡ program_flow (listing_of typed.now.program)) }
+    ensures jobs { IfOk result (λ blocks. works_of blocks.jobs.items ≡ program_works (record { word = typed.now.width; addr = addr_width; places = places.now.list }) (listing_of typed.now.program)) }
+{
+    let memory = DataMemory::new(typed.width(), addr_width, places.list.as_slice());
+    lower_body(alloc, &memory, typed.program().body.as_slice())
+}
+
+// The whole flow of a program with this body.
+fn lower_body(alloc: Global, memory: &DataMemory<'_>, body: &[Stmt]) -> Result<Blocks, NoMemory>
+    requires few { statements_in (acts_of (map act_of body.now)) ≤ 65536 }
+    requires plain { ArePlain memory.now.word memory.now.places (acts_of (map act_of body.now)) }
+    ensures flow { IfOk result (λ blocks. blocks.flow ≡ flow_in (acts_of (map act_of body.now)) 0 0 ++ End ∷ []) }
+    ensures jobs { IfOk result (λ blocks. works_of blocks.jobs.items ≡ works_in memory.now (acts_of (map act_of body.now))) }
+{
+    let mut jobs = Items::new(alloc);
+    let mut flow = lower_block(alloc, memory, &mut jobs, body, 0)?;
+    flow.push(Flow::End)?;
+    Ok(Blocks {
+        flow,
+        jobs: jobs.into_vec(),
+    })
+}

@@ -1,0 +1,4 @@
+pub mod NumberLemmas
+pub mod ShapeLemmas
+pub mod ExtensionLemmas
+pub mod UnaryLemmas

@@ -1,0 +1,18 @@
+-- Parts of the definition of what a field shape shows.
+use Rattle.std.specs.Prelude.{◌≤◌, ◌≡◌, ℕ, Bool, true, false, ◌^◌, ◌%◌, ◌==◌, Option, None, if◌then◌else◌}
+use Rattle.rec_bits.specs.Operators.{sext_of}
+use Rattle.net_model.specs.Terms.{Term, word, term_width}
+use Rattle.form_model.specs.Shapes.{field_setting, shows}
+
+-- the instruction word
+abbrev pub is_word : Term → Bool
+is_word (word w) = true
+is_word _ = false
+
+-- the setting of a sext of a field
+abbrev pub extension_setting : Term → ℕ → ℕ → Option ℕ
+extension_setting a w v = if sext_of (v % 2 ^ term_width a) (term_width a) w == v then field_setting a (v % 2 ^ term_width a) else None
+
+-- with a number the shape shows all that are less
+abbrev pub IsSteady : Term → Type 0
+IsSteady t = (v u : ℕ) → u ≤ v → shows t v ≡ true → shows t u ≡ true

@@ -1,0 +1,64 @@
+//! Matches, and where trees go.
+
+ghost use Rattle.std.specs.Prelude.{◌≡◌};
+ghost use Rattle.form_model.specs.Rules.{destination_of};
+ghost use Rattle.tree_grammar.specs.Parts.{destination_at};
+
+use form_model::{Aim, Tree};
+use net_model::Expr;
+
+/// What a match leaves open, with the number of its tree among the subtrees.
+#[derive(Clone, Copy, Debug)]
+pub enum Part<'a> {
+    /// A tree that another form has to put into the register of number `id` first. A whole tree can't be a cut.
+    Operand {
+        id: u32,
+        tree: &'a Tree,
+        whole: bool,
+        at: u64,
+    },
+    /// A tree that has to be in a temporary cell first, the address of which the field shape gives.
+    Cut {
+        shape: &'a Expr,
+        tree: &'a Tree,
+        at: u64,
+    },
+}
+
+/// What a form takes of a tree.
+#[derive(Debug, Drop)]
+pub struct Match<'a> {
+    /// The bits of the word that the match settles, in their places, with 0 in those that will name a temporary cell.
+    pub setting: u64,
+    /// Its parts from left to right, those of a store's address before those of its value.
+    pub parts: Vec<Part<'a>>,
+}
+
+/// Where a tree's value goes: an aim, or a register as an operand.
+#[derive(Clone, Copy, Debug)]
+pub enum Destination<'a> {
+    /// To the register of this number.
+    Register(u32),
+    /// To the cell of this address.
+    Cell(u32),
+    /// To the cell of the address that this tree gives.
+    Store(&'a Tree),
+    /// To the branch of a test.
+    Test,
+    /// To a temporary cell.
+    Temp,
+}
+
+impl<'a> Destination<'a> {
+    /// Where a tree with this aim goes.
+    pub fn of(aim: &'a Aim) -> Destination<'a>
+        ensures { destination_at result ≡ destination_of aim.now }
+    {
+        match aim {
+            Aim::Cell(address) => Destination::Cell(*address),
+            Aim::Store(address) => Destination::Store(address),
+            Aim::Test => Destination::Test,
+            Aim::Temp => Destination::Temp,
+        }
+    }
+}

@@ -1,0 +1,225 @@
+//! Field shapes: which numbers they show, and under which bits of the word.
+
+ghost use Rattle.std.specs.Prelude.{◌≡◌, ◌+◌, ◌-◌, ◌*◌, ◌%◌, ◌^◌, ◌<◌, ◌≤◌, ◌==◌, ◌&&◌, nat_lt, is_some, true, Some, IfOk};
+ghost use Rattle.std.specs.Bool.{OnTrue};
+ghost use Rattle.rec_bits.specs.Operators.{sext_of};
+ghost use Rattle.net_model.specs.Terms.{term_of, term_width};
+ghost use Rattle.form_model.specs.Shapes.{field_setting, is_field, is_shape, shape_setting, shows, shows_below};
+ghost use Rattle.tree_grammar.specs.Settings.{IsSteady, extension_setting, is_word};
+
+use crate::sizes::{expr_width, slice_width};
+use net_model::Expr;
+use rec_bits::{NoMemory, mask, sext, slice};
+
+// ---- what is a field shape
+
+// Whether the expression is the instruction word.
+fn is_whole_word(e: &Expr) -> bool
+    ensures { result ≡ is_word (term_of e.now) }
+{
+    match e {
+        Expr::Word(_) => true,
+        _ => false,
+    }
+}
+
+// Whether the expression is the instruction word, or a slice of it.
+fn is_field_of_word(e: &Expr) -> bool
+    ensures { result ≡ is_field (term_of e.now) }
+{
+    match e {
+        Expr::Word(_) => true,
+        Expr::Slice(a, _, _) => is_whole_word(a),
+        _ => false,
+    }
+}
+
+/// Whether the expression is a field shape: the instruction word, a slice of it, a zext or sext of one of these, or a constant.
+pub fn is_field_shape(e: &Expr) -> bool
+    ensures { result ≡ is_shape (term_of e.now) }
+{
+    match e {
+        Expr::Const { .. } => true,
+        Expr::Zext(a, _) => is_field_of_word(a),
+        Expr::Sext(a, _) => is_field_of_word(a),
+        _ => is_field_of_word(e),
+    }
+}
+
+// ---- which numbers a shape shows
+
+// Whether a number has at most so many bits.
+fn is_within(value: u64, width: u64) -> bool
+    ensures { result ≡ nat_lt value (2 ^ width) }
+{
+    if width == 0 {
+        value == 0
+    } else if width < 64 {
+        value <= mask(width as u8)
+    } else {
+        true
+    }
+}
+
+// The low bits of a number.
+fn low_bits(value: u64, width: u64) -> u64
+    ensures { result ≡ value % 2 ^ width }
+{
+    if width == 0 {
+        0
+    } else if width < 64 {
+        slice(value, width as u8 - 1, 0)
+    } else {
+        value
+    }
+}
+
+// Whether a number is its own low `from` bits with copies of their top bit up to `to` bits.
+fn is_extension(value: u64, from: u64, to: u8) -> bool
+    ensures { result ≡ (sext_of (value % 2 ^ from) from to == value) }
+{
+    if from == 0 {
+        return value == 0;
+    }
+    if u64::from(to) < from {
+        return is_within(value, from);
+    }
+    if to > 64 {
+        return is_within(value, from - 1);
+    }
+    sext(low_bits(value, from), from as u8, to) == value
+}
+
+// Whether some word gives the field this value.
+fn field_shows(field: &Expr, value: u64) -> bool
+    ensures { result ≡ is_some (field_setting (term_of field.now) value) }
+{
+    match field {
+        Expr::Word(width) => is_within(value, u64::from(*width)),
+        Expr::Slice(a, hi, lo) => is_whole_word(a) && is_within(value, slice_width(*hi, *lo)),
+        _ => false,
+    }
+}
+
+// Whether some word gives the field, with copies of its top bit, this value.
+fn extension_shows(field: &Expr, to: u8, value: u64) -> bool
+    ensures { result ≡ is_some (extension_setting (term_of field.now) to value) }
+{
+    match field {
+        Expr::Word(width) => is_extension(value, u64::from(*width), to),
+        Expr::Slice(a, hi, lo) => is_whole_word(a)
+            && is_extension(value, slice_width(*hi, *lo), to),
+        _ => false,
+    }
+}
+
+// Whether some word gives the field shape this value.
+fn shows_value(shape: &Expr, value: u64) -> bool
+    ensures { result ≡ shows (term_of shape.now) value }
+{
+    match shape {
+        Expr::Const { value: c, .. } => *c == value,
+        Expr::Zext(a, _) => field_shows(a, value),
+        Expr::Sext(a, width) => extension_shows(a, *width, value),
+        _ => field_shows(shape, value),
+    }
+}
+
+/// Whether the field shape takes the number of this width, in bits: it is as wide, and some word gives it this value.
+pub fn fits_field(shape: &Expr, width: u8, value: u64) -> bool
+    ensures { result ≡ (is_shape (term_of shape.now) && ((width == term_width (term_of shape.now)) && shows (term_of shape.now) value)) }
+{
+    is_field_shape(shape) && u64::from(width) == expr_width(shape) && shows_value(shape, value)
+}
+
+// Whether the shape shows with a number all that are less.
+fn is_steady(shape: &Expr) -> bool
+    ensures { OnTrue result (IsSteady (term_of shape.now)) }
+{
+    match shape {
+        Expr::Word(_) => true,
+        Expr::Slice(_, _, _) => true,
+        Expr::Zext(_, _) => true,
+        _ => false,
+    }
+}
+
+/// Whether the field shape shows each number below this one.
+pub fn shows_all(shape: &Expr, count: u32) -> bool
+    ensures { result ≡ shows_below (term_of shape.now) count }
+{
+    if count == 0 {
+        return true;
+    }
+    if is_steady(shape) {
+        return shows_value(shape, u64::from(count - 1));
+    }
+    shows_each(shape, count)
+}
+
+fn shows_each(shape: &Expr, count: u32) -> bool
+    ensures { result ≡ shows_below (term_of shape.now) count }
+{
+    for value in 0..count {
+        if !shows_value(shape, u64::from(value)) {
+            return false;
+        }
+    }
+    true
+}
+
+// ---- the bits of the word
+
+// The product with a power of 2. Want of memory where 64 bits don't hold it.
+fn shifted(value: u64, places: u8) -> Result<u64, NoMemory>
+    ensures { IfOk result (λ n. n ≡ value * 2 ^ places) }
+{
+    if places == 0 {
+        return Ok(value);
+    }
+    if places >= 64 {
+        return Err(NoMemory);
+    }
+    match value.checked_mul(mask(places) + 1) {
+        Some(n) => Ok(n),
+        None => Err(NoMemory),
+    }
+}
+
+// The bits of the word, in their places, that give the field the low bits of this value, in the field's width.
+fn field_bits(field: &Expr, value: u64) -> Result<u64, NoMemory>
+    requires { is_field (term_of field.now) ≡ true }
+    ensures { IfOk result (λ bits. field_setting (term_of field.now) (value % 2 ^ term_width (term_of field.now)) ≡ Some bits) }
+{
+    match field {
+        Expr::Word(width) => Ok(low_bits(value, u64::from(*width))),
+        Expr::Slice(_, hi, lo) => shifted(low_bits(value, slice_width(*hi, *lo)), *lo),
+        _ => Ok(0),
+    }
+}
+
+// The same for a shape that shows the value.
+fn shape_bits(shape: &Expr, value: u64) -> Result<u64, NoMemory>
+    requires { shows (term_of shape.now) value ≡ true }
+    ensures { IfOk result (λ bits. shape_setting (term_of shape.now) value ≡ Some bits) }
+{
+    match shape {
+        Expr::Zext(a, _) => field_bits(a, value),
+        Expr::Sext(a, _) => field_bits(a, value),
+        Expr::Word(_) => field_bits(shape, value),
+        Expr::Slice(_, _, _) => field_bits(shape, value),
+        _ => Ok(0),
+    }
+}
+
+/// The bits of the word, in their places and 0 elsewhere, that give the field shape this value, and none exactly where it doesn't show it. A
+/// word has at most 64 bits, so a field that lies above bit 63 is answered as want of memory.
+pub fn setting_of(shape: &Expr, value: u64) -> Result<Option<u64>, NoMemory>
+    ensures { IfOk result (λ o. o ≡ shape_setting (term_of shape.now) value) }
+{
+    if !shows_value(shape, value) {
+        return Ok(None);
+    }
+    let bits = shape_bits(shape, value)?;
+    Ok(Some(bits))
+}

@@ -1,0 +1,241 @@
+//! What an expression of a form takes of a tree.
+
+ghost use Rattle.std.specs.Prelude.{◌≡◌, ◌++◌, ℕ, ◌+◌, ◌==◌, true, Some, None, IfOk, OnOk, List, if◌then◌else◌};
+ghost use Rattle.std.specs.Option.{option_map};
+ghost use Rattle.net_model.specs.Terms.{Term, size_of, term_of, term_width};
+ghost use Rattle.form_model.specs.Trees.{is_cell, is_number, tree_term};
+ghost use Rattle.form_model.specs.Matches.{cell_match, literal_match, matched, open_if, operand, settled, shape_match};
+ghost use Rattle.tree_grammar.specs.Numbers.{Holds};
+ghost use Rattle.tree_grammar.specs.Unary.{pair_of, unary_operands};
+ghost use Rattle.tree_grammar.specs.Parts.{AreAt, IsAt, Taken, part_of, parts_of};
+
+use crate::parts::Part;
+use crate::shapes::{is_field_shape, setting_of, shows_all};
+use crate::sizes::{is_as_wide, plus, tree_size, tree_width};
+use form_model::Tree;
+use net_model::Expr;
+use rec_bits::NoMemory;
+
+// ---- numbers and cells
+
+fn is_number_tree(tree: &Tree) -> bool
+    ensures { result ≡ is_number (tree_term tree.now) }
+{
+    match tree {
+        Tree::Lit { .. } => true,
+        _ => false,
+    }
+}
+
+// Whether the tree is a read at a number.
+fn is_cell_tree(tree: &Tree) -> bool
+    ensures { result ≡ is_cell (tree_term tree.now) }
+{
+    match tree {
+        Tree::Read(a, _) => is_number_tree(a),
+        _ => false,
+    }
+}
+
+// The setting under which the field shape takes a number.
+fn take_number(shape: &Expr, tree: &Tree) -> Result<Option<u64>, NoMemory>
+    ensures { IfOk result (λ o. settled o ≡ shape_match (term_of shape.now) (tree_term tree.now)) }
+{
+    match tree {
+        Tree::Lit { value, .. } => {
+            if !is_as_wide(tree, shape) {
+                return Ok(None);
+            }
+            setting_of(shape, *value)
+        }
+        _ => Ok(None),
+    }
+}
+
+// The setting under which the field shape gives the address of a read at a number.
+fn take_literal(shape: &Expr, tree: &Tree) -> Result<Option<u64>, NoMemory>
+    ensures { IfOk result (λ o. settled o ≡ literal_match (term_of shape.now) (tree_term tree.now)) }
+{
+    match tree {
+        Tree::Read(a, _) => take_number(shape, a),
+        _ => Ok(None),
+    }
+}
+
+// ---- parts
+
+// Leaves a part open, which settles no bits.
+fn put_part<'a>(parts: &mut Vec<Part<'a>>, part: Part<'a>) -> Result<Option<u64>, NoMemory>
+    ensures found { IfOk result (λ o. Taken (parts_of parts.old.items) (parts_of parts.new.items) (open_if true (part_of part.entry)) o) }
+    ensures at { OnOk result ((nodes : List Term) → AreAt nodes parts.old.items → IsAt nodes part.entry → AreAt nodes parts.new.items) }
+{
+    parts.push(part)?;
+    Ok(Some(0))
+}
+
+// What a read at a field shape takes: a read at a number, or a cut.
+fn take_cell<'a>(
+    parts: &mut Vec<Part<'a>>,
+    temps: u32,
+    shape: &'a Expr,
+    width: u8,
+    tree: &'a Tree,
+    whole: bool,
+    at: u64,
+) -> Result<Option<u64>, NoMemory>
+    ensures found { IfOk result (λ o.
+        Taken (parts_of parts.old.items) (parts_of parts.new.items) (cell_match temps (term_of shape.now) width (tree_term tree.now) whole) o) }
+    ensures at { OnOk result ((nodes : List Term) → Holds nodes at (tree_term tree.now) → AreAt nodes parts.old.items → AreAt nodes parts.new.items) }
+{
+    if u64::from(width) != tree_width(tree) {
+        return Ok(None);
+    }
+    if is_cell_tree(tree) {
+        return take_literal(shape, tree);
+    }
+    if whole || !shows_all(shape, temps) {
+        return Ok(None);
+    }
+    put_part(parts, Part::Cut { shape, tree, at })
+}
+
+// The number of what follows the tree of number `at`.
+pub(crate) fn past(at: u64, tree: &Tree) -> Result<u64, NoMemory>
+    ensures { IfOk result (λ n. n ≡ at + size_of (tree_term tree.now)) }
+{
+    plus(at, tree_size(tree)?)
+}
+
+// ---- operators of one operand
+
+// An expression of a form, and a tree that it has to match.
+#[derive(Clone, Copy)]
+struct Pair<'a> {
+    expr: &'a Expr,
+    tree: &'a Tree,
+}
+
+fn pair_if<'a>(same: bool, expr: &'a Expr, tree: &'a Tree) -> Option<Pair<'a>>
+    ensures { option_map pair_of result ≡ (if same then Some (record { term = term_of expr.now; tree = tree_term tree.now }) else None) }
+{
+    if same {
+        Some(Pair { expr, tree })
+    } else {
+        None
+    }
+}
+
+// The operands of an expression and of a tree, where both have one operator of one operand, and equal widths.
+fn operands<'a>(e: &'a Expr, tree: &'a Tree) -> Option<Pair<'a>>
+    ensures { option_map pair_of result ≡ unary_operands (term_of e.now) (tree_term tree.now) }
+{
+    match e {
+        Expr::Un(op, a) => match tree {
+            Tree::Un(o, b) => pair_if(*o == *op, a, b),
+            _ => None,
+        },
+        Expr::Slice(a, hi, lo) => match tree {
+            Tree::Slice(b, h, l) => pair_if(is_as_wide(b, a) && *h == *hi && *l == *lo, a, b),
+            _ => None,
+        },
+        Expr::Zext(a, width) => match tree {
+            Tree::Zext(b, w) => pair_if(is_as_wide(b, a) && *w == *width, a, b),
+            _ => None,
+        },
+        Expr::Sext(a, width) => match tree {
+            Tree::Sext(b, w) => pair_if(is_as_wide(b, a) && *w == *width, a, b),
+            _ => None,
+        },
+        _ => None,
+    }
+}
+
+// ---- expressions
+
+// A register takes a tree of its width as an operand.
+fn take_operand<'a>(
+    parts: &mut Vec<Part<'a>>,
+    id: u32,
+    width: u8,
+    tree: &'a Tree,
+    whole: bool,
+    at: u64,
+) -> Result<Option<u64>, NoMemory>
+    ensures found { IfOk result (λ o. Taken (parts_of parts.old.items) (parts_of parts.new.items)
+        (open_if (width == term_width (tree_term tree.now)) (operand id (tree_term tree.now) whole)) o) }
+    ensures at { OnOk result ((nodes : List Term) → Holds nodes at (tree_term tree.now) → AreAt nodes parts.old.items → AreAt nodes parts.new.items) }
+{
+    if u64::from(width) != tree_width(tree) {
+        return Ok(None);
+    }
+    put_part(
+        parts,
+        Part::Operand {
+            id,
+            tree,
+            whole,
+            at,
+        },
+    )
+}
+
+// Adds the parts that an expression of a form leaves open of a tree, and gives the bits that it settles, or none where it doesn't match.
+pub(crate) fn take<'a>(
+    parts: &mut Vec<Part<'a>>,
+    temps: u32,
+    e: &'a Expr,
+    tree: &'a Tree,
+    whole: bool,
+    at: u64,
+) -> Result<Option<u64>, NoMemory>
+    ensures found { IfOk result (λ o.
+        Taken (parts_of parts.old.items) (parts_of parts.new.items) (matched temps (term_of e.now) (tree_term tree.now) whole) o) }
+    ensures at { OnOk result ((nodes : List Term) → Holds nodes at (tree_term tree.now) → AreAt nodes parts.old.items → AreAt nodes parts.new.items) }
+{
+    if is_field_shape(e) {
+        return take_number(e, tree);
+    }
+    if let Some(pair) = operands(e, tree) {
+        return take(parts, temps, pair.expr, pair.tree, false, plus(at, 1)?);
+    }
+    match e {
+        Expr::Reg(id, width) => take_operand(parts, *id, *width, tree, whole, at),
+        Expr::Read(a, width) => {
+            if is_field_shape(a) {
+                return take_cell(parts, temps, a, *width, tree, whole, at);
+            }
+            let Tree::Read(b, w) = tree else {
+                return Ok(None);
+            };
+            if *w != *width {
+                return Ok(None);
+            }
+            take(parts, temps, a, b, is_number_tree(b), plus(at, 1)?)
+        }
+        Expr::Bin(op, a, b) => {
+            let Tree::Bin(o, l, r) = tree else {
+                return Ok(None);
+            };
+            if *o != *op {
+                return Ok(None);
+            }
+            let next = plus(at, 1)?;
+            let after = past(next, l)?;
+            let Some(x) = take(parts, temps, a, l, false, next)? else {
+                return Ok(None);
+            };
+            let Some(y) = take(parts, temps, b, r, false, after)? else {
+                return Ok(None);
+            };
+            Ok(Some(x | y))
+        }
+        Expr::Word(_) => Ok(None),
+        Expr::Const { .. } => Ok(None),
+        Expr::Un(_, _) => Ok(None),
+        Expr::Slice(_, _, _) => Ok(None),
+        Expr::Zext(_, _) => Ok(None),
+        Expr::Sext(_, _) => Ok(None),
+        Expr::Cat(_, _) => Ok(None),
+        Expr::Select(_, _, _) => Ok(None),
+    }
+}
