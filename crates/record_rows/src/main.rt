@@ -39,10 +39,23 @@
 //!
 //! of which is printed how many nets, storages and patterns it has, how many diagram nodes and expressions stand behind these, and, where
 //! instruction words have at most 16 bits, how many words there are, how many of them clash, and for how many what the word does by itself
-//! isn't what the patterns tell of it.
+//! isn't what the patterns tell of it. The forms of a netlist are asked for by
+//!
+//! ```text
+//! forms NAME
+//! | TEXT            a line of its text
+//! from N            the first N forms are not printed
+//! first N           at most so many forms are printed
+//! run
+//! ```
+//!
+//! and for each of them the number of its pattern, its transfer, the mask of its instruction bits and its clobbers are printed: a jump's with
+//! its reach, a branch's with its target and its condition.
 #![tactic(auto)]
 
 mod call;
+mod form_text;
+mod forms;
 mod netlist;
 mod program;
 mod row;

@@ -1,6 +1,7 @@
 //! Rows, by their kinds.
 
 use crate::call::Call;
+use crate::forms::FormRow;
 use crate::netlist::Netlist;
 use crate::program::Program;
 use anyhow::{Context, Result, bail};
@@ -15,6 +16,8 @@ pub enum Row {
     Program(Program),
     /// A netlist, and what its words do.
     Netlist(Netlist),
+    /// A netlist, and its forms.
+    Forms(FormRow),
     /// No row has begun.
     Nothing,
 }
@@ -29,9 +32,11 @@ impl Row {
             ("row", _) => *self = Row::Call(Call::new(alloc, rest)?),
             ("program", _) => *self = Row::Program(Program::new(alloc, rest)?),
             ("netlist", _) => *self = Row::Netlist(Netlist::new(alloc, rest)?),
+            ("forms", _) => *self = Row::Forms(FormRow::new(alloc, rest)?),
             (_, Row::Call(call)) => call.take(alloc, key, rest)?,
             (_, Row::Program(program)) => program.take(key, rest)?,
             (_, Row::Netlist(netlist)) => netlist.take(key, rest)?,
+            (_, Row::Forms(row)) => row.take(key, rest)?,
             (_, Row::Nothing) => bail!("no kind of a row: {line}"),
         }
         Ok(())
@@ -43,6 +48,7 @@ impl Row {
             Row::Call(call) => call.found(alloc),
             Row::Program(program) => program.found(alloc),
             Row::Netlist(netlist) => netlist.found(alloc),
+            Row::Forms(row) => row.found(alloc),
             Row::Nothing => bail!("no row to run"),
         }
     }
