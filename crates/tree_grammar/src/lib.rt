@@ -11,5 +11,5 @@ mod tests;
 
 pub use forms::match_at;
 pub use parts::{Destination, Match, Part};
-pub use shapes::{fits_field, is_field_shape, setting_of, shows_all};
-pub use sizes::{tree_size, tree_width};
+pub use shapes::{fits_field, is_field_shape, low_bits, setting_of, shows_all};
+pub use sizes::{expr_width, tree_size, tree_width};

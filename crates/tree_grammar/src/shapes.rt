@@ -61,8 +61,8 @@ fn is_within(value: u64, width: u64) -> bool
     }
 }
 
-// The low bits of a number.
-fn low_bits(value: u64, width: u64) -> u64
+/// The low bits of a number, so many.
+pub fn low_bits(value: u64, width: u64) -> u64
     ensures { result ≡ value % 2 ^ width }
 {
     if width == 0 {

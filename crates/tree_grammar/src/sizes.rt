@@ -56,8 +56,8 @@ pub fn tree_width(tree: &Tree) -> u64
     }
 }
 
-// The width of an expression's value, or the greatest number where it is more.
-pub(crate) fn expr_width(e: &Expr) -> u64
+/// The width of an expression's value, or the greatest number where it is more.
+pub fn expr_width(e: &Expr) -> u64
     ensures { result ≡ min (term_width (term_of e.now)) 18446744073709551615 }
 {
     match e {

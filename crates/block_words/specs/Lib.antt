@@ -1,0 +1,3 @@
+pub mod Words
+pub mod Formed
+pub mod Laws

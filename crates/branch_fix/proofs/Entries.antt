@@ -1,0 +1,83 @@
+-- The places that something enters, marked one after the other.
+use Rattle.std.proofs.Common.{ℕ, zero, suc, ◌≡◌, ◌<◌, ◌==◌, Bool, true, false, ◌||◌, List, [], ◌∷◌, length, replicate, Some, refl, sym, ◌∙◌, ap, subst, arith, slice_get, slice_set, get_or, ◌≤◌, eqb-true, eq-eqb}
+use Rattle.form_model.specs.declared.flow.Flow.{Flow}
+use Rattle.form_model.specs.declared.flow.Flow.TheVariants.{Assign, Test, Jump, End}
+use Rattle.src_trees.specs.Blocks.{is_entered}
+use Rattle.branch_fix.specs.Entered.{marked}
+
+set_here : (e : List Bool) (k : ℕ) (x : Bool) → slice_get e k ≡ Some x → slice_get (slice_set e k true) k ≡ Some true
+set_here [] k x h = absurd (cc h)
+set_here (y ∷ e) zero x h = refl
+set_here (y ∷ e) (suc k) x h = set_here e k x h
+
+set_there : (e : List Bool) (a k : ℕ) → (a ≡ k → ⊥) → slice_get (slice_set e a true) k ≡ slice_get e k
+set_there [] a k ne = refl
+set_there (y ∷ e) zero zero ne = absurd (ne refl)
+set_there (y ∷ e) zero (suc k) ne = refl
+set_there (y ∷ e) (suc a) zero ne = refl
+set_there (y ∷ e) (suc a) (suc k) ne = set_there e a k (λ s. ne (omega arith))
+
+set_get : (e : List Bool) (a k : ℕ) (x : Bool) → slice_get e k ≡ Some x → slice_get (slice_set e a true) k ≡ Some ((a == k) || x)
+set_get e a k x h = by (a == k) refl
+  where
+    by : (b : Bool) → (a == k) ≡ b → slice_get (slice_set e a true) k ≡ Some (b || x)
+    by true q = let s : a ≡ k = eqb-true a k q in subst (λ n. slice_get (slice_set e n true) k ≡ Some true) (sym s) (set_here e k x h)
+    by false q = set_there e a k (λ s. let t : (a == k) ≡ true = eq-eqb a k s in absurd (cc)) ∙ h
+
+shuffled : (r a b x : Bool) → (r || (b || (a || x))) ≡ (((a || b) || r) || x)
+shuffled true true b x = refl
+shuffled true false true x = refl
+shuffled true false false x = refl
+shuffled false true true x = refl
+shuffled false true false x = refl
+shuffled false false true x = refl
+shuffled false false false x = refl
+
+swapped : (r a x : Bool) → (r || (a || x)) ≡ ((a || r) || x)
+swapped true true x = refl
+swapped true false x = refl
+swapped false true x = refl
+swapped false false x = refl
+
+marked_get : (flow : List Flow) (e : List Bool) (k : ℕ) (x : Bool) → slice_get e k ≡ Some x
+    → slice_get (marked flow e) k ≡ Some (is_entered flow k || x)
+marked_get [] e k x h = h
+marked_get (Assign tree ∷ rest) e k x h = marked_get rest e k x h
+marked_get (Test tree a b ∷ rest) e k x h =
+    marked_get rest (slice_set (slice_set e a true) b true) k ((b == k) || ((a == k) || x)) (set_get (slice_set e a true) b k ((a == k) || x) (set_get e a k x h))
+    ∙ ap (λ y. Some y) (shuffled (is_entered rest k) (a == k) (b == k) x)
+marked_get (Jump to ∷ rest) e k x h = marked_get rest (slice_set e to true) k ((to == k) || x) (set_get e to k x h) ∙ ap (λ y. Some y) (swapped (is_entered rest k) (to == k) x)
+marked_get (End ∷ rest) e k x h = marked_get rest e k x h
+
+replicate_get : (n k : ℕ) → k < n → slice_get (replicate n false) k ≡ Some false
+replicate_get zero k lt = absurd (omega arith)
+replicate_get (suc n) zero lt = refl
+replicate_get (suc n) (suc k) lt = replicate_get n k (omega arith)
+
+or_false : (b : Bool) → (b || false) ≡ b
+or_false true = refl
+or_false false = refl
+
+-- a place of the flow
+pub entered_at : (flow : List Flow) (entered : List Bool) (k : ℕ) → k < length flow → entered ≡ marked flow (replicate (length flow) false)
+    → slice_get entered k ≡ Some (is_entered flow k)
+entered_at flow entered k lt e =
+    ap (λ xs. slice_get xs k) e ∙ marked_get flow (replicate (length flow) false) k false (replicate_get (length flow) k lt) ∙ ap (λ y. Some y) (or_false (is_entered flow k))
+
+get_is : (xs : List Bool) (k : ℕ) (x d : Bool) → slice_get xs k ≡ Some x → get_or xs k d ≡ x
+get_is [] k x d h = absurd (cc h)
+get_is (y ∷ xs) zero x d h = cc h
+get_is (y ∷ xs) (suc k) x d h = get_is xs k x d h
+
+get_within : (xs : List Bool) (k : ℕ) (x : Bool) → slice_get xs k ≡ Some x → k < length xs
+get_within [] k x h = absurd (cc h)
+get_within (y ∷ xs) zero x h = omega arith
+get_within (y ∷ xs) (suc k) x h = let r = get_within xs k x h in omega (arith, r)
+
+pub was_some : (flow : List Flow) (entered : List Bool) (k : ℕ) (x : Bool) → k < length flow → entered ≡ marked flow (replicate (length flow) false)
+    → ((d : Bool) → x ≡ get_or entered k d) → x ≡ is_entered flow k
+was_some flow entered k x lt e h = h false ∙ get_is entered k (is_entered flow k) false (entered_at flow entered k lt e)
+
+pub was_none : {A : Type 0} (flow : List Flow) (entered : List Bool) (k : ℕ) → k < length flow → entered ≡ marked flow (replicate (length flow) false)
+    → length entered ≤ k → A
+was_none flow entered k lt e h = let l = get_within entered k (is_entered flow k) (entered_at flow entered k lt e) in absurd (omega arith)

@@ -1,0 +1,223 @@
+-- The parts that a flow is laid out in: they fit it, also when branches are widened, and their words are at most the bound.
+use Rattle.std.proofs.Common.{ℕ, zero, suc, ◌≡◌, ◌≤◌, ◌+◌, Bool, true, false, if◌then◌else◌, List, [], ◌∷◌, ◌++◌, length, refl, sym, ◌∙◌, ap, subst, arith, slice_get, slice_index, drop, append_assoc}
+use Rattle.form_model.specs.declared.flow.Flow.{Flow}
+use Rattle.form_model.specs.declared.flow.Flow.TheVariants.{Assign, Test as Tested, Jump as Jumped, End as Ended}
+use Rattle.form_model.specs.Rules.{Rule}
+use Rattle.src_trees.specs.Blocks.{continues}
+use Rattle.branch_fix.specs.declared.part.Fork.{Fork}
+use Rattle.branch_fix.specs.declared.part.Part.{Part}
+use Rattle.branch_fix.specs.declared.part.Part.TheVariants.{Block, Inner, Test, Jump, End}
+use Rattle.branch_fix.specs.Parts.{rule_at_one, given, fork_to, fork_of, part_for, blocks_in, tests_in, parts_from, parts_of, branch_words, room, starts, address, Fits, AllFit, total}
+use Rattle.branch_fix.specs.Rounds.{widened, widened_part, widened_from, round, rounds, IsSettled}
+use Rattle.branch_fix.specs.Bounds.{control_words, sum_of}
+
+-- ---- the parts fit the flow
+
+fork_fits : (rules : List Rule) (flow : List Flow) (tree block words : ℕ) (branch : ℕ × ℕ) (at one none : ℕ)
+    → Fits rules flow at (Tested tree one none) (fork_of rules tree block words branch at one none)
+fork_fits rules flow tree block words branch at one none = by (rule_at_one (slice_get rules branch.0)) refl
+  where
+    by : (w : Bool) → rule_at_one (slice_get rules branch.0) ≡ w
+        → Fits rules flow at (Tested tree one none) (if w then fork_to tree block words branch.0 branch.1 at one none else fork_to tree block words branch.0 branch.1 at none one)
+    by true e = (refl, refl, sym (ap (λ b. if b then one else none) e), sym (ap (λ b. if b then none else one) e))
+    by false e = (refl, refl, sym (ap (λ b. if b then one else none) e), sym (ap (λ b. if b then none else one) e))
+
+pub parts_fit : (rules : List Rule) (flow : List Flow) (sizes : List ℕ) (forks : List (ℕ × ℕ)) (rest : List Flow) (at block test : ℕ)
+    → AllFit rules flow at rest (parts_from rules flow sizes forks rest at block test)
+parts_fit rules flow sizes forks [] at block test = tt
+parts_fit rules flow sizes forks (Assign tree ∷ rest) at block test = by (continues flow at) refl (parts_fit rules flow sizes forks rest (at + 1) block test) (parts_fit rules flow sizes forks rest (at + 1) (block + 1) test)
+  where
+    by : (c : Bool) → continues flow at ≡ c → AllFit rules flow (at + 1) rest (parts_from rules flow sizes forks rest (at + 1) block test)
+        → AllFit rules flow (at + 1) rest (parts_from rules flow sizes forks rest (at + 1) (block + 1) test)
+        → AllFit rules flow at (Assign tree ∷ rest) (if c then Inner ∷ parts_from rules flow sizes forks rest (at + 1) block test else Block block (slice_index sizes block) ∷ parts_from rules flow sizes forks rest (at + 1) (block + 1) test)
+    by true e x y = (e, x)
+    by false e x y = (e, y)
+parts_fit rules flow sizes forks (Tested tree one none ∷ rest) at block test =
+    (fork_fits rules flow tree block (slice_index sizes block) (given (slice_get forks test)) at one none, parts_fit rules flow sizes forks rest (at + 1) (block + 1) (test + 1))
+parts_fit rules flow sizes forks (Jumped to ∷ rest) at block test = (refl, parts_fit rules flow sizes forks rest (at + 1) block test)
+parts_fit rules flow sizes forks (Ended ∷ rest) at block test = (tt, parts_fit rules flow sizes forks rest (at + 1) block test)
+
+widened_fit : (rules : List Rule) (flow : List Flow) (addresses : List ℕ) (at : ℕ) (rest : List Flow) (parts : List Part) (a : ℕ)
+    → AllFit rules flow at rest parts → AllFit rules flow at rest (widened_from rules addresses a parts)
+widened_fit rules flow addresses at [] [] a h = tt
+widened_fit rules flow addresses at [] (p ∷ parts) a h = absurd h
+widened_fit rules flow addresses at (f ∷ rest) [] a h = absurd h
+widened_fit rules flow addresses at (f ∷ rest) (p ∷ parts) a h = (by f p h.0, widened_fit rules flow addresses (at + 1) rest parts (a + room p) h.1)
+  where
+    forked : (f : Flow) (k : Fork) → Fits rules flow at f (Test k) → Fits rules flow at f (Test (widened rules addresses a k))
+    forked (Assign tree) k g = absurd g
+    forked (Tested tree one none) k g = g
+    forked (Jumped to) k g = absurd g
+    forked Ended k g = absurd g
+
+    by : (f : Flow) (p : Part) → Fits rules flow at f p → Fits rules flow at f (widened_part rules addresses a p)
+    by f (Block block words) g = g
+    by f Inner g = g
+    by f (Test k) g = forked f k g
+    by f (Jump to) g = g
+    by f End g = g
+
+pub rounds_fit : (rules : List Rule) (flow : List Flow) (n : ℕ) (parts : List Part) → AllFit rules flow 0 flow parts
+    → AllFit rules flow 0 flow (rounds rules n parts)
+rounds_fit rules flow zero parts h = h
+rounds_fit rules flow (suc n) parts h = rounds_fit rules flow n (round rules parts) (widened_fit rules flow (starts 0 parts) 0 flow parts 0 h)
+
+-- the parts that rounds settle on fit the flow
+pub settled_fit : (rules : List Rule) (flow : List Flow) (sizes : List ℕ) (forks : List (ℕ × ℕ)) (parts : List Part)
+    → IsSettled rules (parts_of rules flow sizes forks) parts → AllFit rules flow 0 flow parts
+settled_fit rules flow sizes forks parts s = subst (AllFit rules flow 0 flow) (sym s.made) (rounds_fit rules flow s.count (parts_of rules flow sizes forks) (parts_fit rules flow sizes forks flow 0 0 0))
+
+-- ---- how many words there are
+
+pub address_total : (parts : List Part) (N : ℕ) → N ≡ length parts → address parts N ≡ total parts
+address_total [] N e = refl
+address_total (p ∷ parts) zero e = absurd (omega arith)
+address_total (p ∷ parts) (suc N) e = let h = address_total parts N (omega arith) in omega (arith, h)
+
+-- the words of blocks alone
+abbrev pub block_words : List Part → ℕ
+block_words [] = 0
+block_words (Block block words ∷ parts) = words + block_words parts
+block_words (Test f ∷ parts) = f.words + block_words parts
+block_words (Inner ∷ parts) = block_words parts
+block_words (Jump to ∷ parts) = block_words parts
+block_words (End ∷ parts) = block_words parts
+
+few_words : (next long : Bool) → branch_words next long ≤ 3
+few_words true true = omega arith
+few_words false true = omega arith
+few_words true false = omega arith
+few_words false false = omega arith
+
+pub total_le : (rules : List Rule) (flow : List Flow) (at : ℕ) (rest : List Flow) (parts : List Part) → AllFit rules flow at rest parts
+    → total parts ≤ block_words parts + control_words rest
+total_le rules flow at [] [] h = omega arith
+total_le rules flow at [] (p ∷ parts) h = absurd h
+total_le rules flow at (f ∷ rest) [] h = absurd h
+total_le rules flow at (Assign tree ∷ rest) (Block block words ∷ parts) h = let l = total_le rules flow (at + 1) rest parts h.1 in omega (arith, l)
+total_le rules flow at (Assign tree ∷ rest) (Inner ∷ parts) h = let l = total_le rules flow (at + 1) rest parts h.1 in omega (arith, l)
+total_le rules flow at (Tested tree one none ∷ rest) (Test f ∷ parts) h = let l = total_le rules flow (at + 1) rest parts h.1 in let w = few_words f.next f.long in omega (arith, l, w)
+total_le rules flow at (Jumped to ∷ rest) (Jump place ∷ parts) h = let l = total_le rules flow (at + 1) rest parts h.1 in omega (arith, l)
+total_le rules flow at (Ended ∷ rest) (End ∷ parts) h = let l = total_le rules flow (at + 1) rest parts h.1 in omega (arith, l)
+total_le rules flow at (Assign tree ∷ rest) (Test f ∷ parts) h = absurd (h.0)
+total_le rules flow at (Assign tree ∷ rest) (Jump place ∷ parts) h = absurd (h.0)
+total_le rules flow at (Assign tree ∷ rest) (End ∷ parts) h = absurd (h.0)
+total_le rules flow at (Tested tree one none ∷ rest) (Block block words ∷ parts) h = absurd (h.0)
+total_le rules flow at (Tested tree one none ∷ rest) (Inner ∷ parts) h = absurd (h.0)
+total_le rules flow at (Tested tree one none ∷ rest) (Jump place ∷ parts) h = absurd (h.0)
+total_le rules flow at (Tested tree one none ∷ rest) (End ∷ parts) h = absurd (h.0)
+total_le rules flow at (Jumped to ∷ rest) (Block block words ∷ parts) h = absurd (h.0)
+total_le rules flow at (Jumped to ∷ rest) (Inner ∷ parts) h = absurd (h.0)
+total_le rules flow at (Jumped to ∷ rest) (Test f ∷ parts) h = absurd (h.0)
+total_le rules flow at (Jumped to ∷ rest) (End ∷ parts) h = absurd (h.0)
+total_le rules flow at (Ended ∷ rest) (Block block words ∷ parts) h = absurd (h.0)
+total_le rules flow at (Ended ∷ rest) (Inner ∷ parts) h = absurd (h.0)
+total_le rules flow at (Ended ∷ rest) (Test f ∷ parts) h = absurd (h.0)
+total_le rules flow at (Ended ∷ rest) (Jump place ∷ parts) h = absurd (h.0)
+
+-- blocks are counted once each
+sum_drop : (sizes : List ℕ) (k : ℕ) → slice_index sizes k + sum_of (drop (k + 1) sizes) ≤ sum_of (drop k sizes)
+sum_drop [] k = let n = nothing (k + 1) in omega (arith, n)
+  where
+    nothing : (j : ℕ) → sum_of (drop j (let none : List ℕ = [] in none)) ≡ 0
+    nothing zero = refl
+    nothing (suc j) = refl
+sum_drop (n ∷ sizes) zero = omega arith
+sum_drop (n ∷ sizes) (suc k) = subst (λ j. slice_index sizes k + sum_of (drop j (n ∷ sizes)) ≤ sum_of (drop k sizes)) (let z : suc (k + 1) ≡ suc k + 1 = omega arith in z) (sum_drop sizes k)
+
+fork_words : (rules : List Rule) (tree block words : ℕ) (branch : ℕ × ℕ) (at one none : ℕ) (parts : List Part)
+    → block_words (fork_of rules tree block words branch at one none ∷ parts) ≡ words + block_words parts
+fork_words rules tree block words branch at one none parts = by (rule_at_one (slice_get rules branch.0))
+  where
+    by : (w : Bool)
+        → block_words ((if w then fork_to tree block words branch.0 branch.1 at one none else fork_to tree block words branch.0 branch.1 at none one) ∷ parts) ≡ words + block_words parts
+    by true = refl
+    by false = refl
+
+pub blocks_le : (rules : List Rule) (flow : List Flow) (sizes : List ℕ) (forks : List (ℕ × ℕ)) (rest : List Flow) (at block test : ℕ)
+    → block_words (parts_from rules flow sizes forks rest at block test) ≤ sum_of (drop block sizes)
+blocks_le rules flow sizes forks [] at block test = omega arith
+blocks_le rules flow sizes forks (Assign tree ∷ rest) at block test = by (continues flow at) (blocks_le rules flow sizes forks rest (at + 1) block test) (blocks_le rules flow sizes forks rest (at + 1) (block + 1) test)
+  where
+    by : (c : Bool) → block_words (parts_from rules flow sizes forks rest (at + 1) block test) ≤ sum_of (drop block sizes)
+        → block_words (parts_from rules flow sizes forks rest (at + 1) (block + 1) test) ≤ sum_of (drop (block + 1) sizes)
+        → block_words (if c then Inner ∷ parts_from rules flow sizes forks rest (at + 1) block test else Block block (slice_index sizes block) ∷ parts_from rules flow sizes forks rest (at + 1) (block + 1) test) ≤ sum_of (drop block sizes)
+    by true x y = x
+    by false x y = let d = sum_drop sizes block in omega (arith, y, d)
+blocks_le rules flow sizes forks (Tested tree one none ∷ rest) at block test =
+    let y = blocks_le rules flow sizes forks rest (at + 1) (block + 1) (test + 1) in
+    let d = sum_drop sizes block in
+    let w = fork_words rules tree block (slice_index sizes block) (given (slice_get forks test)) at one none (parts_from rules flow sizes forks rest (at + 1) (block + 1) (test + 1)) in
+    omega (arith, y, d, w)
+blocks_le rules flow sizes forks (Jumped to ∷ rest) at block test = blocks_le rules flow sizes forks rest (at + 1) block test
+blocks_le rules flow sizes forks (Ended ∷ rest) at block test = blocks_le rules flow sizes forks rest (at + 1) block test
+
+widened_words : (rules : List Rule) (addresses : List ℕ) (a : ℕ) (parts : List Part)
+    → block_words (widened_from rules addresses a parts) ≡ block_words parts
+widened_words rules addresses a [] = refl
+widened_words rules addresses a (Block block words ∷ parts) = ap (λ n. words + n) (widened_words rules addresses (a + words) parts)
+widened_words rules addresses a (Inner ∷ parts) = widened_words rules addresses (a + 0) parts
+widened_words rules addresses a (Test f ∷ parts) = ap (λ n. f.words + n) (widened_words rules addresses (a + (f.words + branch_words f.next f.long)) parts)
+widened_words rules addresses a (Jump to ∷ parts) = widened_words rules addresses (a + 1) parts
+widened_words rules addresses a (End ∷ parts) = widened_words rules addresses (a + 1) parts
+
+rounds_words : (rules : List Rule) (n : ℕ) (parts : List Part) → block_words (rounds rules n parts) ≡ block_words parts
+rounds_words rules zero parts = refl
+rounds_words rules (suc n) parts = rounds_words rules n (round rules parts) ∙ widened_words rules (starts 0 parts) 0 parts
+
+-- after any rounds the words are at most the bound
+pub laid_le : (rules : List Rule) (flow : List Flow) (sizes : List ℕ) (forks : List (ℕ × ℕ)) (n : ℕ)
+    → total (rounds rules n (parts_of rules flow sizes forks)) ≤ sum_of sizes + control_words flow
+laid_le rules flow sizes forks n =
+    let f = rounds_fit rules flow n (parts_of rules flow sizes forks) (parts_fit rules flow sizes forks flow 0 0 0) in
+    let t = total_le rules flow 0 flow (rounds rules n (parts_of rules flow sizes forks)) f in
+    let w = rounds_words rules n (parts_of rules flow sizes forks) in
+    let b = blocks_le rules flow sizes forks flow 0 0 0 in
+    omega (arith, t, w, b)
+
+-- ---- the parts, one after the other
+
+pub parts_step : (rules : List Rule) (flow : List Flow) (sizes : List ℕ) (forks : List (ℕ × ℕ)) (f : Flow) (rest : List Flow) (at block test : ℕ)
+    → parts_from rules flow sizes forks (f ∷ rest) at block test
+    ≡ part_for rules flow sizes forks f at block test ∷ parts_from rules flow sizes forks rest (at + 1) (block + blocks_in (part_for rules flow sizes forks f at block test)) (test + tests_in (part_for rules flow sizes forks f at block test))
+parts_step rules flow sizes forks (Assign tree) rest at block test = by (continues flow at)
+  where
+    by : (c : Bool)
+        → (if c then Inner ∷ parts_from rules flow sizes forks rest (at + 1) block test else Block block (slice_index sizes block) ∷ parts_from rules flow sizes forks rest (at + 1) (block + 1) test)
+        ≡ (if c then Inner else Block block (slice_index sizes block))
+        ∷ parts_from rules flow sizes forks rest (at + 1) (block + blocks_in (if c then Inner else Block block (slice_index sizes block))) (test + tests_in (if c then Inner else Block block (slice_index sizes block)))
+    by true = let b : block ≡ block + 0 = omega arith in let t : test ≡ test + 0 = omega arith in (λ j. Inner ∷ parts_from rules flow sizes forks rest (at + 1) (b j) (t j))
+    by false = let t : test ≡ test + 0 = omega arith in (λ j. Block block (slice_index sizes block) ∷ parts_from rules flow sizes forks rest (at + 1) (block + 1) (t j))
+parts_step rules flow sizes forks (Tested tree one none) rest at block test = by (rule_at_one (slice_get rules (given (slice_get forks test)).0))
+  where
+    branch : ℕ × ℕ
+    branch = given (slice_get forks test)
+
+    by : (w : Bool)
+        → (if w then fork_to tree block (slice_index sizes block) (given (slice_get forks test)).0 (given (slice_get forks test)).1 at one none else fork_to tree block (slice_index sizes block) (given (slice_get forks test)).0 (given (slice_get forks test)).1 at none one)
+        ∷ parts_from rules flow sizes forks rest (at + 1) (block + 1) (test + 1)
+        ≡ (if w then fork_to tree block (slice_index sizes block) (given (slice_get forks test)).0 (given (slice_get forks test)).1 at one none else fork_to tree block (slice_index sizes block) (given (slice_get forks test)).0 (given (slice_get forks test)).1 at none one)
+        ∷ parts_from rules flow sizes forks rest (at + 1)
+        (block + blocks_in (if w then fork_to tree block (slice_index sizes block) (given (slice_get forks test)).0 (given (slice_get forks test)).1 at one none else fork_to tree block (slice_index sizes block) (given (slice_get forks test)).0 (given (slice_get forks test)).1 at none one))
+        (test + tests_in (if w then fork_to tree block (slice_index sizes block) (given (slice_get forks test)).0 (given (slice_get forks test)).1 at one none else fork_to tree block (slice_index sizes block) (given (slice_get forks test)).0 (given (slice_get forks test)).1 at none one))
+    by true = refl
+    by false = refl
+parts_step rules flow sizes forks (Jumped to) rest at block test =
+    let b : block ≡ block + 0 = omega arith in let t : test ≡ test + 0 = omega arith in (λ j. Jump to ∷ parts_from rules flow sizes forks rest (at + 1) (b j) (t j))
+parts_step rules flow sizes forks Ended rest at block test =
+    let b : block ≡ block + 0 = omega arith in let t : test ≡ test + 0 = omega arith in (λ j. End ∷ parts_from rules flow sizes forks rest (at + 1) (b j) (t j))
+
+-- one part more
+pub made_more : (rules : List Rule) (flow : List Flow) (sizes : List ℕ) (forks : List (ℕ × ℕ)) (f : Flow) (left rest : List Flow) (at block test more t : ℕ) (parts new whole : List Part) (part : Part)
+    → left ≡ f ∷ rest → part ≡ part_for rules flow sizes forks f at block test → new ≡ parts ++ part ∷ [] → more ≡ block + blocks_in part
+    → t ≡ tests_in part
+    → parts ++ parts_from rules flow sizes forks left at block test ≡ whole
+    → new ++ parts_from rules flow sizes forks rest (at + 1) more (test + t) ≡ whole
+made_more rules flow sizes forks f left rest at block test more t parts new whole part is p n em et h =
+    let pe : part ≡ part_for rules flow sizes forks f at block test = p in
+    (λ j. n j ++ parts_from rules flow sizes forks rest (at + 1) ((em ∙ ap (λ x. block + blocks_in x) pe) j) (test + (et ∙ ap tests_in pe) j))
+    ∙ append_assoc parts (part ∷ []) _
+    ∙ (λ j. parts ++ (pe j ∷ parts_from rules flow sizes forks rest (at + 1) (block + blocks_in (part_for rules flow sizes forks f at block test)) (test + tests_in (part_for rules flow sizes forks f at block test))))
+    ∙ ap (λ xs. parts ++ xs) (sym (parts_step rules flow sizes forks f rest at block test))
+    ∙ ap (λ l. parts ++ parts_from rules flow sizes forks l at block test) (sym is)
+    ∙ h

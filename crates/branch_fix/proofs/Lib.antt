@@ -1,0 +1,14 @@
+pub mod Addresses
+pub mod Marking
+pub mod Walking
+pub mod Placing
+pub mod Shapes
+pub mod Laying
+pub mod Entries
+pub mod Distances
+pub mod Rounds
+pub mod Words
+pub mod Layouts
+pub mod LaidRight
+pub mod Settings
+pub mod Costs

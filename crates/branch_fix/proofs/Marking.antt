@@ -1,0 +1,67 @@
+-- The marks of a flow's parts: one for each test and the end, in order.
+use Rattle.std.proofs.Common.{ℕ, ◌≡◌, ◌≤◌, ◌+◌, Bool, true, false, List, [], ◌∷◌, map, Option, Some, None, refl, ap, arith}
+use Rattle.code_model.specs.declared.image.Mark.{Mark}
+use Rattle.form_model.specs.declared.flow.Flow.{Flow}
+use Rattle.form_model.specs.declared.flow.Flow.TheVariants.{Assign, Test as Tested, Jump as Jumped, End as Ended}
+use Rattle.form_model.specs.Rules.{Rule}
+use Rattle.branch_fix.specs.declared.part.Part.{Part}
+use Rattle.branch_fix.specs.declared.part.Part.TheVariants.{Block, Inner, Test, Jump, End}
+use Rattle.branch_fix.specs.Parts.{branch_words, room, marks_from, total, Fits, AllFit}
+use Rattle.branch_fix.specs.Marked.{labels, Ascend, AreMarked}
+
+abbrev label_of : Mark → Option ℕ
+label_of mark = mark.label
+
+each_label : (rules : List Rule) (flow : List Flow) (at : ℕ) (rest : List Flow) (parts : List Part) (a : ℕ) → AllFit rules flow at rest parts
+    → map (λ (mark : Mark). mark.label) (marks_from a parts) ≡ labels rest
+each_label rules flow at [] [] a h = refl
+each_label rules flow at [] (p ∷ parts) a h = absurd h
+each_label rules flow at (f ∷ rest) [] a h = absurd h
+each_label rules flow at (f ∷ rest) (p ∷ parts) a h = by f p h.0 (each_label rules flow (at + 1) rest parts (a + room p) h.1)
+  where
+    by : (f : Flow) (p : Part) → Fits rules flow at f p → map (λ (mark : Mark). mark.label) (marks_from (a + room p) parts) ≡ labels rest
+        → map (λ (mark : Mark). mark.label) (marks_from a (p ∷ parts)) ≡ labels (f ∷ rest)
+    by (Assign tree) (Block block words) g k = k
+    by (Assign tree) Inner g k = k
+    by (Assign tree) (Test x) g k = absurd g
+    by (Assign tree) (Jump to) g k = absurd g
+    by (Assign tree) End g k = absurd g
+    by (Tested tree one none) (Test x) g k = (λ j. Some (g.0 j) ∷ k j)
+    by (Tested tree one none) (Block block words) g k = absurd g
+    by (Tested tree one none) Inner g k = absurd g
+    by (Tested tree one none) (Jump to) g k = absurd g
+    by (Tested tree one none) End g k = absurd g
+    by (Jumped to) (Jump place) g k = k
+    by (Jumped to) (Block block words) g k = absurd g
+    by (Jumped to) Inner g k = absurd g
+    by (Jumped to) (Test x) g k = absurd g
+    by (Jumped to) End g k = absurd g
+    by Ended End g k = ap (λ xs. None ∷ xs) k
+    by Ended (Block block words) g k = absurd g
+    by Ended Inner g k = absurd g
+    by Ended (Test x) g k = absurd g
+    by Ended (Jump to) g k = absurd g
+
+less : (from at end : ℕ) (marks : List Mark) → from ≤ at → Ascend at marks end → Ascend from marks end
+less from at end [] le h = omega (arith, h)
+less from at end (m ∷ marks) le h = (omega (arith, h.0), h.1)
+
+some_words : (next long : Bool) → 1 ≤ branch_words next long
+some_words true true = omega arith
+some_words false true = omega arith
+some_words true false = omega arith
+some_words false false = omega arith
+
+ascending : (a end : ℕ) (parts : List Part) → a + total parts ≤ end → Ascend a (marks_from a parts) end
+ascending a end [] le = omega arith
+ascending a end (Block block words ∷ parts) le = less a (a + words) end (marks_from (a + words) parts) (omega arith) (ascending (a + words) end parts (omega arith))
+ascending a end (Inner ∷ parts) le = less a (a + 0) end (marks_from (a + 0) parts) (omega arith) (ascending (a + 0) end parts (omega arith))
+ascending a end (Test f ∷ parts) le =
+    let s = some_words f.next f.long in
+    (omega arith, less (a + 1) (a + (f.words + branch_words f.next f.long)) end (marks_from (a + (f.words + branch_words f.next f.long)) parts) (omega (arith, s)) (ascending (a + (f.words + branch_words f.next f.long)) end parts (omega arith)))
+ascending a end (Jump to ∷ parts) le = less a (a + 1) end (marks_from (a + 1) parts) (omega arith) (ascending (a + 1) end parts (omega arith))
+ascending a end (End ∷ parts) le = (omega arith, ascending (a + 1) end parts (omega arith))
+
+pub are_marked : (rules : List Rule) (flow : List Flow) (parts : List Part) → AllFit rules flow 0 flow parts
+    → AreMarked flow (total parts) (marks_from 0 parts)
+are_marked rules flow parts h = record { each = each_label rules flow 0 flow parts 0 h; apart = ascending 0 (total parts) parts (omega arith) }

@@ -1,0 +1,78 @@
+-- The words of code that is laid out.
+use Rattle.std.specs.Prelude.{ℕ, zero, suc, ◌+◌, ◌==◌, bit_or, unwrap_or, Bool, true, false, if◌then◌else◌, List, [], ◌∷◌, ◌++◌, Option, Some, None, slice_get, slice_index}
+use Rattle.std.specs.Borrow.{Bor}
+use Rattle.net_model.specs.Terms.{term_width}
+use Rattle.form_model.specs.declared.forms.Form.{Form}
+use Rattle.form_model.specs.Rules.{rule_of}
+use Rattle.form_model.specs.declared.forms.Step.{Step}
+use Rattle.form_model.specs.Shapes.{shape_setting}
+use Rattle.form_model.specs.Rules.{Rule, BranchTarget, absolute, relative, Kind, jumps, branches}
+use Rattle.branch_fix.specs.declared.laid.Item.{Item}
+use Rattle.branch_fix.specs.declared.laid.Item.TheVariants.{Group, Jump as Word}
+use Rattle.branch_fix.specs.declared.part.Part.{Part}
+use Rattle.branch_fix.specs.declared.part.Part.TheVariants.{Block, Inner, Test, Jump, End}
+use Rattle.branch_fix.specs.Parts.{room}
+use Rattle.branch_fix.specs.Rounds.{distance}
+
+-- the words of a block's groups, from one on, so many
+abbrev pub groups : ℕ → ℕ → ℕ → List Item
+groups block at zero = []
+groups block at (suc n) = Group block at ∷ groups block (at + 1) n
+
+-- ---- jumps
+
+abbrev pub reaches : Kind → ℕ → Bool
+reaches (jumps r) reach = r == reach
+reaches _ reach = false
+
+-- the first jump form of this reach
+abbrev pub jump_form : List Rule → ℕ → Option Rule
+jump_form [] reach = None
+jump_form (rule ∷ rules) reach = if reaches rule.goal reach then Some rule else jump_form rules reach
+
+-- a word of a form whose target has this value
+abbrev pub jump_step : Option Rule → ℕ → Step
+jump_step None to = record { pattern = 0; setting = 0 }
+jump_step (Some rule) to = record { pattern = rule.pattern; setting = unwrap_or (shape_setting rule.value to) 0 }
+
+-- a form that is looked at, if there is one
+abbrev pub rule_in : Option (Bor Form) → Option Rule
+rule_in None = None
+rule_in (Some form) = Some (rule_of form.now)
+
+-- ---- branches
+
+abbrev pub target_setting : BranchTarget → ℕ → ℕ → Bool → ℕ
+target_setting (absolute shape) from to long = unwrap_or (shape_setting shape to) 0
+target_setting (relative shape) from to true = unwrap_or (shape_setting shape 2) 0
+target_setting (relative shape) from to false = unwrap_or (shape_setting shape (distance (term_width shape) from to)) 0
+
+abbrev pub kind_setting : Kind → ℕ → ℕ → Bool → ℕ
+kind_setting (branches when_one target) from to long = target_setting target from to long
+kind_setting _ from to long = 0
+
+-- the branch word at an address: the bits of its condition and those of its target
+abbrev pub branch_step : Option Rule → ℕ → ℕ → ℕ → Bool → Step
+branch_step None setting from to long = record { pattern = 0; setting = 0 }
+branch_step (Some rule) setting from to long = record { pattern = rule.pattern; setting = bit_or setting (kind_setting rule.goal from to long) }
+
+-- the words behind it
+abbrev pub behind : Option Rule → Bool → Bool → ℕ → ℕ → List Item
+behind jump next true to other = Word (jump_step jump other) ∷ (Word (jump_step jump to) ∷ [])
+behind jump true false to other = []
+behind jump false false to other = Word (jump_step jump other) ∷ []
+
+-- ---- all words
+
+abbrev pub part_items : List Rule → Option Rule → List ℕ → ℕ → Part → List Item
+part_items rules jump addresses at (Block block words) = groups block 0 words
+part_items rules jump addresses at Inner = []
+part_items rules jump addresses at (Test f) =
+    groups f.block 0 f.words
+    ++ (Word (branch_step (slice_get rules f.form) f.setting (at + f.words) (slice_index addresses f.to) f.long) ∷ behind jump f.next f.long (slice_index addresses f.to) (slice_index addresses f.other))
+part_items rules jump addresses at (Jump to) = Word (jump_step jump (slice_index addresses to)) ∷ []
+part_items rules jump addresses at End = Word (jump_step jump at) ∷ []
+
+abbrev pub items_from : List Rule → Option Rule → List ℕ → ℕ → List Part → List Item
+items_from rules jump addresses at [] = []
+items_from rules jump addresses at (p ∷ parts) = part_items rules jump addresses at p ++ items_from rules jump addresses (at + room p) parts

@@ -1,0 +1,11 @@
+pub mod Parts
+pub mod Rounds
+pub mod Bounds
+pub mod Costs
+pub mod Entered
+pub mod Items
+pub mod Marked
+pub mod Laid
+pub mod Flowing
+pub mod Made
+pub mod Worked

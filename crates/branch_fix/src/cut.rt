@@ -1,0 +1,184 @@
+//! The parts of a flow.
+
+ghost use Rattle.std.specs.Prelude.{◌≡◌, ◌+◌, ◌<◌, ◌≤◌, ◌==◌, ◌^◌, IfOk, MatchOption, None, Some, length, false, slice_index, slice_get};
+ghost use Rattle.std.proofs.Common.{replicate};
+ghost use Rattle.form_model.specs.Rules.{rule_of, rules_of};
+ghost use Rattle.branch_fix.specs.Entered.{marked};
+ghost use Rattle.branch_fix.specs.Parts.{rule_at_one, given, fork_of, part_for, parts_of, blocks_in, tests_in};
+
+use crate::begun::{continues, entered};
+use crate::part::{Fork, Part};
+use form_model::{Flow, Form, Goal};
+use rec_bits::{Items, NoMemory};
+use std::alloc::Global;
+
+/// The form of this number.
+pub fn form_at(forms: &[Form], form: u64) -> Option<&Form>
+    ensures { MatchOption result (slice_get (rules_of forms.now) form ≡ None) (λ found. slice_get (rules_of forms.now) form ≡ Some (rule_of found.now)) }
+{
+    forms.get(form as usize)
+}
+
+// Whether a branch form goes to its target where its condition is 1.
+fn at_one(forms: &[Form], form: u64) -> bool
+    ensures { result ≡ rule_at_one (slice_get (rules_of forms.now) form) }
+{
+    match forms.get(form as usize) {
+        None => true,
+        Some(form) => match &form.goal {
+            Goal::Branch { when_one, .. } => *when_one,
+            _ => true,
+        },
+    }
+}
+
+fn size_at(sizes: &[u32], block: u32) -> u32
+    ensures { result ≡ slice_index sizes.now block }
+{
+    match sizes.get(block as usize) {
+        Some(words) => *words,
+        None => 0,
+    }
+}
+
+fn given(branches: &[(u64, u64)], test: usize) -> (u64, u64)
+    ensures { result ≡ given (slice_get branches.now test) }
+{
+    match branches.get(test) {
+        Some(branch) => *branch,
+        None => (0, 0),
+    }
+}
+
+// A test at a place: its branch form tells which of the two targets is the branch's.
+fn fork(
+    forms: &[Form],
+    tree: u32,
+    block: u32,
+    words: u32,
+    branch: (u64, u64),
+    at: usize,
+    when_one: u32,
+    when_zero: u32,
+) -> Part
+    requires { at < 2 ^ 63 }
+    ensures { result ≡ fork_of (rules_of forms.now) tree block words branch at when_one when_zero }
+{
+    let (form, setting) = branch;
+    let (to, other) = if at_one(forms, form) {
+        (when_one, when_zero)
+    } else {
+        (when_zero, when_one)
+    };
+    Part::Test(Fork {
+        tree,
+        block,
+        words,
+        form,
+        setting,
+        to,
+        other,
+        next: other as usize == at + 1,
+        long: false,
+    })
+}
+
+// The part of a flow's place, with so many blocks and tests before it.
+fn part_for(
+    forms: &[Form],
+    flow: &[Flow],
+    entered: &[bool],
+    sizes: &[u32],
+    branches: &[(u64, u64)],
+    place: Flow,
+    at: usize,
+    block: u32,
+    test: usize,
+) -> Part
+    requires at { at < length flow.now }
+    requires entered { entered.now ≡ marked flow.now (replicate (length flow.now) false) }
+    ensures { result ≡ part_for (rules_of forms.now) flow.now sizes.now branches.now place at block test }
+{
+    match place {
+        Flow::Assign(_) => {
+            if continues(flow, entered, at) {
+                Part::Inner
+            } else {
+                Part::Block {
+                    block,
+                    words: size_at(sizes, block),
+                }
+            }
+        }
+        Flow::Test {
+            tree,
+            when_one,
+            when_zero,
+        } => fork(
+            forms,
+            tree,
+            block,
+            size_at(sizes, block),
+            given(branches, test),
+            at,
+            when_one,
+            when_zero,
+        ),
+        Flow::Jump(to) => Part::Jump(to),
+        Flow::End => Part::End,
+    }
+}
+
+fn blocks_in(part: Part) -> u32
+    ensures { result ≡ blocks_in part }
+{
+    match part {
+        Part::Block { .. } | Part::Test(_) => 1,
+        _ => 0,
+    }
+}
+
+fn tests_in(part: Part) -> usize
+    ensures value { result ≡ tests_in part }
+    ensures few { result ≤ 1 }
+{
+    match part {
+        Part::Test(_) => 1,
+        _ => 0,
+    }
+}
+
+// How many blocks there are up to a part, with so many before it. Want of memory where they are more than can be numbered.
+fn blocks_up_to(block: u32, part: Part) -> Result<u32, NoMemory>
+    ensures { IfOk result (λ n. n ≡ block + blocks_in part) }
+{
+    match block.checked_add(blocks_in(part)) {
+        Some(n) => Ok(n),
+        None => Err(NoMemory),
+    }
+}
+
+/// The parts of a flow: `sizes` has the words of each block, and `branches` the branch form and the setting of each test.
+pub fn parts(
+    alloc: Global,
+    forms: &[Form],
+    flow: &[Flow],
+    sizes: &[u32],
+    branches: &[(u64, u64)],
+) -> Result<Items<Part>, NoMemory>
+    ensures { IfOk result (λ parts. parts ≡ parts_of (rules_of forms.now) flow.now sizes.now branches.now) }
+{
+    let entered = entered(alloc, flow)?;
+    let mut parts = Items::new(alloc);
+    let mut block = 0;
+    let mut test = 0;
+    for (at, place) in flow.iter().enumerate() {
+        let part = part_for(
+            forms, flow, &entered, sizes, branches, *place, at, block, test,
+        );
+        parts.push(part)?;
+        block = blocks_up_to(block, part)?;
+        test += tests_in(part);
+    }
+    Ok(parts)
+}

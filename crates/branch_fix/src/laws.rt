@@ -1,0 +1,70 @@
+//! Laws of the layout, proved here once for all that make code of programs.
+
+ghost use Rattle.std.specs.Prelude.{ℕ, ◌≡◌, ◌≤◌, ◌<◌, ◌+◌, ◌%◌, ◌^◌, Bool, true, false, List, None, Some, length, slice_get, slice_index};
+ghost use Rattle.net_model.specs.declared.hardware.Netlist.{Netlist};
+ghost use Rattle.net_model.specs.declared.states.State.{State};
+ghost use Rattle.net_model.specs.Terms.{Term, term_width};
+ghost use Rattle.net_model.specs.Meaning.{mean};
+ghost use Rattle.net_model.specs.Control.{IsSound};
+ghost use Rattle.net_model.specs.Nets.{memory_size, memory_width};
+ghost use Rattle.net_model.specs.Widths.{WordFits};
+ghost use Rattle.src_model.specs.Written.{Listing, acts_of};
+ghost use Rattle.src_model.specs.Sizes.{statements_in};
+ghost use Rattle.src_model.specs.Meaning.{cell_count};
+ghost use Rattle.src_model.specs.Rules.{first_fault};
+ghost use Rattle.src_model.specs.Trace.{strace};
+ghost use Rattle.code_model.specs.declared.image.Image.{Image};
+ghost use Rattle.code_model.specs.Places.{words_of, places_from};
+ghost use Rattle.code_model.specs.Layout.{variables_of};
+ghost use Rattle.code_model.specs.Right.{TracesRight};
+ghost use Rattle.form_model.specs.declared.flow.Flow.{Flow};
+ghost use Rattle.form_model.specs.Rules.{Rule, absolute, relative};
+ghost use Rattle.form_model.specs.Shapes.{shows};
+ghost use Rattle.src_trees.specs.Flows.{program_flow, program_works};
+ghost use Rattle.src_trees.specs.Seen.{memory_of, InReach};
+ghost use Rattle.branch_fix.specs.declared.part.Fork.{Fork};
+ghost use Rattle.branch_fix.specs.declared.part.Part.{Part};
+ghost use Rattle.branch_fix.specs.declared.part.Part.TheVariants.{Test};
+ghost use Rattle.branch_fix.specs.Parts.{address, parts_of, starts, total, AllFit};
+ghost use Rattle.branch_fix.specs.Rounds.{rule_shows, target_shows, IsSettled};
+ghost use Rattle.branch_fix.specs.Items.{jump_step, target_setting};
+ghost use Rattle.branch_fix.specs.Bounds.{bound_of, control_words, program_bound, sum_of};
+ghost use Rattle.branch_fix.specs.Costs.{block_costs, AreWithin};
+ghost use Rattle.branch_fix.specs.Made.{IsMade};
+
+/// An image whose words stand for the parts of a program's flow, and whose marks are theirs, traces the program.
+pub fn law_of_layouts()
+    ensures { (netlist : Netlist) (image : Image) (bits addr temps : ℕ) (l : Listing) (rules : List Rule) (parts : List Part) → IsSound netlist → first_fault bits l ≡ None →
+        memory_width netlist.storages ≡ bits → InReach bits addr temps l.vars → temps + cell_count l.vars ≤ memory_size netlist.storages →
+        image.places ≡ places_from temps (variables_of l.vars) →
+        IsMade netlist image temps rules (program_flow l) (program_works (memory_of bits addr temps l.vars) l) parts →
+        length (words_of image) ≡ total parts → ((a : ℕ) → WordFits netlist (slice_index (words_of image) a)) → TracesRight netlist image (strace bits l) }
+{}
+
+/// The rounds settle on one list of parts, which stand for the places of the flow one by one. Each relative branch that is not three words
+/// shows its distance, between the addresses that the parts have.
+pub fn law_of_parts()
+    ensures one { (rules : List Rule) (first a b : List Part) → IsSettled rules first a → IsSettled rules first b → a ≡ b }
+    ensures fit { (rules : List Rule) (flow : List Flow) (sizes : List ℕ) (branches : List (ℕ × ℕ)) (parts : List Part) →
+        IsSettled rules (parts_of rules flow sizes branches) parts → AllFit rules flow 0 flow parts }
+    ensures shown { (rules : List Rule) (first parts : List Part) (k : ℕ) (f : Fork) → IsSettled rules first parts → slice_get parts k ≡ Some (Test f) →
+        f.long ≡ false → rule_shows (slice_get rules f.form) (address parts k + f.words) (slice_index (starts 0 parts) f.to) ≡ true }
+    ensures addresses { (parts : List Part) (k : ℕ) → k ≤ length parts → slice_index (starts 0 parts) k ≡ address parts k }
+{}
+
+/// The bound of a program's flow is the program's own, and blocks that have no more words than they cost keep to it.
+pub fn law_of_bounds()
+    ensures program { (l : Listing) (costs : List ℕ) → bound_of (program_flow l) costs ≡ program_bound l costs }
+    ensures blocks { (l : Listing) (costs sizes : List ℕ) → length costs ≡ statements_in (acts_of l.body) →
+        AreWithin sizes (block_costs (program_flow l) costs (program_flow l) 0) → sum_of sizes + control_words (program_flow l) ≤ bound_of (program_flow l) costs }
+{}
+
+/// The bits that a jump or branch word has for its target lead to it from every state, where the target's shape shows them.
+pub fn law_of_targets()
+    ensures jumps { (rule : Rule) (s : State) (to : ℕ) → shows rule.value to ≡ true → mean rule.value s (jump_step (Some rule) to).setting ≡ to }
+    ensures absolute { (shape : Term) (s : State) (from to : ℕ) (long : Bool) → shows shape to ≡ true →
+        mean shape s (target_setting (absolute shape) from to long) ≡ to }
+    ensures relative { (shape : Term) (s : State) (from to : ℕ) → term_width shape ≤ 64 → from ≤ 2 ^ 64 → to < 2 ^ term_width shape →
+        target_shows (relative shape) from to ≡ true → (from + mean shape s (target_setting (relative shape) from to false)) % 2 ^ term_width shape ≡ to }
+    ensures long { (shape : Term) (s : State) (from to : ℕ) → shows shape 2 ≡ true → mean shape s (target_setting (relative shape) from to true) ≡ 2 }
+{}

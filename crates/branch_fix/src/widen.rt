@@ -1,0 +1,144 @@
+//! Relative branches that don't show their distance become three words.
+
+ghost use Rattle.std.specs.Prelude.{◌≡◌, ◌+◌, ◌<◌, ◌≤◌, ◌^◌, ℕ, IfOk, is_some, length, slice_get};
+ghost use Rattle.net_model.specs.Terms.{term_of, term_width};
+ghost use Rattle.form_model.specs.Rules.{kind_of, rules_of};
+ghost use Rattle.branch_fix.specs.Parts.{room, total};
+ghost use Rattle.branch_fix.specs.Rounds.{distance, is_long, kind_shows, long_tests, round, rounds, rule_shows, widened, widened_from, widened_part, IsSettled};
+
+use crate::cut::form_at;
+use crate::part::{Fork, Part};
+use crate::rooms::{address_at, room, starts};
+use form_model::{Form, Goal, Target};
+use net_model::Expr;
+use rec_bits::{Items, NoMemory};
+use std::alloc::Global;
+use tree_grammar::{expr_width, low_bits, setting_of};
+
+/// How far one address lies behind another, in as many bits as the shape has.
+pub fn distance(shape: &Expr, from: u64, to: u64) -> u64
+    ensures { result ≡ distance (term_width (term_of shape.now)) from to }
+{
+    low_bits(to.wrapping_sub(from), expr_width(shape))
+}
+
+// Whether a branch form shows its target.
+fn form_shows(form: &Form, from: u64, to: u64) -> Result<bool, NoMemory>
+    ensures { IfOk result (λ shown. shown ≡ kind_shows (kind_of form.now.goal) from to) }
+{
+    match &form.goal {
+        Goal::Branch {
+            target: Target::Relative(shape),
+            ..
+        } => {
+            let setting = setting_of(shape, distance(shape, from, to))?;
+            Ok(setting.is_some())
+        }
+        _ => Ok(true),
+    }
+}
+
+fn shows_target(forms: &[Form], form: u64, from: u64, to: u64) -> Result<bool, NoMemory>
+    ensures { IfOk result (λ shown. shown ≡ rule_shows (slice_get (rules_of forms.now) form) from to) }
+{
+    match form_at(forms, form) {
+        None => Ok(true),
+        Some(form) => form_shows(form, from, to),
+    }
+}
+
+// A test at an address, after a round.
+fn widened_fork(forms: &[Form], addresses: &[u64], at: u64, fork: Fork) -> Result<Fork, NoMemory>
+    requires { at + fork.words < 2 ^ 64 }
+    ensures { IfOk result (λ new. new ≡ widened (rules_of forms.now) addresses.now at fork) }
+{
+    let shown = shows_target(
+        forms,
+        fork.form,
+        at + u64::from(fork.words),
+        address_at(addresses, fork.to),
+    )?;
+    Ok(Fork {
+        long: fork.long || !shown,
+        ..fork
+    })
+}
+
+fn widened_part(forms: &[Form], addresses: &[u64], at: u64, part: Part) -> Result<Part, NoMemory>
+    requires { at + room part < 2 ^ 64 }
+    ensures { IfOk result (λ new. new ≡ widened_part (rules_of forms.now) addresses.now at part) }
+{
+    match part {
+        Part::Test(fork) => {
+            let fork = widened_fork(forms, addresses, at, fork)?;
+            Ok(Part::Test(fork))
+        }
+        other => Ok(other),
+    }
+}
+
+// The parts after a round, given their addresses.
+fn widened(
+    alloc: Global,
+    forms: &[Form],
+    addresses: &[u64],
+    parts: &[Part],
+) -> Result<Items<Part>, NoMemory>
+    requires { total parts.now < 2 ^ 64 }
+    ensures { IfOk result (λ new. new ≡ widened_from (rules_of forms.now) addresses.now 0 parts.now) }
+{
+    let mut new = Items::new(alloc);
+    let mut address = 0;
+    for part in parts {
+        let after = widened_part(forms, addresses, address, *part)?;
+        new.push(after)?;
+        address += room(*part);
+    }
+    Ok(new)
+}
+
+fn after_round(alloc: Global, forms: &[Form], parts: &[Part]) -> Result<Items<Part>, NoMemory>
+    requires { total parts.now < 2 ^ 64 }
+    ensures { IfOk result (λ new. new ≡ round (rules_of forms.now) parts.now) }
+{
+    let addresses = starts(alloc, parts)?;
+    widened(alloc, forms, addresses.as_slice(), parts)
+}
+
+fn is_long(part: Part) -> bool
+    ensures { result ≡ is_long part }
+{
+    match part {
+        Part::Test(fork) => fork.long,
+        _ => false,
+    }
+}
+
+// How many tests are three words.
+fn long_tests(parts: &[Part]) -> usize
+    ensures value { result ≡ long_tests parts.now }
+    ensures few { result ≤ length parts.now }
+{
+    let mut count = 0;
+    for part in parts {
+        if is_long(*part) {
+            count += 1;
+        }
+    }
+    count
+}
+
+/// The parts when rounds are repeated until one changes nothing.
+pub fn settled(alloc: Global, forms: &[Form], first: Items<Part>) -> Result<Items<Part>, NoMemory>
+    requires { (n : ℕ) → total (rounds (rules_of forms.now) n first) < 2 ^ 64 }
+    ensures { IfOk result (λ last. IsSettled (rules_of forms.now) first last) }
+{
+    let mut parts = first;
+    'rounds: loop {
+        let next = after_round(alloc, forms, parts.as_slice())?;
+        if long_tests(next.as_slice()) == long_tests(parts.as_slice()) {
+            return Ok(parts);
+        }
+        parts = next;
+    }
+}

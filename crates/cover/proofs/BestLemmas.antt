@@ -1,0 +1,142 @@
+-- The chosen cover of a job.
+use Rattle.std.proofs.Common.{◌≡◌, ℕ, zero, suc, ◌+◌, ◌-◌, ◌<◌, ◌≤◌, List, [], ◌∷◌, length, Option, Some, None, Bool, true, false, refl, sym, ap, ◌∙◌, subst, arith, ◌⊎◌, inl, inr, nat_lt, if◌then◌else◌}
+use Rattle.std.specs.Prelude.{slice_get}
+use Rattle.std.specs.Option.{option_map}
+use Rattle.std.proofs.lemmas.Bool.{cases_eq}
+use Rattle.std.proofs.lemmas.Bool.Decides.{nat_tests}
+use Rattle.std.proofs.lemmas.List.{length-map}
+use Rattle.std.proofs.lemmas.Option.{slice_get_within, slice_get-map}
+use Rattle.net_model.specs.Terms.{Term}
+use Rattle.form_model.specs.Rules.{Destination}
+use Rattle.form_model.specs.Trees.{tree_term}
+use Rattle.form_model.specs.declared.trees.Tree.{Tree}
+use Rattle.form_model.specs.Plans.{Plan, use_form, cost, plan_of}
+use Rattle.form_model.specs.Covers.{Stock, Choice, IsChosen, HasNoCover, parts_cost, written, IsBefore}
+use Rattle.cover.specs.declared.covers.JobCover.{JobCover}
+use Rattle.cover.specs.declared.covers.TreeCover.{TreeCover}
+use Rattle.cover.specs.Asks.{Ask, IsSparing}
+use Rattle.cover.specs.Least.{IsLeast}
+use Rattle.cover.specs.Jobs.{trees_of}
+use Rattle.cover.specs.Choice.{IsFirst}
+use Rattle.cover.specs.Best.{root_ask, choice_of, IsTreeCover, better_of, Beats, IsBestOne, IsBest}
+use Rattle.cover.proofs.OrderlyLemmas.{to_orderly, from_orderly, and_zero}
+
+pub first_cost : (stock : Stock) (avoid : ℕ) (ask : Ask) (n : ℕ) (p : Plan) → IsLeast stock avoid ask (Some n) → IsFirst stock avoid ask p → n ≡ cost p
+first_cost stock avoid ask n p least first =
+    let (p0, sparing0, e0) = least.reached in
+    let h = least.least p first.sparing in
+    elim (first.first p0 sparing0) [ inl lt ↦ absurd (omega (arith, lt, h, e0)) | inr eq ↦ (let e = eq.0 in omega (arith, e, e0)) ]
+
+-- a first cover of the tree at j, among the covers of that tree
+beats_same : (a b : Plan) (j i : ℕ) → i ≡ j → (cost a < cost b) ⊎ ((cost a ≡ cost b) × ((a ≡ b) ⊎ IsBefore a b)) → Beats (record { which = j; plan = a }) (record { which = i; plan = b })
+beats_same a b j i e (inl lt) = inl lt
+beats_same a b j i e (inr (same, inl eq)) = inr (same, inl (λ k. record { which = sym e k; plan = eq k }))
+beats_same a b j i e (inr (same, inr before)) = inr (same, inr (inr (sym e, before)))
+
+lt_of : (a b : ℕ) → nat_lt a b ≡ true → a < b
+lt_of a b e = grind (arith, nat_tests)
+
+ge_of : (a b : ℕ) → nat_lt a b ≡ false → b ≤ a
+ge_of a b e = grind (arith, nat_tests)
+
+at_least : (a b : Choice) → Beats a b → cost a.plan ≤ cost b.plan
+at_least a b (inl lt) = omega (arith, lt)
+at_least a b (inr eq) = let e = eq.0 in omega (arith, e)
+
+module _ (stock : Stock) (destination : Destination) (trees : List Term) (j : ℕ) (t : Term) (get : slice_get trees j ≡ Some t) where
+  same_tree : (i : ℕ) (u : Term) (q : Plan) → i ≡ j → slice_get trees i ≡ Some u → IsSparing stock 0 (root_ask destination u) q → IsSparing stock 0 (root_ask destination t) q
+  same_tree i u q e get' sparing =
+      let g : slice_get trees j ≡ Some u = subst (λ k. slice_get trees k ≡ Some u) e get' in
+      let same : u ≡ t = cc in
+      subst (λ x. IsSparing stock 0 (root_ask destination x) q) same sparing
+
+  -- the new cover is the first of its tree, and cheaper than all before
+  new_best : (x : TreeCover) → IsTreeCover stock (root_ask destination t) (Some x) → ((i : ℕ) (u : Term) (q : Plan) → i < j → slice_get trees i ≡ Some u → IsSparing stock 0 (root_ask destination u) q → x.cost < cost q) → IsBestOne stock destination trees (j + 1) (record { which = j; cover = x.cover; cost = x.cost })
+  new_best x (first, is) less = record {
+    tree = t;
+    used = get;
+    within = omega arith;
+    sparing = first.sparing;
+    costs = is;
+    beats = λ i u q lt get' sparing. elim (cases_eq i j) [
+      | inl e ↦ beats_same (plan_of x.cover) q j i e (first.first q (same_tree i u q e get' sparing))
+      | inr other ↦ inl (let l = less i u q (omega (arith, lt, other)) get' sparing in omega (arith, l, is))
+    ];
+  }
+
+  -- the old cover stays
+  old_best : (c : JobCover) → IsBestOne stock destination trees j c → ((q : Plan) → IsSparing stock 0 (root_ask destination t) q → c.cost ≤ cost q) → IsBestOne stock destination trees (j + 1) c
+  old_best c b most = record {
+    tree = b.tree;
+    used = b.used;
+    within = (let w = b.within in omega (arith, w));
+    sparing = b.sparing;
+    costs = b.costs;
+    beats = λ i u q lt get' sparing. elim (cases_eq i j) [
+      | inl e ↦ (let le = most q (same_tree i u q e get' sparing) in let k = b.costs in let w = b.within in
+          elim (cases_eq (cost (plan_of c.cover)) (cost q)) [
+            | inl eq ↦ inr (eq, inr (inl (omega (arith, w, e))))
+            | inr ne ↦ inl (omega (arith, le, k, ne))
+          ])
+      | inr other ↦ b.beats i u q (omega (arith, lt, other)) get' sparing
+    ];
+  }
+
+  tree_cover_least : (x : TreeCover) → IsTreeCover stock (root_ask destination t) (Some x) → (q : Plan) → IsSparing stock 0 (root_ask destination t) q → x.cost ≤ cost q
+  tree_cover_least x (first, is) q sparing = elim (first.first q sparing) [ inl lt ↦ omega (arith, lt, is) | inr eq ↦ (let e = eq.0 in omega (arith, e, is)) ]
+
+  pub best_more : (best : Option JobCover) (tree_cover : Option TreeCover) → IsBest stock destination trees j best → IsTreeCover stock (root_ask destination t) tree_cover → IsBest stock destination trees (j + 1) (better_of best j tree_cover)
+  best_more None None b n = λ i u q lt get' sparing. elim (cases_eq i j) [
+    | inl e ↦ n q (same_tree i u q e get' sparing)
+    | inr other ↦ b i u q (omega (arith, lt, other)) get' sparing
+  ]
+  best_more (Some c) None b n = old_best c b (λ q sparing. absurd (n q sparing))
+  best_more None (Some x) b n = new_best x n (λ i u q lt get' sparing. absurd (b i u q lt get' sparing))
+  best_more (Some c) (Some x) b n = go (nat_lt x.cost c.cost) refl
+    where
+      go : (v : Bool) → nat_lt x.cost c.cost ≡ v → IsBest stock destination trees (j + 1) (if v then Some (record { which = j; cover = x.cover; cost = x.cost }) else Some c)
+      go true e = new_best x n (λ i u q lt get' sparing. (let l = lt_of x.cost c.cost e in let m = at_least (choice_of c) (record { which = i; plan = q }) (b.beats i u q lt get' sparing) in let k = b.costs in omega (arith, l, m, k)))
+      go false e = old_best c b (λ q sparing. (let l = ge_of x.cost c.cost e in let m = tree_cover_least x n q sparing in omega (arith, l, m)))
+
+pub tree_get : (trees : List Tree) (j : ℕ) (t : Tree) → slice_get trees j ≡ Some t → slice_get (trees_of trees) j ≡ Some (tree_term t)
+tree_get trees j t h = slice_get-map tree_term trees j ∙ ap (option_map tree_term) h
+
+pub best_chosen : (stock : Stock) (destination : Destination) (trees : List Term) (n : ℕ) (c : JobCover) → length trees ≡ n → IsBest stock destination trees n (Some c) → IsChosen stock destination trees (choice_of c)
+best_chosen stock destination trees n c len b = record {
+  covers = record { tree = b.tree; used = b.used; orderly = (to_orderly stock (plan_of c.cover) (root_ask destination b.tree) 0 b.sparing).0 };
+  first = λ other covers. b.beats other.which covers.tree other.plan (let w = slice_get_within trees other.which covers.tree covers.used in omega (arith, w, len)) covers.used
+      (from_orderly stock other.plan (root_ask destination covers.tree) 0 covers.orderly (and_zero (written stock.rules other.plan)));
+}
+
+pub best_none : (stock : Stock) (destination : Destination) (trees : List Term) (n : ℕ) → length trees ≡ n → IsBest stock destination trees n None → HasNoCover stock destination trees
+best_none stock destination trees n len b = record {
+  none = λ other covers. b other.which covers.tree other.plan (let w = slice_get_within trees other.which covers.tree covers.used in omega (arith, w, len)) covers.used
+      (from_orderly stock other.plan (root_ask destination covers.tree) 0 covers.orderly (and_zero (written stock.rules other.plan)));
+}
+
+pub listed_at : {X : Type 0} (xs : List X) (i : ℕ) → i < length xs → (x : X) × (slice_get xs i ≡ Some x)
+listed_at [] i lt = absurd (omega arith)
+listed_at (x ∷ xs) zero lt = (x, refl)
+listed_at (x ∷ xs) (suc i) lt = listed_at xs i (omega arith)
+
+pub best_step : (stock : Stock) (destination : Destination) (trees : List Tree) (j : ℕ) (best new : Option JobCover) (tree_cover : Option TreeCover) → j < length trees → IsBest stock destination (trees_of trees) j best → ((t : Term) → slice_get (trees_of trees) j ≡ Some t → IsTreeCover stock (root_ask destination t) tree_cover) → new ≡ better_of best j tree_cover → IsBest stock destination (trees_of trees) (j + 1) new
+best_step stock destination trees j best new tree_cover lt b is e =
+    let (t, get) = listed_at trees j lt in
+    let got = tree_get trees j t get in
+    subst (IsBest stock destination (trees_of trees) (j + 1)) (sym e) (best_more stock destination (trees_of trees) j (tree_term t) got best tree_cover b (is (tree_term t) got))
+
+pub is_cost : (stock : Stock) (destination : Destination) (trees : List Term) (n : ℕ) (o : Option JobCover) (c : JobCover) → IsBest stock destination trees n o → o ≡ Some c → c.cost ≡ cost (plan_of c.cover)
+is_cost stock destination trees n o c b e = let one : IsBestOne stock destination trees n c = subst (IsBest stock destination trees n) e b in one.costs
+
+pub is_chosen : (stock : Stock) (destination : Destination) (trees : List Tree) (o : Option JobCover) (c : JobCover) → IsBest stock destination (trees_of trees) (length trees) o → o ≡ Some c → IsChosen stock destination (trees_of trees) (choice_of c)
+is_chosen stock destination trees o c b e = best_chosen stock destination (trees_of trees) (length trees) c (length-map trees tree_term) (subst (IsBest stock destination (trees_of trees) (length trees)) e b)
+
+pub is_none : (stock : Stock) (destination : Destination) (trees : List Tree) (o : Option JobCover) → IsBest stock destination (trees_of trees) (length trees) o → o ≡ None → HasNoCover stock destination (trees_of trees)
+is_none stock destination trees o b e = best_none stock destination (trees_of trees) (length trees) (length-map trees tree_term) (subst (IsBest stock destination (trees_of trees) (length trees)) e b)
+
+pub parts_is : (p : Plan) → cost p - 1 ≡ parts_cost p
+parts_is (use_form k ps cs) = omega arith
+
+-- the same choice with another cost
+pub chosen_again : (stock : Stock) (destination : Destination) (trees : List Term) (a b : JobCover) → choice_of b ≡ choice_of a → IsChosen stock destination trees (choice_of a) → IsChosen stock destination trees (choice_of b)
+chosen_again stock destination trees a b e h = subst (IsChosen stock destination trees) (sym e) h

@@ -1,0 +1,71 @@
+-- What is known of a form that begins a cover of what is asked.
+use Rattle.std.proofs.Common.{◌≡◌, ◌≢◌, ℕ, ◌+◌, List, Option, Some, None, refl, sym, ap, ◌∙◌, subst, inl, inr}
+use Rattle.std.specs.Prelude.{slice_get, bit_and, IfSome}
+use Rattle.std.specs.Option.{option_map}
+use Rattle.net_model.specs.Terms.{Term}
+use Rattle.form_model.specs.Rules.{Rule, rule_of}
+use Rattle.form_model.specs.Matches.{Found, taken}
+use Rattle.form_model.specs.Covers.{Stock, operands_of, cuts_of}
+use Rattle.form_model.specs.declared.forms.Form.{Form}
+use Rattle.form_model.specs.Trees.{tree_term}
+use Rattle.tree_grammar.specs.declared.parts.Match.{Match}
+use Rattle.tree_grammar.specs.Parts.{destination_at, found_of, AreAt, Stands}
+use Rattle.cover.specs.declared.table.Instance.{Instance}
+use Rattle.cover.specs.declared.fits.Want.{Want}
+use Rattle.cover.specs.declared.fits.Fit.{Fit}
+use Rattle.cover.specs.declared.parts.OpenOperand.{OpenOperand}
+use Rattle.cover.specs.declared.parts.OpenCut.{OpenCut}
+use Rattle.cover.specs.Asks.{Ask, takes}
+use Rattle.cover.specs.Least.{IsLeast, IsLeastForm, IsLeastOrder, IsLeastCut, summed}
+use Rattle.cover.specs.Jobs.{stock_of, nodes_of, open_operands, open_cuts}
+use Rattle.cover.specs.Choice.{ask_of, StandsWant, IsFit, Fits, FitOf, NeverBegins}
+use Rattle.cover.proofs.LeastLemmas.{some_form}
+use Rattle.cover.proofs.ChoiceLemmas.{never_by, fits_least}
+
+pub want_at : (instance : Instance) (w : Want) (o : Option Match) (m : Match) → StandsWant instance w → IfSome o (λ x. (nodes : List Term) → Stands nodes w.at (destination_at w.destination) (tree_term w.tree.now) → AreAt nodes x.parts.items) → o ≡ Some m → AreAt (nodes_of instance) m.parts.items
+want_at instance w o m stands at is =
+    let f : (nodes : List Term) → Stands nodes w.at (destination_at w.destination) (tree_term w.tree.now) → AreAt nodes m.parts.items = subst (λ y. IfSome y (λ x. (nodes : List Term) → Stands nodes w.at (destination_at w.destination) (tree_term w.tree.now) → AreAt nodes x.parts.items)) is at in
+    f (nodes_of instance) stands
+
+pub want_takes : (instance : Instance) (form : Form) (w : Want) (o : Option Match) (m : Match) → option_map found_of o ≡ taken instance.temps (rule_of form) (destination_at w.destination) (tree_term w.tree.now) w.whole → o ≡ Some m → takes (stock_of instance) (rule_of form) (ask_of w) ≡ Some (found_of m)
+want_takes instance form w o m found is = sym found ∙ ap (option_map found_of) is
+
+summed_none : (x : Option ℕ) → summed x None ≡ None
+summed_none None = refl
+summed_none (Some n) = refl
+
+pub fit_ok : (stock : Stock) (avoid : ℕ) (ask : Ask) (k : ℕ) (rule : Rule) (found : Found) (is : List OpenOperand) (ss : List OpenCut) (a b : Option ℕ) (o : Option Fit) → slice_get stock.rules k ≡ Some rule → bit_and rule.clobbers avoid ≡ 0 → takes stock rule ask ≡ Some found → open_operands is ≡ operands_of found.sites → open_cuts ss ≡ cuts_of found.sites → IsLeastOrder stock avoid (open_operands is) a → IsLeastCut stock (open_cuts ss) b → FitOf is ss a b o → IsFit stock avoid ask k o
+fit_ok stock avoid ask k rule found is ss a b None get spared t ei es la lb (inl e) =
+    subst (IsLeastForm stock avoid ask k) (ap (λ x. summed (summed (Some 1) x) b) e)
+    (some_form stock avoid ask k rule found a b get spared t (subst (λ l. IsLeastOrder stock avoid l a) ei la) (subst (λ l. IsLeastCut stock l b) es lb))
+fit_ok stock avoid ask k rule found is ss a b None get spared t ei es la lb (inr e) =
+    subst (IsLeastForm stock avoid ask k) (ap (λ x. summed (summed (Some 1) a) x) e ∙ summed_none (summed (Some 1) a))
+    (some_form stock avoid ask k rule found a b get spared t (subst (λ l. IsLeastOrder stock avoid l a) ei la) (subst (λ l. IsLeastCut stock l b) es lb))
+fit_ok stock avoid ask k rule found is ss a b (Some f) get spared t ei es la lb (fi, fs, fa, fb) = record {
+  rule = rule;
+  found = found;
+  listed = get;
+  spared = spared;
+  takes_it = t;
+  operands_are = ap open_operands fi ∙ ei;
+  cuts_are = ap open_cuts fs ∙ es;
+  order = subst (λ l. IsLeastOrder stock avoid (open_operands l) (Some f.operands_cost)) (sym fi) (subst (IsLeastOrder stock avoid (open_operands is)) fa la);
+  cut = subst (λ l. IsLeastCut stock (open_cuts l) (Some f.cuts_cost)) (sym fs) (subst (IsLeastCut stock (open_cuts ss)) fb lb);
+}
+
+pub fit_inputs : (P : List OpenOperand → Type 0) (is : List OpenOperand) (ss : List OpenCut) (a b : Option ℕ) (o : Option Fit) → FitOf is ss a b o → P is → IfSome o (λ f. P f.operands.items)
+fit_inputs P is ss a b None h p = tt
+fit_inputs P is ss a b (Some f) (fi, fs, fa, fb) p = subst P (sym fi) p
+
+pub fit_stored : (P : List OpenCut → Type 0) (is : List OpenOperand) (ss : List OpenCut) (a b : Option ℕ) (o : Option Fit) → FitOf is ss a b o → P ss → IfSome o (λ f. P f.cuts.items)
+fit_stored P is ss a b None h p = tt
+fit_stored P is ss a b (Some f) (fi, fs, fa, fb) p = subst P (sym fs) p
+
+pub never_none : (stock : Stock) (avoid : ℕ) (ask : Ask) (n k : ℕ) (o : Option Fit) → IsLeast stock avoid ask (Some n) → IsFit stock avoid ask k o → o ≡ None → NeverBegins stock avoid ask n k
+never_none stock avoid ask n k o least is e = never_by stock avoid ask n k None least (subst (IsFit stock avoid ask k) e is) (λ m f. absurd (cc))
+
+pub never_some : (stock : Stock) (avoid : ℕ) (ask : Ask) (n k c : ℕ) (o : Option Fit) (f : Fit) → IsLeast stock avoid ask (Some n) → IsFit stock avoid ask k o → o ≡ Some f → c ≡ 1 + f.operands_cost + f.cuts_cost → c ≢ n → NeverBegins stock avoid ask n k
+never_some stock avoid ask n k c o f least is e sum differ =
+    let fits : Fits stock avoid ask k (open_operands f.operands.items) (open_cuts f.cuts.items) f.operands_cost f.cuts_cost = subst (IsFit stock avoid ask k) e is in
+    never_by stock avoid ask n k (Some (1 + f.operands_cost + f.cuts_cost)) least (fits_least stock avoid ask k (open_operands f.operands.items) (open_cuts f.cuts.items) f.operands_cost f.cuts_cost fits)
+    (λ m g same. differ (let h : 1 + f.operands_cost + f.cuts_cost ≡ m = cc in sum ∙ h ∙ same))

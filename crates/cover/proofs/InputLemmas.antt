@@ -1,0 +1,77 @@
+-- Lists of operands and cuts as the code holds them.
+use Rattle.std.proofs.Common.{◌≡◌, ℕ, zero, suc, ◌+◌, ◌-◌, ◌<◌, ◌≤◌, List, [], ◌∷◌, length, take, drop, Option, Some, arith, refl, ap, ◌∙◌, subst, Bool, true, false}
+use Rattle.std.specs.Prelude.{slice_get, remove, if◌then◌else◌, ◌==◌}
+use Rattle.std.specs.Option.{option_map}
+use Rattle.std.proofs.lemmas.List.{take_all}
+use Rattle.std.proofs.lemmas.Option.{slice_get-map}
+use Rattle.net_model.specs.Terms.{Term, size_of}
+use Rattle.form_model.specs.Trees.{tree_term}
+use Rattle.form_model.specs.Covers.{Stock, Operand}
+use Rattle.cover.specs.declared.parts.OpenOperand.{OpenOperand}
+use Rattle.cover.specs.declared.parts.OpenCut.{OpenCut}
+use Rattle.cover.specs.Asks.{operand_ask, operands_size, rank}
+use Rattle.cover.specs.Least.{IsLeast}
+use Rattle.cover.specs.Rows.{row_ask, IsSlot}
+use Rattle.cover.specs.Jobs.{open_operand, open_operands, open_cuts, CutsAt}
+use Rattle.cover.proofs.OfferLemmas.{slot_reg}
+
+pub inputs_at : (is : List OpenOperand) (i : ℕ) (x : OpenOperand) → slice_get is i ≡ Some x → slice_get (open_operands is) i ≡ Some (open_operand x)
+inputs_at is i x h = slice_get-map open_operand is i ∙ ap (option_map open_operand) h
+
+pub inputs_without : (is : List OpenOperand) (i : ℕ) → open_operands (remove is i) ≡ remove (open_operands is) i
+inputs_without [] zero = refl
+inputs_without [] (suc i) = refl
+inputs_without (x ∷ is) zero = refl
+inputs_without (x ∷ is) (suc i) = ap (λ l. open_operand x ∷ l) (inputs_without is i)
+
+pub length_inputs : (is : List OpenOperand) → length (open_operands is) ≡ length is
+length_inputs [] = refl
+length_inputs (x ∷ is) = let h = length_inputs is in omega (arith, h)
+
+pub no_inputs : (is : List OpenOperand) → length is ≡ 0 → open_operands is ≡ []
+no_inputs [] h = refl
+no_inputs (x ∷ is) h = absurd (omega (arith, h))
+
+pub size-remove : (ops : List Operand) (i : ℕ) (o : Operand) → slice_get ops i ≡ Some o → operands_size (remove ops i) + size_of o.tree ≡ operands_size ops
+size-remove [] i o h = absurd (cc)
+size-remove (x ∷ xs) zero o h = let e : x ≡ o = cc in let n = ap (λ (y : Operand). size_of y.tree) e in omega (arith, n)
+size-remove (x ∷ xs) (suc i) o h = let ih = size-remove xs i o h in omega (arith, ih)
+
+pub no_stored : (ts : List OpenCut) → length ts ≡ 0 → open_cuts ts ≡ []
+no_stored [] h = refl
+no_stored (x ∷ ts) h = absurd (omega (arith, h))
+
+pub stored_split : (ts : List OpenCut) (s : OpenCut) → slice_get ts 0 ≡ Some s → open_cuts ts ≡ tree_term s.tree.now ∷ open_cuts (drop 1 ts)
+stored_split [] s h = absurd (cc)
+stored_split (x ∷ ts) s h = let e : x ≡ s = cc in ap (λ (y : OpenCut). tree_term y.tree.now ∷ open_cuts ts) e
+
+pub stored_first : (nodes : List Term) (ts : List OpenCut) (s : OpenCut) → CutsAt nodes ts → slice_get ts 0 ≡ Some s → slice_get nodes s.at ≡ Some (tree_term s.tree.now)
+stored_first nodes [] s h get = absurd (cc)
+stored_first nodes (x ∷ ts) s h get = let e : x ≡ s = cc in subst (λ (y : OpenCut). slice_get nodes y.at ≡ Some (tree_term y.tree.now)) e h.0
+
+pub stored_later : (nodes : List Term) (ts : List OpenCut) → CutsAt nodes ts → CutsAt nodes (drop 1 ts)
+stored_later nodes [] h = tt
+stored_later nodes (x ∷ ts) h = h.1
+
+pub tail_is : {X : Type 0} (ts : List X) → take (length ts - 1) (drop 1 ts) ≡ drop 1 ts
+tail_is [] = refl
+tail_is (x ∷ ts) = take_all (length (x ∷ ts) - 1) ts (omega arith)
+
+pub register_slot : (whole : Bool) (r id : ℕ) → (r ≡ id) × (r < 16) → IsSlot whole r
+register_slot whole r id h = record { within = (let l = h.1 in omega (arith, l)); cut = λ e. absurd (let l = h.1 in omega (arith, l, e)) }
+
+pub cut_slot : IsSlot false 16
+cut_slot = record { within = omega arith; cut = λ e. refl }
+
+-- an entry of a row as what is asked for an operand
+pub register_least : (stock : Stock) (avoid r : ℕ) (x : Operand) (o : Option ℕ) → (r ≡ x.id) × (r < 16) → IsLeast stock avoid (row_ask x.tree x.whole r) o → IsLeast stock avoid (operand_ask x) o
+register_least stock avoid r x o h is =
+    subst (λ p. IsLeast stock avoid (record { destination = p; tree = x.tree; whole = x.whole }) o) (slot_reg x.id (let e = h.0 in let l = h.1 in omega (arith, e, l)))
+    (subst (λ j. IsLeast stock avoid (row_ask x.tree x.whole j) o) h.0 is)
+
+pub rank_le : (n : ℕ) → rank n ≤ 1
+rank_le n = go (n == 0)
+  where
+    go : (b : Bool) → (if b then 0 else 1) ≤ 1
+    go true = omega arith
+    go false = omega arith

@@ -1,0 +1,14 @@
+mod PartLemmas
+mod RowLemmas
+mod SizeLemmas
+mod NodeLemmas
+mod LeastLemmas
+mod OfferLemmas
+mod InputLemmas
+mod TableLemmas
+mod StartLemmas
+mod ChoiceLemmas
+mod FitLemmas
+mod OrderlyLemmas
+mod BestLemmas
+mod OnceLemmas

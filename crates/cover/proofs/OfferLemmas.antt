@@ -1,0 +1,241 @@
+-- What one form gives for a row, and the row of all forms.
+use Rattle.std.proofs.Common.{◌≡◌, ◌≢◌, ℕ, zero, suc, ◌+◌, ◌<◌, ◌≤◌, List, [], ◌∷◌, ◌++◌, length, refl, sym, ap, ◌∙◌, subst, Option, Some, None, Bool, true, false, arith, nat_lt, ◌⊎◌, inl, inr}
+use Rattle.std.specs.Prelude.{slice_get, bit_and, if◌then◌else◌, ◌==◌}
+use Rattle.std.proofs.lemmas.Bool.{cases_eq}
+use Rattle.std.proofs.lemmas.Bool.Decides.{nat_tests}
+use Rattle.std.proofs.lemmas.Option.{slice_get_within}
+use Rattle.net_model.specs.Terms.{Term, size_of}
+use Rattle.form_model.specs.Rules.{Rule, into_memory, into, temporary}
+use Rattle.form_model.specs.Matches.{operand, cut, Found, goal_match}
+use Rattle.form_model.specs.Plans.{Plan, use_form, Operands, no_operands, operand_then, Cuts, no_cuts, cut_then, cost, operands_cost, cuts_cost}
+use Rattle.form_model.specs.Covers.{Stock, Operand, operands_of, cuts_of}
+use Rattle.cover.specs.declared.rows.ChainRule.{ChainRule}
+use Rattle.cover.specs.declared.rows.Offer.{Offer}
+use Rattle.cover.specs.declared.rows.Offer.TheVariants.{Nothing, Chains, Reaches}
+use Rattle.cover.specs.Asks.{operand_ask, cut_ask, takes, IsSparing, AreSparing, AreStored, rest}
+use Rattle.cover.specs.Least.{AtMost, Reached, IsLeastForm}
+use Rattle.cover.specs.Rows.{Row, entry, entry_destination, row_ask, IsSlot, goal_slot, IsLeastRow, IsLift, AreLifts, AreWithin, IsWithin, IsMet, IsTried, IsOffer, offer_is, Noted, IsClosed}
+use Rattle.cover.proofs.SizeLemmas.{Small, into_small, temp_small, rest_some}
+use Rattle.cover.proofs.LeastLemmas.{at_most_more, some_of}
+
+-- ---- entries of a row
+
+pub slot_reg : (r : ℕ) → r < 16 → entry_destination r ≡ into r
+slot_reg r lt = let e : nat_lt r 16 ≡ true = grind (arith, nat_tests) in ap (λ b. if b then into r else temporary) e
+
+not_reg : (r : ℕ) → nat_lt r 16 ≡ false → 16 ≤ r
+not_reg r e = grind (arith, nat_tests)
+
+-- what a form takes for an entry of a row: it goes there, and leaves the whole tree or less
+pub row_small : (stock : Stock) (rule : Rule) (t : Term) (whole : Bool) (r : ℕ) (found : Found) → IsSlot whole r → takes stock rule (row_ask t whole r) ≡ Some found → (goal_slot rule.goal whole ≡ Some r) × Small whole t found.sites
+row_small stock rule t whole r found slot h = go (nat_lt r 16) refl h
+  where
+    go : (b : Bool) → nat_lt r 16 ≡ b → goal_match stock.temps rule rule.goal (if b then into r else temporary) t whole ≡ Some found → (goal_slot rule.goal whole ≡ Some r) × Small whole t found.sites
+    go true e m = into_small stock.temps rule rule.goal r t whole found m
+    go false e m =
+        let (is, small) = temp_small stock.temps rule rule.goal t whole found m in
+        let ge = not_reg r e in
+        let at : r ≡ 16 = omega (arith, ge, slot.within) in
+        let w : whole ≡ false = slot.cut at in
+        let a : goal_slot rule.goal whole ≡ goal_slot into_memory false = ap (λ g. goal_slot g whole) is ∙ ap (λ v. goal_slot into_memory v) w in
+        (a ∙ ap Some (sym at), subst (λ v. Small v t found.sites) (sym w) small)
+
+-- ---- offers
+
+module _ (stock : Stock) (avoid : ℕ) (t : Term) (whole : Bool) (k : ℕ) where
+  -- a form that goes to no entry of the row
+  pub offer_no_goal : (rule : Rule) → slice_get stock.rules k ≡ Some rule → goal_slot rule.goal whole ≡ None → IsOffer stock avoid t whole k Nothing
+  offer_no_goal rule get none = λ ps cs r slot (rule', get', spared, found, is, orders, stored).
+      let same : rule' ≡ rule = cc in
+      let g = (row_small stock rule' t whole r found slot is).0 in
+      let g' : goal_slot rule.goal whole ≡ Some r = subst (λ (x : Rule). goal_slot x.goal whole ≡ Some r) same g in
+      cc
+
+  pub offer_no_spare : (rule : Rule) → slice_get stock.rules k ≡ Some rule → bit_and rule.clobbers avoid ≢ 0 → IsOffer stock avoid t whole k Nothing
+  offer_no_spare rule get never = λ ps cs r slot (rule', get', spared, found, is, orders, stored).
+      let same : rule' ≡ rule = cc in
+      never (subst (λ (x : Rule). bit_and x.clobbers avoid ≡ 0) same spared)
+
+  -- the entry to which the form goes
+  at_goal : (rule : Rule) (d : ℕ) → slice_get stock.rules k ≡ Some rule → goal_slot rule.goal whole ≡ Some d → (ps : Operands) (cs : Cuts) (r : ℕ) → IsSlot whole r → IsSparing stock avoid (row_ask t whole r) (use_form k ps cs) → d ≡ r
+  at_goal rule d get goal ps cs r slot (rule', get', spared, found, is, orders, stored) =
+      let same : rule' ≡ rule = cc in
+      let g = (row_small stock rule' t whole r found slot is).0 in
+      let g' : goal_slot rule.goal whole ≡ Some r = subst (λ (x : Rule). goal_slot x.goal whole ≡ Some r) same g in
+      cc
+
+  pub offer_form : (rule : Rule) (d : ℕ) (o : Option ℕ) → slice_get stock.rules k ≡ Some rule → goal_slot rule.goal whole ≡ Some d → IsSlot whole d → IsLeastForm stock avoid (row_ask t whole d) k o → IsOffer stock avoid t whole k (offer_is d o)
+  offer_form rule d None get goal slot is = λ ps cs r slot' sparing.
+      let e = at_goal rule d get goal ps cs r slot' sparing in
+      is.least ps cs (subst (λ j. IsSparing stock avoid (row_ask t whole j) (use_form k ps cs)) (sym e) sparing)
+  offer_form rule d (Some n) get goal slot is = (
+    slot,
+    (let (ps, cs, sparing, e) = is.reached in (use_form k ps cs, sparing, e)),
+    λ ps cs r slot' sparing.
+        let e = at_goal rule d get goal ps cs r slot' sparing in
+        (e, is.least ps cs (subst (λ j. IsSparing stock avoid (row_ask t whole j) (use_form k ps cs)) (sym e) sparing)),
+  )
+
+  -- a cover of the one part, from the cover of the form, and back
+  sole : (id : ℕ) (ps : Operands) → AreSparing stock avoid (record { id = id; tree = t; whole = whole } ∷ []) ps → (q : Plan) × IsSparing stock avoid (record { destination = into id; tree = t; whole = whole }) q × (cost q ≤ operands_cost ps)
+  sole id no_operands e = absurd (cc)
+  sole id (operand_then zero q others) (o, get, sparing, later) =
+      let mine : Operand = record { id = id; tree = t; whole = whole } in
+      let e : mine ≡ o = cc in (q, subst (λ x. IsSparing stock avoid (operand_ask x) q) (sym e) sparing, omega arith)
+  sole id (operand_then (suc i) q others) (o, get, sparing, later) = absurd (cc)
+
+  sole_cut : (cs : Cuts) → AreStored stock (t ∷ []) cs → (q : Plan) × IsSparing stock 0 (cut_ask t) q × (cost q ≤ cuts_cost cs)
+  sole_cut no_cuts e = absurd (cc)
+  sole_cut (cut_then q later) (u, us, e, sparing, others) =
+      let same : u ≡ t = cc in (q, subst (λ x. IsSparing stock 0 (cut_ask x) q) same sparing, omega arith)
+
+  avoid_zero : (avoid == 0) ≡ true → avoid ≡ 0
+  avoid_zero e = grind (arith, nat_tests)
+
+  pub offer_chain : (rule : Rule) (d q : ℕ) (found : Found) → slice_get stock.rules k ≡ Some rule → bit_and rule.clobbers avoid ≡ 0 → goal_slot rule.goal whole ≡ Some d → IsSlot whole d → takes stock rule (row_ask t whole d) ≡ Some found → rest (size_of t) (avoid == 0) found.sites ≡ Some q → (found.sites ≡ operand q t whole ∷ [] → q < 16) → IsOffer stock avoid t whole k (Chains (record { start = q; goal = d }))
+  offer_chain rule d q found get spared goal slot is rests within = go (rest_some whole t (avoid == 0) found.sites q (row_small stock rule t whole d found slot is).1 rests)
+    where
+      -- the parts of a cover by this form
+      parts : (ps : Operands) (cs : Cuts) (r : ℕ) → IsSlot whole r → IsSparing stock avoid (row_ask t whole r) (use_form k ps cs) → (d ≡ r) × AreSparing stock avoid (operands_of found.sites) ps × AreStored stock (cuts_of found.sites) cs
+      parts ps cs r slot' (rule', get', spared', found', is', orders, stored) =
+          let e = at_goal rule d get goal ps cs r slot' (rule', get', spared', found', is', orders, stored) in
+          let same : rule' ≡ rule = cc in
+          let t' : takes stock rule (row_ask t whole d) ≡ Some found' = subst (λ j. takes stock rule (row_ask t whole j) ≡ Some found') (sym e) (subst (λ x. takes stock x (row_ask t whole r) ≡ Some found') same is') in
+          let same' : found' ≡ found = cc in
+          (e, subst (λ (f : Found). AreSparing stock avoid (operands_of f.sites) ps) same' orders, subst (λ (f : Found). AreStored stock (cuts_of f.sites) cs) same' stored)
+
+      go : (found.sites ≡ operand q t whole ∷ []) ⊎ ((shape : Term) × (found.sites ≡ cut shape t ∷ []) × (whole ≡ false) × ((avoid == 0) ≡ true) × (q ≡ 16)) → IsOffer stock avoid t whole k (Chains (record { start = q; goal = d }))
+      go (inl e) =
+          let lt = within e in
+          let at = slot_reg q lt in
+          let mine : Operand = record { id = q; tree = t; whole = whole } in
+          let a : operands_of found.sites ≡ mine ∷ [] = ap operands_of e in
+          let b : cuts_of found.sites ≡ [] = ap cuts_of e in (
+            record {
+              start = record { within = omega (arith, lt); cut = λ x. absurd (omega (arith, lt, x)) };
+              goal = slot;
+              lift = λ p sparing. (
+                use_form k (operand_then 0 p no_operands) no_cuts,
+                (rule, get, spared, found, is, subst (λ l. AreSparing stock avoid l (operand_then 0 p no_operands)) (sym a) (mine, refl, subst (λ x. IsSparing stock avoid (record { destination = x; tree = t; whole = whole }) p) at sparing, refl), b),
+                omega arith,
+              );
+            },
+            λ ps cs r slot' sparing.
+                let (same, orders, stored) = parts ps cs r slot' sparing in
+                let (p, sparing', le) = sole q ps (subst (λ l. AreSparing stock avoid l ps) a orders) in
+                (same, p, subst (λ x. IsSparing stock avoid (record { destination = x; tree = t; whole = whole }) p) (sym at) sparing', omega (arith, le)),
+          )
+      go (inr (shape, e, w, free, at)) =
+          let zero_is = avoid_zero free in
+          let a : operands_of found.sites ≡ [] = ap operands_of e in
+          let b : cuts_of found.sites ≡ t ∷ [] = ap cuts_of e in
+          let there : row_ask t whole q ≡ cut_ask t = ap (λ j. row_ask t whole j) at ∙ ap (λ v. row_ask t v 16) w in (
+            record {
+              start = record { within = omega (arith, at); cut = λ x. w };
+              goal = slot;
+              lift = λ p sparing. (
+                use_form k no_operands (cut_then p no_cuts),
+                (rule, get, spared, found, is, a, subst (λ l. AreStored stock l (cut_then p no_cuts)) (sym b) (t, [], refl, subst (λ x. IsSparing stock 0 x p) there (subst (λ s. IsSparing stock s (row_ask t whole q) p) zero_is sparing), refl)),
+                omega arith,
+              );
+            },
+            λ ps cs r slot' sparing.
+                let (same, orders, stored) = parts ps cs r slot' sparing in
+                let (p, sparing', le) = sole_cut cs (subst (λ l. AreStored stock l cs) b stored) in
+                (same, p, subst (λ s. IsSparing stock s (row_ask t whole q) p) (sym zero_is) (subst (λ x. IsSparing stock 0 x p) (sym there) sparing'), omega (arith, le)),
+          )
+
+-- ---- rows
+
+get_old : {X : Type 0} (xs : List X) (y x : X) (i : ℕ) → slice_get xs i ≡ Some x → slice_get (xs ++ (y ∷ [])) i ≡ Some x
+get_old [] y x i h = absurd (cc)
+get_old (z ∷ xs) y x zero h = h
+get_old (z ∷ xs) y x (suc i) h = get_old xs y x i h
+
+get_new : {X : Type 0} (xs : List X) (y : X) → slice_get (xs ++ (y ∷ [])) (length xs) ≡ Some y
+get_new [] y = refl
+get_new (z ∷ xs) y = get_new xs y
+
+get_either : {X : Type 0} (xs : List X) (y x : X) (i : ℕ) → slice_get (xs ++ (y ∷ [])) i ≡ Some x → (slice_get xs i ≡ Some x) ⊎ (x ≡ y)
+get_either [] y x zero h = inr (cc)
+get_either [] y x (suc i) h = absurd (cc)
+get_either (z ∷ xs) y x zero h = inl h
+get_either (z ∷ xs) y x (suc i) h = get_either xs y x i h
+
+module _ (stock : Stock) (avoid : ℕ) (t : Term) (whole : Bool) where
+  pub tried_none : (row : Row) → ((r : ℕ) → entry row r ≡ None) → IsTried stock avoid t whole 0 [] row
+  tried_none row blank = record {
+    sound = λ r slot. subst (λ o. Reached stock avoid (row_ask t whole r) o) (sym (blank r)) tt;
+    lifts = λ i m get. absurd (cc);
+    met = λ k ps cs r lt. absurd (omega arith);
+  }
+
+  pub lifts_within : (chains : List ChainRule) → AreLifts stock avoid t whole chains → AreWithin chains
+  lifts_within chains lifts i m get = let l = lifts i m get in (l.start.within, l.goal.within)
+
+  more_met : (chains : List ChainRule) (m : ChainRule) (row : Row) (r n : ℕ) → IsMet stock avoid t whole chains row r n → IsMet stock avoid t whole (chains ++ (m ∷ [])) row r n
+  more_met chains m row r n (inl h) = inl h
+  more_met chains m row r n (inr (i, m', get, goal, q, sparing, le)) = inr (i, m', get_old chains m m' i get, goal, q, sparing, le)
+
+  lower_met : (chains : List ChainRule) (old new : Row) (r n : ℕ) → ((r n : ℕ) → AtMost (entry old r) n → AtMost (entry new r) n) → IsMet stock avoid t whole chains old r n → IsMet stock avoid t whole chains new r n
+  lower_met chains old new r n lower (inl h) = inl (lower r n h)
+  lower_met chains old new r n lower (inr h) = inr h
+
+  pub tried_more : (n : ℕ) (offer : Offer) (chains chains' : List ChainRule) (old new : Row) → IsTried stock avoid t whole n chains old → IsOffer stock avoid t whole n offer → Noted offer chains chains' old new → IsTried stock avoid t whole (n + 1) chains' new
+  tried_more n Nothing chains chains' old new tried offer (e, e') =
+      subst (λ ms. IsTried stock avoid t whole (n + 1) ms new) (sym e) (subst (λ row. IsTried stock avoid t whole (n + 1) chains row) (sym e') (record {
+        sound = tried.sound;
+        lifts = tried.lifts;
+        met = λ k ps cs r lt slot sparing. elim (cases_eq k n) [
+          | inl at ↦ absurd (offer ps cs r slot (subst (λ j. IsSparing stock avoid (row_ask t whole r) (use_form j ps cs)) at sparing))
+          | inr other ↦ tried.met k ps cs r (omega arith) slot sparing
+        ];
+      }))
+  tried_more n (Chains m) chains chains' old new tried (lift, offer) (e, e') =
+      subst (λ ms. IsTried stock avoid t whole (n + 1) ms new) (sym e) (subst (λ row. IsTried stock avoid t whole (n + 1) (chains ++ (m ∷ [])) row) (sym e') (record {
+        sound = tried.sound;
+        lifts = λ i m' get. elim (get_either chains m m' i get) [
+          | inl before ↦ tried.lifts i m' before
+          | inr same ↦ subst (IsLift stock avoid t whole) (sym same) lift
+        ];
+        met = λ k ps cs r lt slot sparing. elim (cases_eq k n) [
+          | inl at ↦ (let (goal, q, sparing', le) = offer ps cs r slot (subst (λ j. IsSparing stock avoid (row_ask t whole r) (use_form j ps cs)) at sparing) in
+              inr (length chains, m, get_new chains m, goal, q, sparing', le))
+          | inr other ↦ more_met chains m old r (cost (use_form k ps cs)) (tried.met k ps cs r (omega arith) slot sparing)
+        ];
+      }))
+  tried_more n (Reaches d c) chains chains' old new tried (slot_d, reached, offer) (e, entered) =
+      subst (λ ms. IsTried stock avoid t whole (n + 1) ms new) (sym e) (record {
+        sound = λ q slot. elim (entered.others q) [
+          | inl same ↦ subst (λ o. Reached stock avoid (row_ask t whole q) o) (sym same) (tried.sound q slot)
+          | inr at ↦ subst (λ o. Reached stock avoid (row_ask t whole q) o) (sym at.1) (subst (λ j. Reached stock avoid (row_ask t whole j) (Some c)) (sym at.0) reached)
+        ];
+        lifts = tried.lifts;
+        met = λ k ps cs r lt slot sparing. elim (cases_eq k n) [
+          | inl at ↦ (let (goal, le) = offer ps cs r slot (subst (λ j. IsSparing stock avoid (row_ask t whole r) (use_form j ps cs)) at sparing) in
+              inl (subst (λ j. AtMost (entry new j) (cost (use_form k ps cs))) goal (at_most_more (entry new d) c (cost (use_form k ps cs)) le entered.at)))
+          | inr other ↦ lower_met chains old new r (cost (use_form k ps cs)) entered.lower (tried.met k ps cs r (omega arith) slot sparing)
+        ];
+      })
+
+  module _ (chains : List ChainRule) (old new : Row) (tried : IsTried stock avoid t whole (length stock.rules) chains old) (closed : IsClosed chains old new) where
+    -- no cover is cheaper than its entry, by induction on a bound of its cost
+    complete : (n : ℕ) (p : Plan) (r : ℕ) → cost p ≤ n → IsSlot whole r → IsSparing stock avoid (row_ask t whole r) p → AtMost (entry new r) (cost p)
+    complete zero (use_form k ps cs) r le slot sparing = absurd (omega arith)
+    complete (suc n) (use_form k ps cs) r le slot (rule, get, spared, found, is, orders, stored) =
+        go (complete n) (tried.met k ps cs r (slice_get_within stock.rules k rule get) slot (rule, get, spared, found, is, orders, stored))
+      where
+        go : ((q : Plan) (s : ℕ) → cost q ≤ n → IsSlot whole s → IsSparing stock avoid (row_ask t whole s) q → AtMost (entry new s) (cost q)) → IsMet stock avoid t whole chains old r (cost (use_form k ps cs)) → AtMost (entry new r) (cost (use_form k ps cs))
+        go ih (inl h) = closed.lower r (cost (use_form k ps cs)) h
+        go ih (inr (i, m, listed, goal, q, sparing, less)) =
+            let (c, at, up) = some_of (entry new m.start) (cost q) (ih q m.start (omega (arith, le, less)) (tried.lifts i m listed).start sparing) in
+            let h = closed.still i m c (slice_get_within chains i m listed) listed at in
+            at_most_more (entry new r) (c + 1) (cost (use_form k ps cs)) (omega (arith, up, less)) (subst (λ d. AtMost (entry new d) (c + 1)) goal h)
+
+    pub least_row_of : IsLeastRow stock avoid t whole new
+    least_row_of r slot = record { reached = closed.sound stock avoid t whole tried.lifts tried.sound r slot; least = λ p h. complete (cost p) p r (omega arith) slot h }
+
+pub look_within : (stock : Stock) (avoid : ℕ) (t : Term) (whole : Bool) (k : ℕ) (offer : Offer) → IsOffer stock avoid t whole k offer → IsWithin offer
+look_within stock avoid t whole k Nothing h = tt
+look_within stock avoid t whole k (Chains m) h = tt
+look_within stock avoid t whole k (Reaches slot n) h = h.0.within

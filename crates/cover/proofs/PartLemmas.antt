@@ -1,0 +1,77 @@
+-- Operands and cuts of a match's parts, and their numbers.
+use Rattle.std.proofs.Common.{◌≡◌, ℕ, zero, suc, ◌+◌, List, [], ◌∷◌, ◌++◌, take, Some, arith, refl, sym, ap, ◌∙◌, subst, rules}
+use Rattle.std.specs.Prelude.{slice_get}
+use Rattle.std.proofs.lemmas.List.{map-append}
+use Rattle.net_model.specs.Terms.{Term}
+use Rattle.form_model.specs.Matches.{Site, operand, cut}
+use Rattle.form_model.specs.Covers.{operands_of, cuts_of}
+use Rattle.tree_grammar.specs.declared.parts.Part.{Part}
+use Rattle.tree_grammar.specs.declared.parts.Part.TheVariants
+use Rattle.tree_grammar.specs.Parts.{part_of, parts_of, AreAt, IsAt}
+use Rattle.cover.specs.declared.parts.OpenOperand.{OpenOperand}
+use Rattle.cover.specs.declared.parts.OpenCut.{OpenCut}
+use Rattle.cover.specs.Jobs.{open_operand, open_operands, open_cuts, OperandsAt, CutsAt, HasOperand, HasCut}
+
+pub take_get : {X : Type 0} (xs : List X) (i : ℕ) (x : X) → slice_get xs i ≡ Some x → take (i + 1) xs ≡ take i xs ++ (x ∷ [])
+take_get xs i x h = (let e : i + 1 ≡ suc i = omega arith in ap (λ n. take n xs) e) ∙ go xs i h
+  where
+    go : {X : Type 0} {x : X} (xs : List X) (i : ℕ) → slice_get xs i ≡ Some x → take (suc i) xs ≡ take i xs ++ (x ∷ [])
+    go [] i h = absurd (cc)
+    go {x = x} (y ∷ xs) zero h = let e : y ≡ x = cc in ap (λ z. z ∷ []) e
+    go (y ∷ xs) (suc i) h = ap (λ l. y ∷ l) (go xs i h)
+
+operands-append : (xs ys : List Site) → operands_of (xs ++ ys) ≡ operands_of xs ++ operands_of ys
+operands-append [] ys = refl
+operands-append (operand id tree whole ∷ xs) ys = ap (λ l. record { id = id; tree = tree; whole = whole } ∷ l) (operands-append xs ys)
+operands-append (cut shape tree ∷ xs) ys = operands-append xs ys
+
+cuts-append : (xs ys : List Site) → cuts_of (xs ++ ys) ≡ cuts_of xs ++ cuts_of ys
+cuts-append [] ys = refl
+cuts-append (operand id tree whole ∷ xs) ys = cuts-append xs ys
+cuts-append (cut shape tree ∷ xs) ys = ap (λ l. tree ∷ l) (cuts-append xs ys)
+
+are_first : (nodes : List Term) (xs : List Part) (p : Part) → AreAt nodes (xs ++ (p ∷ [])) → AreAt nodes xs
+are_first nodes [] p h = tt
+are_first nodes (x ∷ xs) p h = (h.0, are_first nodes xs p h.1)
+
+are_last : (nodes : List Term) (xs : List Part) (p : Part) → AreAt nodes (xs ++ (p ∷ [])) → IsAt nodes p
+are_last nodes [] p h = h.0
+are_last nodes (x ∷ xs) p h = are_last nodes xs p h.1
+
+inputs_push : (nodes : List Term) (xs : List OpenOperand) (i : OpenOperand) → OperandsAt nodes xs → OperandsAt nodes (i ∷ []) → OperandsAt nodes (xs ++ (i ∷ []))
+inputs_push nodes [] i h k = k
+inputs_push nodes (x ∷ xs) i h k = (h.0, inputs_push nodes xs i h.1 k)
+
+stored_push : (nodes : List Term) (xs : List OpenCut) (i : OpenCut) → CutsAt nodes xs → CutsAt nodes (i ∷ []) → CutsAt nodes (xs ++ (i ∷ []))
+stored_push nodes [] i h k = k
+stored_push nodes (x ∷ xs) i h k = (h.0, stored_push nodes xs i h.1 k)
+
+input_is : (p : Part) (old new : List OpenOperand) → HasOperand p old new → open_operands new ≡ open_operands old ++ operands_of (part_of p ∷ [])
+input_is (TheVariants.Operand id tree whole at) old new h = ap open_operands h ∙ map-append open_operand old _
+input_is (TheVariants.Cut shape tree at) old new h = ap open_operands h ∙ (let xs = open_operands old in search rules)
+
+stored_is : (p : Part) (old new : List OpenCut) → HasCut p old new → open_cuts new ≡ open_cuts old ++ cuts_of (part_of p ∷ [])
+stored_is (TheVariants.Operand id tree whole at) old new h = ap open_cuts h ∙ (let xs = open_cuts old in search rules)
+stored_is (TheVariants.Cut shape tree at) old new h = ap open_cuts h ∙ map-append _ old _
+
+pub input_step : (p : Part) (old new : List OpenOperand) (xs : List Part) → HasOperand p old new → open_operands old ≡ operands_of (parts_of xs) → open_operands new ≡ operands_of (parts_of (xs ++ (p ∷ [])))
+input_step p old new xs h e =
+    input_is p old new h ∙ ap (λ l. l ++ operands_of (part_of p ∷ [])) e ∙ sym (operands-append (parts_of xs) (part_of p ∷ [])) ∙ ap operands_of (sym (map-append part_of xs (p ∷ [])))
+
+pub stored_step : (p : Part) (old new : List OpenCut) (xs : List Part) → HasCut p old new → open_cuts old ≡ cuts_of (parts_of xs) → open_cuts new ≡ cuts_of (parts_of (xs ++ (p ∷ [])))
+stored_step p old new xs h e =
+    stored_is p old new h ∙ ap (λ l. l ++ cuts_of (part_of p ∷ [])) e ∙ sym (cuts-append (parts_of xs) (part_of p ∷ [])) ∙ ap cuts_of (sym (map-append part_of xs (p ∷ [])))
+
+input_put : (nodes : List Term) (p : Part) (old new : List OpenOperand) → HasOperand p old new → IsAt nodes p → OperandsAt nodes old → OperandsAt nodes new
+input_put nodes (TheVariants.Operand id tree whole at) old new h here k = subst (OperandsAt nodes) (sym h) (inputs_push nodes old _ k (here, tt))
+input_put nodes (TheVariants.Cut shape tree at) old new h here k = subst (OperandsAt nodes) (sym h) k
+
+stored_put : (nodes : List Term) (p : Part) (old new : List OpenCut) → HasCut p old new → IsAt nodes p → CutsAt nodes old → CutsAt nodes new
+stored_put nodes (TheVariants.Operand id tree whole at) old new h here k = subst (CutsAt nodes) (sym h) k
+stored_put nodes (TheVariants.Cut shape tree at) old new h here k = subst (CutsAt nodes) (sym h) (stored_push nodes old _ k (here, tt))
+
+pub input_at : (p : Part) (old new : List OpenOperand) (xs : List Part) → HasOperand p old new → ((nodes : List Term) → AreAt nodes xs → OperandsAt nodes old) → (nodes : List Term) → AreAt nodes (xs ++ (p ∷ [])) → OperandsAt nodes new
+input_at p old new xs h before nodes are = input_put nodes p old new h (are_last nodes xs p are) (before nodes (are_first nodes xs p are))
+
+pub stored_at : (p : Part) (old new : List OpenCut) (xs : List Part) → HasCut p old new → ((nodes : List Term) → AreAt nodes xs → CutsAt nodes old) → (nodes : List Term) → AreAt nodes (xs ++ (p ∷ [])) → CutsAt nodes new
+stored_at p old new xs h before nodes are = stored_put nodes p old new h (are_last nodes xs p are) (before nodes (are_first nodes xs p are))

@@ -1,0 +1,128 @@
+-- Rows as chain rules lower them.
+use Rattle.std.proofs.Common.{◌≡◌, ◌≢◌, ℕ, zero, suc, ◌+◌, ◌<◌, ◌≤◌, ◌^◌, List, [], ◌∷◌, length, Option, Some, None, Bool, true, false, refl, sym, ap, ◌∙◌, subst, arith, get_or, get_or-set_same, get_or-set_other, inl, inr}
+use Rattle.std.specs.Prelude.{slice_get, slice_set, if◌then◌else◌}
+use Rattle.std.specs.Bool.{OnTrue, OnFalse}
+use Rattle.std.proofs.lemmas.Bool.{cases_eq}
+use Rattle.std.proofs.lemmas.List.Sums.{sum_by-set}
+use Rattle.net_model.specs.Terms.{Term}
+use Rattle.form_model.specs.Covers.{Stock}
+use Rattle.cover.specs.declared.rows.ChainRule.{ChainRule}
+use Rattle.cover.specs.Least.{AtMost, Reached}
+use Rattle.cover.specs.Rows.{Row, entry, row_ask, IsBelow, IsLift, weight, weight_of, Lower, Chained, Changed, Keeps, Swept, IsClosed, Entered}
+
+-- an entry after a write
+pub entry_same : (row : Row) (d : ℕ) (v : Option ℕ) → d < length row → entry (slice_set row d v) d ≡ v
+entry_same row d v h = get_or-set_same row d v None h
+
+pub entry_other : (row : Row) (d r : ℕ) (v : Option ℕ) → r ≢ d → entry (slice_set row d v) r ≡ entry row r
+entry_other row d r v h = get_or-set_other row d r v None h
+
+pub at_most_below : (o : Option ℕ) (m n : ℕ) → IsBelow m o → AtMost o n → m ≤ n
+at_most_below None m n b h = absurd h
+at_most_below (Some k) m n b h = omega arith
+
+lighter : (o : Option ℕ) (m : ℕ) → m < 2 ^ 64 → IsBelow m o → m < weight o
+lighter None m h b = h
+lighter (Some k) m h b = b
+
+moved_weight : (m : ChainRule) (old new : Row) → length old ≡ 17 → m.goal < 17 → Chained m true old new → weight_of new < weight_of old
+moved_weight m old new len fits (c, at, small, below, e) =
+    let within : m.goal < length old = omega (arith, len, fits) in
+    let s = sum_by-set weight old m.goal (Some (c + 1)) None within in
+    let l = lighter (entry old m.goal) (c + 1) small below in
+    let w : weight_of new ≡ weight_of (slice_set old m.goal (Some (c + 1))) = ap weight_of e in
+    omega (arith, s, l, w)
+
+moved_lower : (m : ChainRule) (old new : Row) → length old ≡ 17 → m.goal < 17 → Chained m true old new → Lower old new
+moved_lower m old new len fits (c, at, small, below, e) q n h =
+    let within : m.goal < length old = omega (arith, len, fits) in
+    subst (λ row. AtMost (entry row q) n) (sym e)
+    (elim (cases_eq q m.goal) [
+      | inl same ↦ subst (λ j. AtMost (entry (slice_set old m.goal (Some (c + 1))) j) n) (sym same)
+          (subst (λ o. AtMost o n) (sym (entry_same old m.goal (Some (c + 1)) within))
+          (at_most_below (entry old m.goal) (c + 1) n below (subst (λ j. AtMost (entry old j) n) same h)))
+      | inr other ↦ subst (λ o. AtMost o n) (sym (entry_other old m.goal q (Some (c + 1)) other)) h
+    ])
+
+move_reached : (stock : Stock) (avoid : ℕ) (tree : Term) (whole : Bool) (m : ChainRule) (c : ℕ) → IsLift stock avoid tree whole m → Reached stock avoid (row_ask tree whole m.start) (Some c) → Reached stock avoid (row_ask tree whole m.goal) (Some (c + 1))
+move_reached stock avoid tree whole m c is (p, sparing, e) = let (q, sparing', e') = is.lift p sparing in (q, sparing', omega (arith, e, e'))
+
+moved_sound : (chains : List ChainRule) (i : ℕ) (m : ChainRule) (old new : Row) → slice_get chains i ≡ Some m → length old ≡ 17 → m.goal < 17 → Chained m true old new → Keeps chains old new
+moved_sound chains i m old new get len fits (c, at, small, below, e) stock avoid tree whole lifts sound q slot =
+    let within : m.goal < length old = omega (arith, len, fits) in
+    subst (λ row. Reached stock avoid (row_ask tree whole q) (entry row q)) (sym e)
+    (elim (cases_eq q m.goal) [
+      | inl same ↦ subst (λ j. Reached stock avoid (row_ask tree whole j) (entry (slice_set old m.goal (Some (c + 1))) j)) (sym same)
+          (subst (λ o. Reached stock avoid (row_ask tree whole m.goal) o) (sym (entry_same old m.goal (Some (c + 1)) within))
+          (move_reached stock avoid tree whole m c (lifts i m get) (subst (λ o. Reached stock avoid (row_ask tree whole m.start) o) at (sound m.start (lifts i m get).start))))
+      | inr other ↦ subst (λ o. Reached stock avoid (row_ask tree whole q) o) (sym (entry_other old m.goal q (Some (c + 1)) other)) (sound q slot)
+    ])
+
+no_heavier : (chains : List ChainRule) (n : ℕ) (changed : Bool) (old mid : Row) → Changed chains n changed old mid → weight_of mid ≤ weight_of old
+no_heavier chains n true old mid h = omega arith
+no_heavier chains n false old mid h = let e = ap weight_of h.0 in omega (arith, e)
+
+pub swept_none : (chains : List ChainRule) (row : Row) → Swept chains 0 false row row
+swept_none chains row = record { sound = λ stock avoid tree whole lifts h. h; lower = λ r n h. h; change = (refl, λ i m c lt. absurd (omega arith)) }
+
+pub swept_moved : (chains : List ChainRule) (n : ℕ) (changed : Bool) (old mid new : Row) (m : ChainRule) → Swept chains n changed old mid → slice_get chains n ≡ Some m → length mid ≡ 17 → m.goal < 17 → Chained m true mid new → Swept chains (n + 1) true old new
+swept_moved chains n changed old mid new m s get len fits moved = record {
+  sound = λ stock avoid tree whole lifts h. moved_sound chains n m mid new get len fits moved stock avoid tree whole lifts (s.sound stock avoid tree whole lifts h);
+  lower = λ r k h. moved_lower m mid new len fits moved r k (s.lower r k h);
+  change = (let a = moved_weight m mid new len fits moved in let b = no_heavier chains n changed old mid s.change in omega (arith, a, b));
+}
+
+kept_change : (chains : List ChainRule) (n : ℕ) (changed : Bool) (old mid : Row) (m : ChainRule) → Changed chains n changed old mid → slice_get chains n ≡ Some m → ((c : ℕ) → entry mid m.start ≡ Some c → AtMost (entry mid m.goal) (c + 1)) → Changed chains (n + 1) changed old mid
+kept_change chains n true old mid m h get kept = h
+kept_change chains n false old mid m h get kept = (
+  h.0,
+  λ i g c lt get' at. elim (cases_eq i n) [
+    | inl same ↦ let e : m ≡ g = (let get'' = subst (λ j. slice_get chains j ≡ Some g) same get' in cc) in
+        subst (λ x. AtMost (entry mid x.goal) (c + 1)) e (kept c (ap (λ x. entry mid x.start) e ∙ at))
+    | inr other ↦ h.1 i g c (omega arith) get' at
+  ],
+)
+
+pub swept_kept : (chains : List ChainRule) (n : ℕ) (changed : Bool) (old mid new : Row) (m : ChainRule) → Swept chains n changed old mid → slice_get chains n ≡ Some m → Chained m false mid new → Swept chains (n + 1) changed old new
+swept_kept chains n changed old mid new m s get (same, kept) =
+    subst (λ row. Swept chains (n + 1) changed old row) (sym same) (record {
+      sound = s.sound;
+      lower = s.lower;
+      change = kept_change chains n changed old mid m s.change get kept;
+    })
+
+-- a row to which no chain rule is left
+pub closed_after : (chains : List ChainRule) (old mid new : Row) → Keeps chains old mid → Lower old mid → Swept chains (length chains) false mid new → IsClosed chains old new
+closed_after chains old mid new sound lower s = record {
+  sound = λ stock avoid tree whole lifts h. s.sound stock avoid tree whole lifts (sound stock avoid tree whole lifts h);
+  lower = λ r n h. s.lower r n (lower r n h);
+  still = s.change.1;
+}
+
+-- an entry that was made where it is less
+pub entered : (old new : Row) (d n : ℕ) (b : Bool) → length old ≡ 17 → d < 17 → new ≡ (if b then slice_set old d (Some n) else old) → OnTrue b (IsBelow n (entry old d)) → OnFalse b (AtMost (entry old d) n) → Entered old new d n
+entered old new d n true len lt e below kept = subst (λ row. Entered old row d n) (sym e) (record {
+  lower = λ q k h. elim (cases_eq q d) [
+    | inl same ↦ subst (λ j. AtMost (entry (slice_set old d (Some n)) j) k) (sym same)
+        (subst (λ o. AtMost o k) (sym (entry_same old d (Some n) within)) (at_most_below (entry old d) n k below (subst (λ j. AtMost (entry old j) k) same h)))
+    | inr other ↦ subst (λ o. AtMost o k) (sym (entry_other old d q (Some n) other)) h
+  ];
+  at = subst (λ o. AtMost o n) (sym (entry_same old d (Some n) within)) (omega arith);
+  others = λ q. elim (cases_eq q d) [
+    | inl same ↦ inr (same, ap (λ j. entry (slice_set old d (Some n)) j) same ∙ entry_same old d (Some n) within)
+    | inr other ↦ inl (entry_other old d q (Some n) other)
+  ];
+})
+  where
+    within : d < length old
+    within = omega (arith, len, lt)
+entered old new d n false len lt e below kept = subst (λ row. Entered old row d n) (sym e) (record {
+  lower = λ q k h. h;
+  at = kept;
+  others = λ q. inl refl;
+})
+
+pub listed : {X : Type 0} (xs : List X) (i : ℕ) (d : X) → i < length xs → slice_get xs i ≡ Some (get_or xs i d)
+listed [] i d lt = absurd (omega arith)
+listed (x ∷ xs) zero d lt = refl
+listed (x ∷ xs) (suc i) d lt = listed xs i d (omega arith)

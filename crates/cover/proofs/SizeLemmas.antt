@@ -1,0 +1,240 @@
+-- What a match leaves of a tree is the whole tree, or smaller.
+use Rattle.std.proofs.Common.{◌≡◌, ℕ, ◌+◌, ◌<◌, ◌≤◌, List, [], ◌∷◌, ◌++◌, Option, Some, None, Bool, true, false, refl, sym, ap, ◌∙◌, subst, arith, inl, inr, ◌⊎◌, zero-add}
+use Rattle.std.specs.Prelude.{if◌then◌else◌, ◌==◌, ◌&&◌, not}
+use Rattle.std.proofs.lemmas.Bool.Decides.{nat_tests}
+use Rattle.net_model.specs.Terms.{Term, word, reg, const, read, un, bin, slice, cat, zext, sext, select, term_width, size_of}
+use Rattle.rec_bits.specs.declared.operator.Op1.{Op1}
+use Rattle.rec_bits.specs.declared.operator.Op2.{Op2}
+use Rattle.form_model.specs.Trees.{is_number, is_cell}
+use Rattle.form_model.specs.Shapes.{is_shape, shows_below}
+use Rattle.form_model.specs.Rules.{Rule, Kind, into_reg, into_memory, jumps, branches, into, temporary}
+use Rattle.form_model.specs.Matches.{same_op1, same_op2, Site, operand, cut, Found, settled, open_if, both, shape_match, literal_match, cell_match, read_match, un_match, bin_match, slice_match, zext_match, sext_match, matched, address_match, goal_match}
+use Rattle.form_model.specs.Covers.{operands_of, cuts_of}
+use Rattle.cover.specs.Asks.{operands_size, terms_size, rank, rest}
+use Rattle.cover.specs.Rows.{goal_slot}
+
+pub picked : {A : Type 0} (b : Bool) (x : Option A) (y : A) → (if b then x else None) ≡ Some y → (b ≡ true) × (x ≡ Some y)
+picked true x y h = (refl, h)
+picked false x y h = absurd (cc)
+
+pub eq_is : (a b : ℕ) → (a == b) ≡ true → a ≡ b
+eq_is a b e = grind (arith, nat_tests)
+
+pub eq_self : (a : ℕ) → (a == a) ≡ true
+eq_self a = grind (arith, nat_tests)
+
+pub size_pos : (t : Term) → 1 ≤ size_of t
+size_pos (word w) = omega arith
+size_pos (reg r w) = omega arith
+size_pos (const w v) = omega arith
+size_pos (read a w) = omega arith
+size_pos (un o a) = omega arith
+size_pos (bin o a b) = omega arith
+size_pos (slice a h l) = omega arith
+size_pos (cat a b) = omega arith
+size_pos (zext a w) = omega arith
+size_pos (sext a w) = omega arith
+size_pos (select c a b) = omega arith
+
+-- the size of all that is left open
+abbrev pub total : List Site → ℕ
+total [] = 0
+total (operand id tree whole ∷ sites) = size_of tree + total sites
+total (cut shape tree ∷ sites) = size_of tree + total sites
+
+pub total_parts : (sites : List Site) → total sites ≡ operands_size (operands_of sites) + terms_size (cuts_of sites)
+total_parts [] = refl
+total_parts (operand id tree whole ∷ sites) = let h = total_parts sites in omega (arith, h)
+total_parts (cut shape tree ∷ sites) = let h = total_parts sites in omega (arith, h)
+
+total-append : (xs ys : List Site) → total (xs ++ ys) ≡ total xs + total ys
+total-append [] ys = sym (zero-add (total ys))
+total-append (operand id tree whole ∷ xs) ys = let h = total-append xs ys in omega (arith, h)
+total-append (cut shape tree ∷ xs) ys = let h = total-append xs ys in omega (arith, h)
+
+-- the tree itself as an operand, or as a cut, or less than the tree
+abbrev pub Small : Bool → Term → List Site → Type 0
+Small whole t sites = ((r : ℕ) × (sites ≡ operand r t whole ∷ [])) ⊎ (((shape : Term) × (sites ≡ cut shape t ∷ []) × (whole ≡ false)) ⊎ (total sites < size_of t))
+
+small_le : (whole : Bool) (t : Term) (sites : List Site) → Small whole t sites → total sites ≤ size_of t
+small_le whole t sites (inl h) = let e = ap total h.1 in omega (arith, e)
+small_le whole t sites (inr (inl h)) = let e = ap total h.1 in omega (arith, e)
+small_le whole t sites (inr (inr h)) = omega (arith, h)
+
+inner : (whole w : Bool) (t a : Term) (sites : List Site) → size_of a < size_of t → Small w a sites → Small whole t sites
+inner whole w t a sites lt h = inr (inr (let le = small_le w a sites h in omega (arith, le, lt)))
+
+none_left : (whole : Bool) (t : Term) (sites : List Site) → sites ≡ [] → Small whole t sites
+none_left whole t sites e = inr (inr (let n = ap total e in let p = size_pos t in omega (arith, n, p)))
+
+settled_sites : (o : Option ℕ) (found : Found) → settled o ≡ Some found → found.sites ≡ []
+settled_sites None found h = absurd (cc)
+settled_sites (Some s) found h = let e : ◌≡◌ {A = Found} (record { setting = s; sites = [] }) found = cc in sym (ap (λ (f : Found). f.sites) e)
+
+open_sites : (b : Bool) (site : Site) (found : Found) → open_if b site ≡ Some found → (b ≡ true) × (found.sites ≡ site ∷ [])
+open_sites true site found h = let e : ◌≡◌ {A = Found} (record { setting = 0; sites = site ∷ [] }) found = cc in (refl, sym (ap (λ (f : Found). f.sites) e))
+open_sites false site found h = absurd (cc)
+
+shape_sites : (shape t : Term) (found : Found) → shape_match shape t ≡ Some found → found.sites ≡ []
+shape_sites shape (const w v) found h = settled_sites _ found (picked (w == term_width shape) _ found h).1
+shape_sites shape _ found h = absurd (cc)
+
+literal_sites : (shape t : Term) (found : Found) → literal_match shape t ≡ Some found → found.sites ≡ []
+literal_sites shape (read a w) found h = shape_sites shape a found h
+literal_sites shape _ found h = absurd (cc)
+
+pub both_parts : (a b : Option Found) (found : Found) → both a b ≡ Some found → (f : Found) × (g : Found) × (a ≡ Some f) × (b ≡ Some g) × (found.sites ≡ f.sites ++ g.sites)
+both_parts None b found h = absurd (cc)
+both_parts (Some f) None found h = absurd (cc)
+both_parts (Some f) (Some g) found h = (f, g, refl, refl, (let inj : (x y : Found) → Some x ≡ Some y → x ≡ y = λ x y e. cc in sym (ap (λ (x : Found). x.sites) (inj _ found h))))
+
+read_parts : (f : Term → Bool → Option Found) (w : ℕ) (t : Term) (found : Found) → read_match f w t ≡ Some found → (a : Term) × (v : ℕ) × (t ≡ read a v) × (f a (is_number a) ≡ Some found)
+read_parts f w (read a v) found h = (a, v, refl, (picked (v == w) _ found h).1)
+read_parts f w _ found h = absurd (cc)
+
+un_parts : (f : Term → Bool → Option Found) (op : Op1) (t : Term) (found : Found) → un_match f op t ≡ Some found → (o : Op1) × (a : Term) × (t ≡ un o a) × (f a false ≡ Some found)
+un_parts f op (un o a) found h = (o, a, refl, (picked (same_op1 o op) _ found h).1)
+un_parts f op _ found h = absurd (cc)
+
+bin_parts : (f g : Term → Bool → Option Found) (op : Op2) (t : Term) (found : Found) → bin_match f g op t ≡ Some found → (o : Op2) × (a : Term) × (b : Term) × (t ≡ bin o a b) × (both (f a false) (g b false) ≡ Some found)
+bin_parts f g op (bin o a b) found h = (o, a, b, refl, (picked (same_op2 o op) _ found h).1)
+bin_parts f g op _ found h = absurd (cc)
+
+slice_parts : (f : Term → Bool → Option Found) (n hi lo : ℕ) (t : Term) (found : Found) → slice_match f n hi lo t ≡ Some found → (a : Term) × (x : ℕ) × (y : ℕ) × (t ≡ slice a x y) × (f a false ≡ Some found)
+slice_parts f n hi lo (slice a x y) found h = (a, x, y, refl, (picked ((term_width a == n) && ((x == hi) && (y == lo))) _ found h).1)
+slice_parts f n hi lo _ found h = absurd (cc)
+
+zext_parts : (f : Term → Bool → Option Found) (n w : ℕ) (t : Term) (found : Found) → zext_match f n w t ≡ Some found → (a : Term) × (v : ℕ) × (t ≡ zext a v) × (f a false ≡ Some found)
+zext_parts f n w (zext a v) found h = (a, v, refl, (picked ((term_width a == n) && (v == w)) _ found h).1)
+zext_parts f n w _ found h = absurd (cc)
+
+sext_parts : (f : Term → Bool → Option Found) (n w : ℕ) (t : Term) (found : Found) → sext_match f n w t ≡ Some found → (a : Term) × (v : ℕ) × (t ≡ sext a v) × (f a false ≡ Some found)
+sext_parts f n w (sext a v) found h = (a, v, refl, (picked ((term_width a == n) && (v == w)) _ found h).1)
+sext_parts f n w _ found h = absurd (cc)
+
+not_whole : (whole b : Bool) → (not whole && b) ≡ true → whole ≡ false
+not_whole true b e = absurd (cc)
+not_whole false b e = refl
+
+cell_small : (temps : ℕ) (addr : Term) (w : ℕ) (t : Term) (whole : Bool) (found : Found) → cell_match temps addr w t whole ≡ Some found → Small whole t found.sites
+cell_small temps addr w t whole found h = go (is_cell t) (picked (w == term_width t) _ found h).1
+  where
+    go : (b : Bool) → (if b then literal_match addr t else open_if (not whole && shows_below addr temps) (cut addr t)) ≡ Some found → Small whole t found.sites
+    go true e = none_left whole t found.sites (literal_sites addr t found e)
+    go false e = let (ok, is) = open_sites (not whole && shows_below addr temps) (cut addr t) found e in inr (inl (addr, is, not_whole whole _ ok))
+
+either : (b : Bool) (x y : Option Found) (found : Found) → (if b then x else y) ≡ Some found → (x ≡ Some found) ⊎ (y ≡ Some found)
+either true x y found h = inl h
+either false x y found h = inr h
+
+pub matched_small : (temps : ℕ) (e t : Term) (whole : Bool) (found : Found) → matched temps e t whole ≡ Some found → Small whole t found.sites
+matched_small temps (word w) t whole found h = none_left whole t found.sites (shape_sites (word w) t found h)
+matched_small temps (const w v) t whole found h = none_left whole t found.sites (shape_sites (const w v) t found h)
+matched_small temps (reg r w) t whole found h = inl (r, (open_sites (w == term_width t) (operand r t whole) found h).1)
+matched_small temps (read a w) t whole found h =
+    elim (either (is_shape a) (cell_match temps a w t whole) (read_match (matched temps a) w t) found h) [
+      | inl c ↦ cell_small temps a w t whole found c
+      | inr r ↦ (let (b, v, e, m) = read_parts (matched temps a) w t found r in
+          inner whole (is_number b) t b found.sites (let n = ap size_of e in omega (arith, n)) (matched_small temps a b (is_number b) found m))
+    ]
+matched_small temps (un o a) t whole found h =
+    let (p, b, e, m) = un_parts (matched temps a) o t found h in
+    inner whole false t b found.sites (let n = ap size_of e in omega (arith, n)) (matched_small temps a b false found m)
+matched_small temps (bin o a b) t whole found h =
+    let (p, c, d, e, m) = bin_parts (matched temps a) (matched temps b) o t found h in
+    let (f, g, ef, eg, is) = both_parts (matched temps a c false) (matched temps b d false) found m in
+    let lf = small_le false c f.sites (matched_small temps a c false f ef) in
+    let lg = small_le false d g.sites (matched_small temps b d false g eg) in
+    inr (inr (let n = ap size_of e in let k = ap total is in let s = total-append f.sites g.sites in omega (arith, n, k, s, lf, lg)))
+matched_small temps (slice a hi lo) t whole found h =
+    elim (either (is_shape (slice a hi lo)) (shape_match (slice a hi lo) t) (slice_match (matched temps a) (term_width a) hi lo t) found h) [
+      | inl c ↦ none_left whole t found.sites (shape_sites (slice a hi lo) t found c)
+      | inr r ↦ (let (b, x, y, e, m) = slice_parts (matched temps a) (term_width a) hi lo t found r in
+          inner whole false t b found.sites (let n = ap size_of e in omega (arith, n)) (matched_small temps a b false found m))
+    ]
+matched_small temps (cat a b) t whole found h = absurd (cc)
+matched_small temps (zext a w) t whole found h =
+    elim (either (is_shape (zext a w)) (shape_match (zext a w) t) (zext_match (matched temps a) (term_width a) w t) found h) [
+      | inl c ↦ none_left whole t found.sites (shape_sites (zext a w) t found c)
+      | inr r ↦ (let (b, v, e, m) = zext_parts (matched temps a) (term_width a) w t found r in
+          inner whole false t b found.sites (let n = ap size_of e in omega (arith, n)) (matched_small temps a b false found m))
+    ]
+matched_small temps (sext a w) t whole found h =
+    elim (either (is_shape (sext a w)) (shape_match (sext a w) t) (sext_match (matched temps a) (term_width a) w t) found h) [
+      | inl c ↦ none_left whole t found.sites (shape_sites (sext a w) t found c)
+      | inr r ↦ (let (b, v, e, m) = sext_parts (matched temps a) (term_width a) w t found r in
+          inner whole false t b found.sites (let n = ap size_of e in omega (arith, n)) (matched_small temps a b false found m))
+    ]
+matched_small temps (select c a b) t whole found h = absurd (cc)
+
+-- a form into the register r
+pub into_small : (temps : ℕ) (rule : Rule) (goal : Kind) (r : ℕ) (t : Term) (whole : Bool) (found : Found) → goal_match temps rule goal (into r) t whole ≡ Some found → (goal_slot goal whole ≡ Some r) × Small whole t found.sites
+into_small temps rule (into_reg d) r t whole found h =
+    let (same, m) = picked (d == r) _ found h in (ap Some (eq_is d r same), matched_small temps rule.value t whole found m)
+into_small temps rule into_memory r t whole found h = absurd (cc)
+into_small temps rule (jumps reach) r t whole found h = absurd (cc)
+into_small temps rule (branches when_one to) r t whole found h = absurd (cc)
+
+address_sites : (temps : ℕ) (addr : Option Term) (found : Found) → address_match temps addr temporary ≡ Some found → found.sites ≡ []
+address_sites temps None found h = absurd (cc)
+address_sites temps (Some a) found h = settled_sites (Some 0) found (picked (is_shape a && shows_below a temps) _ found h).1
+
+-- a form into a temporary cell
+pub temp_small : (temps : ℕ) (rule : Rule) (goal : Kind) (t : Term) (whole : Bool) (found : Found) → goal_match temps rule goal temporary t whole ≡ Some found → (goal ≡ into_memory) × Small false t found.sites
+temp_small temps rule (into_reg d) t whole found h = absurd (cc)
+temp_small temps rule into_memory t whole found h =
+    let (f, g, ef, eg, is) = both_parts (address_match temps rule.addr temporary) (matched temps rule.value t false) found h in
+    let e : found.sites ≡ g.sites = is ∙ ap (λ l. l ++ g.sites) (address_sites temps rule.addr f ef) in
+    (refl, subst (Small false t) (sym e) (matched_small temps rule.value t false g eg))
+temp_small temps rule (jumps reach) t whole found h = absurd (cc)
+temp_small temps rule (branches when_one to) t whole found h = absurd (cc)
+
+-- ---- the entry from which a match goes on
+
+some_none : {A : Type 0} (b : Bool) (x : A) → (if b then Some x else None) ≡ None → b ≡ false
+some_none true x h = absurd (cc)
+some_none false x h = refl
+
+true_false : (b : Bool) → b ≡ true → b ≡ false → ⊥
+true_false b e f = cc
+
+and_false : (a b : Bool) → b ≡ true → (a && b) ≡ false → a ≡ false
+and_false true b e f = absurd (cc)
+and_false false b e f = refl
+
+pub rest_small : (whole : Bool) (t : Term) (avoid : ℕ) (sites : List Site) → Small whole t sites → rest (size_of t) (avoid == 0) sites ≡ None → (operands_size (operands_of sites) < size_of t) × (terms_size (cuts_of sites) < size_of t + rank avoid)
+rest_small whole t avoid sites (inl (r, e)) none =
+    absurd (true_false (size_of t == size_of t) (eq_self (size_of t)) (some_none _ r (ap (rest (size_of t) (avoid == 0)) (sym e) ∙ none)))
+rest_small whole t avoid sites (inr (inl (shape, e, w))) none =
+    let f : (avoid == 0) ≡ false = and_false (avoid == 0) (size_of t == size_of t) (eq_self (size_of t)) (some_none ((avoid == 0) && (size_of t == size_of t)) 16 (ap (rest (size_of t) (avoid == 0)) (sym e) ∙ none)) in
+    let k : rank avoid ≡ 1 = ap (λ b. if b then 0 else 1) f in
+    let a = ap (λ s. operands_size (operands_of s)) e in
+    let b = ap (λ s. terms_size (cuts_of s)) e in
+    let p = size_pos t in
+    (omega (arith, a, p), omega (arith, b, k))
+rest_small whole t avoid sites (inr (inr lt)) none = let p = total_parts sites in (omega (arith, p, lt), omega (arith, p, lt))
+
+taken_whole : (size : ℕ) (free : Bool) (sites : List Site) (q : ℕ) → rest size free sites ≡ Some q → total sites ≡ size
+taken_whole size free [] q h = absurd (cc)
+taken_whole size free (operand id tree whole ∷ []) q h = let e = eq_is (size_of tree) size (picked (size_of tree == size) (Some id) q h).0 in omega (arith, e)
+taken_whole size free (operand id tree whole ∷ s ∷ sites) q h = absurd (cc)
+taken_whole size free (cut shape tree ∷ []) q h = let e = eq_is (size_of tree) size (and_right free _ (picked (free && (size_of tree == size)) (Some 16) q h).0) in omega (arith, e)
+  where
+    and_right : (a b : Bool) → (a && b) ≡ true → b ≡ true
+    and_right true b e = e
+    and_right false b e = absurd (cc)
+taken_whole size free (cut shape tree ∷ s ∷ sites) q h = absurd (cc)
+
+pub rest_some : (whole : Bool) (t : Term) (free : Bool) (sites : List Site) (q : ℕ) → Small whole t sites → rest (size_of t) free sites ≡ Some q → (sites ≡ operand q t whole ∷ []) ⊎ ((shape : Term) × (sites ≡ cut shape t ∷ []) × (whole ≡ false) × (free ≡ true) × (q ≡ 16))
+rest_some whole t free sites q (inl (r, e)) h =
+    let k = (picked (size_of t == size_of t) (Some r) q (ap (rest (size_of t) free) (sym e) ∙ h)).1 in
+    let same : r ≡ q = cc in inl (e ∙ ap (λ i. operand i t whole ∷ []) same)
+rest_some whole t free sites q (inr (inl (shape, e, w))) h =
+    let k = picked (free && (size_of t == size_of t)) (Some 16) q (ap (rest (size_of t) free) (sym e) ∙ h) in
+    let l = k.1 in
+    let same : q ≡ 16 = cc in inr (shape, e, w, and_left free _ k.0, same)
+  where
+    and_left : (a b : Bool) → (a && b) ≡ true → a ≡ true
+    and_left true b e = refl
+    and_left false b e = absurd (cc)
+rest_some whole t free sites q (inr (inr lt)) h = absurd (let e = taken_whole (size_of t) free sites q h in omega (arith, e, lt))

@@ -1,0 +1,7 @@
+use Rattle.form_model.specs.Rules.{destination_of}
+use Rattle.cover.specs.Jobs.{trees_of}
+use Rattle.cover.specs.Best.{stock_with, IsBest}
+use Rattle.cover.proofs.jobs.best_of.Given as goal
+
+abbrev pub invariant-loop-j : goal.invariant-loop-j
+invariant-loop-j l = IsBest (stock_with l.forms l.temps) (destination_of l.job.aim) (trees_of l.job.trees.items) l.j l.best

@@ -1,0 +1,40 @@
+use Rattle.std.proofs.Common.{◌≡◌, ◌+◌, ◌*◌, vec_len}
+use Rattle.net_model.specs.Terms.{size_of}
+use Rattle.form_model.specs.Trees.{tree_term}
+use Rattle.cover.specs.Asks.{operands_size, terms_size, rank}
+use Rattle.cover.specs.Least.{OrderReached, FirstsBelow}
+use Rattle.cover.specs.Rows.{IsTried}
+use Rattle.cover.specs.Jobs.{stock_of, open_operands, open_cuts, AreRight}
+use Rattle.cover.proofs.least.+covering.Given as goal
+
+abbrev pub decreases-least : goal.decreases-least
+decreases-least l = 32 * size_of (tree_term l.tree.now) + 16 * rank l.avoid + 4
+
+abbrev pub decreases-least_row : goal.decreases-least_row
+decreases-least_row l = 32 * size_of (tree_term l.tree.now) + 16 * rank l.avoid + 3
+
+abbrev pub decreases-offer_at : goal.decreases-offer_at
+decreases-offer_at l = 32 * size_of (tree_term l.tree.now) + 16 * rank l.avoid + 1
+
+abbrev pub decreases-orders : goal.decreases-orders
+decreases-orders l = 32 * operands_size (open_operands l.ops.now) + 25
+
+abbrev pub decreases-orders_from : goal.decreases-orders_from
+decreases-orders_from l = 32 * operands_size (open_operands l.ops.now) + 24
+
+abbrev pub decreases-cuts_cost : goal.decreases-cuts_cost
+decreases-cuts_cost l = 32 * terms_size (open_cuts l.cuts.now) + 8
+
+abbrev pub invariant-orders-loop-i : goal.invariant-orders-loop-i
+invariant-orders-loop-i l = record {
+  reached : OrderReached (stock_of l.instance) l.avoid (open_operands l.ops) l.best;
+  least : FirstsBelow (stock_of l.instance) l.avoid (open_operands l.ops) l.i l.best;
+  right : AreRight l.instance l.table.rows.entries;
+}
+
+abbrev pub invariant-least_row-loop-k : goal.invariant-least_row-loop-k
+invariant-least_row-loop-k l = record {
+  len : vec_len l.row ≡ 17;
+  tried : IsTried (stock_of l.instance) l.avoid (tree_term l.tree) l.whole l.k l.chains.items l.row.items;
+  right : AreRight l.instance l.table.rows.entries;
+}

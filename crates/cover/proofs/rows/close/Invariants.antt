@@ -1,0 +1,13 @@
+use Rattle.std.proofs.Common.{◌≡◌, vec_len}
+use Rattle.cover.specs.Rows.{Keeps, Lower, weight_of}
+use Rattle.cover.proofs.rows.close.Given as goal
+
+abbrev pub invariant-loop : goal.invariant-loop
+invariant-loop l = record {
+  len : vec_len l.row ≡ 17;
+  sound : Keeps l.chains l.initial.row.items l.row.items;
+  lower : Lower l.initial.row.items l.row.items;
+}
+
+abbrev pub decreases-loop : goal.decreases-loop
+decreases-loop l = weight_of l.row.items

@@ -1,0 +1,245 @@
+//! The first cover of least cost: its form, then the order of its operands, then their covers, and those of its cuts.
+
+ghost use Rattle.std.specs.Prelude.{◌≡◌, ℕ, ◌+◌, ◌-◌, ◌<◌, ◌≤◌, ◌≢◌, Some, IfOk, OnOk, IfSome, IfNone, length};
+ghost use Rattle.form_model.specs.Plans.{operand_then, cut_then, plan_of, operands_plan, cuts_plan};
+ghost use Rattle.cover.specs.Asks.{rest};
+ghost use Rattle.cover.specs.Least.{IsLeast, IsLeastOrder, IsLeastCut};
+ghost use Rattle.cover.specs.Choice.{ask_of, StandsWant, Begins, Starts, StartsCut, IsFirst, IsFirstOrder, IsFirstCuts};
+ghost use Rattle.cover.specs.Jobs.{stock_of, nodes_of, open_operands, open_cuts, OperandsAt, CutsAt, AreRight};
+
+use crate::fits::{Fit, Want, cost_of, fit_at};
+use crate::least::{least, orders};
+use crate::parts::{OpenCut, OpenOperand, put_reg, register_of, without};
+use crate::table::{CostTable, Instance};
+use form_model::{Cover, CoverCuts, CoverOperands, RegSet};
+use rec_bits::NoMemory;
+use std::alloc::Global;
+use tree_grammar::Destination;
+
+// The parts of the match of the form at `k`, if it begins a cover of the least cost `n`.
+fn begins<'a>(
+    alloc: Global,
+    instance: &Instance<'a>,
+    table: &mut CostTable,
+    want: &Want<'a>,
+    avoid: RegSet,
+    n: u64,
+    k: usize,
+) -> Result<Option<Fit<'a>>, NoMemory>
+    requires form { k < length instance.now.forms.now }
+    requires least { IsLeast (stock_of instance.now) avoid (ask_of want.now) (Some n) }
+    requires stands { StandsWant instance.now want.now }
+    requires right { AreRight instance.now table.old.rows.entries }
+    ensures begins { IfOk result (λ o. Begins (stock_of instance.now) avoid (ask_of want.now) n k o) }
+    ensures at { IfOk result (λ o. IfSome o (λ f. OperandsAt (nodes_of instance.now) f.operands.items)) }
+    ensures cuts_at { IfOk result (λ o. IfSome o (λ f. CutsAt (nodes_of instance.now) f.cuts.items)) }
+    ensures right { OnOk result (AreRight instance.now table.new.rows.entries) }
+{
+    let Some(fit) = fit_at(alloc, instance, table, want, avoid, k)? else {
+        return Ok(None);
+    };
+    if cost_of(&fit)? == n {
+        return Ok(Some(fit));
+    }
+    Ok(None)
+}
+
+// The first number, if both are there and their sum is `n`.
+fn if_sum(n: u64, a: Option<u64>, b: Option<u64>) -> Option<u64>
+    ensures yes { IfSome result (λ m. (a ≡ Some m) × (m ≤ n) × (b ≡ Some (n - m))) }
+    ensures no { IfNone result ((j k : ℕ) → a ≡ Some j → b ≡ Some k → j + k ≢ n) }
+{
+    let (Some(j), Some(k)) = (a, b) else {
+        return None;
+    };
+    if j <= n && k == n - j { Some(j) } else { None }
+}
+
+// The cost of the operand at `i`, if it begins an order of the least cost `n`.
+fn starts(
+    alloc: Global,
+    instance: &Instance,
+    table: &mut CostTable,
+    ops: &[OpenOperand],
+    avoid: RegSet,
+    n: u64,
+    i: usize,
+) -> Result<Option<u64>, NoMemory>
+    requires place { i < length ops.now }
+    requires least { IsLeastOrder (stock_of instance.now) avoid (open_operands ops.now) (Some n) }
+    requires at { OperandsAt (nodes_of instance.now) ops.now }
+    requires right { AreRight instance.now table.old.rows.entries }
+    ensures starts { IfOk result (λ o. Starts (stock_of instance.now) avoid (open_operands ops.now) n i o) }
+    ensures right { OnOk result (AreRight instance.now table.new.rows.entries) }
+{
+    let first = ops[i];
+    let slot = register_of(first.id)?;
+    let m = least(
+        alloc,
+        instance,
+        table,
+        first.tree,
+        first.at,
+        first.whole,
+        slot,
+        avoid,
+    )?;
+    let rest = without(alloc, ops, i)?;
+    let later = put_reg(avoid, first.id)?;
+    let others = orders(alloc, instance, table, &rest, later)?;
+    Ok(if_sum(n, m, others))
+}
+
+// The cost of the first cut, which is a part of the least cost `n` of the cuts.
+fn first_cut(
+    alloc: Global,
+    instance: &Instance,
+    table: &mut CostTable,
+    cuts: &[OpenCut],
+    n: u64,
+) -> Result<u64, NoMemory>
+    requires some { 0 < length cuts.now }
+    requires least { IsLeastCut (stock_of instance.now) (open_cuts cuts.now) (Some n) }
+    requires at { CutsAt (nodes_of instance.now) cuts.now }
+    requires right { AreRight instance.now table.old.rows.entries }
+    ensures starts { IfOk result (λ m. StartsCut (stock_of instance.now) (open_cuts cuts.now) n m) }
+    ensures right { OnOk result (AreRight instance.now table.new.rows.entries) }
+{
+    let first = cuts[0];
+    let Some(m) = least(alloc, instance, table, first.tree, first.at, false, 16, 0)? else {
+        unreachable!()
+    };
+    Ok(m)
+}
+
+// The first cover of the least cost `n`.
+#[cycle(choosing)]
+pub(crate) fn choose<'a>(
+    alloc: Global,
+    instance: &Instance<'a>,
+    table: &mut CostTable,
+    want: &Want<'a>,
+    avoid: RegSet,
+    n: u64,
+) -> Result<Cover, NoMemory>
+    requires least { IsLeast (stock_of instance.now) avoid (ask_of want.now) (Some n) }
+    requires stands { StandsWant instance.now want.now }
+    requires right { AreRight instance.now table.old.rows.entries }
+    ensures first { IfOk result (λ c. IsFirst (stock_of instance.now) avoid (ask_of want.now) (plan_of c)) }
+    ensures right { OnOk result (AreRight instance.now table.new.rows.entries) }
+{
+    for k in 0..instance.forms.len() {
+        if let Some(fit) = begins(alloc, instance, table, want, avoid, n, k)? {
+            let operands = choose_order(
+                alloc,
+                instance,
+                table,
+                &fit.operands,
+                avoid,
+                fit.operands_cost,
+            )?;
+            let cuts = choose_cuts(alloc, instance, table, &fit.cuts, fit.cuts_cost)?;
+            return Ok(Cover {
+                form: k,
+                operands,
+                cuts,
+            });
+        }
+    }
+    unreachable!()
+}
+
+// The covers of operands in their order, from that of the first, which stands at a place among those that are left.
+fn operand_first(
+    alloc: Global,
+    place: usize,
+    first: Cover,
+    rest: CoverOperands,
+) -> Result<CoverOperands, NoMemory>
+    ensures { IfOk result (λ all. operands_plan all ≡ operand_then place (plan_of first) (operands_plan rest)) }
+{
+    Ok(CoverOperands::Then {
+        place,
+        cover: Box::new(alloc, first)?,
+        rest: Box::new(alloc, rest)?,
+    })
+}
+
+// The covers of cuts from left to right, from that of the first.
+fn cut_first(alloc: Global, first: Cover, rest: CoverCuts) -> Result<CoverCuts, NoMemory>
+    ensures { IfOk result (λ all. cuts_plan all ≡ cut_then (plan_of first) (cuts_plan rest)) }
+{
+    Ok(CoverCuts::Then {
+        cover: Box::new(alloc, first)?,
+        rest: Box::new(alloc, rest)?,
+    })
+}
+
+// The first order of the least cost `n`, with its covers.
+#[cycle(choosing)]
+fn choose_order<'a>(
+    alloc: Global,
+    instance: &Instance<'a>,
+    table: &mut CostTable,
+    ops: &[OpenOperand<'a>],
+    avoid: RegSet,
+    n: u64,
+) -> Result<CoverOperands, NoMemory>
+    requires least { IsLeastOrder (stock_of instance.now) avoid (open_operands ops.now) (Some n) }
+    requires at { OperandsAt (nodes_of instance.now) ops.now }
+    requires right { AreRight instance.now table.old.rows.entries }
+    ensures first { IfOk result (λ c. IsFirstOrder (stock_of instance.now) avoid (open_operands ops.now) (operands_plan c)) }
+    ensures right { OnOk result (AreRight instance.now table.new.rows.entries) }
+{
+    if ops.is_empty() {
+        return Ok(CoverOperands::Empty);
+    }
+    for i in 0..ops.len() {
+        if let Some(m) = starts(alloc, instance, table, ops, avoid, n, i)? {
+            let first = ops[i];
+            let want = Want {
+                destination: Destination::Register(first.id),
+                tree: first.tree,
+                whole: first.whole,
+                at: first.at,
+            };
+            let here = choose(alloc, instance, table, &want, avoid, m)?;
+            let rest = without(alloc, ops, i)?;
+            let later = put_reg(avoid, first.id)?;
+            let others = choose_order(alloc, instance, table, &rest, later, n - m)?;
+            return operand_first(alloc, i, here, others);
+        }
+    }
+    unreachable!()
+}
+
+// The first covers of the least cost `n` of the cuts.
+#[cycle(choosing)]
+fn choose_cuts<'a>(
+    alloc: Global,
+    instance: &Instance<'a>,
+    table: &mut CostTable,
+    cuts: &[OpenCut<'a>],
+    n: u64,
+) -> Result<CoverCuts, NoMemory>
+    requires least { IsLeastCut (stock_of instance.now) (open_cuts cuts.now) (Some n) }
+    requires at { CutsAt (nodes_of instance.now) cuts.now }
+    requires right { AreRight instance.now table.old.rows.entries }
+    ensures first { IfOk result (λ c. IsFirstCuts (stock_of instance.now) (open_cuts cuts.now) (cuts_plan c)) }
+    ensures right { OnOk result (AreRight instance.now table.new.rows.entries) }
+{
+    if cuts.is_empty() {
+        return Ok(CoverCuts::Empty);
+    }
+    let m = first_cut(alloc, instance, table, cuts, n)?;
+    let first = cuts[0];
+    let want = Want {
+        destination: Destination::Temp,
+        tree: first.tree,
+        whole: false,
+        at: first.at,
+    };
+    let here = choose(alloc, instance, table, &want, 0, m)?;
+    let later = choose_cuts(alloc, instance, table, &cuts[1..], n - m)?;
+    cut_first(alloc, here, later)
+}

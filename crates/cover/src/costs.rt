@@ -1,0 +1,48 @@
+//! Costs: how many forms a cover has.
+
+ghost use Rattle.std.specs.Prelude.{◌≡◌, ◌+◌, IfOk};
+ghost use Rattle.std.specs.Bool.{OnTrue, OnFalse};
+ghost use Rattle.cover.specs.Least.{AtMost, lesser, summed};
+ghost use Rattle.cover.specs.Rows.{IsBelow};
+
+use rec_bits::NoMemory;
+
+// The sum, or want of memory where no list of steps could be so long.
+pub(crate) fn plus(a: u64, b: u64) -> Result<u64, NoMemory>
+    ensures { IfOk result (λ c. c ≡ a + b) }
+{
+    match a.checked_add(b) {
+        Some(c) => Ok(c),
+        None => Err(NoMemory),
+    }
+}
+
+// Whether the cost is less than the one that is known.
+pub(crate) fn is_less(n: u64, known: Option<u64>) -> bool
+    ensures yes { OnTrue result (IsBelow n known) }
+    ensures no { OnFalse result (AtMost known n) }
+{
+    match known {
+        None => true,
+        Some(m) => n < m,
+    }
+}
+
+pub(crate) fn sum_of(a: Option<u64>, b: Option<u64>) -> Result<Option<u64>, NoMemory>
+    ensures { IfOk result (λ o. o ≡ summed a b) }
+{
+    match (a, b) {
+        (Some(m), Some(n)) => Ok(Some(plus(m, n)?)),
+        _ => Ok(None),
+    }
+}
+
+pub(crate) fn lesser_of(a: Option<u64>, b: Option<u64>) -> Option<u64>
+    ensures { result ≡ lesser a b }
+{
+    match (a, b) {
+        (None, _) => b,
+        (_, None) => a,
+        (Some(m), Some(n)) => if n < m { b } else { a },
+    }
+}

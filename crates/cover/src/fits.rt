@@ -1,0 +1,139 @@
+//! The forms that begin a cover of what is asked for, and the least cost of its covers.
+
+ghost use Rattle.std.specs.Prelude.{◌≡◌, ◌+◌, ◌<◌, IfOk, OnOk, IfSome, length};
+ghost use Rattle.cover.specs.Least.{IsLeast, IsLeastForm};
+ghost use Rattle.cover.specs.Choice.{ask_of, StandsWant, IsFit, FitOf};
+ghost use Rattle.cover.specs.Jobs.{stock_of, nodes_of, OperandsAt, CutsAt, AreRight};
+
+use crate::costs::{lesser_of, plus};
+use crate::least::{cuts_cost, orders};
+use crate::parts::{OpenCut, OpenOperand, cuts_in, operands_in};
+use crate::table::{CostTable, Instance};
+use form_model::{RegSet, Tree};
+use rec_bits::NoMemory;
+use std::alloc::Global;
+use tree_grammar::{Destination, match_at};
+
+/// What is asked for: a tree that goes to a destination, with the number at which its trees begin.
+#[derive(Clone, Copy)]
+pub struct Want<'a> {
+    pub destination: Destination<'a>,
+    pub tree: &'a Tree,
+    pub whole: bool,
+    pub at: u64,
+}
+
+/// The parts of a form's match, with their least costs.
+#[derive(Drop)]
+pub struct Fit<'a> {
+    pub operands: Vec<OpenOperand<'a>>,
+    pub cuts: Vec<OpenCut<'a>>,
+    pub operands_cost: u64,
+    pub cuts_cost: u64,
+}
+
+// The parts of the match of the form at `k`, with their least costs, where it begins a cover.
+pub(crate) fn fit_at<'a>(
+    alloc: Global,
+    instance: &Instance<'a>,
+    table: &mut CostTable,
+    want: &Want<'a>,
+    avoid: RegSet,
+    k: usize,
+) -> Result<Option<Fit<'a>>, NoMemory>
+    requires form { k < length instance.now.forms.now }
+    requires stands { StandsWant instance.now want.now }
+    requires right { AreRight instance.now table.old.rows.entries }
+    ensures fit { IfOk result (λ o. IsFit (stock_of instance.now) avoid (ask_of want.now) k o) }
+    ensures at { IfOk result (λ o. IfSome o (λ f. OperandsAt (nodes_of instance.now) f.operands.items)) }
+    ensures cuts_at { IfOk result (λ o. IfSome o (λ f. CutsAt (nodes_of instance.now) f.cuts.items)) }
+    ensures right { OnOk result (AreRight instance.now table.new.rows.entries) }
+{
+    let form = &instance.forms[k];
+    if form.clobbers & avoid != 0 {
+        return Ok(None);
+    }
+    let Some(found) = match_at(
+        alloc,
+        form,
+        want.destination,
+        want.tree,
+        want.whole,
+        instance.temps,
+        want.at,
+    )?
+    else {
+        return Ok(None);
+    };
+    let operands = operands_in(alloc, &found.parts)?;
+    let cuts = cuts_in(alloc, &found.parts)?;
+    let a = orders(alloc, instance, table, &operands, avoid)?;
+    let b = cuts_cost(alloc, instance, table, &cuts)?;
+    Ok(fit_of(operands, cuts, a, b))
+}
+
+fn fit_of<'a>(
+    operands: Vec<OpenOperand<'a>>,
+    cuts: Vec<OpenCut<'a>>,
+    a: Option<u64>,
+    b: Option<u64>,
+) -> Option<Fit<'a>>
+    ensures { FitOf operands.entry.items cuts.entry.items a b result }
+{
+    let (Some(operands_cost), Some(cuts_cost)) = (a, b) else {
+        return None;
+    };
+    Some(Fit {
+        operands,
+        cuts,
+        operands_cost,
+        cuts_cost,
+    })
+}
+
+// The cost of the covers that begin with the form.
+pub(crate) fn cost_of(fit: &Fit) -> Result<u64, NoMemory>
+    ensures { IfOk result (λ n. n ≡ 1 + fit.now.operands_cost + fit.now.cuts_cost) }
+{
+    plus(plus(1, fit.operands_cost)?, fit.cuts_cost)
+}
+
+// The least cost of the covers that begin with the form at `k`.
+fn form_least<'a>(
+    alloc: Global,
+    instance: &Instance<'a>,
+    table: &mut CostTable,
+    want: &Want<'a>,
+    k: usize,
+) -> Result<Option<u64>, NoMemory>
+    requires form { k < length instance.now.forms.now }
+    requires stands { StandsWant instance.now want.now }
+    requires right { AreRight instance.now table.old.rows.entries }
+    ensures least { IfOk result (λ o. IsLeastForm (stock_of instance.now) 0 (ask_of want.now) k o) }
+    ensures right { OnOk result (AreRight instance.now table.new.rows.entries) }
+{
+    let Some(fit) = fit_at(alloc, instance, table, want, 0, k)? else {
+        return Ok(None);
+    };
+    Ok(Some(cost_of(&fit)?))
+}
+
+// The least cost of the covers.
+pub(crate) fn least_of<'a>(
+    alloc: Global,
+    instance: &Instance<'a>,
+    table: &mut CostTable,
+    want: &Want<'a>,
+) -> Result<Option<u64>, NoMemory>
+    requires stands { StandsWant instance.now want.now }
+    requires right { AreRight instance.now table.old.rows.entries }
+    ensures least { IfOk result (λ o. IsLeast (stock_of instance.now) 0 (ask_of want.now) o) }
+    ensures right { OnOk result (AreRight instance.now table.new.rows.entries) }
+{
+    let mut best = None;
+    for k in 0..instance.forms.len() {
+        let form = form_least(alloc, instance, table, want, k)?;
+        best = lesser_of(best, form);
+    }
+    Ok(best)
+}

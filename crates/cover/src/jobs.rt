@@ -1,0 +1,132 @@
+//! Covers of jobs: of one tree, or the better of two.
+
+ghost use Rattle.std.specs.Prelude.{◌≡◌, ◌<◌, Some, Err, IfOk, length, slice_get};
+ghost use Rattle.net_model.specs.Terms.{Term};
+ghost use Rattle.form_model.specs.Trees.{tree_term};
+ghost use Rattle.form_model.specs.Rules.{destination_of};
+ghost use Rattle.form_model.specs.Covers.{IsChosen, HasNoCover, job_cost};
+ghost use Rattle.form_model.specs.Plans.{cost, plan_of};
+ghost use Rattle.tree_grammar.specs.Parts.{destination_at};
+ghost use Rattle.cover.specs.Best.{root_ask, stock_with, choice_of, IsTreeCover, better_of, IsBest};
+ghost use Rattle.cover.specs.Jobs.{trees_of, stock_of};
+
+use crate::choice::choose;
+use crate::covers::{CoverFault, JobCover, TreeCover};
+use crate::fits::{Want, least_of};
+use crate::table::{CostTable, Instance};
+use form_model::{Aim, Form, Forms, Job};
+use indexmap::IndexMap;
+use rec_bits::NoMemory;
+use std::alloc::Global;
+use tree_grammar::Destination;
+
+// The first cover of least cost of the instance's tree, if there is a cover.
+fn cover_tree(alloc: Global, instance: &Instance) -> Result<Option<TreeCover>, NoMemory>
+    ensures { IfOk result (λ o. IsTreeCover (stock_of instance.now) (root_ask (destination_at instance.now.destination) (tree_term instance.now.tree.now)) o) }
+{
+    let mut table = CostTable {
+        rows: IndexMap::new(alloc),
+    };
+    let want = Want {
+        destination: instance.destination,
+        tree: instance.tree,
+        whole: true,
+        at: 0,
+    };
+    let Some(n) = least_of(alloc, instance, &mut table, &want)? else {
+        return Ok(None);
+    };
+    let cover = choose(alloc, instance, &mut table, &want, 0, n)?;
+    Ok(Some(TreeCover { cover, cost: n }))
+}
+
+// The cover that is known, or the cover of the tree at `j` where that is cheaper.
+fn better(best: Option<JobCover>, j: usize, tree_cover: Option<TreeCover>) -> Option<JobCover>
+    ensures { result ≡ better_of best j tree_cover }
+{
+    let Some(t) = tree_cover else {
+        return best;
+    };
+    if let Some(b) = best {
+        if b.cost <= t.cost {
+            return Some(b);
+        }
+    }
+    Some(JobCover {
+        which: j,
+        cover: t.cover,
+        cost: t.cost,
+    })
+}
+
+// The chosen cover of the job, if it has a cover.
+fn best_of(
+    alloc: Global,
+    forms: &[Form],
+    job: &Job,
+    temps: u32,
+) -> Result<Option<JobCover>, NoMemory>
+    ensures { IfOk result (λ o. IsBest (stock_with forms.now temps) (destination_of job.now.aim) (trees_of job.now.trees.items) (length job.now.trees.items) o) }
+{
+    let mut best = None;
+    for j in 0..job.trees.len() {
+        let tree_cover = cover_tree_at(alloc, forms, job, temps, j)?;
+        best = better(best, j, tree_cover);
+    }
+    Ok(best)
+}
+
+// The same of one of a job's trees.
+fn cover_tree_at(
+    alloc: Global,
+    forms: &[Form],
+    job: &Job,
+    temps: u32,
+    j: usize,
+) -> Result<Option<TreeCover>, NoMemory>
+    requires { j < length job.now.trees.items }
+    ensures { IfOk result (λ o. (t : Term) → slice_get (trees_of job.now.trees.items) j ≡ Some t →
+        IsTreeCover (stock_with forms.now temps) (root_ask (destination_of job.now.aim) t) o) }
+{
+    let instance = Instance {
+        forms,
+        temps,
+        destination: Destination::of(&job.aim),
+        tree: &job.trees[j],
+    };
+    cover_tree(alloc, &instance)
+}
+
+// The cover of a job with the job's cost: that of a test leaves out its branch word.
+fn without_branch(aim: &Aim, c: JobCover) -> JobCover
+    requires { c.cost ≡ cost (plan_of c.cover) }
+    ensures choice { choice_of result ≡ choice_of c }
+    ensures cost { result.cost ≡ job_cost (destination_of aim.now) (plan_of c.cover) }
+{
+    match aim {
+        Aim::Test => JobCover {
+            which: c.which,
+            cover: c.cover,
+            cost: c.cost - 1,
+        },
+        Aim::Cell(_) => c,
+        Aim::Store(_) => c,
+        Aim::Temp => c,
+    }
+}
+
+/// The first among the orderly covers of least cost of a job, where so many temporary cells are used; `NoCover` exactly where no tree of the
+/// job has an orderly cover. Covers of equal cost are ordered by the tree that they cover, then by the place of the form, then by the order of
+/// the operands, then by their covers in that order, and then by the cuts' covers. Want of memory stands also for a form of a register whose
+/// number is 16 or more, and for a cost, a tree or a setting of a form past 64 bits.
+pub fn cover(alloc: Global, forms: &Forms, job: &Job, temps: u32) -> Result<JobCover, CoverFault>
+    ensures chosen { IfOk result (λ c. IsChosen (stock_with forms.now.list.items temps) (destination_of job.now.aim) (trees_of job.now.trees.items) (choice_of c)) }
+    ensures cost { IfOk result (λ c. c.cost ≡ job_cost (destination_of job.now.aim) (plan_of c.cover)) }
+    ensures none { result ≡ Err CoverFault.NoCover → HasNoCover (stock_with forms.now.list.items temps) (destination_of job.now.aim) (trees_of job.now.trees.items) }
+{
+    match best_of(alloc, &forms.list, job, temps) {
+        Ok(Some(c)) => Ok(without_branch(&job.aim, c)),
+        Ok(None) => Err(CoverFault::NoCover),
+        Err(_) => Err(CoverFault::Memory),
+    }
+}

@@ -1,0 +1,160 @@
+//! What a match leaves open, with the numbers of its trees, and registers.
+
+ghost use Rattle.std.specs.Prelude.{◌≡◌, [], ◌∷◌, ◌<◌, IfOk, OnOk, IfSome, length, remove, List, Bool};
+ghost use Rattle.net_model.specs.Terms.{Term};
+ghost use Rattle.form_model.specs.Covers.{operands_of, cuts_of};
+ghost use Rattle.form_model.specs.Matches.{operand};
+ghost use Rattle.tree_grammar.specs.Parts.{part_of, parts_of, AreAt};
+ghost use Rattle.cover.specs.Asks.{with_reg, rest};
+ghost use Rattle.cover.specs.Jobs.{open_operands, open_cuts, OperandsAt, CutsAt, HasOperand, HasCut};
+
+use form_model::{RegSet, Tree};
+use rec_bits::NoMemory;
+use std::alloc::Global;
+use tree_grammar::{Part, tree_size};
+
+/// An operand that a match leaves open, with the number of its tree among the job's subtrees.
+#[derive(Clone, Copy)]
+pub struct OpenOperand<'a> {
+    pub id: u32,
+    pub tree: &'a Tree,
+    pub whole: bool,
+    pub at: u64,
+}
+
+/// A cut that a match leaves open, with the number of its tree among the job's subtrees.
+#[derive(Clone, Copy)]
+pub struct OpenCut<'a> {
+    pub tree: &'a Tree,
+    pub at: u64,
+}
+
+// The register's number, which is below 16; a form for another register has no bit in a set of registers.
+pub(crate) fn register_of(id: u32) -> Result<u8, NoMemory>
+    ensures { IfOk result (λ r. (r ≡ id) × (r < 16)) }
+{
+    if id < 16 { Ok(id as u8) } else { Err(NoMemory) }
+}
+
+// The set with one more register.
+pub(crate) fn put_reg(avoid: RegSet, id: u32) -> Result<RegSet, NoMemory>
+    ensures { IfOk result (λ s. s ≡ with_reg avoid id) }
+{
+    let r = register_of(id)?;
+    Ok(avoid | (1 << r))
+}
+
+// The operands among the parts, from left to right.
+pub(crate) fn operands_in<'a>(
+    alloc: Global,
+    parts: &[Part<'a>],
+) -> Result<Vec<OpenOperand<'a>>, NoMemory>
+    ensures operands { IfOk result (λ v. open_operands v.items ≡ operands_of (parts_of parts.now)) }
+    ensures at { IfOk result (λ v. (nodes : List Term) → AreAt nodes parts.now → OperandsAt nodes v.items) }
+{
+    let mut out = Vec::new(alloc);
+    for part in parts {
+        put_operand(&mut out, *part)?;
+    }
+    Ok(out)
+}
+
+fn put_operand<'a>(out: &mut Vec<OpenOperand<'a>>, part: Part<'a>) -> Result<(), NoMemory>
+    ensures { OnOk result (HasOperand part.entry out.old.items out.new.items) }
+{
+    match part {
+        Part::Operand {
+            id,
+            tree,
+            whole,
+            at,
+        } => {
+            out.push(OpenOperand {
+                id,
+                tree,
+                whole,
+                at,
+            })?;
+            Ok(())
+        }
+        Part::Cut { .. } => Ok(()),
+    }
+}
+
+// The cuts among the parts, from left to right.
+pub(crate) fn cuts_in<'a>(alloc: Global, parts: &[Part<'a>]) -> Result<Vec<OpenCut<'a>>, NoMemory>
+    ensures cuts { IfOk result (λ v. open_cuts v.items ≡ cuts_of (parts_of parts.now)) }
+    ensures at { IfOk result (λ v. (nodes : List Term) → AreAt nodes parts.now → CutsAt nodes v.items) }
+{
+    let mut out = Vec::new(alloc);
+    for part in parts {
+        put_cut(&mut out, *part)?;
+    }
+    Ok(out)
+}
+
+fn put_cut<'a>(out: &mut Vec<OpenCut<'a>>, part: Part<'a>) -> Result<(), NoMemory>
+    ensures { OnOk result (HasCut part.entry out.old.items out.new.items) }
+{
+    match part {
+        Part::Operand { .. } => Ok(()),
+        Part::Cut { tree, at, .. } => {
+            out.push(OpenCut { tree, at })?;
+            Ok(())
+        }
+    }
+}
+
+// The operands without the one at `i`.
+pub(crate) fn without<'a>(
+    alloc: Global,
+    ops: &[OpenOperand<'a>],
+    i: usize,
+) -> Result<Vec<OpenOperand<'a>>, NoMemory>
+    requires { i < length ops.now }
+    ensures { IfOk result (λ rest. rest.items ≡ remove ops.now i) }
+{
+    let mut rest = Vec::new(alloc);
+    for o in &ops[..i] {
+        rest.push(*o)?;
+    }
+    for o in &ops[i + 1..] {
+        rest.push(*o)?;
+    }
+    Ok(rest)
+}
+
+// The entry of the same tree's row from which a match goes on, if its one part is the whole tree. A cut goes on from the entry of a
+// temporary cell where there is nothing to avoid.
+pub(crate) fn rest_of(parts: &[Part], size: u64, free: bool) -> Result<Option<u8>, NoMemory>
+    ensures is { IfOk result (λ o. o ≡ rest size free (parts_of parts.now)) }
+    ensures register { IfOk result (λ o. IfSome o (λ q. (t : Term) (w : Bool) → parts_of parts.now ≡ operand q t w ∷ [] → q < 16)) }
+{
+    if parts.len() != 1 {
+        return Ok(None);
+    }
+    rest_of_one(parts[0], size, free)
+}
+
+fn rest_of_one(part: Part, size: u64, free: bool) -> Result<Option<u8>, NoMemory>
+    ensures is { IfOk result (λ o. o ≡ rest size free (part_of part.entry ∷ [])) }
+    ensures register { IfOk result (λ o. IfSome o (λ q. (t : Term) (w : Bool) → part_of part.entry ∷ [] ≡ operand q t w ∷ [] → q < 16)) }
+{
+    match part {
+        Part::Operand { id, tree, .. } => {
+            if tree_size(tree)? != size {
+                return Ok(None);
+            }
+            Ok(Some(register_of(id)?))
+        }
+        Part::Cut { tree, .. } => {
+            if !free {
+                return Ok(None);
+            }
+            if tree_size(tree)? != size {
+                return Ok(None);
+            }
+            Ok(Some(16))
+        }
+    }
+}

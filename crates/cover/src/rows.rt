@@ -1,0 +1,161 @@
+//! Rows of least costs of one tree: an entry for each register, and behind them one for a temporary cell.
+
+ghost use Rattle.std.specs.Prelude.{◌≡◌, ◌<◌, Some, IfOk, OnOk, IfSome, vec_len, length, slice_set, if◌then◌else◌};
+ghost use Rattle.std.specs.Bool.{OnTrue, OnFalse};
+ghost use Rattle.form_model.specs.Rules.{kind_of};
+ghost use Rattle.form_model.specs.Plans.{cost};
+ghost use Rattle.tree_grammar.specs.Parts.{destination_at};
+ghost use Rattle.cover.specs.Least.{AtMost};
+ghost use Rattle.cover.specs.Rows.{entry, entry_destination, IsSlot, goal_slot, IsBelow, AreWithin, IsWithin, offer_is, Noted, Chained, Swept, IsClosed, Entered};
+
+use crate::costs::{is_less, plus};
+use crate::parts::register_of;
+use form_model::{Form, Goal};
+use rec_bits::NoMemory;
+use smallvec::SmallVec;
+use tree_grammar::Destination;
+
+/// A form whose match leaves the whole tree as its one part: from a cover for one entry of the tree's row it makes a cover for another,
+/// which costs 1 more.
+#[derive(Clone, Copy, Default)]
+pub struct ChainRule {
+    /// The entry that it starts from.
+    pub start: u8,
+    /// The entry that it makes a cover for.
+    pub goal: u8,
+}
+
+/// What a form gives for a tree's row.
+#[derive(Clone, Copy)]
+pub enum Offer {
+    Nothing,
+    Chains(ChainRule),
+    /// A cover for this entry, of this cost.
+    Reaches(u8, u64),
+}
+
+// Where the tree of an entry goes.
+pub(crate) fn destination_of_entry(slot: u8) -> Destination<'static>
+    ensures { destination_at result ≡ entry_destination slot }
+{
+    if slot < 16 {
+        Destination::Register(u32::from(slot))
+    } else {
+        Destination::Temp
+    }
+}
+
+// The entry of a row to which the form goes; a whole tree has none for a temporary cell.
+pub(crate) fn goal_of(form: &Form, whole: bool) -> Result<Option<u8>, NoMemory>
+    ensures { IfOk result (λ o. (o ≡ goal_slot (kind_of form.now.goal) whole) × IfSome o (λ r. IsSlot whole r)) }
+{
+    match &form.goal {
+        Goal::Reg(id) => Ok(Some(register_of(*id)?)),
+        Goal::Memory => { if whole { Ok(None) } else { Ok(Some(16)) } }
+        _ => Ok(None),
+    }
+}
+
+// Enters a cost where it is less than the one that is known, and says whether it is.
+fn enter(row: &mut Vec<Option<u64>>, r: u8, n: u64) -> bool
+    requires len { vec_len row.old ≡ 17 }
+    requires within { r < 17 }
+    ensures len { vec_len row.new ≡ 17 }
+    ensures value { row.new.items ≡ (if result then slice_set row.old.items r (Some n) else row.old.items) }
+    ensures changed { OnTrue result (IsBelow n (entry row.old.items r)) }
+    ensures kept { OnFalse result (AtMost (entry row.old.items r) n) }
+{
+    let at = r as usize;
+    if is_less(n, row[at]) {
+        row[at] = Some(n);
+        true
+    } else {
+        false
+    }
+}
+
+// The same, where it doesn't matter whether the entry has become less.
+fn enter_cost(row: &mut Vec<Option<u64>>, r: u8, n: u64)
+    requires len { vec_len row.old ≡ 17 }
+    requires within { r < 17 }
+    ensures len { vec_len row.new ≡ 17 }
+    ensures entered { Entered row.old.items row.new.items r n }
+{
+    enter(row, r, n);
+}
+
+// Lowers the entry to which a chain rule leads, where the one from which it starts allows it, and says whether it has.
+fn try_chain(m: ChainRule, row: &mut Vec<Option<u64>>) -> Result<bool, NoMemory>
+    requires len { vec_len row.old ≡ 17 }
+    requires start { m.start < 17 }
+    requires goal { m.goal < 17 }
+    ensures len { vec_len row.new ≡ 17 }
+    ensures chained { IfOk result (λ changed. Chained m changed row.old.items row.new.items) }
+{
+    let Some(c) = row[m.start as usize] else {
+        return Ok(false);
+    };
+    let n = plus(c, 1)?;
+    Ok(enter(row, m.goal, n))
+}
+
+// Tries each chain rule once, and says whether an entry has become less.
+fn sweep(chains: &[ChainRule], row: &mut Vec<Option<u64>>) -> Result<bool, NoMemory>
+    requires len { vec_len row.old ≡ 17 }
+    requires within { AreWithin chains.now }
+    ensures len { vec_len row.new ≡ 17 }
+    ensures swept { IfOk result (λ changed. Swept chains.now (length chains.now) changed row.old.items row.new.items) }
+{
+    let mut changed = false;
+    for m in chains {
+        if try_chain(*m, row)? {
+            changed = true;
+        }
+    }
+    Ok(changed)
+}
+
+// Tries the chain rules until none makes an entry less.
+pub(crate) fn close(chains: &[ChainRule], row: &mut Vec<Option<u64>>) -> Result<(), NoMemory>
+    requires len { vec_len row.old ≡ 17 }
+    requires within { AreWithin chains.now }
+    ensures len { vec_len row.new ≡ 17 }
+    ensures closed { OnOk result (IsClosed chains.now row.old.items row.new.items) }
+{
+    while sweep(chains, row)? {}
+    Ok(())
+}
+
+// Adds what a form gives to the chain rules or to the row.
+pub(crate) fn note(
+    offer: Offer,
+    chains: &mut SmallVec<ChainRule, 4>,
+    row: &mut Vec<Option<u64>>,
+) -> Result<(), NoMemory>
+    requires len { vec_len row.old ≡ 17 }
+    requires within { IsWithin offer }
+    ensures len { vec_len row.new ≡ 17 }
+    ensures noted { OnOk result (Noted offer chains.old.items chains.new.items row.old.items row.new.items) }
+{
+    match offer {
+        Offer::Nothing => Ok(()),
+        Offer::Chains(m) => {
+            chains.push(m)?;
+            Ok(())
+        }
+        Offer::Reaches(slot, n) => {
+            enter_cost(row, slot, n);
+            Ok(())
+        }
+    }
+}
+
+// What a form gives that goes to the entry and has covers of this least cost, if it has any.
+pub(crate) fn offer_of(goal: u8, cost: Option<u64>) -> Offer
+    ensures { result ≡ offer_is goal cost }
+{
+    match cost {
+        Some(n) => Offer::Reaches(goal, n),
+        None => Offer::Nothing,
+    }
+}

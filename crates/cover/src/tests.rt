@@ -1,0 +1,158 @@
+use crate::{CoverFault, JobCover, cover};
+use form_model::{Aim, Form, Forms, Goal, Job, RegSet, Target, Tree};
+use net_model::Expr;
+use rec_bits::Op2;
+use std::alloc::{AllocError, Global};
+use std::test::Fail;
+
+// slice(I,7,0), in words of 12 bits
+fn low_byte(alloc: Global) -> Result<Expr, AllocError> {
+    Ok(Expr::Slice(Box::new(alloc, Expr::Word(12))?, 7, 0))
+}
+
+// read(M,slice(I,7,0))
+fn variable(alloc: Global) -> Result<Expr, AllocError> {
+    Ok(Expr::Read(Box::new(alloc, low_byte(alloc)?)?, 16))
+}
+
+fn of_two(alloc: Global, op: Op2, a: Expr, b: Expr) -> Result<Expr, AllocError> {
+    Ok(Expr::Bin(op, Box::new(alloc, a)?, Box::new(alloc, b)?))
+}
+
+fn form(pattern: u32, goal: Goal, addr: Option<Expr>, value: Expr, clobbers: RegSet) -> Form {
+    Form {
+        pattern,
+        goal,
+        addr,
+        value,
+        fields: 255,
+        clobbers,
+    }
+}
+
+fn into_reg(pattern: u32, id: u32, value: Expr, clobbers: RegSet) -> Form {
+    form(pattern, Goal::Reg(id), None, value, clobbers)
+}
+
+// M[slice(I,7,0)] := the value
+fn into_memory(alloc: Global, pattern: u32, value: Expr) -> Result<Form, AllocError> {
+    Ok(form(pattern, Goal::Memory, Some(low_byte(alloc)?), value, 1))
+}
+
+// PC := slice(I,7,0) where the value is 1
+fn branch(alloc: Global, pattern: u32, value: Expr) -> Result<Form, AllocError> {
+    let goal = Goal::Branch {
+        when_one: true,
+        target: Target::Absolute(low_byte(alloc)?),
+    };
+    Ok(form(pattern, goal, None, value, 3))
+}
+
+// An accumulator of 16 bits: PC is storage 0, ACC is 1.
+fn accumulator(alloc: Global) -> Result<Forms, AllocError> {
+    let acc = Expr::Reg(1, 16);
+    let zero = Expr::Const {
+        width: 16,
+        value: 0,
+    };
+    let mut list = Vec::new(alloc);
+    list.push(branch(alloc, 1, of_two(alloc, Op2::Eq, acc, zero)?)?)?;
+    let acc = Expr::Reg(1, 16);
+    list.push(into_reg(3, 1, of_two(alloc, Op2::Add, acc, variable(alloc)?)?, 3))?;
+    let acc = Expr::Reg(1, 16);
+    list.push(into_reg(3, 1, of_two(alloc, Op2::Add, variable(alloc)?, acc)?, 3))?;
+    list.push(into_reg(4, 1, variable(alloc)?, 3))?;
+    let acc = Expr::Reg(1, 16);
+    list.push(into_reg(5, 1, of_two(alloc, Op2::Sub, acc, variable(alloc)?)?, 3))?;
+    let number = Expr::Zext(Box::new(alloc, low_byte(alloc)?)?, 16);
+    list.push(into_reg(6, 1, number, 3))?;
+    list.push(into_memory(alloc, 7, Expr::Reg(1, 16))?)?;
+    Ok(Forms { list, reach: 256 })
+}
+
+// The cell at an address.
+fn cell(alloc: Global, value: u64) -> Result<Tree, AllocError> {
+    let address = Tree::Lit { width: 8, value };
+    Ok(Tree::Read(Box::new(alloc, address)?, 16))
+}
+
+fn number(value: u64) -> Tree {
+    Tree::Lit { width: 16, value }
+}
+
+fn tree(alloc: Global, op: Op2, a: Tree, b: Tree) -> Result<Tree, AllocError> {
+    Ok(Tree::Bin(op, Box::new(alloc, a)?, Box::new(alloc, b)?))
+}
+
+fn job(alloc: Global, aim: Aim, tree: Tree) -> Result<Job, AllocError> {
+    let mut trees = Vec::new(alloc);
+    trees.push(tree)?;
+    Ok(Job { aim, trees })
+}
+
+// The sum of so many reads of the cell at address 126 and one more, from left to right.
+fn sum(alloc: Global, more: u32) -> Result<Tree, AllocError> {
+    let mut found = cell(alloc, 126)?;
+    for _ in 0..more {
+        found = tree(alloc, Op2::Add, found, cell(alloc, 126)?)?;
+    }
+    Ok(found)
+}
+
+fn cost(alloc: Global, forms: &Forms, job: &Job, temps: u32) -> Result<Option<u64>, AllocError> {
+    match cover(alloc, forms, job, temps) {
+        Ok(JobCover { cost, .. }) => Ok(Some(cost)),
+        Err(CoverFault::NoCover) => Ok(None),
+        Err(CoverFault::Memory) => Err(AllocError),
+    }
+}
+
+#[test]
+fn jobs_of_an_accumulator(rt: HostRuntime) -> Result<(), Fail> {
+    let alloc = rt.alloc();
+    let forms = accumulator(alloc)?;
+    let a = tree(alloc, Op2::Add, cell(alloc, 2)?, cell(alloc, 3)?)?;
+    let b = tree(alloc, Op2::Sub, cell(alloc, 2)?, cell(alloc, 3)?)?;
+    let cut = job(alloc, Aim::Cell(4), tree(alloc, Op2::Sub, a, b)?)?;
+    assert_eq!(rt; cost(alloc, &forms, &cut, 2)?, Some(7));
+    let product = tree(alloc, Op2::Mul, cell(alloc, 0)?, cell(alloc, 1)?)?;
+    let none = job(alloc, Aim::Cell(2), product)?;
+    assert_eq!(rt; cost(alloc, &forms, &none, 0)?, None);
+    let sum = job(alloc, Aim::Cell(127), sum(alloc, 127)?)?;
+    assert_eq!(rt; cost(alloc, &forms, &sum, 126)?, Some(129));
+    Ok(())
+}
+
+#[test]
+fn the_cheaper_of_two_trees(rt: HostRuntime) -> Result<(), Fail> {
+    let alloc = rt.alloc();
+    let forms = accumulator(alloc)?;
+    let equal = tree(alloc, Op2::Eq, cell(alloc, 3)?, cell(alloc, 4)?)?;
+    let difference = tree(alloc, Op2::Sub, cell(alloc, 3)?, cell(alloc, 4)?)?;
+    let mut test = job(alloc, Aim::Test, equal)?;
+    test.trees
+        .push(tree(alloc, Op2::Eq, difference, number(0))?)?;
+    let Ok(found) = cover(alloc, &forms, &test, 3) else {
+        return Err(Fail::from(AllocError));
+    };
+    assert_eq!(rt; found.which, 1);
+    assert_eq!(rt; found.cost, 2);
+    Ok(())
+}
+
+// A, which is storage 1, and X, which is 2, copy each other, and X alone goes to the memory.
+#[test]
+fn registers_that_copy_each_other(rt: HostRuntime) -> Result<(), Fail> {
+    let alloc = rt.alloc();
+    let mut list = Vec::new(alloc);
+    list.push(into_reg(1, 1, Expr::Reg(2, 16), 3))?;
+    list.push(into_reg(2, 2, Expr::Reg(1, 16), 5))?;
+    list.push(into_reg(3, 1, variable(alloc)?, 3))?;
+    list.push(into_memory(alloc, 4, Expr::Reg(2, 16))?)?;
+    let forms = Forms { list, reach: 0 };
+    let copy = job(alloc, Aim::Cell(2), cell(alloc, 1)?)?;
+    assert_eq!(rt; cost(alloc, &forms, &copy, 1)?, Some(3));
+    let none = job(alloc, Aim::Cell(2), number(1))?;
+    assert_eq!(rt; cost(alloc, &forms, &none, 1)?, None);
+    Ok(())
+}

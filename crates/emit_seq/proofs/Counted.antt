@@ -1,0 +1,149 @@
+-- A cover has as many steps as it costs.
+use Rattle.std.proofs.Common.{◌≡◌, ℕ, zero, suc, ◌+◌, Bool, true, false, List, [], ◌∷◌, length, drop, refl, sym, ◌∙◌, subst, arith, length-append}
+use Rattle.std.specs.Prelude.{slice_get, remove, insert}
+use Rattle.net_model.specs.Terms.{Term}
+use Rattle.form_model.specs.declared.forms.Step.{Step}
+use Rattle.form_model.specs.Rules.{Rule, Destination, into, cell, stored, temporary, tested}
+use Rattle.form_model.specs.Matches.{Site, operand, cut}
+use Rattle.form_model.specs.Plans.{Plan, use_form, Operands, no_operands, operand_then, Cuts, no_cuts, cut_then, cost, operands_cost, cuts_cost}
+use Rattle.form_model.specs.Covers.{Stock, operands_of, cuts_of, IsOrderly, AreOrderly, AreCut, parts_cost, job_cost}
+use Rattle.form_model.specs.Steps.{OperandCells, CutCells, cut_count, operand_counts, cut_counts, plan_operand_cells, plan_cut_cells, operand_cells_or_none, rule_at, found_at, own_steps, operand_steps, woven, cut_steps, inside_operands, into_cells, plan_setting, form_step, cover_steps}
+use Rattle.emit_seq.specs.Leaves.{IsOfJob}
+use Rattle.emit_seq.proofs.Walks.{operands_in, trees_in, cells_operands, cells_trees}
+use Rattle.emit_seq.proofs.Opened.{IsOpened, opened_plan, IsOpenedOperand, opened_operand, operands_long, cuts_long}
+
+abbrev total_steps : List (List Step) → ℕ
+total_steps [] = 0
+total_steps (x ∷ xs) = length x + total_steps xs
+
+total_insert : (xs : List (List Step)) (i : ℕ) (x : List Step) → total_steps (insert xs i x) ≡ length x + total_steps xs
+total_insert xs zero x = refl
+total_insert [] (suc i) x = refl
+total_insert (y ∷ xs) (suc i) x = let e = total_insert xs i x in omega (arith, e)
+
+long_insert : {X : Type 0} (xs : List X) (i : ℕ) (x : X) → length (insert xs i x) ≡ suc (length xs)
+long_insert xs zero x = refl
+long_insert [] (suc i) x = refl
+long_insert (y ∷ xs) (suc i) x = let e = long_insert xs i x in omega (arith, e)
+
+woven_long : (sites : List Site) (xs ys : List (List Step)) → length xs ≡ length (operands_of sites) → length ys ≡ length (cuts_of sites) → length (woven sites xs ys) ≡ total_steps xs + total_steps ys
+woven_long [] [] [] p q = refl
+woven_long [] [] (y ∷ ys) p q = absurd (omega arith)
+woven_long [] (x ∷ xs) ys p q = absurd (omega arith)
+woven_long (operand id tree whole ∷ sites) [] ys p q = absurd (omega arith)
+woven_long (operand id tree whole ∷ sites) (x ∷ xs) ys p q =
+    let e = woven_long sites xs ys (omega arith) q in omega (arith, e, length-append x (woven sites xs ys))
+woven_long (cut shape tree ∷ sites) xs [] p q = absurd (omega arith)
+woven_long (cut shape tree ∷ sites) xs (y ∷ ys) p q =
+    let e = woven_long sites xs ys p (omega arith) in omega (arith, e, length-append y (woven sites xs ys))
+
+module _ (stock : Stock) where
+  inside_long : (ps : Operands) (left : List OperandCells) → length (inside_operands stock ps left) ≡ length (operand_counts ps)
+  inside_long no_operands left = refl
+  inside_long (operand_then i p ps) left =
+      let e = inside_long ps (remove left i) in
+      let cells : OperandCells = operand_cells_or_none (slice_get left i) in
+      omega (
+        arith,
+        e,
+        long_insert (inside_operands stock ps (remove left i)) i (cut_steps stock p cells.first (into cells.operand.id) cells.operand.tree cells.operand.whole),
+        long_insert (operand_counts ps) i (cut_count p),
+      )
+
+  cells_long : (cs : Cuts) (cuts : List CutCells) → length (into_cells stock cs cuts) ≡ length (cut_counts cs)
+  cells_long no_cuts cuts = refl
+  cells_long (cut_then p cs) cuts = let e = cells_long cs (drop 1 cuts) in omega (arith, e)
+
+  record IsCounted (p : Plan) : Type 0 where
+    all : (n : ℕ) (destination : Destination) (tree : Term) (whole : Bool) → IsOrderly stock destination tree whole p
+        → length (cut_steps stock p n destination tree whole) + length (own_steps stock p n destination tree whole)
+        ≡ parts_cost p + length (form_step (rule_at stock 0) destination 0)
+
+  record AreCounted (ps : Operands) : Type 0 where
+    all : (left : List OperandCells) → AreOrderly stock (operands_in left) ps → total_steps (inside_operands stock ps left) + length (operand_steps stock ps left) ≡ operands_cost ps
+
+  record AreCutCounted (cs : Cuts) : Type 0 where
+    all : (cuts : List CutCells) → AreCut stock (trees_in cuts) cs → total_steps (into_cells stock cs cuts) ≡ cuts_cost cs
+
+  form_long : (rule other : Rule) (destination : Destination) (i j : ℕ) → length (form_step rule destination i) ≡ length (form_step other destination j)
+  form_long rule other (into id) i j = refl
+  form_long rule other (cell a) i j = refl
+  form_long rule other (stored a) i j = refl
+  form_long rule other temporary i j = refl
+  form_long rule other tested i j = refl
+
+  whole_cost : (p : Plan) → cost p ≡ parts_cost p + 1
+  whole_cost (use_form k ps cs) = omega arith
+
+  operand_counted : (i : ℕ) (p : Plan) (ps : Operands) → IsCounted p → AreCounted ps → AreCounted (operand_then i p ps)
+  operand_counted i p ps h k = record { all = all' }
+    where
+      all' : (left : List OperandCells) → AreOrderly stock (operands_in left) (operand_then i p ps)
+          → total_steps (inside_operands stock (operand_then i p ps) left) + length (operand_steps stock (operand_then i p ps) left) ≡ operands_cost (operand_then i p ps)
+      all' left o =
+          let cells : OperandCells = operand_cells_or_none (slice_get left i) in
+          let w : IsOpenedOperand stock left i cells p ps = opened_operand stock left i p ps o in
+          let inside : List Step = cut_steps stock p cells.first (into cells.operand.id) cells.operand.tree cells.operand.whole in
+          let own : List Step = own_steps stock p cells.first (into cells.operand.id) cells.operand.tree cells.operand.whole in
+          let a : length inside + length own ≡ parts_cost p + 1 = h.all cells.first (into cells.operand.id) cells.operand.tree cells.operand.whole w.orderly in
+          let b : total_steps (inside_operands stock ps (remove left i)) + length (operand_steps stock ps (remove left i)) ≡ operands_cost ps = k.all (remove left i) w.rest in
+          omega (arith, a, b, whole_cost p, total_insert (inside_operands stock ps (remove left i)) i inside, length-append own (operand_steps stock ps (remove left i)))
+
+  cut_counted : (p : Plan) (cs : Cuts) → IsCounted p → AreCutCounted cs → AreCutCounted (cut_then p cs)
+  cut_counted p cs h k = record { all = all' }
+    where
+      all' : (cuts : List CutCells) → AreCut stock (trees_in cuts) (cut_then p cs) → total_steps (into_cells stock (cut_then p cs) cuts) ≡ cuts_cost (cut_then p cs)
+      all' [] o = absurd (cc (o.2))
+      all' (cells ∷ cuts) o =
+          let e : o.0 ≡ cells.tree = cc (o.2) in
+          let e' : o.1 ≡ trees_in cuts = cc (o.2) in
+          let inside : List Step = cut_steps stock p cells.first temporary cells.tree false in
+          let own : List Step = own_steps stock p cells.first temporary cells.tree false in
+          let a : length inside + length own ≡ parts_cost p + 1 = h.all cells.first temporary cells.tree false (subst (λ t. IsOrderly stock temporary t false p) e o.3) in
+          let b : total_steps (into_cells stock cs cuts) ≡ cuts_cost cs = k.all cuts (subst (λ ts. AreCut stock ts cs) e' o.4) in
+          omega (arith, a, b, whole_cost p, length-append inside own)
+
+  form_counted : (k : ℕ) (ps : Operands) (cs : Cuts) → AreCounted ps → AreCutCounted cs → IsCounted (use_form k ps cs)
+  form_counted k ps cs h g = record { all = all' }
+    where
+      all' : (n : ℕ) (destination : Destination) (tree : Term) (whole : Bool) → IsOrderly stock destination tree whole (use_form k ps cs)
+          → length (cut_steps stock (use_form k ps cs) n destination tree whole) + length (own_steps stock (use_form k ps cs) n destination tree whole)
+          ≡ parts_cost (use_form k ps cs) + length (form_step (rule_at stock 0) destination 0)
+      all' n destination tree whole o =
+          let w : IsOpened stock k ps cs destination tree whole = opened_plan stock k ps cs destination tree whole o in
+          let sites : List Site = (found_at stock k destination tree whole).sites in
+          let left : List OperandCells = plan_operand_cells sites ps cs n in
+          let cuts : List CutCells = plan_cut_cells sites ps cs n in
+          let a : total_steps (inside_operands stock ps left) + length (operand_steps stock ps left) ≡ operands_cost ps =
+          h.all left (subst (λ z. AreOrderly stock z ps) (sym (cells_operands sites (operand_counts ps) (cut_counts cs) n)) w.operands) in
+          let b : total_steps (into_cells stock cs cuts) ≡ cuts_cost cs =
+          g.all cuts (subst (λ z. AreCut stock z cs) (sym (cells_trees sites (operand_counts ps) (cut_counts cs) n)) w.cuts) in
+          let d : length (woven sites (inside_operands stock ps left) (into_cells stock cs cuts)) ≡ total_steps (inside_operands stock ps left) + total_steps (into_cells stock cs cuts) =
+          woven_long sites (inside_operands stock ps left) (into_cells stock cs cuts)
+          (inside_long ps left ∙ operands_long stock ps (operands_of sites) w.operands) (cells_long cs cuts ∙ cuts_long stock cs (cuts_of sites) w.cuts) in
+          let setting : ℕ = plan_setting stock (use_form k ps cs) n destination tree whole in
+          omega (arith, a, b, d, length-append (operand_steps stock ps left) (form_step (rule_at stock k) destination setting), form_long (rule_at stock k) (rule_at stock 0) destination setting 0)
+
+  mutual
+    counted : (p : Plan) → IsCounted p
+    counted (use_form k ps cs) = form_counted k ps cs (counted_operands ps) (counted_cuts cs)
+
+    counted_operands : (ps : Operands) → AreCounted ps
+    counted_operands no_operands = record { all = λ left o. refl }
+    counted_operands (operand_then i p ps) = operand_counted i p ps (counted p) (counted_operands ps)
+
+    counted_cuts : (cs : Cuts) → AreCutCounted cs
+    counted_cuts no_cuts = record { all = λ cuts o. refl }
+    counted_cuts (cut_then p cs) = cut_counted p cs (counted p) (counted_cuts cs)
+
+  -- a job's cover has as many steps as it costs
+  pub steps_cost : (destination : Destination) (tree : Term) (plan : Plan) → IsOfJob destination → IsOrderly stock destination tree true plan → length (cover_steps stock destination tree plan) ≡ job_cost destination plan
+  steps_cost (cell a) tree plan j o =
+      length-append (cut_steps stock plan 0 (cell a) tree true) (own_steps stock plan 0 (cell a) tree true) ∙ (counted plan).all 0 (cell a) tree true o ∙ sym (whole_cost plan)
+  steps_cost (stored a) tree plan j o =
+      length-append (cut_steps stock plan 0 (stored a) tree true) (own_steps stock plan 0 (stored a) tree true) ∙ (counted plan).all 0 (stored a) tree true o ∙ sym (whole_cost plan)
+  steps_cost tested tree plan j o =
+      let e = (counted plan).all 0 tested tree true o in
+      omega (arith, e, length-append (cut_steps stock plan 0 tested tree true) (own_steps stock plan 0 tested tree true))
+  steps_cost (into id) tree plan j o = absurd j
+  steps_cost temporary tree plan j o = absurd j

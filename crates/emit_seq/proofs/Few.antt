@@ -1,0 +1,175 @@
+-- A chosen cover has no more cuts than its tree has nodes that can be cut: a cut inside a cover of the same cut would make a dearer cover.
+use Rattle.std.proofs.Common.{◌≡◌, ℕ, zero, suc, ◌+◌, ◌<◌, ◌≤◌, ◌^◌, ◌⊎◌, inl, inr, bit_and, bit_or, Bool, true, false, List, [], ◌∷◌, Some, refl, sym, ap, ◌∙◌, subst, arith}
+use Rattle.std.specs.Prelude.{slice_get, remove}
+use Rattle.net_model.specs.Terms.{Term}
+use Rattle.form_model.specs.Rules.{Destination, into, temporary}
+use Rattle.form_model.specs.Matches.{Found}
+use Rattle.form_model.specs.Plans.{Plan, use_form, Operands, no_operands, operand_then, Cuts, no_cuts, cut_then, cost, operands_cost, cuts_cost}
+use Rattle.form_model.specs.Covers.{Stock, Operand, operands_of, cuts_of, form_clobbers, written, all_written, IsOrderly, AreOrderly, AreCut, Choice, Covers, ChoiceBefore, IsChosen}
+use Rattle.form_model.specs.Steps.{cut_count, operands_count, cuts_count}
+use Rattle.emit_seq.specs.Cells.{AllReadWords, cuttable_below, cuttable_nodes, cuttable_count}
+use Rattle.emit_seq.proofs.Nodes.{operands_sum, cuts_sum, sites_sum, MatchKind, itself, stored_whole, parts, IsPlain, whole_at, goal_kind, goal_sum}
+
+module _ (bits : ℕ) (stock : Stock) (words : AllReadWords bits stock.rules) where
+  abbrev op_sum : List Operand → ℕ
+  op_sum left = operands_sum stock.temps bits left
+
+  abbrev cut_sum : List Term → ℕ
+  cut_sum trees = cuts_sum stock.temps bits trees
+
+  -- no orderly cover that writes the same is cheaper
+  abbrev IsMin : Plan → Destination → Term → Bool → Type 0
+  IsMin p destination tree whole = (q : Plan) → IsOrderly stock destination tree whole q → written stock.rules q ≡ written stock.rules p → cost p ≤ cost q
+
+  abbrev AreMin : Operands → List Operand → Type 0
+  AreMin ps left = (qs : Operands) → AreOrderly stock left qs → all_written stock.rules qs ≡ all_written stock.rules ps → operands_cost ps ≤ operands_cost qs
+
+  abbrev CutsMin : Cuts → List Term → Type 0
+  CutsMin cs trees = (ds : Cuts) → AreCut stock trees ds → cuts_cost cs ≤ cuts_cost ds
+
+  -- no cover of a tree into a temporary cell is cheaper
+  abbrev IsLeastCut : ℕ → Term → Type 0
+  IsLeastCut n tree = (q : Plan) → IsOrderly stock temporary tree false q → n ≤ cost q
+
+  record IsFew (p : Plan) : Type 0 where
+    few : (destination : Destination) (tree : Term) (whole : Bool) → IsOrderly stock destination tree whole p → IsMin p destination tree whole → cut_count p ≤ cuttable_count bits destination tree whole
+    fewer : (destination : Destination) (tree : Term) (whole : Bool) → IsPlain stock.temps bits destination → IsOrderly stock destination tree whole p → IsMin p destination tree whole → IsLeastCut (cost p) tree
+        → cut_count p ≤ cuttable_below bits tree
+
+  record AreFew (ps : Operands) : Type 0 where
+    few : (left : List Operand) → AreOrderly stock left ps → AreMin ps left → operands_count ps ≤ op_sum left
+    fewer : (o : Operand) → AreOrderly stock (o ∷ []) ps → AreMin ps (o ∷ []) → IsLeastCut (operands_cost ps) o.tree → operands_count ps ≤ cuttable_below bits o.tree
+
+  record CutsFew (cs : Cuts) : Type 0 where
+    few : (trees : List Term) → AreCut stock trees cs → CutsMin cs trees → cuts_count cs ≤ cut_sum trees
+
+  sum_at : (left : List Operand) (i : ℕ) (o : Operand) → slice_get left i ≡ Some o → op_sum left ≡ cuttable_nodes bits o.tree o.whole + op_sum (remove left i)
+  sum_at [] i o e = absurd (cc)
+  sum_at (x ∷ left) zero o e = let q : x ≡ o = cc in ap (λ (z : Operand). cuttable_nodes bits z.tree z.whole + op_sum left) q
+  sum_at (x ∷ left) (suc i) o e = let h = sum_at left i o e in omega (arith, h)
+
+  operand_few : (i : ℕ) (p : Plan) (ps : Operands) → IsFew p → AreFew ps → AreFew (operand_then i p ps)
+  operand_few i p ps h k = record { few = few'; fewer = fewer' i }
+    where
+      head_min : (j : ℕ) (left : List Operand) → (c : AreOrderly stock left (operand_then j p ps)) → AreMin (operand_then j p ps) left → IsMin p (into c.0.id) c.0.tree c.0.whole
+      head_min j left c m q d e =
+          let r : cost p + operands_cost ps ≤ cost q + operands_cost ps = m (operand_then j q ps) (c.0, c.1, d, c.3, c.4) (ap (λ z. bit_or z (all_written stock.rules ps)) e) in omega (arith, r)
+
+      rest_min : (j : ℕ) (left : List Operand) → AreOrderly stock left (operand_then j p ps) → AreMin (operand_then j p ps) left → AreMin ps (remove left j)
+      rest_min j left c m qs d e =
+          let r : cost p + operands_cost ps ≤ cost p + operands_cost qs =
+          m (operand_then j p qs) (c.0, c.1, c.2, ap (λ z. bit_and z (2 ^ c.0.id)) e ∙ c.3, d) (ap (λ z. bit_or (written stock.rules p) z) e) in omega (arith, r)
+
+      few' : (left : List Operand) → AreOrderly stock left (operand_then i p ps) → AreMin (operand_then i p ps) left → operands_count (operand_then i p ps) ≤ op_sum left
+      few' left c m =
+          let a : cut_count p ≤ cuttable_nodes bits c.0.tree c.0.whole = h.few (into c.0.id) c.0.tree c.0.whole c.2 (head_min i left c m) in
+          let b : operands_count ps ≤ op_sum (remove left i) = k.few (remove left i) c.4 (rest_min i left c m) in
+          omega (arith, a, b, sum_at left i c.0 c.1)
+
+      fewer' : (j : ℕ) (o : Operand) → AreOrderly stock (o ∷ []) (operand_then j p ps) → AreMin (operand_then j p ps) (o ∷ []) → IsLeastCut (operands_cost (operand_then j p ps)) o.tree
+          → operands_count (operand_then j p ps) ≤ cuttable_below bits o.tree
+      fewer' zero o c m l =
+          let e : o ≡ c.0 = cc (c.1) in
+          let least : IsLeastCut (cost p) c.0.tree = λ q d. let r : cost p + operands_cost ps ≤ cost q = l q (subst (λ (z : Operand). IsOrderly stock temporary z.tree false q) (sym e) d) in omega (arith, r) in
+          let a : cut_count p ≤ cuttable_below bits c.0.tree = h.fewer (into c.0.id) c.0.tree c.0.whole tt c.2 (head_min zero (o ∷ []) c m) least in
+          let b : operands_count ps ≤ 0 = k.few [] c.4 (rest_min zero (o ∷ []) c m) in
+          let q : cuttable_below bits o.tree ≡ cuttable_below bits c.0.tree = ap (λ (z : Operand). cuttable_below bits z.tree) e in
+          omega (arith, a, b, q)
+      fewer' (suc j) o c m l = absurd (cc (c.1))
+
+  none_few : AreFew no_operands
+  none_few = record { few = λ left c m. omega arith; fewer = λ o c m l. omega arith }
+
+  cut_few : (p : Plan) (cs : Cuts) → IsFew p → CutsFew cs → CutsFew (cut_then p cs)
+  cut_few p cs h k = record { few = few' }
+    where
+      few' : (trees : List Term) → AreCut stock trees (cut_then p cs) → CutsMin (cut_then p cs) trees → cuts_count (cut_then p cs) ≤ cut_sum trees
+      few' trees c m =
+          let least : IsLeastCut (cost p) c.0 = λ q d. let r : cost p + cuts_cost cs ≤ cost q + cuts_cost cs = m (cut_then q cs) (c.0, c.1, c.2, d, c.4) in omega (arith, r) in
+          let a : cut_count p ≤ cuttable_below bits c.0 = h.fewer temporary c.0 false tt c.3 (λ q d e. least q d) least in
+          let later : CutsMin cs c.1 = λ ds d. let r : cost p + cuts_cost cs ≤ cost p + cuts_cost ds = m (cut_then p ds) (c.0, c.1, c.2, c.3, d) in omega (arith, r) in
+          let b : cuts_count cs ≤ cut_sum c.1 = k.few c.1 c.4 later in
+          let q : cut_sum trees ≡ cuttable_below bits c.0 + 1 + cut_sum c.1 = ap cut_sum c.2 in
+          omega (arith, a, b, q)
+
+  no_cut_few : CutsFew no_cuts
+  no_cut_few = record { few = λ trees c m. omega arith }
+
+  -- a cut of the tree itself has a cover that is cheaper than the form's
+  own_cut : (cs : Cuts) (t : Term) → AreCut stock (t ∷ []) cs → (q : Plan) × IsOrderly stock temporary t false q × (cost q ≤ cuts_cost cs)
+  own_cut no_cuts t c = absurd (cc)
+  own_cut (cut_then p cs) t c =
+      let e : c.0 ≡ t = cc (c.2) in
+      (p, subst (λ z. IsOrderly stock temporary z false p) e c.3, omega arith)
+
+  form_few : (k : ℕ) (ps : Operands) (cs : Cuts) → AreFew ps → CutsFew cs → IsFew (use_form k ps cs)
+  form_few k ps cs hp hc = record { few = few'; fewer = fewer' }
+    where
+      op_min : (destination : Destination) (tree : Term) (whole : Bool) → (c : IsOrderly stock destination tree whole (use_form k ps cs)) → IsMin (use_form k ps cs) destination tree whole → AreMin ps (operands_of c.2.sites)
+      op_min destination tree whole c m qs d e =
+          let r : 1 + operands_cost ps + cuts_cost cs ≤ 1 + operands_cost qs + cuts_cost cs =
+          m (use_form k qs cs) (c.0, c.1, c.2, c.3, d, c.5) (ap (λ z. bit_or (form_clobbers (slice_get stock.rules k)) z) e) in omega (arith, r)
+
+      cut_min : (destination : Destination) (tree : Term) (whole : Bool) → (c : IsOrderly stock destination tree whole (use_form k ps cs)) → IsMin (use_form k ps cs) destination tree whole → CutsMin cs (cuts_of c.2.sites)
+      cut_min destination tree whole c m ds d =
+          let r : 1 + operands_cost ps + cuts_cost cs ≤ 1 + operands_cost ps + cuts_cost ds = m (use_form k ps ds) (c.0, c.1, c.2, c.3, c.4, d) refl in omega (arith, r)
+
+      few' : (destination : Destination) (tree : Term) (whole : Bool) → IsOrderly stock destination tree whole (use_form k ps cs) → IsMin (use_form k ps cs) destination tree whole
+          → cut_count (use_form k ps cs) ≤ cuttable_count bits destination tree whole
+      few' destination tree whole c m =
+          let a : operands_count ps ≤ op_sum (operands_of c.2.sites) = hp.few (operands_of c.2.sites) c.4 (op_min destination tree whole c m) in
+          let b : cuts_count cs ≤ cut_sum (cuts_of c.2.sites) = hc.few (cuts_of c.2.sites) c.5 (cut_min destination tree whole c m) in
+          let s : sites_sum stock.temps bits c.2.sites ≤ cuttable_count bits destination tree whole = goal_sum stock.temps bits c.0 c.0.goal destination tree whole c.2 (words k c.0 c.1).0 (words k c.0 c.1).1 c.3 in
+          omega (arith, a, b, s)
+
+      fewer' : (destination : Destination) (tree : Term) (whole : Bool) → IsPlain stock.temps bits destination → IsOrderly stock destination tree whole (use_form k ps cs) → IsMin (use_form k ps cs) destination tree whole
+          → IsLeastCut (cost (use_form k ps cs)) tree → cut_count (use_form k ps cs) ≤ cuttable_below bits tree
+      fewer' destination tree whole pl c m l =
+          by_kind (whole_at stock.temps bits destination whole) c.2 (goal_kind stock.temps bits c.0 c.0.goal destination tree whole c.2 (words k c.0 c.1).1 pl c.3) c.4 c.5 (op_min destination tree whole c m) (cut_min destination tree whole c m) l
+        where
+          by_kind : (w : Bool) (f : Found) → MatchKind stock.temps bits tree w f → AreOrderly stock (operands_of f.sites) ps → AreCut stock (cuts_of f.sites) cs → AreMin ps (operands_of f.sites)
+              → CutsMin cs (cuts_of f.sites) → IsLeastCut (1 + operands_cost ps + cuts_cost cs) tree → operands_count ps + cuts_count cs ≤ cuttable_below bits tree
+          by_kind w f (itself id e) o u om um l =
+              let b : cuts_count cs ≤ cut_sum (cuts_of f.sites) = hc.few (cuts_of f.sites) u um in
+              let z : cut_sum (cuts_of f.sites) ≡ 0 = ap (λ s. cut_sum (cuts_of s)) e in
+              let op : Operand = record { id = id; tree = tree; whole = w } in
+              let eo : operands_of f.sites ≡ op ∷ [] = ap operands_of e in
+              let a : operands_count ps ≤ cuttable_below bits tree =
+              hp.fewer op (subst (λ s. AreOrderly stock s ps) eo o) (subst (λ s. AreMin ps s) eo om)
+              (λ q d. let r : 1 + operands_cost ps + cuts_cost cs ≤ cost q = l q d in omega (arith, r)) in
+              omega (arith, a, b, z)
+          by_kind w f (stored_whole shape e v) o u om um l =
+              let (q, d, r) = own_cut cs tree (subst (λ s. AreCut stock s cs) (ap cuts_of e) u) in
+              let n : 1 + operands_cost ps + cuts_cost cs ≤ cost q = l q d in
+              absurd (omega (arith, n, r))
+          by_kind w f (parts s) o u om um l =
+              let a : operands_count ps ≤ op_sum (operands_of f.sites) = hp.few (operands_of f.sites) o om in
+              let b : cuts_count cs ≤ cut_sum (cuts_of f.sites) = hc.few (cuts_of f.sites) u um in
+              omega (arith, a, b, s)
+
+  mutual
+    few_plan : (p : Plan) → IsFew p
+    few_plan (use_form k ps cs) = form_few k ps cs (few_operands ps) (few_cuts cs)
+
+    few_operands : (ps : Operands) → AreFew ps
+    few_operands no_operands = none_few
+    few_operands (operand_then i p ps) = operand_few i p ps (few_plan p) (few_operands ps)
+
+    few_cuts : (cs : Cuts) → CutsFew cs
+    few_cuts no_cuts = no_cut_few
+    few_cuts (cut_then p cs) = cut_few p cs (few_plan p) (few_cuts cs)
+
+  -- a chosen cover has at most as many cuts as its tree has nodes that can be cut
+  pub chosen_few : (destination : Destination) (trees : List Term) (choice : Choice) → (c : IsChosen stock destination trees choice) → cut_count choice.plan ≤ cuttable_count bits destination c.covers.tree true
+  chosen_few destination trees choice c = (few_plan choice.plan).few destination c.covers.tree true c.covers.orderly least
+    where
+      least : IsMin choice.plan destination c.covers.tree true
+      least q d e =
+          let other : Choice = record { which = choice.which; plan = q } in
+          let cover : Covers stock destination trees other = record { tree = c.covers.tree; used = c.covers.used; orderly = d } in
+          at_most (c.first other cover)
+        where
+          at_most : (cost choice.plan < cost q) ⊎ ((cost choice.plan ≡ cost q) × ((choice ≡ record { which = choice.which; plan = q }) ⊎ ChoiceBefore choice (record { which = choice.which; plan = q })))
+              → cost choice.plan ≤ cost q
+          at_most (inl l) = omega (arith, l)
+          at_most (inr l) = omega (arith, l.0)

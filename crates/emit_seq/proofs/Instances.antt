@@ -1,0 +1,172 @@
+-- The accumulator machine's forms are as the laws want them, so its covers leave their trees' values.
+use Rattle.std.proofs.Common.{◌≡◌, ◌∙◌, ◌%◌, ◌^◌, ◌||◌, Bool, false, ℕ, zero, suc, ◌≤◌, ◌<◌, ◌+◌, List, [], ◌∷◌, length, Some, true, refl, ap, subst, sym, slice_get, arith}
+use Rattle.net_model.specs.declared.states.State.{State}
+use Rattle.std.specs.Int.{bit_at}
+use Rattle.std.proofs.lemmas.Bool.{true≢false}
+use Rattle.rec_bits.specs.declared.operator.Op2.TheVariants.{Add, Sub}
+use Rattle.net_model.specs.Meaning.{mean}
+use Rattle.net_model.specs.Terms.{Term, reg, const, read, bin, zext, write, term_width}
+use Rattle.form_model.specs.Rules.{Rule, Kind, into_reg, cell}
+use Rattle.form_model.specs.Effects.{register, term_reads}
+use Rattle.emit_seq.specs.Formed.{uses, Apart, IsOnce, IsAlike, IsIntoReg, IsFormed, AreFormed}
+use Rattle.emit_seq.specs.Leaves.{LeaveValue}
+use Rattle.emit_seq.specs.Spares.{clobbers_of, AreShared, IsCounter, AreSpare}
+use Rattle.emit_seq.specs.Worked.{field, acc_rules, acc_stock, acc_patterns, less_tree, less_plan, less_orderly}
+use Rattle.emit_seq.proofs.Zips.{Each}
+use Rattle.emit_seq.proofs.Leaving.{leave_value}
+use Rattle.emit_seq.proofs.Spared.{steps_spare}
+
+each_at : (P : Rule → Type 0) (rules : List Rule) (k : ℕ) (rule : Rule) → slice_get rules k ≡ Some rule → Each P rules → P rule
+each_at P [] k rule e h = absurd (cc)
+each_at P (x ∷ rules) zero rule e h = subst P (cc) h.0
+each_at P (x ∷ rules) (suc k) rule e h = each_at P rules k rule e h.1
+
+itself : (t : Term) → IsAlike t t
+itself t = record { means = λ s i. refl; reads = λ i r. refl }
+
+no_bit : (a b : Term) → ((k : ℕ) → uses a k ≡ false) → Apart a b
+no_bit a b f k h = absurd (true≢false (sym h ∙ f k))
+
+into : (rule : Rule) (r : ℕ) (value : Term) → slice_get acc_patterns rule.pattern ≡ Some (record { storage = r; move = write value }) → IsAlike rule.value value → IsOnce rule.value
+    → bit_at rule.clobbers r ≡ 1 → r < 3 → IsIntoReg acc_patterns 3 rule r
+into rule r value e a o c b = record { value = value; is = e; alike = a; once = o; clobbered = c; below = b }
+
+or_comm : (a b : Bool) → (a || b) ≡ (b || a)
+or_comm true true = refl
+or_comm true false = refl
+or_comm false true = refl
+or_comm false false = refl
+
+sum_alike : (a b : Term) → term_width a ≡ term_width b → IsAlike (bin Add a b) (bin Add b a)
+sum_alike a b e = record {
+  means = λ s i. sums (mean a s i) (mean b s i) (term_width a) (term_width b) e;
+  reads = λ i r. or_comm (term_reads i a (register r)) (term_reads i b (register r));
+}
+  where
+    sums : (x y m n : ℕ) → m ≡ n → (x + y) % 2 ^ m ≡ (y + x) % 2 ^ n
+    sums x y m n e = let c : x + y ≡ y + x = omega arith in rw (e, c) refl
+
+acc_each : Each (λ (rule : Rule). IsFormed acc_patterns 3 rule rule.goal) acc_rules
+acc_each = (
+  into _ 0 next refl (itself next) (tt, tt, no_bit pc one (λ k. refl), no_bit one pc (λ k. refl)) refl (omega arith),
+  (
+    into _ 0 next refl (sum_alike one pc refl) (tt, tt, no_bit one pc (λ k. refl), no_bit pc one (λ k. refl)) refl (omega arith),
+    (
+      (tt, tt, no_bit acc zero_term (λ k. refl), no_bit zero_term acc (λ k. refl)),
+      (
+        (tt, tt, no_bit zero_term acc (λ k. refl), no_bit acc zero_term (λ k. refl)),
+        (
+          tt,
+          (
+            into _ 1 (bin Add acc mem) refl (itself (bin Add acc mem)) (tt, tt, no_bit acc mem (λ k. refl), (λ k h. refl)) refl (omega arith),
+            (
+              into _ 1 (bin Add acc mem) refl (sum_alike mem acc refl) (tt, tt, (λ k h. refl), no_bit acc mem (λ k. refl)) refl (omega arith),
+              (
+                into _ 1 mem refl (itself mem) tt refl (omega arith),
+                (
+                  into _ 1 (bin Sub acc mem) refl (itself (bin Sub acc mem)) (tt, tt, no_bit acc mem (λ k. refl), (λ k h. refl)) refl (omega arith),
+                  (
+                    into _ 1 (zext field 16) refl (itself (zext field 16)) tt refl (omega arith),
+                    (
+                      record {
+                        storage = 2;
+                        addr = field;
+                        value = acc;
+                        is = refl;
+                        at = field;
+                        has = refl;
+                        alike_addr = itself field;
+                        alike_value = itself acc;
+                        once_addr = tt;
+                        once_value = tt;
+                        apart = λ k h. refl;
+                        apart_back = no_bit acc field (λ k. refl);
+                      },
+                      tt,
+                    ),
+                  ),
+                ),
+              ),
+            ),
+          ),
+        ),
+      ),
+    ),
+  ),
+)
+  where
+    pc : Term
+    pc = reg 0 8
+
+    one : Term
+    one = const 8 1
+
+    next : Term
+    next = bin Add pc one
+
+    acc : Term
+    acc = reg 1 16
+
+    zero_term : Term
+    zero_term = const 16 0
+
+    mem : Term
+    mem = read field 16
+
+acc_formed : AreFormed acc_patterns 3 acc_rules
+acc_formed k rule e = each_at (λ (r : Rule). IsFormed acc_patterns 3 r r.goal) acc_rules k rule e acc_each
+
+acc_own : Each (λ (rule : Rule). clobbers_of acc_rules rule.pattern ≡ rule.clobbers) acc_rules
+acc_own = (refl, (refl, (refl, (refl, (refl, (refl, (refl, (refl, (refl, (refl, (refl, tt)))))))))))
+
+acc_shared : AreShared acc_rules
+acc_shared j k a b ea eb e =
+    sym (each_at (λ (r : Rule). clobbers_of acc_rules r.pattern ≡ r.clobbers) acc_rules j a ea acc_own) ∙ ap (λ p. clobbers_of acc_rules p) e
+    ∙ each_at (λ (r : Rule). clobbers_of acc_rules r.pattern ≡ r.clobbers) acc_rules k b eb acc_own
+
+-- what goes into the program counter reads it
+abbrev Counts : Rule → Type 0
+Counts rule = rule.goal ≡ into_reg 0 → (i : ℕ) × (term_reads i rule.value (register 0) ≡ true)
+
+acc_counts : Each Counts acc_rules
+acc_counts = (
+  (λ e. (0, refl)),
+  (
+    (λ e. (0, refl)),
+    (
+      (λ e. absurd (cc)),
+      (
+        (λ e. absurd (cc)),
+        (
+          (λ e. absurd (cc)),
+          (
+            (λ e. absurd (one_zero e)),
+            (
+              (λ e. absurd (one_zero e)),
+              ((λ e. absurd (one_zero e)), ((λ e. absurd (one_zero e)), ((λ e. absurd (one_zero e)), ((λ e. absurd (cc)), tt)))),
+            ),
+          ),
+        ),
+      ),
+    ),
+  ),
+)
+  where
+    number : Kind → ℕ
+    number (into_reg r) = r
+    number goal = 0
+
+    one_zero : into_reg 1 ≡ into_reg 0 → ⊥
+    one_zero e = let q : 1 ≡ 0 = ap number e in omega (arith, q)
+
+acc_counter : IsCounter acc_rules 0
+acc_counter k rule e = each_at Counts acc_rules k rule e acc_counts
+
+-- from every state of three registers and at least five cells x = (a + b) - (a - b) is done, and no variable but x changes
+pub acc_leaves : (s : State) → length s.regs ≡ 3 → 5 ≤ length s.cells → LeaveValue (acc_stock 2) acc_patterns (cell 4) less_tree less_plan s
+acc_leaves s r c =
+    leave_value (acc_stock 2) acc_patterns 3 acc_formed (cell 4) less_tree less_plan s tt less_orderly (omega arith)
+    (record { regs = r; reads = (((omega arith, tt), (omega arith, tt)), ((omega arith, tt), (omega arith, tt))); aim_reads = tt; aim = omega (arith, c); temps = omega (arith, c) })
+
+pub acc_spares : AreSpare (acc_stock 2) acc_patterns 0 (cell 4) less_tree less_plan
+acc_spares = steps_spare (acc_stock 2) acc_patterns 3 0 acc_formed acc_shared acc_counter (cell 4) less_tree less_plan tt less_orderly

@@ -1,0 +1,153 @@
+-- What an orderly cover says of its form and its operands, in the words of its steps.
+use Rattle.std.proofs.Common.{◌≡◌, ℕ, zero, suc, ◌+◌, ◌<◌, ◌==◌, ◌&&◌, bit_and, ◌^◌, Bool, true, false, List, [], ◌∷◌, length, Option, Some, None, refl, sym, ap, ◌∙◌, subst, arith}
+use Rattle.std.specs.Prelude.{slice_get, remove, insert}
+use Rattle.std.specs.Int.{bit_at}
+use Rattle.std.proofs.lemmas.Nat.Bits.{bit_at-zero, bit_at_and, bit_at_or, bit_at-pow_same, bit_at-lt}
+use Rattle.std.proofs.lemmas.Bool.{eqb-true}
+use Rattle.net_model.specs.declared.states.State.{State}
+use Rattle.net_model.specs.Terms.{Term}
+use Rattle.net_model.specs.Patterns.{Pattern}
+use Rattle.form_model.specs.Rules.{Rule, Kind, into_reg, into_memory, branches, Destination, into, cell, stored, temporary, tested}
+use Rattle.form_model.specs.Matches.{Site, Found, settled, both, matched, address_match, goal_match, taken}
+use Rattle.form_model.specs.Shapes.{is_shape, shape_setting, shows_below}
+use Rattle.form_model.specs.Plans.{Plan, use_form, Operands, no_operands, operand_then, Cuts, no_cuts, cut_then}
+use Rattle.form_model.specs.Covers.{Stock, Operand, operands_of, cuts_of, form_clobbers, written, all_written, IsOrderly, AreOrderly, AreCut}
+use Rattle.form_model.specs.Steps.{OperandCells, cut_count, operands_count, cuts_count, operand_counts, cut_counts, rule_or_none, found_or_none, operand_cells_or_none, rule_at, found_at}
+use Rattle.emit_seq.specs.Formed.{IsFormed}
+use Rattle.emit_seq.specs.Leaves.{ReadsFrom, DestinationReads}
+use Rattle.emit_seq.proofs.Fields.{picked}
+use Rattle.emit_seq.proofs.Matched.{Joined, joined, settled_some}
+use Rattle.emit_seq.proofs.Sites.{SitesRead, read-append, matched_taken}
+use Rattle.emit_seq.proofs.Zips.{get_mapped, map-remove, total, total-insert}
+use Rattle.emit_seq.proofs.Walks.{operands_in, past_sites, past_total}
+
+pub record IsOpened (stock : Stock) (k : ℕ) (ps : Operands) (cs : Cuts) (destination : Destination) (tree : Term) (whole : Bool) : Type 0 where
+  pub listed : slice_get stock.rules k ≡ Some (rule_at stock k)
+  pub takes : taken stock.temps (rule_at stock k) destination tree whole ≡ Some (found_at stock k destination tree whole)
+  pub operands : AreOrderly stock (operands_of (found_at stock k destination tree whole).sites) ps
+  pub cuts : AreCut stock (cuts_of (found_at stock k destination tree whole).sites) cs
+
+pub opened_plan : (stock : Stock) (k : ℕ) (ps : Operands) (cs : Cuts) (destination : Destination) (tree : Term) (whole : Bool) → IsOrderly stock destination tree whole (use_form k ps cs)
+    → IsOpened stock k ps cs destination tree whole
+opened_plan stock k ps cs destination tree whole c =
+    let er : rule_at stock k ≡ c.0 = ap rule_or_none c.1 in
+    let et : taken stock.temps (rule_at stock k) destination tree whole ≡ Some c.2 = ap (λ r. taken stock.temps r destination tree whole) er ∙ c.3 in
+    let em : found_at stock k destination tree whole ≡ c.2 = ap found_or_none et in
+    record {
+      listed = c.1 ∙ ap (λ (r : Rule). Some r) (sym er);
+      takes = et ∙ ap (λ (f : Found). Some f) (sym em);
+      operands = subst (λ (f : Found). AreOrderly stock (operands_of f.sites) ps) (sym em) c.4;
+      cuts = subst (λ (f : Found). AreCut stock (cuts_of f.sites) cs) (sym em) c.5;
+    }
+
+pub record IsOpenedOperand (stock : Stock) (left : List OperandCells) (i : ℕ) (cells : OperandCells) (p : Plan) (ps : Operands) : Type 0 where
+  pub at : slice_get left i ≡ Some cells
+  pub orderly : IsOrderly stock (into cells.operand.id) cells.operand.tree cells.operand.whole p
+  pub apart : bit_at (all_written stock.rules ps) cells.operand.id ≡ 0
+  pub rest : AreOrderly stock (operands_in (remove left i)) ps
+
+apart_bit : (n k : ℕ) → bit_and n (2 ^ k) ≡ 0 → bit_at n k ≡ 0
+apart_bit n k e =
+    let h : bit_at (bit_and n (2 ^ k)) k ≡ 0 = ap (λ z. bit_at z k) e ∙ bit_at-zero k in
+    omega (arith, bit_at_and n (2 ^ k) k, bit_at-pow_same k, bit_at-lt n k, h)
+
+pub opened_operand : (stock : Stock) (left : List OperandCells) (i : ℕ) (p : Plan) (ps : Operands) → AreOrderly stock (operands_in left) (operand_then i p ps)
+    → IsOpenedOperand stock left i (operand_cells_or_none (slice_get left i)) p ps
+opened_operand stock left i p ps c =
+    let (cells, e, eo) = get_mapped (λ (s : OperandCells). s.operand) left i c.0 c.1 in
+    let es : operand_cells_or_none (slice_get left i) ≡ cells = ap operand_cells_or_none e in
+    let eq : (operand_cells_or_none (slice_get left i)).operand ≡ c.0 = ap (λ (s : OperandCells). s.operand) es ∙ eo in
+    record {
+      at = e ∙ ap (λ (s : OperandCells). Some s) (sym es);
+      orderly = subst (λ (o : Operand). IsOrderly stock (into o.id) o.tree o.whole p) (sym eq) c.2;
+      apart = subst (λ (o : Operand). bit_at (all_written stock.rules ps) o.id ≡ 0) (sym eq) (apart_bit (all_written stock.rules ps) c.0.id c.3);
+      rest = subst (λ z. AreOrderly stock z ps) (sym (map-remove (λ (s : OperandCells). s.operand) left i)) c.4;
+    }
+
+-- ---- how many operands, cuts and cells there are
+
+length_in : (ns : List ℕ) (i n : ℕ) → length (insert ns i n) ≡ suc (length ns)
+length_in ns zero n = refl
+length_in [] (suc i) n = refl
+length_in (m ∷ ns) (suc i) n = let e = length_in ns i n in omega (arith, e)
+
+length_out : {X : Type 0} (xs : List X) (i : ℕ) (x : X) → slice_get xs i ≡ Some x → length xs ≡ suc (length (remove xs i))
+length_out [] i x h = absurd (cc)
+length_out (y ∷ xs) zero x h = refl
+length_out (y ∷ xs) (suc i) x h = let e = length_out xs i x h in omega (arith, e)
+
+pub operands_long : (stock : Stock) (ps : Operands) (left : List Operand) → AreOrderly stock left ps → length (operand_counts ps) ≡ length left
+operands_long stock no_operands left c = sym (ap length c)
+operands_long stock (operand_then i p ps) left c =
+    let h = operands_long stock ps (remove left i) c.4 in
+    omega (arith, h, length_in (operand_counts ps) i (cut_count p), length_out left i c.0 c.1)
+
+pub cuts_long : (stock : Stock) (cs : Cuts) (cuts : List Term) → AreCut stock cuts cs → length (cut_counts cs) ≡ length cuts
+cuts_long stock no_cuts cuts c = sym (ap length c)
+cuts_long stock (cut_then p cs) cuts c = let h = cuts_long stock cs c.1 c.4 in omega (arith, h, ap length c.2)
+
+operands_total : (ps : Operands) → total (operand_counts ps) ≡ operands_count ps
+operands_total no_operands = refl
+operands_total (operand_then i p ps) = let h = operands_total ps in omega (arith, h, total-insert (operand_counts ps) i (cut_count p))
+
+cuts_total : (cs : Cuts) → total (cut_counts cs) + length (cut_counts cs) ≡ cuts_count cs
+cuts_total no_cuts = refl
+cuts_total (cut_then p cs) = let h = cuts_total cs in omega (arith, h)
+
+-- the cell past those of all sites is the one past the cover's
+pub past_plan : (stock : Stock) (sites : List Site) (ps : Operands) (cs : Cuts) (n : ℕ) → AreOrderly stock (operands_of sites) ps → AreCut stock (cuts_of sites) cs
+    → past_sites sites (operand_counts ps) (cut_counts cs) n ≡ n + (operands_count ps + cuts_count cs)
+past_plan stock sites ps cs n o c =
+    omega (arith, past_total sites (operand_counts ps) (cut_counts cs) n (operands_long stock ps (operands_of sites) o) (cuts_long stock cs (cuts_of sites) c), operands_total ps, cuts_total cs)
+
+-- ---- a form that goes into a register is one of that register
+
+pub into_formed : (temps : ℕ) (patterns : List Pattern) (count : ℕ) (rule : Rule) (goal : Kind) (id : ℕ) (tree : Term) (whole : Bool) (found : Found)
+    → IsFormed patterns count rule goal → goal_match temps rule goal (into id) tree whole ≡ Some found → (id < count) × (bit_at rule.clobbers id ≡ 1)
+into_formed temps patterns count rule (into_reg q) id tree whole found f h =
+    let c : ((q == id) ≡ true) × (matched temps rule.value tree whole ≡ Some found) = picked (q == id) (matched temps rule.value tree whole) found h in
+    let e : q ≡ id = eqb-true q id c.0 in
+    (subst (λ z. z < count) e f.below, subst (λ z. bit_at rule.clobbers z ≡ 1) e f.clobbered)
+into_formed temps patterns count rule goal id tree whole found f h = absurd (cc)
+
+pub writes_own : (rules : List Rule) (k : ℕ) (rule : Rule) (ps : Operands) (cs : Cuts) (id : ℕ) → slice_get rules k ≡ Some rule → bit_at rule.clobbers id ≡ 1
+    → bit_at (written rules (use_form k ps cs)) id ≡ 1
+writes_own rules k rule ps cs id e h =
+    let c : bit_at (form_clobbers (slice_get rules k)) id ≡ 1 = ap (λ z. bit_at (form_clobbers z) id) e ∙ h in
+    omega (arith, bit_at_or (form_clobbers (slice_get rules k)) (all_written rules ps) id, c, bit_at-lt (all_written rules ps) id)
+
+-- the trees of all sites of a form read nothing below, those of a store's address among them
+address_sites : (temps : ℕ) (before : State) (o : Option Term) (destination : Destination) (x : Found) → address_match temps o destination ≡ Some x → DestinationReads temps before destination
+    → SitesRead temps before x.sites
+address_sites temps before None destination x h p = absurd (cc)
+address_sites temps before (Some addr) (cell a) x h p =
+    let c : (is_shape addr ≡ true) × (settled (shape_setting addr a) ≡ Some x) = picked (is_shape addr) (settled (shape_setting addr a)) x h in
+    let (b, e, q) = settled_some (shape_setting addr a) x c.1 in
+    subst (λ (z : Found). SitesRead temps before z.sites) q tt
+address_sites temps before (Some addr) (stored address) x h p = (matched_taken temps before addr address false x h).sites p
+address_sites temps before (Some addr) temporary x h p =
+    let c : ((is_shape addr && shows_below addr temps) ≡ true) × (settled (Some 0) ≡ Some x) = picked (is_shape addr && shows_below addr temps) (settled (Some 0)) x h in
+    let q : record { setting = 0; sites = [] } ≡ x = cc in
+    subst (λ (z : Found). SitesRead temps before z.sites) q tt
+address_sites temps before (Some addr) (into id) x h p = absurd (cc)
+address_sites temps before (Some addr) tested x h p = absurd (cc)
+
+memory_sites : (temps : ℕ) (before : State) (rule : Rule) (destination : Destination) (tree : Term) (whole : Bool) (found : Found)
+    → both (address_match temps rule.addr destination) (matched temps rule.value tree whole) ≡ Some found
+    → ReadsFrom temps before tree → DestinationReads temps before destination → SitesRead temps before found.sites
+memory_sites temps before rule destination tree whole found h r p =
+    let j : Joined (address_match temps rule.addr destination) (matched temps rule.value tree whole) found = joined _ _ _ h in
+    subst (λ (z : Found). SitesRead temps before z.sites) j.is
+    (read-append temps before j.first.sites j.second.sites (address_sites temps before rule.addr destination j.first j.is_first p)
+    ((matched_taken temps before rule.value tree whole j.second j.is_second).sites r))
+
+pub goal_sites : (temps : ℕ) (before : State) (rule : Rule) (goal : Kind) (destination : Destination) (tree : Term) (whole : Bool) (found : Found)
+    → goal_match temps rule goal destination tree whole ≡ Some found → ReadsFrom temps before tree → DestinationReads temps before destination → SitesRead temps before found.sites
+goal_sites temps before rule (into_reg q) (into id) tree whole found h r p =
+    let c : ((q == id) ≡ true) × (matched temps rule.value tree whole ≡ Some found) = picked (q == id) (matched temps rule.value tree whole) found h in
+    (matched_taken temps before rule.value tree whole found c.1).sites r
+goal_sites temps before rule into_memory (cell a) tree whole found h r p = memory_sites temps before rule (cell a) tree true found h r p
+goal_sites temps before rule into_memory (stored a) tree whole found h r p = memory_sites temps before rule (stored a) tree false found h r p
+goal_sites temps before rule into_memory temporary tree whole found h r p = memory_sites temps before rule temporary tree false found h r p
+goal_sites temps before rule (branches when_one to) tested tree whole found h r p = (matched_taken temps before rule.value tree true found h).sites r
+goal_sites temps before rule goal destination tree whole found h r p = absurd (cc)

@@ -1,0 +1,93 @@
+-- What the steps of a cover leave.
+use Rattle.std.specs.Prelude.{ℕ, ◌≤◌, ◌<◌, ◌≡◌, List, length, slice_index, slice_set}
+use Rattle.net_model.specs.declared.states.State.{State}
+use Rattle.net_model.specs.Terms.{Term, word, reg, const, read, un, bin, slice, cat, zext, sext, select}
+use Rattle.net_model.specs.Meaning.{mean}
+use Rattle.net_model.specs.Patterns.{Pattern}
+use Rattle.form_model.specs.Plans.{Plan, use_form}
+use Rattle.form_model.specs.Covers.{Stock}
+use Rattle.form_model.specs.Effects.{operation_of, steps_effect}
+use Rattle.form_model.specs.Steps.{rule_at, cover_steps, branch_setting}
+use Rattle.form_model.specs.Rules.{Destination, into, cell, stored, temporary, tested}
+
+-- no read of the tree has an address below this one
+abbrev pub ReadsFrom : ℕ → State → Term → Type 0
+ReadsFrom low s (word w) = Unit {0}
+ReadsFrom low s (reg r w) = Unit {0}
+ReadsFrom low s (const w v) = Unit {0}
+ReadsFrom low s (read a w) = (low ≤ mean a s 0) × ReadsFrom low s a
+ReadsFrom low s (un o a) = ReadsFrom low s a
+ReadsFrom low s (bin o a b) = ReadsFrom low s a × ReadsFrom low s b
+ReadsFrom low s (slice a hi lo) = ReadsFrom low s a
+ReadsFrom low s (cat a b) = ReadsFrom low s a × ReadsFrom low s b
+ReadsFrom low s (zext a w) = ReadsFrom low s a
+ReadsFrom low s (sext a w) = ReadsFrom low s a
+ReadsFrom low s (select c a b) = ReadsFrom low s c × ReadsFrom low s a × ReadsFrom low s b
+
+-- ---- what the form's own step does
+
+-- the address of a destination in the memory, where `own` is the temporary cell
+abbrev pub address_of : State → Destination → ℕ → ℕ
+address_of before (cell address) own = address
+address_of before (stored address) own = mean address before 0
+address_of before temporary own = own
+address_of before destination own = 0
+
+-- the state with a value put where it goes
+abbrev pub placed : State → State → Destination → ℕ → ℕ → State
+placed before now (into id) own v = record { regs = slice_set now.regs id v; cells = now.cells }
+placed before now tested own v = now
+placed before now destination own v = record { regs = now.regs; cells = slice_set now.cells (address_of before destination own) v }
+
+-- the address tree of a store reads nothing below, too
+abbrev pub DestinationReads : ℕ → State → Destination → Type 0
+DestinationReads low before (stored address) = ReadsFrom low before address
+DestinationReads low before destination = Unit {0}
+
+-- ---- what the steps of a job's cover leave
+
+-- the aim lies in the memory
+abbrev pub IsAimWithin : Destination → State → Type 0
+IsAimWithin (cell address) s = address < length s.cells
+IsAimWithin (stored address) s = mean address s 0 < length s.cells
+IsAimWithin destination s = Unit {0}
+
+-- a state from which the steps do their work: so many registers, no read of the tree and of a store's address below the temporary cells, and
+-- both the aim and the temporary cells in the memory
+pub record IsStart (stock : Stock) (count : ℕ) (destination : Destination) (tree : Term) (s : State) : Type 0 where
+  pub regs : length s.regs ≡ count
+  pub reads : ReadsFrom stock.temps s tree
+  pub aim_reads : DestinationReads stock.temps s destination
+  pub aim : IsAimWithin destination s
+  pub temps : stock.temps ≤ length s.cells
+
+-- where a job's tree goes: not into a register, and not into a temporary cell
+abbrev pub IsOfJob : Destination → Type 0
+IsOfJob (into id) = ⊥
+IsOfJob temporary = ⊥
+IsOfJob destination = Unit {0}
+
+-- the cell of the aim
+abbrev pub IsAim : Destination → State → ℕ → Type 0
+IsAim (cell address) s c = c ≡ address
+IsAim (stored address) s c = c ≡ mean address s 0
+IsAim destination s c = ⊥
+
+-- the condition of the branch at the root of a test's cover
+abbrev pub condition_of : Stock → Plan → Term
+condition_of stock (use_form k ps cs) = (rule_at stock k).value
+
+-- after the steps from s, in the state t, the aim has the value
+abbrev pub HasValue : Stock → Destination → Term → Plan → State → State → Type 0
+HasValue stock (cell address) tree plan s t = slice_index t.cells address ≡ mean tree s 0
+HasValue stock (stored address) tree plan s t = slice_index t.cells (mean address s 0) ≡ mean tree s 0
+HasValue stock tested tree plan s t = mean (condition_of stock plan) t (branch_setting stock tree plan) ≡ mean tree s 0
+HasValue stock destination tree plan s t = Unit {0}
+
+-- the steps, done one after the other from s, leave the tree's value at its aim, and change no other cell from the temporary ones on
+pub record LeaveValue (stock : Stock) (patterns : List Pattern) (destination : Destination) (tree : Term) (plan : Plan) (s : State) : Type 0 where
+  pub value : HasValue stock destination tree plan s (steps_effect (operation_of patterns) (cover_steps stock destination tree plan) s)
+  pub others : (c : ℕ) → stock.temps ≤ c → (IsAim destination s c → ⊥)
+      → slice_index (steps_effect (operation_of patterns) (cover_steps stock destination tree plan) s).cells c ≡ slice_index s.cells c
+  pub regs : length (steps_effect (operation_of patterns) (cover_steps stock destination tree plan) s).regs ≡ length s.regs
+  pub cells : length (steps_effect (operation_of patterns) (cover_steps stock destination tree plan) s).cells ≡ length s.cells

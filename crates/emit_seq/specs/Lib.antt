@@ -1,0 +1,9 @@
+pub mod Worked
+pub mod Formed
+pub mod Leaves
+pub mod Spares
+pub mod Settles
+pub mod Cells
+pub mod Views
+pub mod Emits
+pub mod CellLists

@@ -1,0 +1,111 @@
+//! The operands and the cuts of a match, with the temporary cells that cuts are put into.
+
+ghost use Rattle.std.specs.Prelude.{◌≡◌, ℕ, ◌+◌, ◌∷◌, List, IfOk, slice_index};
+ghost use Rattle.form_model.specs.Matches.{Site};
+ghost use Rattle.tree_grammar.specs.Parts.{part_of, parts_of};
+ghost use Rattle.emit_seq.specs.CellLists.{AreMatchCells, HaveCells};
+ghost use Rattle.emit_seq.specs.Views.{cells_of_cuts, cells_of_operands};
+
+use crate::counts::plus;
+use form_model::Tree;
+use net_model::Expr;
+use rec_bits::NoMemory;
+use std::alloc::Global;
+use tree_grammar::Part;
+
+/// An operand, with the cells of the cuts inside its cover: from the first up to the one past the last.
+#[derive(Clone, Copy)]
+pub struct OperandCells<'a> {
+    pub id: u32,
+    pub tree: &'a Tree,
+    pub whole: bool,
+    pub first: u64,
+    pub past: u64,
+}
+
+/// A cut, with the shape that names its cell, the first cell of the cuts inside it, and its own.
+#[derive(Clone, Copy)]
+pub struct CutCells<'a> {
+    pub shape: &'a Expr,
+    pub tree: &'a Tree,
+    pub first: u64,
+    pub cell: u64,
+}
+
+/// The operands and the cuts of a match, each from left to right, with their cells.
+#[derive(Drop)]
+pub struct MatchCells<'a> {
+    pub operands: Vec<OperandCells<'a>>,
+    pub cuts: Vec<CutCells<'a>>,
+}
+
+// The number at this place, and 0 past the last.
+fn count_at(counts: &[u64], place: usize) -> u64
+    ensures { result ≡ slice_index counts.now place }
+{
+    counts.get(place).copied().unwrap_or(0)
+}
+
+// Adds a part, the first of whose cells is told, and gives the cell past them.
+fn add_part<'a>(
+    cells: &mut MatchCells<'a>,
+    part: Part<'a>,
+    inside: &[u64],
+    own: &[u64],
+    first: u64,
+) -> Result<u64, NoMemory>
+    ensures { IfOk result (λ past. (sites rest : List Site) (start : ℕ) →
+        HaveCells sites inside.now own.now start (cells_of_operands cells.old.operands.items) (cells_of_cuts cells.old.cuts.items) (part_of part.entry ∷ rest) first →
+        HaveCells sites inside.now own.now start (cells_of_operands cells.new.operands.items) (cells_of_cuts cells.new.cuts.items) rest past) }
+{
+    match part {
+        Part::Operand {
+            id,
+            tree,
+            whole,
+            ..
+        } => {
+            let past = plus(first, count_at(inside, cells.operands.len()))?;
+            cells.operands.push(OperandCells {
+                id,
+                tree,
+                whole,
+                first,
+                past,
+            })?;
+            Ok(past)
+        }
+        Part::Cut { shape, tree, .. } => {
+            let cell = plus(first, count_at(own, cells.cuts.len()))?;
+            cells.cuts.push(CutCells {
+                shape,
+                tree,
+                first,
+                cell,
+            })?;
+            plus(cell, 1)
+        }
+    }
+}
+
+/// The operands and the cuts of a match, which have the cells from `first` on: `inside` has the numbers of cuts of the operands, and `own` those
+/// of the cuts inside each cut.
+pub fn match_cells<'a>(
+    alloc: Global,
+    parts: &[Part<'a>],
+    inside: &[u64],
+    own: &[u64],
+    first: u64,
+) -> Result<MatchCells<'a>, NoMemory>
+    ensures { IfOk result (λ cells. AreMatchCells (parts_of parts.now) inside.now own.now first cells) }
+{
+    let mut cells = MatchCells {
+        operands: Vec::new(alloc),
+        cuts: Vec::new(alloc),
+    };
+    let mut next = first;
+    for part in parts {
+        next = add_part(&mut cells, *part, inside, own, next)?;
+    }
+    Ok(cells)
+}

@@ -1,0 +1,87 @@
+//! How many cuts covers have.
+
+ghost use Rattle.std.specs.Prelude.{◌≡◌, ℕ, ◌+◌, IfOk, OnOk, insert};
+ghost use Rattle.form_model.specs.Plans.{cuts_plan, operands_plan, plan_of};
+ghost use Rattle.form_model.specs.Steps.{cut_count as cut_count_of, cut_counts as cut_counts_of, cuts_count as cuts_count_of, operand_counts as operand_counts_of, operands_count as operands_count_of};
+
+use form_model::{Cover, CoverCuts, CoverOperands};
+use rec_bits::NoMemory;
+use std::alloc::Global;
+
+/// The sum. Want of memory where there are more cuts than a list can hold.
+pub fn plus(a: u64, b: u64) -> Result<u64, NoMemory>
+    ensures { IfOk result (λ c. c ≡ a + b) }
+{
+    a.checked_add(b).ok_or(NoMemory)
+}
+
+// How many cuts the covers of operands have.
+#[cycle(counting)]
+fn operands_count(operands: &CoverOperands) -> Result<u64, NoMemory>
+    ensures { IfOk result (λ n. n ≡ operands_count_of (operands_plan operands.now)) }
+{
+    match operands {
+        CoverOperands::Empty => Ok(0),
+        CoverOperands::Then { cover, rest, .. } => plus(cut_count(cover)?, operands_count(rest)?),
+    }
+}
+
+// How many there are of these cuts and of those inside them.
+#[cycle(counting)]
+fn cuts_count(cuts: &CoverCuts) -> Result<u64, NoMemory>
+    ensures { IfOk result (λ n. n ≡ cuts_count_of (cuts_plan cuts.now)) }
+{
+    match cuts {
+        CoverCuts::Empty => Ok(0),
+        CoverCuts::Then { cover, rest } => {
+            let own = plus(cut_count(cover)?, 1)?;
+            plus(own, cuts_count(rest)?)
+        }
+    }
+}
+
+/// How many cuts the cover has, inner ones among them.
+#[cycle(counting)]
+pub fn cut_count(cover: &Cover) -> Result<u64, NoMemory>
+    ensures { IfOk result (λ n. n ≡ cut_count_of (plan_of cover.now)) }
+{
+    plus(operands_count(&cover.operands)?, cuts_count(&cover.cuts)?)
+}
+
+fn insert_count(counts: &mut Vec<u64>, place: usize, count: u64) -> Result<(), NoMemory>
+    ensures { OnOk result (counts.new.items ≡ insert counts.old.items place count) }
+{
+    if place > counts.len() {
+        return Err(NoMemory);
+    }
+    counts.insert(place, count)?;
+    Ok(())
+}
+
+/// The operands' numbers of cuts, from left to right.
+pub fn operand_counts(alloc: Global, operands: &CoverOperands) -> Result<Vec<u64>, NoMemory>
+    ensures { IfOk result (λ v. v.items ≡ operand_counts_of (operands_plan operands.now)) }
+{
+    match operands {
+        CoverOperands::Empty => Ok(Vec::new(alloc)),
+        CoverOperands::Then { place, cover, rest } => {
+            let mut counts = operand_counts(alloc, rest)?;
+            insert_count(&mut counts, *place, cut_count(cover)?)?;
+            Ok(counts)
+        }
+    }
+}
+
+/// For each of the form's own cuts, from left to right, how many are inside it.
+pub fn cut_counts(alloc: Global, cuts: &CoverCuts) -> Result<Vec<u64>, NoMemory>
+    ensures { IfOk result (λ v. v.items ≡ cut_counts_of (cuts_plan cuts.now)) }
+{
+    match cuts {
+        CoverCuts::Empty => Ok(Vec::new(alloc)),
+        CoverCuts::Then { cover, rest } => {
+            let mut counts = cut_counts(alloc, rest)?;
+            insert_count(&mut counts, 0, cut_count(cover)?)?;
+            Ok(counts)
+        }
+    }
+}

@@ -1,0 +1,140 @@
+//! The steps that put cuts into their cells.
+
+ghost use Rattle.std.specs.Prelude.{◌≡◌, ◌++◌, IfOk, OnOk, insert};
+ghost use Rattle.form_model.specs.Plans.{cuts_plan, operands_plan, plan_of};
+ghost use Rattle.form_model.specs.Steps.{cut_steps as cut_steps_of, inside_operands as inside_operands_of, into_cells as into_cells_of, woven as woven_of};
+ghost use Rattle.form_model.specs.Trees.{tree_term};
+ghost use Rattle.tree_grammar.specs.Parts.{destination_at, parts_of};
+ghost use Rattle.emit_seq.specs.Views.{cells_of_cuts, cells_of_operands, stock_of};
+
+use crate::cells::{CutCells, OperandCells};
+use crate::operands::put_own_steps;
+use crate::roots::{Covered, Stock, cut_covered, operand_covered, root_of, take_out};
+use form_model::{Cover, CoverCuts, CoverOperands, Step};
+use rec_bits::{Items, NoMemory};
+use std::alloc::Global;
+use tree_grammar::Part;
+
+fn put_all(out: &mut Items<Step>, steps: &[Step]) -> Result<(), NoMemory>
+    ensures { OnOk result (out.new ≡ out.old ++ steps.now) }
+{
+    for step in steps {
+        out.push(*step)?;
+    }
+    Ok(())
+}
+
+// Adds the steps for the operands and those for the form's own cuts, in the order of the parts.
+fn put_woven(
+    out: &mut Items<Step>,
+    parts: &[Part],
+    inside: &[Items<Step>],
+    own: &[Items<Step>],
+) -> Result<(), NoMemory>
+    ensures { OnOk result (out.new ≡ out.old ++ woven_of (parts_of parts.now) inside.now own.now) }
+{
+    match parts {
+        [] => Ok(()),
+        [part, rest @ ..] => match *part {
+            Part::Operand { .. } => match inside {
+                [] => put_woven(out, rest, inside, own),
+                [steps, more @ ..] => {
+                    put_all(out, steps.as_slice())?;
+                    put_woven(out, rest, more, own)
+                }
+            },
+            Part::Cut { .. } => match own {
+                [] => put_woven(out, rest, inside, own),
+                [steps, more @ ..] => {
+                    put_all(out, steps.as_slice())?;
+                    put_woven(out, rest, inside, more)
+                }
+            },
+        },
+    }
+}
+
+fn insert_list(
+    lists: &mut Vec<Items<Step>>,
+    place: usize,
+    steps: Items<Step>,
+) -> Result<(), NoMemory>
+    ensures { OnOk result (lists.new.items ≡ insert lists.old.items place steps) }
+{
+    if place > lists.len() {
+        return Err(NoMemory);
+    }
+    lists.insert(place, steps)?;
+    Ok(())
+}
+
+/// The steps that put the cuts of a cover into their cells.
+#[cycle(cutting)]
+pub fn cut_steps<'a>(
+    alloc: Global,
+    stock: Stock<'a>,
+    cover: &Cover,
+    covered: Covered<'a>,
+) -> Result<Items<Step>, NoMemory>
+    ensures { IfOk result (λ steps. steps ≡ cut_steps_of (stock_of stock.entry) (plan_of cover.now) covered.entry.first (destination_at covered.entry.destination) (tree_term covered.entry.tree.now) covered.entry.whole) }
+{
+    let mut root = root_of(alloc, stock, cover, covered)?;
+    let inside = inside_operands(alloc, stock, &cover.operands, &mut root.operands)?;
+    let own = into_cells(alloc, stock, &cover.cuts, root.cuts.as_slice())?;
+    let mut out = Items::new(alloc);
+    put_woven(
+        &mut out,
+        root.parts.as_slice(),
+        inside.as_slice(),
+        own.as_slice(),
+    )?;
+    Ok(out)
+}
+
+// For each operand, from left to right, the steps for the cuts inside it. The cells of each are taken out of those that are left.
+#[cycle(cutting)]
+fn inside_operands<'a>(
+    alloc: Global,
+    stock: Stock<'a>,
+    operands: &CoverOperands,
+    left: &mut Vec<OperandCells<'a>>,
+) -> Result<Vec<Items<Step>>, NoMemory>
+    ensures { IfOk result (λ v. v.items ≡ inside_operands_of (stock_of stock.entry) (operands_plan operands.now) (cells_of_operands left.old.items)) }
+{
+    match operands {
+        CoverOperands::Empty => Ok(Vec::new(alloc)),
+        CoverOperands::Then { place, cover, rest } => {
+            let operand = operand_covered(take_out(left, *place)?);
+            let steps = cut_steps(alloc, stock, cover, operand)?;
+            let mut lists = inside_operands(alloc, stock, rest, left)?;
+            insert_list(&mut lists, *place, steps)?;
+            Ok(lists)
+        }
+    }
+}
+
+// For each of the form's own cuts, from left to right, the steps for those inside it, and then its own.
+#[cycle(cutting)]
+fn into_cells<'a>(
+    alloc: Global,
+    stock: Stock<'a>,
+    covers: &CoverCuts,
+    cuts: &[CutCells<'a>],
+) -> Result<Vec<Items<Step>>, NoMemory>
+    ensures { IfOk result (λ v. v.items ≡ into_cells_of (stock_of stock.entry) (cuts_plan covers.now) (cells_of_cuts cuts.now)) }
+{
+    match covers {
+        CoverCuts::Empty => Ok(Vec::new(alloc)),
+        CoverCuts::Then { cover, rest } => match cuts {
+            [] => Err(NoMemory),
+            [cells, later @ ..] => {
+                let cut = cut_covered(*cells);
+                let mut steps = cut_steps(alloc, stock, cover, cut)?;
+                put_own_steps(alloc, stock, cover, cut, &mut steps)?;
+                let mut lists = into_cells(alloc, stock, rest, later)?;
+                insert_list(&mut lists, 0, steps)?;
+                Ok(lists)
+            }
+        },
+    }
+}

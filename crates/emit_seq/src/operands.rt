@@ -1,0 +1,67 @@
+//! The steps of operands and of the form behind them.
+
+ghost use Rattle.std.specs.Prelude.{◌≡◌, ◌++◌, OnOk};
+ghost use Rattle.form_model.specs.Plans.{operands_plan, plan_of};
+ghost use Rattle.form_model.specs.Rules.{Rule};
+ghost use Rattle.form_model.specs.Steps.{form_step, operand_steps, own_steps};
+ghost use Rattle.form_model.specs.Trees.{tree_term};
+ghost use Rattle.tree_grammar.specs.Parts.{destination_at};
+ghost use Rattle.emit_seq.specs.Views.{cells_of_operands, stock_of};
+
+use crate::cells::OperandCells;
+use crate::roots::{Covered, Stock, operand_covered, root_of, take_out};
+use form_model::{Cover, CoverOperands, Step};
+use rec_bits::{Items, NoMemory};
+use std::alloc::Global;
+use tree_grammar::Destination;
+
+// Adds the form's own step. A test has none.
+fn put_form_step(
+    out: &mut Items<Step>,
+    destination: Destination,
+    step: Step,
+) -> Result<(), NoMemory>
+    ensures { OnOk result ((rule : Rule) → step.pattern ≡ rule.pattern → out.new ≡ out.old ++ form_step rule (destination_at destination.entry) step.setting) }
+{
+    match destination {
+        Destination::Test => Ok(()),
+        _ => out.push(step),
+    }
+}
+
+/// Adds the steps of a cover without those for its cuts: those of its operands, and then the form's own.
+#[cycle(evaluating)]
+pub fn put_own_steps<'a>(
+    alloc: Global,
+    stock: Stock<'a>,
+    cover: &Cover,
+    covered: Covered<'a>,
+    out: &mut Items<Step>,
+) -> Result<(), NoMemory>
+    ensures { OnOk result (out.new ≡ out.old ++ own_steps (stock_of stock.entry) (plan_of cover.now) covered.entry.first (destination_at covered.entry.destination) (tree_term covered.entry.tree.now) covered.entry.whole) }
+{
+    let mut root = root_of(alloc, stock, cover, covered)?;
+    put_operands(alloc, stock, &cover.operands, &mut root.operands, out)?;
+    put_form_step(out, covered.destination, root.step)
+}
+
+// Adds the steps of operands, in the order of their evaluation. The cells of each operand are taken out of those that are left.
+#[cycle(evaluating)]
+fn put_operands<'a>(
+    alloc: Global,
+    stock: Stock<'a>,
+    operands: &CoverOperands,
+    left: &mut Vec<OperandCells<'a>>,
+    out: &mut Items<Step>,
+) -> Result<(), NoMemory>
+    ensures { OnOk result (out.new ≡ out.old ++ operand_steps (stock_of stock.entry) (operands_plan operands.now) (cells_of_operands left.old.items)) }
+{
+    match operands {
+        CoverOperands::Empty => Ok(()),
+        CoverOperands::Then { place, cover, rest } => {
+            let operand = operand_covered(take_out(left, *place)?);
+            put_own_steps(alloc, stock, cover, operand, out)?;
+            put_operands(alloc, stock, rest, left, out)
+        }
+    }
+}

@@ -1,0 +1,142 @@
+//! The form at the root of a cover, with its match, its operands and cuts, and its step.
+
+ghost use Rattle.std.specs.Prelude.{◌≡◌, ◌+◌, Some, IfOk, bit_or, false, remove, slice_get};
+ghost use Rattle.form_model.specs.Plans.{plan_of};
+ghost use Rattle.form_model.specs.Rules.{rule_of};
+ghost use Rattle.form_model.specs.Matches.{taken};
+ghost use Rattle.form_model.specs.Trees.{tree_term};
+ghost use Rattle.tree_grammar.specs.Parts.{destination_at, found_of};
+ghost use Rattle.tree_grammar.specs.declared.parts.Destination.TheVariants.{Register, Temp};
+ghost use Rattle.emit_seq.specs.Views.{cells_of_operand, cells_of_operands, stock_of};
+ghost use Rattle.emit_seq.specs.Emits.{IsRoot, IsTakenOut};
+
+use crate::cells::{CutCells, OperandCells, match_cells};
+use crate::counts::{cut_count, cut_counts, operand_counts, plus};
+use crate::settings::{cells_setting, temp_setting};
+use form_model::{Cover, Form, Step, Tree};
+use rec_bits::NoMemory;
+use std::alloc::Global;
+use tree_grammar::{Destination, Match, Part, match_at};
+
+/// What covers are made of: the forms, and the number of temporary cells.
+#[derive(Clone, Copy)]
+pub struct Stock<'a> {
+    pub forms: &'a [Form],
+    pub temps: u32,
+}
+
+/// What a cover is of: a tree, where it goes, whether it is whole, and the first cell of the cuts in the cover.
+#[derive(Clone, Copy)]
+pub struct Covered<'a> {
+    pub tree: &'a Tree,
+    pub destination: Destination<'a>,
+    pub whole: bool,
+    pub first: u64,
+}
+
+/// A form at the root of a cover.
+#[derive(Drop)]
+pub struct Root<'a> {
+    pub parts: Vec<Part<'a>>,
+    pub operands: Vec<OperandCells<'a>>,
+    pub cuts: Vec<CutCells<'a>>,
+    pub step: Step,
+}
+
+fn form_at<'a>(stock: Stock<'a>, place: usize) -> Result<&'a Form, NoMemory>
+    ensures { IfOk result (λ form. slice_get (stock_of stock.entry).rules place ≡ Some (rule_of form.now)) }
+{
+    stock.forms.get(place).ok_or(NoMemory)
+}
+
+fn found_at<'a>(
+    alloc: Global,
+    stock: Stock<'a>,
+    form: &'a Form,
+    covered: Covered<'a>,
+) -> Result<Match<'a>, NoMemory>
+    ensures { IfOk result (λ found. taken stock.entry.temps (rule_of form.now) (destination_at covered.entry.destination) (tree_term covered.entry.tree.now) covered.entry.whole ≡ Some (found_of found)) }
+{
+    let found = match_at(
+        alloc,
+        form,
+        covered.destination,
+        covered.tree,
+        covered.whole,
+        stock.temps,
+        0,
+    )?;
+    found.ok_or(NoMemory)
+}
+
+/// The form at the root of a cover.
+pub fn root_of<'a>(
+    alloc: Global,
+    stock: Stock<'a>,
+    cover: &Cover,
+    covered: Covered<'a>,
+) -> Result<Root<'a>, NoMemory>
+    ensures { IfOk result (λ root. IsRoot (stock_of stock.entry) (plan_of cover.now) covered.entry.first (destination_at covered.entry.destination) (tree_term covered.entry.tree.now) covered.entry.whole root) }
+{
+    let form = form_at(stock, cover.form)?;
+    let found = found_at(alloc, stock, form, covered)?;
+    let inside = operand_counts(alloc, &cover.operands)?;
+    let own = cut_counts(alloc, &cover.cuts)?;
+    let cells = match_cells(
+        alloc,
+        found.parts.as_slice(),
+        inside.as_slice(),
+        own.as_slice(),
+        covered.first,
+    )?;
+    let last = plus(covered.first, cut_count(cover)?)?;
+    let read = cells_setting(cells.cuts.as_slice())?;
+    let written = temp_setting(form, covered.destination, last)?;
+    let step = Step {
+        pattern: form.pattern,
+        setting: (found.setting | read) | written,
+    };
+    Ok(Root {
+        parts: found.parts,
+        operands: cells.operands,
+        cuts: cells.cuts,
+        step,
+    })
+}
+
+/// Takes the operand at this place out of those that are left.
+pub fn take_out<'a>(
+    left: &mut Vec<OperandCells<'a>>,
+    place: usize,
+) -> Result<OperandCells<'a>, NoMemory>
+    ensures { IfOk result (λ cells. IsTakenOut (cells_of_operands left.old.items) place (cells_of_operand cells) (cells_of_operands left.new.items)) }
+{
+    if place >= left.len() {
+        return Err(NoMemory);
+    }
+    Ok(left.remove(place))
+}
+
+/// What the cover of an operand is of.
+pub fn operand_covered<'a>(cells: OperandCells<'a>) -> Covered<'a>
+    ensures { result ≡ record { tree = cells.entry.tree; destination = Register cells.entry.id; whole = cells.entry.whole; first = cells.entry.first } }
+{
+    Covered {
+        tree: cells.tree,
+        destination: Destination::Register(cells.id),
+        whole: cells.whole,
+        first: cells.first,
+    }
+}
+
+/// What the cover of a cut is of.
+pub fn cut_covered<'a>(cells: CutCells<'a>) -> Covered<'a>
+    ensures { result ≡ record { tree = cells.entry.tree; destination = Temp; whole = false; first = cells.entry.first } }
+{
+    Covered {
+        tree: cells.tree,
+        destination: Destination::Temp,
+        whole: false,
+        first: cells.first,
+    }
+}

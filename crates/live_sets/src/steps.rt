@@ -1,0 +1,152 @@
+//! What steps read and write of one another.
+
+ghost use Rattle.std.specs.Prelude.{◌≡◌, ℕ, ◌<◌, All, List, length, IfOk};
+ghost use Rattle.sym_expr.specs.declared.pool.Node.{Node};
+ghost use Rattle.form_model.specs.Effects.{reads, register, same_destination, location_of, term_reads, writes};
+ghost use Rattle.form_model.specs.Live.{group_reads, group_writes, regs_of};
+ghost use Rattle.word_fit.specs.Steps.{step_operation};
+ghost use Rattle.live_sets.specs.Listed.{IsListed, IsNumbered};
+ghost use Rattle.live_sets.specs.Reading.{AreReads, told_location};
+
+use crate::locations::{Location, cell_at};
+use crate::reads::{flag_at, seen_table, set_at};
+use crate::regs::{has, none, one, union};
+use form_model::{RegSet, Step};
+use net_model::Checked;
+use rec_bits::NoMemory;
+use std::alloc::Global;
+use sym_expr::Pool;
+use transfer_set::Patterns;
+use word_fit::{Written, stores_memory, written_by};
+
+// The registers that a step reads.
+fn step_reads(patterns: &Patterns, _pool: &Pool, sets: &[RegSet], step: Step) -> RegSet
+    requires numbered { All (IsNumbered _pool.now) patterns.now.rows }
+    requires long { length sets.now ≡ length _pool.now }
+    requires reads { AreReads _pool.now sets.now }
+    ensures { (r : ℕ) → r < 16 → regs_of result r ≡ reads (step_operation _pool.now patterns.now step) (register r) }
+{
+    match patterns.expr_of(step.pattern) {
+        None => none(),
+        Some((None, value)) => set_at(sets, value),
+        Some((Some(addr), value)) => union(set_at(sets, addr), set_at(sets, value)),
+    }
+}
+
+// The register that a step writes.
+fn step_writes(patterns: &Patterns, step: Step) -> RegSet
+    ensures { (pool : List Node) (r : ℕ) → r < 16 → regs_of result r ≡ writes (step_operation pool patterns.now step) r }
+{
+    match written_by(patterns, step) {
+        Written::Register(register) => one(register),
+        Written::Memory | Written::Nothing => none(),
+    }
+}
+
+// The registers that a group reads.
+pub(crate) fn reads_of(patterns: &Patterns, pool: &Pool, sets: &[RegSet], group: &[Step]) -> RegSet
+    requires numbered { All (IsNumbered pool.now) patterns.now.rows }
+    requires long { length sets.now ≡ length pool.now }
+    requires reads { AreReads pool.now sets.now }
+    ensures { (r : ℕ) → r < 16 → regs_of result r ≡ group_reads (step_operation pool.now patterns.now) group.now r }
+{
+    match group {
+        [] => none(),
+        [step, rest @ ..] => union(
+            step_reads(patterns, pool, sets, *step),
+            reads_of(patterns, pool, sets, rest),
+        ),
+    }
+}
+
+// The registers that a group writes.
+pub(crate) fn writes_of(patterns: &Patterns, group: &[Step]) -> RegSet
+    ensures { (pool : List Node) (r : ℕ) → r < 16 → regs_of result r ≡ group_writes (step_operation pool patterns.now) group.now r }
+{
+    match group {
+        [] => none(),
+        [step, rest @ ..] => union(step_writes(patterns, *step), writes_of(patterns, rest)),
+    }
+}
+
+// The location that a step writes. A pattern that isn't of the table stands for one that keeps the first storage.
+fn location_of_step(patterns: &Patterns, pool: &Pool, step: Step) -> Location
+    requires { All (IsNumbered pool.now) patterns.now.rows }
+    ensures { told_location result ≡ location_of (step_operation pool.now patterns.now step) }
+{
+    match patterns.storage_of(step.pattern) {
+        None => Location::Register(0),
+        Some(storage) => match patterns.expr_of(step.pattern) {
+            Some((Some(addr), _)) => cell_at(pool, addr, step.setting),
+            _ => Location::Register(storage),
+        },
+    }
+}
+
+// Whether a step may see a write of the memory.
+fn sees(
+    alloc: Global,
+    patterns: &Patterns,
+    pool: &Pool,
+    reader: Step,
+    location: Location,
+) -> Result<bool, NoMemory>
+    requires { All (IsNumbered pool.now) patterns.now.rows }
+    ensures { IfOk result (λ seen. seen ≡ reads (step_operation pool.now patterns.now reader) (told_location location)) }
+{
+    let flags = seen_table(alloc, pool, reader.setting, location)?;
+    match patterns.expr_of(reader.pattern) {
+        None => Ok(false),
+        Some((None, value)) => Ok(flag_at(flags.as_slice(), value)),
+        Some((Some(addr), value)) => {
+            Ok(flag_at(flags.as_slice(), addr) || flag_at(flags.as_slice(), value))
+        }
+    }
+}
+
+/// Whether the first step may read what the second one writes. A read and a write of the memory at addresses that their settings settle, to
+/// two different numbers, don't count. `sets` has the registers that the pool's expressions read, as `reads_table` gives them.
+pub fn touches(
+    alloc: Global,
+    checked: &Checked,
+    patterns: &Patterns,
+    pool: &Pool,
+    sets: &[RegSet],
+    reader: Step,
+    writer: Step,
+) -> Result<bool, NoMemory>
+    requires listed { IsListed checked.now.netlist pool.now patterns.now }
+    requires long { length sets.now ≡ length pool.now }
+    requires reads { AreReads pool.now sets.now }
+    ensures { IfOk result (λ read. read ≡ reads (step_operation pool.now patterns.now reader) (location_of (step_operation pool.now patterns.now writer))) }
+{
+    let _netlist = checked.netlist();
+    match location_of_step(patterns, pool, writer) {
+        Location::Register(register) => {
+            let read = step_reads(patterns, pool, sets, reader);
+            Ok(has(read, register))
+        }
+        location => sees(alloc, patterns, pool, reader, location),
+    }
+}
+
+// The storage of a step. A pattern that isn't of the table stands for one that keeps the first storage.
+fn storage_of(patterns: &Patterns, step: Step) -> u32
+    ensures { (pool : List Node) → result ≡ (step_operation pool patterns.now step).storage }
+{
+    match patterns.storage_of(step.pattern) {
+        Some(storage) => storage,
+        None => 0,
+    }
+}
+
+/// Whether two steps have one destination: a register, or the memory.
+pub fn shares(patterns: &Patterns, left: Step, right: Step) -> bool
+    ensures { (pool : List Node) → result ≡ same_destination (step_operation pool patterns.now left) (step_operation pool patterns.now right) }
+{
+    if stores_memory(patterns, left) {
+        stores_memory(patterns, right)
+    } else {
+        !stores_memory(patterns, right) && storage_of(patterns, left) == storage_of(patterns, right)
+    }
+}

@@ -1,0 +1,111 @@
+-- Words that all wanted sets hold and that have the wanted fields are those that fit.
+use Rattle.std.proofs.Common.{◌≡◌, ℕ, ◌<◌, ◌^◌, ◌==◌, ◌&&◌, not, Bool, true, false, List, [], ◌∷◌, ◌++◌, map, length, Option, Some, None, refl, sym, ◌∙◌, arith, subst}
+use Rattle.std.specs.List.{slice_get}
+use Rattle.std.proofs.lemmas.Bool.{true≢false, eq-eqb, ne_eqb, and_parts, and_from, not_from_false}
+use Rattle.bit_bdd.specs.Diagrams.{Diagrams, has_word}
+use Rattle.net_model.specs.declared.hardware.Netlist.{Netlist}
+use Rattle.net_model.specs.declared.hardware.Storage.{Storage}
+use Rattle.net_model.specs.declared.hardware.Storage.TheVariants.{Register, Memory}
+use Rattle.net_model.specs.CheckedRules.{KeepsRules, memory_count}
+use Rattle.net_model.specs.Nets.{IsRegister, memory_id}
+use Rattle.net_model.specs.Transfers.{IsClean}
+use Rattle.net_model.proofs.KeptRules.{few_storages}
+use Rattle.net_model.proofs.Storages.{memory_no_register, other_register, register_within}
+use Rattle.sym_expr.specs.declared.pool.Node.{Node}
+use Rattle.transfer_set.specs.Ready.{IsReady}
+use Rattle.transfer_set.specs.Tables.{Table}
+use Rattle.transfer_set.specs.declared.row.Row.{Row}
+use Rattle.transfer_set.proofs.ReadyLaws.{row_clean}
+use Rattle.form_model.specs.declared.forms.Step.{Step}
+use Rattle.form_model.specs.Live.{Regs, group_writes}
+use Rattle.word_fit.specs.Fits.{FitsGroup, FitsJump, group_stores}
+use Rattle.word_fit.specs.Steps.{step_operation}
+use Rattle.nop_synth.specs.Wanted.{all_hold, AllBelow, has_fields, row_set, step_set, step_field, memory_sets, is_wanted, register_sets, group_sets}
+use Rattle.nop_synth.proofs.HeldSteps.{below-append, false_not, hold_both, hold_parts, step_does, step_held, steps_below, steps_do, steps_held}
+use Rattle.nop_synth.proofs.HeldStorages.{memory_below, memory_held, memory_kept, registers_below, registers_held, registers_kept}
+
+memory_there : (storages : List Storage) → memory_count storages ≡ 1 → memory_id storages < length storages
+memory_there [] e = absurd (omega arith)
+memory_there (Register name width input when ∷ storages) e = omega (arith, memory_there storages e)
+memory_there (Memory name width size addr_width value addr when ∷ storages) e = omega arith
+
+module _ (netlist : Netlist) (order : List ℕ) (keeps : KeepsRules netlist order) (book : Diagrams) (pool : List Node) (table : Table) (ready : IsReady netlist book pool table) (empty : (word : ℕ) → has_word book 0 word ≡ false) where
+  -- ---- registers that are to be kept
+
+  wanted_from : (live written : Regs) (r : ℕ) → live r ≡ true → (r ≡ table.memory → ⊥) → written r ≡ false → is_wanted table live written r ≡ true
+  wanted_from live written r l ne w = and_from _ _ l (and_from _ _ (not_from_false _ (ne_eqb r table.memory ne)) (not_from_false _ w))
+
+  not_true : (b : Bool) → not b ≡ true → b ≡ false
+  not_true true e = absurd (true≢false (sym e))
+  not_true false e = refl
+
+  wanted_register : (live written : Regs) (r : ℕ) → is_wanted table live written r ≡ true → r < length netlist.storages → IsRegister (slice_get netlist.storages r)
+  wanted_register live written r e lt =
+      let p = and_parts (live r) (not (r == table.memory) && not (written r)) e in
+      let q = and_parts (not (r == table.memory)) (not (written r)) p.1 in
+      other_register netlist.storages r keeps.roles.memory lt
+      (λ same. false_not (r == table.memory) (not_true _ q.0) (eq-eqb r table.memory (same ∙ sym ready.patterns.memory)))
+
+  wanted_parts : (live written : Regs) (r : ℕ) → is_wanted table live written r ≡ true → (live r ≡ true) × (written r ≡ false)
+  wanted_parts live written r e =
+      let p = and_parts (live r) (not (r == table.memory) && not (written r)) e in
+      (p.0, not_true _ (and_parts (not (r == table.memory)) (not (written r)) p.1).1)
+
+  -- ---- groups
+
+  pub sets_below : (g : List Step) (live : Regs) (stored : Bool) (written : Regs) → AllBelow book (group_sets table g live stored written)
+  sets_below g live stored written =
+      below-append book (map (step_set table) g ++ memory_sets table stored) (register_sets table live written 16)
+      (below-append book (map (step_set table) g) (memory_sets table stored) (steps_below netlist book pool table ready empty g) (memory_below netlist book pool table ready stored)) (registers_below netlist book pool table ready live written 16)
+
+  memory_within : table.memory < length netlist.storages
+  memory_within = subst (λ k. k < length netlist.storages) (sym ready.patterns.memory) (memory_there netlist.storages keeps.roles.memory)
+
+  -- a word that is held fits
+  pub held_fits : (g : List Step) (live : Regs) (word : ℕ) → word < 2 ^ book.bits → has_word book table.step word ≡ true → all_hold book (group_sets table g live (group_stores (step_operation pool table) g) (group_writes (step_operation pool table) g)) word ≡ true → has_fields (map (step_field table) g) word ≡ true → FitsGroup netlist (step_operation pool table) word g live
+  held_fits g live word lt s h f =
+      let on = (ready.patterns.step.words word lt).0 s in
+      let p = hold_parts book (map (step_set table) g ++ memory_sets table (group_stores (step_operation pool table) g)) (register_sets table live (group_writes (step_operation pool table) g) 16) word h in
+      let q = hold_parts book (map (step_set table) g) (memory_sets table (group_stores (step_operation pool table) g)) word p.0 in
+      record {
+        clean = on.clean;
+        does = steps_do netlist book pool table ready empty g word lt q.0 f;
+        steps = on.steps;
+        memory = memory_kept netlist book pool table ready (group_stores (step_operation pool table) g) word lt memory_within q.1;
+        registers = λ r is l w.
+            registers_kept netlist book pool table ready live (group_writes (step_operation pool table) g) 16 word r lt p.1
+            (omega (arith, few_storages netlist order keeps, register_within netlist.storages r is)) (register_within netlist.storages r is)
+            (wanted_from live (group_writes (step_operation pool table) g) r l
+            (λ same. memory_no_register netlist.storages (subst (λ k. IsRegister (slice_get netlist.storages k)) (same ∙ ready.patterns.memory) is)) w);
+      }
+
+  -- a word that fits is held
+  pub fits_held : (g : List Step) (live : Regs) (word : ℕ) → word < 2 ^ book.bits → FitsGroup netlist (step_operation pool table) word g live → (has_word book table.step word ≡ true) × (all_hold book (group_sets table g live (group_stores (step_operation pool table) g) (group_writes (step_operation pool table) g)) word ≡ true) × (has_fields (map (step_field table) g) word ≡ true)
+  fits_held g live word lt f =
+      let p = steps_held netlist book pool table ready empty g word lt f.clean f.does in (
+        (ready.patterns.step.words word lt).1 (record { clean = f.clean; steps = f.steps }),
+        hold_both book (map (step_set table) g ++ memory_sets table (group_stores (step_operation pool table) g)) (register_sets table live (group_writes (step_operation pool table) g) 16) word
+            (hold_both book (map (step_set table) g) (memory_sets table (group_stores (step_operation pool table) g)) word p.0
+            (memory_held netlist book pool table ready (group_stores (step_operation pool table) g) word lt f.clean f.memory))
+            (registers_held netlist book pool table ready live (group_writes (step_operation pool table) g) 16 word lt f.clean
+            (λ r e n. (let v = wanted_parts live (group_writes (step_operation pool table) g) r e in f.registers r (wanted_register live (group_writes (step_operation pool table) g) r e n) v.0 v.1))),
+        p.1,
+      )
+
+  -- ---- jumps
+
+  pub held_jumps : (step : Step) (word : ℕ) → word < 2 ^ book.bits → has_word book (step_set table step) word ≡ true → all_hold book (memory_sets table false) word ≡ true → has_fields (step_field table step ∷ []) word ≡ true → FitsJump netlist word (step_operation pool table step)
+  held_jumps step word lt s h f = record {
+    clean = clean_row step.pattern word (slice_get table.rows step.pattern) refl lt s;
+    does = step_does netlist book pool table ready empty step word lt s (and_parts _ _ f).0;
+    memory = memory_kept netlist book pool table ready false word lt memory_within h refl;
+  }
+    where
+      clean_row : (i word : ℕ) (o : Option Row) → slice_get table.rows i ≡ o → word < 2 ^ book.bits → has_word book (row_set o) word ≡ true → IsClean netlist word
+      clean_row i word None e lt h = false_not (has_word book 0 word) (empty word) h
+      clean_row i word (Some row) e lt h = row_clean netlist book pool table ready i row e word lt h
+
+  pub jumps_held : (step : Step) (word : ℕ) → word < 2 ^ book.bits → FitsJump netlist word (step_operation pool table step) → (has_word book (step_set table step) word ≡ true) × (all_hold book (memory_sets table false) word ≡ true) × (has_fields (step_field table step ∷ []) word ≡ true)
+  jumps_held step word lt f =
+      let p = step_held netlist book pool table ready empty step word lt f.clean f.does in
+      (p.0, memory_held netlist book pool table ready false word lt f.clean (λ e. f.memory), and_from _ _ p.1 refl)

@@ -1,0 +1,105 @@
+-- Words that the sets of kept storages hold keep these storages.
+use Rattle.std.proofs.Common.{◌≡◌, ℕ, zero, suc, ◌<◌, ◌^◌, inl, inr, Bool, true, false, List, [], ◌∷◌, length, if◌then◌else◌, Option, Some, None, refl, sym, arith, subst}
+use Rattle.std.specs.List.{slice_get}
+use Rattle.std.proofs.lemmas.Bool.{true≢false, and_from, cases_lt}
+use Rattle.std.proofs.lemmas.Option.{slice_get_within}
+use Rattle.bit_bdd.specs.Diagrams.{Diagrams}
+use Rattle.net_model.specs.declared.hardware.Netlist.{Netlist}
+use Rattle.net_model.specs.Terms.{keep}
+use Rattle.net_model.specs.Transfers.{IsClean, move_at, memory_move}
+use Rattle.sym_expr.specs.declared.pool.Node.{Node}
+use Rattle.transfer_set.specs.Ready.{IsReady}
+use Rattle.transfer_set.specs.Sets.{IsKeepSet}
+use Rattle.transfer_set.specs.Tables.{Table}
+use Rattle.transfer_set.proofs.ReadyLaws.{keep_set_at}
+use Rattle.form_model.specs.Live.{Regs}
+use Rattle.nop_synth.specs.Wanted.{all_hold, AllBelow, option_list, memory_sets, is_wanted, register_sets}
+use Rattle.nop_synth.proofs.HeldSteps.{below-append, hold_both, hold_parts, one_hold}
+
+module _ (netlist : Netlist) (book : Diagrams) (pool : List Node) (table : Table) (ready : IsReady netlist book pool table) where
+  -- ---- storages that are kept
+
+  keep_within : (id set : ℕ) → slice_get table.keeps id ≡ Some set → id < length netlist.storages
+  keep_within id set e = subst (λ n. id < n) ready.patterns.storages (slice_get_within table.keeps id set e)
+
+  keep_is : (id set : ℕ) → slice_get table.keeps id ≡ Some set → IsKeepSet netlist book id set
+  keep_is id set e = keep_set_at netlist book pool table ready id set e
+
+  keep_some : (id : ℕ) → id < length netlist.storages → slice_get table.keeps id ≡ None → ⊥
+  keep_some id lt e = past table.keeps id (subst (λ n. id < n) (sym ready.patterns.storages) lt) e
+    where
+      past : (xs : List ℕ) (i : ℕ) → i < length xs → slice_get xs i ≡ None → ⊥
+      past [] i p q = absurd (omega arith)
+      past (x ∷ xs) zero p q = cc
+      past (x ∷ xs) (suc i) p q = past xs i (omega arith) q
+
+  -- words that the set holds keep the storage
+  kept_by : (id word : ℕ) (o : Option ℕ) → slice_get table.keeps id ≡ o → word < 2 ^ book.bits → id < length netlist.storages → all_hold book (option_list o) word ≡ true → move_at netlist word id ≡ keep
+  kept_by id word None e lt n h = absurd (keep_some id n e)
+  kept_by id word (Some set) e lt n h = (((keep_is id set e).words word lt).0 (one_hold book set word h)).keeps
+
+  held_by : (id word : ℕ) (o : Option ℕ) → slice_get table.keeps id ≡ o → word < 2 ^ book.bits → IsClean netlist word → (id < length netlist.storages → move_at netlist word id ≡ keep) → all_hold book (option_list o) word ≡ true
+  held_by id word None e lt clean h = refl
+  held_by id word (Some set) e lt clean h =
+      and_from _ _ (((keep_is id set e).words word lt).1 (record { clean = clean; keeps = h (keep_within id set e) })) refl
+
+  below_by : (id : ℕ) (o : Option ℕ) → slice_get table.keeps id ≡ o → AllBelow book (option_list o)
+  below_by id None e = tt
+  below_by id (Some set) e = ((keep_is id set e).within, tt)
+
+  -- ---- the memory
+
+  pub memory_below : (stored : Bool) → AllBelow book (memory_sets table stored)
+  memory_below true = tt
+  memory_below false = below_by table.memory (slice_get table.keeps table.memory) refl
+
+  pub memory_kept : (stored : Bool) (word : ℕ) → word < 2 ^ book.bits → table.memory < length netlist.storages → all_hold book (memory_sets table stored) word ≡ true → stored ≡ false → memory_move netlist word ≡ keep
+  memory_kept true word lt n h e = absurd (true≢false e)
+  memory_kept false word lt n h e =
+      subst (λ k. move_at netlist word k ≡ keep) ready.patterns.memory (kept_by table.memory word (slice_get table.keeps table.memory) refl lt n h)
+
+  pub memory_held : (stored : Bool) (word : ℕ) → word < 2 ^ book.bits → IsClean netlist word → (stored ≡ false → memory_move netlist word ≡ keep) → all_hold book (memory_sets table stored) word ≡ true
+  memory_held true word lt clean h = refl
+  memory_held false word lt clean h =
+      held_by table.memory word (slice_get table.keeps table.memory) refl lt clean (λ n. subst (λ k. move_at netlist word k ≡ keep) (sym ready.patterns.memory) (h refl))
+
+  -- ---- registers
+
+  choice_below : (b : Bool) (r : ℕ) → AllBelow book (if b then option_list (slice_get table.keeps r) else [])
+  choice_below true r = below_by r (slice_get table.keeps r) refl
+  choice_below false r = tt
+
+  pub registers_below : (live written : Regs) (n : ℕ) → AllBelow book (register_sets table live written n)
+  unfolding register_sets
+  registers_below live written zero = tt
+  registers_below live written (suc r) =
+      below-append book (register_sets table live written r) (if is_wanted table live written r then option_list (slice_get table.keeps r) else [])
+      (registers_below live written r) (choice_below (is_wanted table live written r) r)
+
+  choice_kept : (b : Bool) (r word : ℕ) → word < 2 ^ book.bits → r < length netlist.storages → all_hold book (if b then option_list (slice_get table.keeps r) else []) word ≡ true → b ≡ true → move_at netlist word r ≡ keep
+  choice_kept true r word lt n h e = kept_by r word (slice_get table.keeps r) refl lt n h
+  choice_kept false r word lt n h e = absurd (true≢false (sym e))
+
+  pub registers_kept : (live written : Regs) (n word r : ℕ) → word < 2 ^ book.bits → all_hold book (register_sets table live written n) word ≡ true → r < n → r < length netlist.storages → is_wanted table live written r ≡ true → move_at netlist word r ≡ keep
+  unfolding register_sets
+  registers_kept live written zero word r lt h p q e = absurd (omega arith)
+  registers_kept live written (suc n) word r lt h p q e =
+      let k = hold_parts book (register_sets table live written n) (if is_wanted table live written n then option_list (slice_get table.keeps n) else []) word h in
+      elim (cases_lt r n) as (λ _. move_at netlist word r ≡ keep) [
+        | inl u ↦ registers_kept live written n word r lt k.0 u q e
+        | inr u ↦
+            (let same : n ≡ r = omega arith in
+            choice_kept (is_wanted table live written r) r word lt q
+            (subst (λ i. all_hold book (if is_wanted table live written i then option_list (slice_get table.keeps i) else []) word ≡ true) same k.1) e)
+      ]
+
+  choice_held : (b : Bool) (r word : ℕ) → word < 2 ^ book.bits → IsClean netlist word → (b ≡ true → r < length netlist.storages → move_at netlist word r ≡ keep) → all_hold book (if b then option_list (slice_get table.keeps r) else []) word ≡ true
+  choice_held true r word lt clean h = held_by r word (slice_get table.keeps r) refl lt clean (h refl)
+  choice_held false r word lt clean h = refl
+
+  pub registers_held : (live written : Regs) (n word : ℕ) → word < 2 ^ book.bits → IsClean netlist word → ((r : ℕ) → is_wanted table live written r ≡ true → r < length netlist.storages → move_at netlist word r ≡ keep) → all_hold book (register_sets table live written n) word ≡ true
+  unfolding register_sets
+  registers_held live written zero word lt clean h = refl
+  registers_held live written (suc n) word lt clean h =
+      hold_both book (register_sets table live written n) (if is_wanted table live written n then option_list (slice_get table.keeps n) else []) word
+      (registers_held live written n word lt clean h) (choice_held (is_wanted table live written n) n word lt clean (h n))

@@ -1,0 +1,84 @@
+-- What is wanted of a word: sets that hold it, and values of fields.
+use Rattle.std.specs.Prelude.{ℕ, zero, suc, ◌<◌, ◌==◌, ◌&&◌, not, if◌then◌else◌, Bool, true, List, [], ◌∷◌, ◌++◌, map, length, min, slice_get, bit_and, Option, Some, None}
+use Rattle.std.specs.Int.{bit_at}
+use Rattle.bit_bdd.specs.Diagrams.{Diagrams, has_word}
+use Rattle.transfer_set.specs.declared.row.Row.{Row}
+use Rattle.transfer_set.specs.Tables.{Table}
+use Rattle.form_model.specs.declared.forms.Step.{Step}
+use Rattle.form_model.specs.Live.{Regs}
+use Rattle.nop_synth.specs.declared.meet.FieldValue.{FieldValue}
+
+-- ---- sets and fields
+
+-- each set holds the word
+abbrev pub all_hold : Diagrams → List ℕ → ℕ → Bool
+all_hold book [] word = true
+all_hold book (set ∷ sets) word = has_word book set word && all_hold book sets word
+
+-- each is a set of the book
+abbrev pub AllBelow : Diagrams → List ℕ → Type 0
+AllBelow book [] = Unit {0}
+AllBelow book (set ∷ sets) = (set < length book.nodes) × AllBelow book sets
+
+-- the word has the value in the bits of the mask
+abbrev pub has_field : ℕ → ℕ → ℕ → Bool
+has_field mask value word = bit_and word mask == value
+
+-- it has each of these values
+abbrev pub has_fields : List FieldValue → ℕ → Bool
+has_fields [] word = true
+has_fields (field ∷ fields) word = has_field field.mask field.value word && has_fields fields word
+
+-- ---- one bit after the other
+
+-- the masked word has the value's bit
+abbrev pub bit_agrees : ℕ → ℕ → ℕ → ℕ → Bool
+bit_agrees mask value word bit = min (bit_at word bit) (bit_at mask bit) == bit_at value bit
+
+-- it has those below a bit
+unfoldable pub bits_agree : ℕ → ℕ → ℕ → ℕ → Bool
+bits_agree mask value word zero = true
+bits_agree mask value word (suc bit) = bits_agree mask value word bit && bit_agrees mask value word bit
+
+-- ---- what steps ask for
+
+-- the words of a pattern; the empty set past the last one
+abbrev pub row_set : Option Row → ℕ
+row_set None = 0
+row_set (Some row) = row.set
+
+abbrev pub row_fields : Option Row → ℕ
+row_fields None = 0
+row_fields (Some row) = row.fields
+
+abbrev pub step_set : Table → Step → ℕ
+step_set table step = row_set (slice_get table.rows step.pattern)
+
+abbrev pub step_field : Table → Step → FieldValue
+step_field table step = record { mask = row_fields (slice_get table.rows step.pattern); value = step.setting }
+
+-- ---- what is asked of storages that no step writes
+
+-- the set of words that keep a storage; none past the last one
+abbrev pub option_list : Option ℕ → List ℕ
+option_list None = []
+option_list (Some set) = set ∷ []
+
+-- words that keep the memory, unless a step writes it
+abbrev pub memory_sets : Table → Bool → List ℕ
+memory_sets table stored = if stored then [] else option_list (slice_get table.keeps table.memory)
+
+-- a live register that no step writes is to be kept
+abbrev pub is_wanted : Table → Regs → Regs → ℕ → Bool
+is_wanted table live written r = live r && (not (r == table.memory) && not (written r))
+
+-- words that keep those among the first registers
+unfoldable pub register_sets : Table → Regs → Regs → ℕ → List ℕ
+register_sets table live written zero = []
+register_sets table live written (suc r) =
+    register_sets table live written r ++ (if is_wanted table live written r then option_list (slice_get table.keeps r) else [])
+
+-- all sets that are to hold a word of the group
+abbrev pub group_sets : Table → List Step → Regs → Bool → Regs → List ℕ
+group_sets table group live stored written =
+    (map (step_set table) group ++ memory_sets table stored) ++ register_sets table live written 16

@@ -1,0 +1,156 @@
+//! The sets, and the values of field bits, that are wanted of a word for a group of steps.
+
+ghost use Rattle.std.specs.Prelude.{◌≡◌, false, ◌<◌, [], ◌++◌, if◌then◌else◌, map, slice_get, IfOk, OnOk};
+ghost use Rattle.form_model.specs.Live.{group_writes, regs_of};
+ghost use Rattle.word_fit.specs.Fits.{group_stores};
+ghost use Rattle.word_fit.specs.Steps.{step_operation};
+ghost use Rattle.nop_synth.specs.Wanted.{group_sets, is_wanted, memory_sets, option_list, register_sets, row_fields, row_set, step_field, step_set};
+
+use crate::meet::FieldValue;
+use bit_bdd::SetId;
+use form_model::{RegSet, Step};
+use rec_bits::{Items, NoMemory};
+use std::alloc::Global;
+use sym_expr::Pool;
+use transfer_set::Patterns;
+use word_fit::{stores, writes};
+
+// The words of the pattern of this number.
+pub(crate) fn set_of(patterns: &Patterns, pattern: u32) -> SetId
+    ensures { result ≡ row_set (slice_get patterns.now.rows pattern) }
+{
+    match patterns.set_of(pattern) {
+        Some(set) => set,
+        None => 0,
+    }
+}
+
+// The field bits of the pattern of this number.
+fn fields_of(patterns: &Patterns, pattern: u32) -> u64
+    ensures { result ≡ row_fields (slice_get patterns.now.rows pattern) }
+{
+    match patterns.fields_of(pattern) {
+        Some(fields) => fields,
+        None => 0,
+    }
+}
+
+// For each step the words of its pattern.
+fn step_sets(alloc: Global, patterns: &Patterns, group: &[Step]) -> Result<Items<SetId>, NoMemory>
+    ensures { IfOk result (λ sets. sets ≡ map (step_set patterns.now) group.now) }
+{
+    let mut sets = Items::new(alloc);
+    for step in group {
+        sets.push(set_of(patterns, step.pattern))?;
+    }
+    Ok(sets)
+}
+
+// The field bits of a step with their values.
+pub(crate) fn field_of(patterns: &Patterns, step: Step) -> FieldValue
+    ensures { result ≡ step_field patterns.now step }
+{
+    FieldValue {
+        mask: fields_of(patterns, step.pattern),
+        value: step.setting,
+    }
+}
+
+// For each step its field bits with their values.
+pub(crate) fn step_fields(
+    alloc: Global,
+    patterns: &Patterns,
+    group: &[Step],
+) -> Result<Items<FieldValue>, NoMemory>
+    ensures { IfOk result (λ fields. fields ≡ map (step_field patterns.now) group.now) }
+{
+    let mut fields = Items::new(alloc);
+    for step in group {
+        fields.push(field_of(patterns, *step))?;
+    }
+    Ok(fields)
+}
+
+// Adds the words that keep the memory, unless it is written.
+fn add_memory(patterns: &Patterns, sets: &mut Items<SetId>, stored: bool) -> Result<(), NoMemory>
+    ensures { OnOk result (sets.new ≡ sets.old ++ memory_sets patterns.now stored) }
+{
+    if stored {
+        return Ok(());
+    }
+    if let Some(set) = patterns.keep_set(patterns.memory()) {
+        sets.push(set)?;
+    }
+    Ok(())
+}
+
+// Whether a register is to be kept.
+fn is_kept(patterns: &Patterns, _pool: &Pool, group: &[Step], live: RegSet, register: u32) -> bool
+    requires { register < 16 }
+    ensures { result ≡ is_wanted patterns.now (regs_of live) (group_writes (step_operation _pool.now patterns.now) group.now) register }
+{
+    (live >> register) & 1 == 1
+        && register != patterns.memory()
+        && !writes(patterns, group, register)
+}
+
+// Adds the words that keep a register, where that is asked for.
+fn add_register(
+    patterns: &Patterns,
+    sets: &mut Items<SetId>,
+    register: u32,
+    kept: bool,
+) -> Result<(), NoMemory>
+    ensures { OnOk result (sets.new ≡ sets.old ++ (if kept then option_list (slice_get patterns.now.keeps register) else [])) }
+{
+    if !kept {
+        return Ok(());
+    }
+    if let Some(set) = patterns.keep_set(register) {
+        sets.push(set)?;
+    }
+    Ok(())
+}
+
+// Adds the words that keep the live registers that no step writes.
+fn add_registers(
+    patterns: &Patterns,
+    pool: &Pool,
+    sets: &mut Items<SetId>,
+    group: &[Step],
+    live: RegSet,
+) -> Result<(), NoMemory>
+    ensures { OnOk result (sets.new ≡ sets.old ++ register_sets patterns.now (regs_of live) (group_writes (step_operation pool.now patterns.now) group.now) 16) }
+{
+    for register in 0..16u32 {
+        let kept = is_kept(patterns, pool, group, live, register);
+        add_register(patterns, sets, register, kept)?;
+    }
+    Ok(())
+}
+
+// All sets that are to hold a word of the group.
+pub(crate) fn wanted_sets(
+    alloc: Global,
+    patterns: &Patterns,
+    pool: &Pool,
+    group: &[Step],
+    live: RegSet,
+) -> Result<Items<SetId>, NoMemory>
+    ensures { IfOk result (λ sets. sets ≡ group_sets patterns.now group.now (regs_of live)
+        (group_stores (step_operation pool.now patterns.now) group.now) (group_writes (step_operation pool.now patterns.now) group.now)) }
+{
+    let mut sets = step_sets(alloc, patterns, group)?;
+    add_memory(patterns, &mut sets, stores(patterns, group))?;
+    add_registers(patterns, pool, &mut sets, group, live)?;
+    Ok(sets)
+}
+
+// The words that keep the memory.
+pub(crate) fn kept_memory(alloc: Global, patterns: &Patterns) -> Result<Items<SetId>, NoMemory>
+    ensures { IfOk result (λ sets. sets ≡ memory_sets patterns.now false) }
+{
+    let mut sets = Items::new(alloc);
+    add_memory(patterns, &mut sets, false)?;
+    Ok(sets)
+}

@@ -1,0 +1,86 @@
+//! The least word for a group of steps, and for a jump.
+
+ghost use Rattle.std.specs.Prelude.{◌≡◌, ℕ, IfOk, MatchOption};
+ghost use Rattle.bit_bdd.specs.Diagrams.{Extends};
+ghost use Rattle.form_model.specs.Live.{regs_of};
+ghost use Rattle.transfer_set.specs.Ready.{IsReady};
+ghost use Rattle.word_fit.specs.Fits.{FitsGroup, FitsJump, IsLeastFit};
+ghost use Rattle.word_fit.specs.Steps.{step_operation};
+
+use crate::meet::meet;
+use crate::sets::{field_of, kept_memory, set_of, step_fields, wanted_sets};
+use bit_bdd::Book;
+use form_model::{RegSet, Step};
+use net_model::Checked;
+use rec_bits::NoMemory;
+use std::alloc::Global;
+use sym_expr::Pool;
+use transfer_set::Patterns;
+
+/// The least word that fits a group of steps with a set of live registers, and `None` exactly where no word fits. A word fits where it does
+/// each step's transfer with its setting, steps, keeps the data memory unless a step writes it, keeps each live register that no step writes,
+/// and doesn't clash. `live` has bit `r` for the register of number `r`. No word does a step whose number is past the last pattern's.
+///
+/// The patterns' sets are those of the book, and their expressions those of the pool; the book grows, and what it held means what it meant.
+/// Want of memory is the only refusal.
+pub fn word_for(
+    alloc: Global,
+    checked: &Checked,
+    book: &mut Book,
+    pool: &Pool,
+    patterns: &Patterns,
+    group: &[Step],
+    live: RegSet,
+) -> Result<Option<u64>, NoMemory>
+    requires ready { IsReady checked.now.netlist book.old pool.now patterns.now }
+    ensures grows { Extends book.old book.new }
+    ensures ready { IsReady checked.now.netlist book.new pool.now patterns.now }
+    ensures word { IfOk result (λ found. MatchOption found
+        ((word : ℕ) → FitsGroup checked.now.netlist (step_operation pool.now patterns.now) word group.now (regs_of live) → ⊥)
+        (IsLeastFit (λ word. FitsGroup checked.now.netlist (step_operation pool.now patterns.now) word group.now (regs_of live)))) }
+{
+    let width = checked.netlist().word_width();
+    // the size tells that the first id is the empty set
+    let _ = book.size();
+    let sets = wanted_sets(alloc, patterns, pool, group, live)?;
+    let fields = step_fields(alloc, patterns, group)?;
+    let fitting = meet(
+        alloc,
+        book,
+        width,
+        patterns.step_set(),
+        sets.as_slice(),
+        fields.as_slice(),
+    )?;
+    Ok(book.least(fitting))
+}
+
+/// The least word without clash that does the transfer of a jump or branch with its setting and keeps the data memory, and `None` exactly where
+/// there is none. Registers needn't keep what they hold.
+///
+/// The patterns' sets are those of the book, and their expressions those of the pool, which isn't read; the book grows, and what it held means
+/// what it meant. Want of memory is the only refusal.
+pub fn jump_word(
+    alloc: Global,
+    checked: &Checked,
+    book: &mut Book,
+    _pool: &Pool,
+    patterns: &Patterns,
+    step: Step,
+) -> Result<Option<u64>, NoMemory>
+    requires ready { IsReady checked.now.netlist book.old _pool.now patterns.now }
+    ensures grows { Extends book.old book.new }
+    ensures ready { IsReady checked.now.netlist book.new _pool.now patterns.now }
+    ensures word { IfOk result (λ found. MatchOption found
+        ((word : ℕ) → FitsJump checked.now.netlist word (step_operation _pool.now patterns.now step) → ⊥)
+        (IsLeastFit (λ word. FitsJump checked.now.netlist word (step_operation _pool.now patterns.now step)))) }
+{
+    let width = checked.netlist().word_width();
+    // the size tells that the first id is the empty set
+    let _ = book.size();
+    let sets = kept_memory(alloc, patterns)?;
+    let fields = [field_of(patterns, step)];
+    let set = set_of(patterns, step.pattern);
+    let fitting = meet(alloc, book, width, set, sets.as_slice(), &fields)?;
+    Ok(book.least(fitting))
+}

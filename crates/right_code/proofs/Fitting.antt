@@ -1,0 +1,213 @@
+-- Each word of the code fits the netlist.
+use Rattle.std.proofs.Common.{ℕ, zero, suc, ◌≡◌, ◌≤◌, ◌<◌, ◌+◌, ◌-◌, ◌&&◌, inl, inr, Bool, true, false, nat_lt, not, List, [], ◌∷◌, ◌++◌, length, Option, Some, None, refl, sym, ◌∙◌, ap, subst, arith, slice_get, slice_index}
+use Rattle.std.proofs.lemmas.Bool.{and_parts, cases_lt, cases_eq}
+use Rattle.std.proofs.lemmas.List.{get_or_past}
+use Rattle.net_model.specs.declared.hardware.Netlist.{Netlist}
+use Rattle.net_model.specs.Widths.{WordFits}
+use Rattle.net_model.specs.Patterns.{Pattern}
+use Rattle.net_model.specs.CheckedRules.{KeepsRules}
+use Rattle.net_model.specs.Nets.{memory_size, memory_width}
+use Rattle.src_model.specs.Written.{Listing, acts_of}
+use Rattle.src_model.specs.Meaning.{cell_count}
+use Rattle.src_model.specs.Rules.{first_fault}
+use Rattle.src_model.specs.Trace.{strace}
+use Rattle.code_model.specs.Places.{places_from}
+use Rattle.code_model.specs.Layout.{variables_of}
+use Rattle.code_model.specs.Right.{TracesRight}
+use Rattle.emit_seq.specs.Formed.{AreFormed}
+use Rattle.src_trees.specs.Lowered.{MemoryMap}
+use Rattle.src_trees.specs.Flows.{places_in, program_flow, program_works}
+use Rattle.src_trees.specs.Seen.{memory_of, InReach}
+use Rattle.branch_fix.specs.Parts.{address}
+use Rattle.branch_fix.specs.Flowing.{IsFlow}
+use Rattle.branch_fix.proofs.Shapes.{program_is_flow}
+use Rattle.branch_fix.proofs.Words.{items_length}
+use Rattle.right_code.specs.Laid.{AreTurns}
+use Rattle.right_code.proofs.Tasks.{program_tests}
+use Rattle.right_code.proofs.Layouts.{within_code}
+use Rattle.right_code.proofs.Ordered.{ordered_right}
+use Rattle.code_model.specs.declared.image.Image.{Image}
+use Rattle.code_model.specs.Places.{words_of}
+use Rattle.form_model.specs.declared.flow.Flow.{Flow}
+use Rattle.form_model.specs.declared.flow.Flow.TheVariants.{Assign, Test as Tested, Jump as Jumped, End as Ended}
+use Rattle.form_model.specs.declared.forms.Step.{Step}
+use Rattle.form_model.specs.Covers.{Stock}
+use Rattle.form_model.specs.Live.{Regs, singles}
+use Rattle.form_model.specs.Rules.{Rule}
+use Rattle.src_trees.specs.Lowered.{Work}
+use Rattle.src_trees.specs.Blocks.{is_assign, is_entered, continues, IsBlock}
+use Rattle.branch_fix.specs.Parts.{room, total, starts, Fits, AllFit}
+use Rattle.branch_fix.specs.Items.{groups, behind, jump_form, part_items, items_from}
+use Rattle.branch_fix.specs.declared.laid.Item.{Item}
+use Rattle.branch_fix.specs.declared.laid.Item.TheVariants.{Group, Jump as Word}
+use Rattle.branch_fix.specs.declared.part.Part.{Part}
+use Rattle.branch_fix.specs.declared.part.Part.TheVariants.{Block, Inner, Test, Jump, End}
+use Rattle.branch_fix.proofs.Addresses.{part_at, fit_length}
+use Rattle.branch_fix.proofs.Laying.{settled_fit}
+use Rattle.right_code.specs.Laid.{IsLaidCode}
+use Rattle.right_code.specs.Words.{AreStepWords, StandItems}
+use Rattle.right_code.proofs.Coded.{there}
+use Rattle.right_code.proofs.Inside.{get_there}
+use Rattle.right_code.proofs.Tasks.{IsTestWork, AreTests, test_work_of}
+
+-- ---- a block begins at a part of a block
+
+none_at : {A : Type 0} (xs : List A) (k : ℕ) → length xs ≤ k → slice_get xs k ≡ None
+none_at [] k l = refl
+none_at (x ∷ xs) zero l = absurd (omega (arith, l))
+none_at (x ∷ xs) (suc k) l = none_at xs k (omega (arith, l))
+
+stops : (flow : List Flow) (at : ℕ) → length flow ≤ at → continues flow at ≡ false
+stops flow at l = rw (none_at flow at l) (by (nat_lt 0 at) (is_assign (slice_get flow (at - 1))))
+  where
+    by : (a b : Bool) → (a && (b && false)) ≡ false
+    by true true = refl
+    by true false = refl
+    by false b = refl
+
+assign_there : (flow : List Flow) (at : ℕ) → continues flow at ≡ true → is_assign (slice_get flow at) ≡ true
+assign_there flow at e =
+    let p = and_parts (nat_lt 0 at) (is_assign (slice_get flow (at - 1)) && (is_assign (slice_get flow at) && not (is_entered flow at))) e in
+    let q = and_parts (is_assign (slice_get flow (at - 1))) (is_assign (slice_get flow at) && not (is_entered flow at)) p.1 in
+    (and_parts (is_assign (slice_get flow at)) (not (is_entered flow at)) q.1).0
+
+below_suc : (P : ℕ → Type 0) (n : ℕ) → ((k : ℕ) → k < n → P k) → P n → (k : ℕ) → k < n + 1 → P k
+below_suc P n f p k l = elim (cases_eq k n) as (λ _. P k) [
+  | inl z ↦ subst P (sym z) p
+  | inr z ↦ f k (omega (arith, z, l))
+]
+
+block_from : (flow : List Flow) (at fuel n : ℕ) → continues flow at ≡ false → 1 ≤ n → length flow ≤ at + n + fuel → ((k : ℕ) → k < n → is_assign (slice_get flow (at + k)) ≡ true) → ((k : ℕ) → k < n → 0 < k → continues flow (at + k) ≡ true)
+    → (m : ℕ) × IsBlock flow at m
+block_from flow at zero n first some l assigns inner = (n, record { some = some; assigns = assigns; first = first; inner = inner; last = stops flow (at + n) (omega (arith, l)) })
+block_from flow at (suc fuel) n first some l assigns inner =
+    by (continues flow (at + n)) refl
+    (λ e. block_from flow at fuel (n + 1) first (omega arith) (omega (arith, l)) (below_suc (λ k. is_assign (slice_get flow (at + k)) ≡ true) n assigns (assign_there flow (at + n) e))
+    (below_suc (λ k. 0 < k → continues flow (at + k) ≡ true) n inner (λ z. e)))
+  where
+    by : (b : Bool) → continues flow (at + n) ≡ b → (continues flow (at + n) ≡ true → (m : ℕ) × IsBlock flow at m) → (m : ℕ) × IsBlock flow at m
+    by true e more = more e
+    by false e more = (n, record { some = some; assigns = assigns; first = first; inner = inner; last = e })
+
+-- ---- words of items
+
+module _ (netlist : Netlist) (patterns : List Pattern) (words : ℕ → List ℕ) where
+  abbrev AreFitting : ℕ → ℕ → Type 0
+  AreFitting block size = (k : ℕ) → k < size → WordFits netlist (slice_index (words block) k)
+
+  least_fit : (block : ℕ) (steps : List Step) (live : Regs) (size : ℕ) → AreStepWords netlist patterns steps live (words block) → size ≡ length (words block) → AreFitting block size
+  least_fit block steps live size p n = λ k l.
+      (let m : length (words block) ≡ length (singles steps) = p.long in
+      let g = get_there (singles steps) k (omega (arith, l, n, m)) in
+      (p.least k g.0 g.1).is.clean.fits)
+
+  abbrev ItemsFit : List Item → Type 0
+  ItemsFit [] = Unit {0}
+  ItemsFit (Group block at ∷ items) = WordFits netlist (slice_index (words block) at) × ItemsFit items
+  ItemsFit (Word step ∷ items) = ItemsFit items
+
+  fit_on : (xs ys : List Item) → ItemsFit xs → ItemsFit ys → ItemsFit (xs ++ ys)
+  fit_on [] ys g h = h
+  fit_on (Group block at ∷ xs) ys g h = (g.0, fit_on xs ys g.1 h)
+  fit_on (Word step ∷ xs) ys g h = fit_on xs ys g h
+
+  groups_fit : (block n i : ℕ) → AreFitting block (i + n) → ItemsFit (groups block i n)
+  groups_fit block zero i f = tt
+  groups_fit block (suc n) i f = (f i (omega arith), groups_fit block n (i + 1) (λ k l. f k (omega (arith, l))))
+
+  behind_fit : (jump : Option Rule) (next long : Bool) (to other : ℕ) → ItemsFit (behind jump next long to other)
+  behind_fit jump next true to other = tt
+  behind_fit jump true false to other = tt
+  behind_fit jump false false to other = tt
+
+  abbrev PartFits : Part → Type 0
+  PartFits (Block block size) = AreFitting block size
+  PartFits Inner = Unit {0}
+  PartFits (Test f) = AreFitting f.block f.words
+  PartFits (Jump to) = Unit {0}
+  PartFits End = Unit {0}
+
+  part_fits : (rules : List Rule) (jump : Option Rule) (addresses : List ℕ) (at : ℕ) (p : Part) → PartFits p → ItemsFit (part_items rules jump addresses at p)
+  part_fits rules jump addresses at (Block block size) h = groups_fit block size 0 (λ k l. h k (omega (arith, l)))
+  part_fits rules jump addresses at Inner h = tt
+  part_fits rules jump addresses at (Test f) h =
+      fit_on (groups f.block 0 f.words) (_ ∷ behind jump f.next f.long (slice_index addresses f.to) (slice_index addresses f.other)) (groups_fit f.block f.words 0 (λ k l. h k (omega (arith, l))))
+      (behind_fit jump f.next f.long (slice_index addresses f.to) (slice_index addresses f.other))
+  part_fits rules jump addresses at (Jump to) h = tt
+  part_fits rules jump addresses at End h = tt
+
+  items_fit : (rules : List Rule) (jump : Option Rule) (addresses : List ℕ) (at : ℕ) (parts : List Part) → ((k : ℕ) (p : Part) → slice_get parts k ≡ Some p → PartFits p) → ItemsFit (items_from rules jump addresses at parts)
+  items_fit rules jump addresses at [] h = tt
+  items_fit rules jump addresses at (p ∷ parts) h =
+      fit_on (part_items rules jump addresses at p) (items_from rules jump addresses (at + room p) parts) (part_fits rules jump addresses at p (h 0 p refl))
+      (items_fit rules jump addresses (at + room p) parts (λ k q e. h (suc k) q e))
+
+  stand_fit : (code : List ℕ) (at : ℕ) (items : List Item) (a : ℕ) → ItemsFit items → StandItems netlist patterns words code at items → a < length items → WordFits netlist (slice_index code (at + a))
+  stand_fit code at [] a f s l = absurd (omega (arith, l))
+  stand_fit code at (Group block i ∷ items) zero f s l = let z : at ≡ at + 0 = omega arith in subst (λ k. WordFits netlist (slice_index code k)) z (subst (WordFits netlist) (sym s.0) f.0)
+  stand_fit code at (Word step ∷ items) zero f s l = let z : at ≡ at + 0 = omega arith in subst (λ k. WordFits netlist (slice_index code k)) z s.0.is.clean.fits
+  stand_fit code at (Group block i ∷ items) (suc a) f s l =
+      let z : at + 1 + a ≡ at + suc a = omega arith in subst (λ k. WordFits netlist (slice_index code k)) z (stand_fit code (at + 1) items a f.1 s.1 (omega (arith, l)))
+  stand_fit code at (Word step ∷ items) (suc a) f s l =
+      let z : at + 1 + a ≡ at + suc a = omega arith in subst (λ k. WordFits netlist (slice_index code k)) z (stand_fit code (at + 1) items a f s.1 (omega (arith, l)))
+
+  zero_fits : (w : ℕ) → WordFits netlist w → WordFits netlist 0
+  zero_fits w h = record { fits = λ code some. let f = h.fits code some in omega (arith, f) }
+
+  all_fit : (code : List ℕ) (items : List Item) → ItemsFit items → StandItems netlist patterns words code 0 items → length code ≡ length items → 1 ≤ length items → (a : ℕ) → WordFits netlist (slice_index code a)
+  all_fit code items f s n some a = elim (cases_lt a (length items)) as (λ _. WordFits netlist (slice_index code a)) [
+    | inl l ↦ (let z : 0 + a ≡ a = omega arith in subst (λ k. WordFits netlist (slice_index code k)) z (stand_fit code 0 items a f s l))
+    | inr l ↦ subst (WordFits netlist) (sym (get_or_past code a 0 (omega (arith, l, n)))) (zero_fits _ (stand_fit code 0 items 0 f s some))
+  ]
+
+-- a part that is a block begins one
+begins : (rules : List Rule) (flow : List Flow) (at : ℕ) (g : Flow) (block size : ℕ) → Fits rules flow at g (Block block size) → (continues flow at ≡ false) × (is_assign (Some g) ≡ true)
+begins rules flow at (Assign tree) block size h = (h, refl)
+begins rules flow at (Tested tree a b) block size h = absurd h
+begins rules flow at (Jumped to) block size h = absurd h
+begins rules flow at Ended block size h = absurd h
+
+pub block_at : (rules : List Rule) (flow : List Flow) (parts : List Part) (k block size : ℕ) → AllFit rules flow 0 flow parts → slice_get parts k ≡ Some (Block block size) → (n : ℕ) × IsBlock flow k n
+block_at rules flow parts k block size fit e =
+    let l : k < length parts = there parts k (Block block size) e in
+    let m : length parts ≡ length flow = fit_length rules flow 0 flow parts fit in
+    let g = get_there flow k (omega (arith, l, m)) in
+    let q = part_at rules flow 0 flow parts k k g.0 fit g.1 (omega arith) in
+    let b = begins rules flow k g.0 block size (subst (λ x. Fits rules flow k g.0 x) (one q.0 (Block block size) (sym q.1 ∙ e)) q.2) in
+    block_from flow k (length flow) 1 b.0 (omega arith) (omega arith) (λ i h. let z : k ≡ k + i = omega (arith, h) in subst (λ j. is_assign (slice_get flow j) ≡ true) z (ap is_assign g.1 ∙ b.1)) (λ i h some. absurd (omega (arith, h, some)))
+  where
+    one : (x y : Part) → Some x ≡ Some y → x ≡ y
+    one x y e = cc
+
+-- each word of the code fits
+pub code_fits : (netlist : Netlist) (patterns : List Pattern) (stock : Stock) (image : Image) (flow : List Flow) (jobs : List Work) (parts : List Part) (reach : ℕ) → AreTests jobs flow → IsLaidCode netlist patterns stock image flow jobs parts reach
+    → 1 ≤ length (words_of image) → (a : ℕ) → WordFits netlist (slice_index (words_of image) a)
+code_fits netlist patterns stock image flow jobs parts reach tests laid some =
+    let fit : AllFit stock.rules flow 0 flow parts = settled_fit stock.rules flow laid.layout.sizes laid.layout.settings parts laid.layout.settled in
+    let n = laid.long in
+    let items = items_length stock.rules (jump_form stock.rules reach) (starts 0 parts) 0 parts in
+    all_fit netlist patterns laid.words (words_of image) (items_from stock.rules (jump_form stock.rules reach) (starts 0 parts) 0 parts)
+    (items_fit netlist patterns laid.words stock.rules (jump_form stock.rules reach) (starts 0 parts) 0 parts (λ k p e. by fit k p e)) laid.stand (n ∙ sym (items_length stock.rules (jump_form stock.rules reach) (starts 0 parts) 0 parts)) (omega (arith, n, items, some))
+  where
+    by : AllFit stock.rules flow 0 flow parts → (k : ℕ) (p : Part) → slice_get parts k ≡ Some p → PartFits netlist patterns laid.words p
+    by fit k (Block block size) e = let b = block_at stock.rules flow parts k block size fit e in let r = laid.blocks k b.0 block size b.1 e in least_fit netlist patterns laid.words block _ r.live size r.least r.long
+    by fit k Inner e = tt
+    by fit k (Test f) e = let t : IsTestWork jobs f.tree = test_work_of jobs stock.rules flow parts k f fit tests e in let r = laid.forks k f e t.work t.at in least_fit netlist patterns laid.words f.block _ r.live f.words r.least r.long
+    by fit k (Jump to) e = tt
+    by fit k End e = tt
+
+-- code as the layout orders it traces the program
+pub laid_traces : (netlist : Netlist) (order : List ℕ) → KeepsRules netlist order → (image : Image) (patterns : List Pattern) (stock : Stock) → AreFormed patterns (length netlist.storages) stock.rules → (reach : ℕ)
+    → AreTurns netlist patterns stock.rules reach → (bits addr : ℕ) (l : Listing) (parts : List Part) → first_fault bits l ≡ None → memory_width netlist.storages ≡ bits → InReach bits addr stock.temps l.vars
+    → stock.temps + cell_count l.vars ≤ memory_size netlist.storages → image.places ≡ places_from stock.temps (variables_of l.vars)
+    → IsLaidCode netlist patterns stock image (program_flow l) (program_works (memory_of bits addr stock.temps l.vars) l) parts reach → TracesRight netlist image (strace bits l)
+laid_traces netlist order keeps image patterns stock formed reach turns bits addr l parts kept wide inreach room places laid =
+    let m : MemoryMap = memory_of bits addr stock.temps l.vars in
+    let f : IsFlow (program_flow l) (places_in (acts_of l.body)) = program_is_flow l in
+    let fit : AllFit stock.rules (program_flow l) 0 (program_flow l) parts = settled_fit stock.rules (program_flow l) laid.layout.sizes laid.layout.settings parts laid.layout.settled in
+    let n = fit_length stock.rules (program_flow l) 0 (program_flow l) parts fit in
+    let long = f.long in
+    let some : address parts 0 < total parts = within_code stock.rules (program_flow l) (places_in (acts_of l.body)) parts 0 f fit (omega (arith, n, long)) in
+    let words = laid.long in
+    ordered_right netlist order keeps image patterns stock formed reach turns bits addr l parts kept wide inreach room places laid
+    (code_fits netlist patterns stock image (program_flow l) (program_works m l) parts reach (program_tests m l) laid (omega (arith, some, words)))

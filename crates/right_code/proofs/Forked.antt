@@ -1,0 +1,109 @@
+-- The words of a test do what the flow says.
+use Rattle.std.proofs.Common.{ℕ, ◌≡◌, ◌≤◌, ◌<◌, ◌+◌, ◌^◌, Bool, true, false, if◌then◌else◌, bit_and, List, length, drop, Some, refl, sym, ◌∙◌, ap, arith, subst}
+use Rattle.net_model.specs.declared.hardware.Netlist.{Netlist}
+use Rattle.net_model.specs.declared.states.State.{State}
+use Rattle.net_model.specs.CheckedRules.{KeepsRules}
+use Rattle.net_model.specs.Terms.{Term}
+use Rattle.net_model.specs.Meaning.{mean}
+use Rattle.net_model.specs.Nets.{counter_width}
+use Rattle.net_model.specs.Patterns.{Pattern}
+use Rattle.code_model.specs.declared.image.Image.{Image}
+use Rattle.net_model.specs.Fields.{fields}
+use Rattle.form_model.specs.Trees.{is_tree}
+use Rattle.form_model.specs.Rules.{BranchTarget, tested}
+use Rattle.form_model.specs.Plans.{Plan, use_form}
+use Rattle.form_model.specs.Covers.{Stock, Choice, IsOrderly}
+use Rattle.form_model.specs.Effects.{operation_of, steps_effect}
+use Rattle.form_model.specs.Steps.{branch_setting}
+use Rattle.emit_seq.specs.Formed.{AreFormed}
+use Rattle.emit_seq.specs.Leaves.{LeaveValue, condition_of}
+use Rattle.emit_seq.proofs.Settled.{branch_in}
+use Rattle.word_fit.proofs.Occurring.{reads_occurs}
+use Rattle.net_model.specs.Occurs.{AgreeOn, has_read, occurs}
+use Rattle.net_model.proofs.TermLaws.{mean_alike}
+use Rattle.src_trees.specs.Lowered.{Work}
+use Rattle.branch_fix.specs.Made.{Walks, DoesOperands, DoesFork, Behind, word_in}
+use Rattle.branch_fix.specs.declared.part.Fork.{Fork}
+use Rattle.right_code.specs.Jobs.{tree_or_none, tree_used, job_steps}
+use Rattle.right_code.specs.Blocks.{WalksTo}
+use Rattle.right_code.specs.Forks.{IsBranchForm, plan_rule, test_of, BehindMade, IsTestMade, IsForkMade}
+use Rattle.right_code.proofs.Meant.{tree_mean, same_behind}
+use Rattle.right_code.proofs.Jobs.{used_tree, leaves}
+use Rattle.right_code.proofs.Walked.{walked}
+use Rattle.right_code.proofs.Branching.{mean_under, BranchParts, branch_parts, branch_does, jump_does}
+use Rattle.right_code.proofs.Ways.{way_bits, way_leads}
+
+condition_is : (stock : Stock) (plan : Plan) → condition_of stock plan ≡ (plan_rule stock plan).value
+condition_is stock (use_form k ps cs) = refl
+
+-- the setting of a branch has bits of its condition alone
+pub setting_within : (stock : Stock) (tree : Term) (plan : Plan) → IsOrderly stock tested tree true plan
+    → bit_and (branch_setting stock tree plan) (fields (plan_rule stock plan).value) ≡ branch_setting stock tree plan
+setting_within stock tree plan o =
+    subst (λ c. bit_and (branch_setting stock tree plan) (fields c) ≡ branch_setting stock tree plan) (condition_is stock plan) (branch_in stock tree plan o)
+
+module _ (netlist : Netlist) (order : List ℕ) (keeps : KeepsRules netlist order) (image : Image) (patterns : List Pattern) (stock : Stock) (formed : AreFormed patterns (length netlist.storages) stock.rules) where
+  -- behind a test's words the condition has the value of its tree
+  pub operands_do : (job : Work) (choice : Choice) (at n : ℕ) (when_one : Bool) (way : BranchTarget) (form : IsBranchForm netlist patterns (plan_rule stock choice.plan) when_one way) (i bits : ℕ)
+      → IsTestMade netlist patterns stock image job choice at n
+      → BranchParts netlist order keeps patterns (plan_rule stock choice.plan) when_one way form i (branch_setting stock (tree_used (test_of job) choice) choice.plan) bits
+      → at + n < 2 ^ counter_width netlist → DoesOperands netlist image stock.temps job i form.condition at n
+  operands_do job choice at n when_one way form i bits made p b =
+      let used : Term = tree_used (test_of job) choice in
+      let setting : ℕ = branch_setting stock used choice.plan in
+      let is : used ≡ made.covered.covers.tree = ap tree_or_none made.covered.covers.used in
+      let t : is_tree used ≡ true = subst (λ x. is_tree x ≡ true) (sym is) (used_tree job.trees choice.which made.covered.covers.tree made.covered.trees made.covered.covers.used) in
+      record {
+        which = choice.which;
+        used = used;
+        among = made.covered.covers.used ∙ ap Some (sym is);
+        walks = λ s here lie.
+            (let u : State = steps_effect (operation_of patterns) (job_steps stock (test_of job) choice) s in
+            let w : WalksTo netlist image at (length made.words) made.live s u =
+            walked netlist order keeps image (operation_of patterns) made.live (job_steps stock (test_of job) choice) made.words at s made.fit here made.stand (subst (λ k. at + k < 2 ^ counter_width netlist) made.long b) in
+            let h : LeaveValue stock patterns tested used choice.plan s =
+            subst (λ x. LeaveValue stock patterns tested x choice.plan s) (sym is)
+            (leaves stock patterns (length netlist.storages) formed (test_of job) choice s made.covered here.state.regs (record { reads = lie.reads; destination = tt; below = lie.below })) in
+            let c : Term = condition_of stock choice.plan in
+            let a : AgreeOn (λ r. occurs r c) (has_read c) w.last u = record { cells = λ e. w.agree.cells; regs = λ r e. w.agree.regs r (made.wants r (reads_occurs c setting r ∙ e)) } in (
+              w.last,
+              subst (λ k. Walks netlist image at s k w.last) (sym made.long) w.walks,
+              ap (drop stock.temps) w.agree.cells ∙ same_behind stock.temps u.cells s.cells h.cells (λ c le. h.others c le (λ z. z)),
+              mean_under form.condition w.last i setting p.test_fits p.test ∙ sym (form.alike.means w.last setting) ∙ ap (λ x. mean x w.last setting) (sym (condition_is stock choice.plan))
+                  ∙ mean_alike (condition_of stock choice.plan) setting w.last u a ∙ h.value ∙ tree_mean used s t,
+            ));
+      }
+
+  -- the setting of a test's branch has bits of the condition alone
+  test_setting : (job : Work) (choice : Choice) (at n : ℕ) (when_one : Bool) (way : BranchTarget) (form : IsBranchForm netlist patterns (plan_rule stock choice.plan) when_one way) → IsTestMade netlist patterns stock image job choice at n
+      → bit_and (branch_setting stock (tree_used (test_of job) choice) choice.plan) (fields form.condition) ≡ branch_setting stock (tree_used (test_of job) choice) choice.plan
+  test_setting job choice at n when_one way form made =
+      let used : Term = tree_used (test_of job) choice in
+      let is : used ≡ made.covered.covers.tree = ap tree_or_none made.covered.covers.used in
+      let o : IsOrderly stock tested used true choice.plan = subst (λ x. IsOrderly stock tested x true choice.plan) (sym is) made.covered.covers.orderly in
+      subst (λ k. bit_and (branch_setting stock used choice.plan) k ≡ branch_setting stock used choice.plan) form.same_fields (setting_within stock used choice.plan o)
+
+  behind_does : (next long : Bool) (at to other : ℕ) → BehindMade netlist patterns image next long at to other → Behind netlist image next long at to other
+  behind_does next true at to other h = (jump_does netlist order keeps patterns _ other h.0, jump_does netlist order keeps patterns _ to h.1)
+  behind_does true false at to other h = tt
+  behind_does false false at to other h = jump_does netlist order keeps patterns _ other h
+
+  -- the words of a test do what its part says
+  pub fork_does : (job : Work) (when_one : Bool) (f : Fork) (at to other : ℕ) → IsForkMade netlist patterns stock image job when_one f at to other
+      → counter_width netlist ≤ 64 → at + f.words + 1 < 2 ^ counter_width netlist → at + f.words ≤ 2 ^ 64 → (f.long ≡ true → at + f.words + 2 < 2 ^ counter_width netlist)
+      → DoesFork netlist image stock.temps job when_one f at to other
+  fork_does job when_one f at to other made few b le far =
+      let used : Term = tree_used (test_of job) made.choice in
+      let setting : ℕ = branch_setting stock used made.choice.plan in
+      let i : ℕ = word_in image (at + f.words) in
+      let e : bit_and setting (fields made.form.condition) ≡ setting = test_setting job made.choice at f.words when_one made.way made.form made.operands in
+      let p : BranchParts netlist order keeps patterns (plan_rule stock made.choice.plan) when_one made.way made.form i setting made.bits =
+      branch_parts netlist order keeps patterns (plan_rule stock made.choice.plan) when_one made.way made.form i setting made.bits e
+      (way_bits netlist made.way made.form.target (at + f.words) to f.long made.bits made.form.goes made.shown) made.word in
+      record {
+        condition = made.form.condition;
+        operands = operands_do job made.choice at f.words when_one made.way made.form i made.bits made.operands p (omega (arith, b));
+        branch = branch_does netlist order keeps patterns (plan_rule stock made.choice.plan) when_one made.way made.form i setting made.bits (at + f.words) (if f.long then at + f.words + 2 else to) p
+            (λ s here. way_leads netlist made.way made.form.target (at + f.words) to f.long made.bits i s made.form.goes made.shown p.target_fits p.target few (omega (arith, b)) le far here) b;
+        behind = behind_does f.next f.long (at + f.words) to other made.behind;
+      }

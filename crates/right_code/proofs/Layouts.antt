@@ -1,0 +1,123 @@
+-- Where the parts of a layout stand, and the steps of its branch words.
+use Rattle.std.proofs.Common.{ℕ, ◌≡◌, ◌≤◌, ◌<◌, ◌+◌, ◌^◌, bit_or, Bool, true, false, List, length, Some, slice_get, slice_index, refl, sym, ◌∙◌, ap, arith, subst}
+use Rattle.net_model.specs.declared.hardware.Netlist.{Netlist}
+use Rattle.net_model.specs.CheckedRules.{KeepsRules, code_size}
+use Rattle.net_model.specs.Nets.{counter_width}
+use Rattle.net_model.specs.Patterns.{Pattern}
+use Rattle.net_model.specs.Terms.{Term, term_width}
+use Rattle.form_model.specs.declared.flow.Flow.{Flow}
+use Rattle.form_model.specs.declared.flow.Flow.TheVariants.{End as Ended}
+use Rattle.form_model.specs.Shapes.{shape_setting}
+use Rattle.form_model.specs.Rules.{Rule, Kind, into_reg, into_memory, jumps, branches, BranchTarget, absolute, relative, tested}
+use Rattle.form_model.specs.Plans.{Plan, use_form}
+use Rattle.form_model.specs.Covers.{Stock, IsOrderly}
+use Rattle.form_model.specs.Matches.{goal_match}
+use Rattle.form_model.specs.Steps.{rule_at, found_at}
+use Rattle.emit_seq.proofs.Opened.{opened_plan}
+use Rattle.branch_fix.specs.Parts.{room, total, starts, address, AllFit}
+use Rattle.branch_fix.specs.Rounds.{distance, target_shows, kind_shows, rule_shows}
+use Rattle.branch_fix.specs.Items.{target_setting, kind_setting, branch_step}
+use Rattle.branch_fix.specs.Flowing.{IsFlow}
+use Rattle.branch_fix.specs.declared.part.Fork.{Fork}
+use Rattle.branch_fix.specs.declared.part.Part.{Part}
+use Rattle.branch_fix.specs.declared.part.Part.TheVariants.{Test, Jump}
+use Rattle.branch_fix.proofs.Addresses.{address_next, address_rises, part_at, fit_length, starts_at}
+use Rattle.branch_fix.proofs.Laying.{address_total, settled_fit}
+use Rattle.right_code.specs.Forks.{IsTargetShown, plan_rule}
+use Rattle.right_code.specs.Laid.{TargetReaches, AreTurns, IsLayout}
+use Rattle.right_code.proofs.Coded.{ended}
+use Rattle.right_code.proofs.Inside.{IsWide, AreWide, Upto, ways_inside, goals_inside, settled_wide}
+use Rattle.right_code.proofs.Standing.{shown_some, still_shows}
+
+-- the form at the root of a test's cover is a branch form
+plan_goal : (stock : Stock) (tree : Term) (plan : Plan) → IsOrderly stock tested tree true plan → (b : Bool) × (way : BranchTarget) × ((plan_rule stock plan).goal ≡ branches b way)
+plan_goal stock tree (use_form k ps cs) o = by (rule_at stock k).goal refl (opened_plan stock k ps cs tested tree true o).takes
+  where
+    by : (g : Kind) → (rule_at stock k).goal ≡ g → goal_match stock.temps (rule_at stock k) g tested tree true ≡ Some (found_at stock k tested tree true) → (b : Bool) × (way : BranchTarget) × ((rule_at stock k).goal ≡ branches b way)
+    by (branches b way) e h = (b, way, e)
+    by (into_reg id) e h = absurd (cc h)
+    by into_memory e h = absurd (cc h)
+    by (jumps reach) e h = absurd (cc h)
+
+-- a part stands in the code
+pub within_code : (rules : List Rule) (flow : List Flow) (end : ℕ) (parts : List Part) (k : ℕ) → IsFlow flow end → AllFit rules flow 0 flow parts → k < length parts → address parts k < total parts
+within_code rules flow end parts k f fit l =
+    let n : length parts ≡ length flow = fit_length rules flow 0 flow parts fit in
+    let long : length flow ≡ end + 1 = f.long in
+    let at = part_at rules flow 0 flow parts end end Ended fit f.last (omega arith) in
+    let one : 1 ≤ room at.0 = (ended rules flow end at.0 at.2).1 in
+    let b : address parts (end + 1) ≡ address parts end + room at.0 = address_next parts end at.0 at.1 in
+    let c : address parts (end + 1) ≡ total parts = address_total parts (end + 1) (sym (n ∙ long)) in
+    let d : address parts k ≤ address parts end = address_rises parts k end (omega (arith, n, long, l)) in
+    omega (arith, one, b, c, d)
+
+pub start_is : (parts : List Part) (k : ℕ) → k < length parts → slice_index (starts 0 parts) k ≡ address parts k
+start_is parts k l = let e = starts_at 0 parts k (omega (arith, l)) in omega (arith, e)
+
+-- the bits that the layout gives a branch word show its target
+shown_way : (netlist : Netlist) (reach : ℕ) (way : BranchTarget) (long : Bool) (from to : ℕ) → TargetReaches reach way → to < reach → to < 2 ^ counter_width netlist → (long ≡ true → IsWide way)
+    → (long ≡ false → target_shows way from to ≡ true) → IsTargetShown netlist way from to long (target_setting way from to long)
+shown_way netlist reach (absolute shape) true from to r lt low wide still = absurd (wide refl)
+shown_way netlist reach (absolute shape) false from to r lt low wide still = (refl, shown_some (shape_setting shape to) (r to lt))
+shown_way netlist reach (relative shape) true from to r lt low wide still = shown_some (shape_setting shape 2) r
+shown_way netlist reach (relative shape) false from to r lt low wide still = (low, shown_some (shape_setting shape (distance (term_width shape) from to)) (still refl))
+
+module _ (netlist : Netlist) (order : List ℕ) (keeps : KeepsRules netlist order) (patterns : List Pattern) (stock : Stock) (reach : ℕ) (turns : AreTurns netlist patterns stock.rules reach) where
+  module _ (flow : List Flow) (parts : List Part) (end : ℕ) (f : IsFlow flow end) (upto : Upto end flow) (layout : IsLayout stock.rules flow parts reach) where
+    pub fit : AllFit stock.rules flow 0 flow parts
+    fit = settled_fit stock.rules flow layout.sizes layout.settings parts layout.settled
+
+    wide : AreWide stock.rules parts
+    wide = subst (AreWide stock.rules) (sym layout.settled.made) (settled_wide stock.rules flow layout.sizes layout.settings layout.settled.count)
+
+    pub ways : (at : ℕ) (g : Fork) → slice_get parts at ≡ Some (Test g) → (g.to < length parts) × (g.other < length parts)
+    ways = ways_inside stock.rules flow parts end fit f.long upto
+
+    pub goals : (at to : ℕ) → slice_get parts at ≡ Some (Jump to) → to < length parts
+    goals = goals_inside stock.rules flow parts end fit f.long upto
+
+    low : (k : ℕ) → k < length parts → address parts k < total parts
+    low k l = within_code stock.rules flow end parts k f fit l
+
+    pub near : (k : ℕ) → k < length parts → address parts k < reach
+    near k l = let a : address parts k < total parts = low k l in let r : total parts ≤ reach = layout.reached in omega (arith, a, r)
+
+    counted : (k : ℕ) → k < length parts → address parts k < 2 ^ counter_width netlist
+    counted k l =
+        let a : address parts k < total parts = low k l in
+        let r : total parts ≤ reach = layout.reached in
+        let c : reach ≤ 2 ^ counter_width netlist = turns.narrow in
+        omega (arith, a, r, c)
+
+    -- the step of a branch word: the condition's bits, and those that show the target
+    pub record IsBranchStep (setting : ℕ) (plan : Plan) (g : Fork) (from to : ℕ) : Type 0 where
+      pub when_one : Bool
+      pub way : BranchTarget
+      pub goal : (plan_rule stock plan).goal ≡ branches when_one way
+      pub bits : ℕ
+      pub shown : IsTargetShown netlist way from to g.long bits
+      pub step : branch_step (slice_get stock.rules g.form) g.setting from (slice_index (starts 0 parts) g.to) g.long ≡ record { pattern = (plan_rule stock plan).pattern; setting = bit_or setting bits }
+
+    pub branch_step_is : (at : ℕ) (g : Fork) → slice_get parts at ≡ Some (Test g) → (tree : Term) (plan : Plan) (setting : ℕ) → IsOrderly stock tested tree true plan → slice_get stock.rules g.form ≡ Some (plan_rule stock plan) → g.setting ≡ setting
+        → IsBranchStep setting plan g (address parts at + g.words) (address parts g.to)
+    branch_step_is at g e tree plan setting orderly form asked =
+        let rule : Rule = plan_rule stock plan in
+        let from : ℕ = address parts at + g.words in
+        let to : ℕ = address parts g.to in
+        let goal = plan_goal stock tree plan orderly in
+        let way : BranchTarget = goal.1 in
+        let is : rule.goal ≡ branches goal.0 way = goal.2 in
+        let in_to = (ways at g e).0 in
+        let to_is : slice_index (starts 0 parts) g.to ≡ to = start_is parts g.to in_to in
+        let still : g.long ≡ false → target_shows way from to ≡ true =
+        (λ z. sym (ap (λ o. rule_shows o from (slice_index (starts 0 parts) g.to)) form ∙ ap (λ n. kind_shows rule.goal from n) to_is ∙ ap (λ k. kind_shows k from to) is)
+        ∙ still_shows stock.rules (starts 0 parts) parts at g e layout.settled.still z) in
+        record {
+          when_one = goal.0;
+          way = way;
+          goal = is;
+          bits = target_setting way from to g.long;
+          shown = shown_way netlist reach way g.long from to (turns.reaches g.form rule goal.0 way form is) (near g.to in_to) (counted g.to in_to) (wide at g rule goal.0 way e form is) still;
+          step = ap (λ o. branch_step o g.setting from (slice_index (starts 0 parts) g.to) g.long) form ∙ ap (λ n. branch_step (Some rule) g.setting from n g.long) to_is
+              ∙ ap (λ n. branch_step (Some rule) n from to g.long) asked ∙ ap (λ k. record { pattern = rule.pattern; setting = bit_or setting (kind_setting k from to g.long) }) is;
+        }

@@ -1,0 +1,84 @@
+-- Jumps reach no further than the program counter counts.
+use Rattle.std.proofs.Common.{◌≡◌, ℕ, zero, suc, ◌≤◌, ◌^◌, ◌==◌, Bool, true, false, if◌then◌else◌, List, [], ◌∷◌, length, Option, Some, None, slice_get, refl, sym, ap, subst, ◌∙◌, arith}
+use Rattle.std.specs.List.{AllByRecursion}
+use Rattle.net_model.specs.declared.hardware.Netlist.{Netlist}
+use Rattle.net_model.specs.declared.hardware.Storage.{Storage}
+use Rattle.net_model.specs.declared.hardware.Storage.TheVariants.{Register, Memory}
+use Rattle.net_model.specs.CheckedRules.{KeepsRules}
+use Rattle.net_model.specs.Nets.{counter_of, counter_width, storage_bits}
+use Rattle.net_model.specs.Patterns.{IsPattern, Pattern}
+use Rattle.net_model.specs.Symbolic.{blank, sym_of}
+use Rattle.net_model.specs.Value.{value_of}
+use Rattle.net_model.specs.Clock.{is_enabled}
+use Rattle.std.proofs.Math.Pow.{pow_mono}
+use Rattle.std.proofs.lemmas.Nat.{pow_pos}
+use Rattle.net_model.specs.Terms.{Term, word, reg, const, read, un, bin, slice, cat, zext, sext, select, keep, term_width, write, write_at}
+use Rattle.net_model.specs.Transfers.{move_at, same_reg, transfer_of}
+use Rattle.net_model.specs.Widths.{StorageFits}
+use Rattle.net_model.proofs.KeptRules.{sound_of}
+use Rattle.net_model.proofs.Meanings.{width_is}
+use Rattle.form_model.specs.Shapes.{ShapeFits, reach_of}
+
+-- ---- a field shape shows no more than its width has room for
+
+reach_within : (bits : ℕ) (t : Term) → ShapeFits bits t → reach_of t ≤ 2 ^ term_width t
+reach_within bits (word w) fits = omega arith
+reach_within bits (reg r w) fits = omega arith
+reach_within bits (const w v) fits = by (v == 0)
+  where
+    by : (b : Bool) → (if b then 1 else 0) ≤ 2 ^ w
+    by true = let p = pow_pos w in omega (arith, p)
+    by false = omega arith
+reach_within bits (read a w) fits = omega arith
+reach_within bits (un o a) fits = omega arith
+reach_within bits (bin o a b) fits = omega arith
+reach_within bits (slice a hi lo) fits = omega arith
+reach_within bits (cat a b) fits = omega arith
+reach_within bits (zext a w) fits = pow_mono (let f = fits.1 in omega (arith, f))
+reach_within bits (sext a w) fits = pow_mono (let f = fits.2 in omega (arith, f))
+reach_within bits (select c a b) fits = omega arith
+
+-- ---- what a register takes has its width
+
+all_get : {X : Type 0} (P : X → Type 0) (xs : List X) (k : ℕ) (x : X) → AllByRecursion P xs → slice_get xs k ≡ Some x → P x
+all_get P [] k x h e = absurd (cc e)
+all_get P (y ∷ xs) zero x h e = let same : y ≡ x = cc in subst P same h.0
+all_get P (y ∷ xs) (suc k) x h e = all_get P xs k x h.1 e
+
+abbrev FitsThere : Netlist → Option Storage → Type 0
+FitsThere netlist None = Unit {0}
+FitsThere netlist (Some storage) = StorageFits netlist storage
+
+written_one : (a b : Term) → write a ≡ write b → a ≡ b
+written_one a b e = cc
+
+module _ (netlist : Netlist) (order : List ℕ) (keeps : KeepsRules netlist order) where
+  there : (o : Option Storage) (id : ℕ) → slice_get netlist.storages id ≡ o → FitsThere netlist o
+  there None id e = tt
+  there (Some storage) id e = all_get (StorageFits netlist) netlist.storages id storage (sound_of netlist order keeps).typed.storages e
+
+  taken_width : (i id : ℕ) (e : Term) (o : Option Storage) → FitsThere netlist o → transfer_of netlist i id o ≡ write e → term_width e ≡ storage_bits o
+  taken_width i id e None f is = absurd (cc)
+  taken_width i id e (Some (Register name width input when)) f is =
+      by (is_enabled (value_of netlist blank i) when) (same_reg (sym_of netlist i input) id) is
+    where
+      by : (on same : Bool) → (if on then (if same then keep else write (sym_of netlist i input)) else keep) ≡ write e → term_width e ≡ width
+      by true true p = absurd (cc)
+      by true false p =
+          ap term_width (sym (written_one (sym_of netlist i input) e p)) ∙ width_is netlist i (sound_of netlist order keeps).typed (length netlist.nets) input ∙ f.0.1
+      by false same p = absurd (cc)
+  taken_width i id e (Some (Memory name width size addr_width value addr when)) f is = by (is_enabled (value_of netlist blank i) when) is
+    where
+      by : (on : Bool) → (if on then write_at (sym_of netlist i addr) (sym_of netlist i value) else keep) ≡ write e → term_width e ≡ width
+      by true p = absurd (cc)
+      by false p = absurd (cc)
+
+  -- a target that the program counter takes
+  pub target_width : (p : Pattern) → IsPattern netlist p → p.storage ≡ counter_of netlist.codes → (e : Term) → p.move ≡ write e → term_width e ≡ counter_width netlist
+  target_width p is storage e move =
+      taken_width is.word (counter_of netlist.codes) e (slice_get netlist.storages (counter_of netlist.codes)) (there (slice_get netlist.storages (counter_of netlist.codes)) (counter_of netlist.codes) refl)
+      (ap (move_at netlist is.word) (sym storage) ∙ is.given.gives ∙ move)
+
+  -- a jump reaches no further than the program counter counts
+  pub jump_within : (bits : ℕ) (p : Pattern) → IsPattern netlist p → p.storage ≡ counter_of netlist.codes → (e : Term) → p.move ≡ write e → ShapeFits bits e → reach_of e ≤ 2 ^ counter_width netlist
+  jump_within bits p is storage e move fits = subst (λ w. reach_of e ≤ 2 ^ w) (target_width p is storage e move) (reach_within bits e fits)

@@ -1,0 +1,76 @@
+-- The words of a layout's items, part by part.
+use Rattle.std.proofs.Common.{ℕ, zero, suc, ◌≡◌, ◌+◌, ◌||◌, not, unwrap_or, is_some, Bool, true, false, List, [], ◌∷◌, ◌++◌, length, Option, Some, None, slice_get, slice_index, refl, sym, ◌∙◌, ap, arith, subst}
+use Rattle.net_model.specs.declared.hardware.Netlist.{Netlist}
+use Rattle.net_model.specs.Patterns.{Pattern}
+use Rattle.form_model.specs.Rules.{Rule}
+use Rattle.word_fit.specs.Runs.{StandAt}
+use Rattle.branch_fix.specs.Parts.{room, address}
+use Rattle.branch_fix.specs.Rounds.{widened_part, widened_from, rule_shows}
+use Rattle.branch_fix.specs.Items.{groups, part_items, items_from}
+use Rattle.branch_fix.specs.declared.laid.Item.{Item}
+use Rattle.branch_fix.specs.declared.part.Fork.{Fork}
+use Rattle.branch_fix.specs.declared.part.Part.{Part}
+use Rattle.branch_fix.specs.declared.part.Part.TheVariants.{Test}
+use Rattle.branch_fix.proofs.Words.{part_length}
+use Rattle.right_code.specs.Words.{StandItems}
+
+pub shown_some : (o : Option ℕ) → is_some o ≡ true → o ≡ Some (unwrap_or o 0)
+shown_some None e = absurd (cc e)
+shown_some (Some n) e = refl
+
+module _ (netlist : Netlist) (patterns : List Pattern) (words : ℕ → List ℕ) (code : List ℕ) where
+  pub stand_split : (xs ys : List Item) (at n : ℕ) → n ≡ at + length xs → StandItems netlist patterns words code at (xs ++ ys)
+      → StandItems netlist patterns words code at xs × StandItems netlist patterns words code n ys
+  stand_split [] ys at n e h = let z : at ≡ n = omega (arith, e) in (tt, subst (λ k. StandItems netlist patterns words code k ys) z h)
+  stand_split (x ∷ xs) ys at n e h = let r = stand_split xs ys (at + 1) n (omega (arith, e)) h.1 in ((h.0, r.0), r.1)
+
+  -- the words of a part
+  pub part_stands : (rules : List Rule) (jump : Option Rule) (addresses : List ℕ) (at : ℕ) (parts : List Part) (k : ℕ) (p : Part) (n : ℕ) → slice_get parts k ≡ Some p → n ≡ at + address parts k
+      → StandItems netlist patterns words code at (items_from rules jump addresses at parts) → StandItems netlist patterns words code n (part_items rules jump addresses n p)
+  part_stands rules jump addresses at [] k p n e z h = absurd (cc e)
+  part_stands rules jump addresses at (q ∷ parts) zero p n e z h =
+      let same : at ≡ n = omega (arith, z) in
+      let s = stand_split (part_items rules jump addresses at q) (items_from rules jump addresses (at + room q) parts) at (at + length (part_items rules jump addresses at q)) refl h in
+      subst (λ a. StandItems netlist patterns words code a (part_items rules jump addresses a p)) same (subst (λ r. StandItems netlist patterns words code at (part_items rules jump addresses at r)) (one q p e) s.0)
+    where
+      one : (q p : Part) → Some q ≡ Some p → q ≡ p
+      one q p e = cc
+  part_stands rules jump addresses at (q ∷ parts) (suc k) p n e z h =
+      let l = part_length rules jump addresses at q in
+      let s = stand_split (part_items rules jump addresses at q) (items_from rules jump addresses (at + room q) parts) at (at + room q) (omega (arith, l)) h in
+      part_stands rules jump addresses (at + room q) parts k p n e (omega (arith, z)) s.1
+
+  -- the groups of a block
+  pub groups_stand : (block : ℕ) (xs : List ℕ) (i at : ℕ) → ((j : ℕ) → slice_index (words block) (i + j) ≡ slice_index xs j) → StandItems netlist patterns words code at (groups block i (length xs)) → StandAt code at xs
+  groups_stand block [] i at f h = tt
+  groups_stand block (x ∷ xs) i at f h =
+      let z : i + 0 ≡ i = omega arith in
+      (h.0 ∙ ap (slice_index (words block)) (sym z) ∙ f 0, groups_stand block xs (i + 1) (at + 1) (λ j. let e : i + 1 + j ≡ i + suc j = omega arith in ap (slice_index (words block)) e ∙ f (suc j)) h.1)
+
+-- a part after a round
+widened_at : (rules : List Rule) (addresses : List ℕ) (at : ℕ) (parts : List Part) (k : ℕ) (p : Part) (n : ℕ) → slice_get parts k ≡ Some p → n ≡ at + address parts k
+    → slice_get (widened_from rules addresses at parts) k ≡ Some (widened_part rules addresses n p)
+widened_at rules addresses at [] k p n e z = absurd (cc e)
+widened_at rules addresses at (q ∷ parts) zero p n e z =
+    let same : at ≡ n = omega (arith, z) in
+    subst (λ a. Some (widened_part rules addresses at q) ≡ Some (widened_part rules addresses a p)) same (ap (λ r. Some (widened_part rules addresses at r)) (one q p e))
+  where
+    one : (q p : Part) → Some q ≡ Some p → q ≡ p
+    one q p e = cc
+widened_at rules addresses at (q ∷ parts) (suc k) p n e z = widened_at rules addresses (at + room q) parts k p n e (omega (arith, z))
+
+-- a test that is not three words, and stays so, shows its distance
+pub still_shows : (rules : List Rule) (addresses : List ℕ) (parts : List Part) (k : ℕ) (f : Fork) → slice_get parts k ≡ Some (Test f) → widened_from rules addresses 0 parts ≡ parts → f.long ≡ false
+    → rule_shows (slice_get rules f.form) (address parts k + f.words) (slice_index addresses f.to) ≡ true
+still_shows rules addresses parts k f e still short =
+    let w : slice_get (widened_from rules addresses 0 parts) k ≡ Some (widened_part rules addresses (address parts k) (Test f)) = widened_at rules addresses 0 parts k (Test f) (address parts k) e (omega arith) in
+    let long : (f.long || not (rule_shows (slice_get rules f.form) (address parts k + f.words) (slice_index addresses f.to))) ≡ f.long = tests _ f (sym w ∙ ap (λ ps. slice_get ps k) still ∙ e) in
+    by f.long _ long short
+  where
+    tests : (g f : Fork) → Some (Test g) ≡ Some (Test f) → g.long ≡ f.long
+    tests g f e = cc
+
+    by : (l b : Bool) → (l || not b) ≡ l → l ≡ false → b ≡ true
+    by true b e s = absurd (cc s)
+    by false true e s = refl
+    by false false e s = absurd (cc e)

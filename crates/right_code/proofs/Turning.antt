@@ -1,0 +1,191 @@
+-- Jump and branch forms are made of their patterns, and show the addresses that the code has.
+use Rattle.std.proofs.Common.{◌≡◌, ℕ, ◌^◌, ◌<◌, ◌≤◌, ◌==◌, ◌&&◌, ◌||◌, ◌⊎◌, inl, inr, Bool, true, false, bit_and, if◌then◌else◌, List, Option, Some, None, slice_get, refl, sym, ◌∙◌, ap, subst, arith, eqb-true}
+use Rattle.std.proofs.lemmas.Bool.{leb-true, and_parts}
+use Rattle.rec_bits.specs.declared.operator.Op2.TheVariants.{Add}
+use Rattle.net_model.specs.declared.hardware.Netlist.{Netlist}
+use Rattle.net_model.specs.Fields.{fields}
+use Rattle.net_model.specs.CheckedRules.{KeepsRules}
+use Rattle.net_model.specs.Nets.{counter_of, counter_width, word_width}
+use Rattle.net_model.specs.Patterns.{Pattern}
+use Rattle.net_model.specs.Terms.{Term, reg, const, bin, select, write, next_of, swapped_next_of}
+use Rattle.sym_expr.specs.Pools.{TermFits}
+use Rattle.transfer_set.specs.Stepping.{is_next, is_one, is_reg}
+use Rattle.transfer_set.specs.TextMarks.{IsMoveOf, IsTermOf}
+use Rattle.transfer_set.specs.declared.stepping.Counter.{Counter}
+use Rattle.form_model.specs.Rules.{BranchTarget, absolute}
+use Rattle.form_model.specs.Shapes.{is_shape, reach_of, shows}
+use Rattle.form_model.proofs.ShapeLaws.{exact_shape}
+use Rattle.form_set.specs.Linear.{are_apart, is_linear, move_linear}
+use Rattle.form_set.specs.Listing.{IsBranch, IsJump, branch_rule, counter_at, jump_rule, test_sides}
+use Rattle.form_set.specs.Swaps.{swapped}
+use Rattle.form_set.specs.Targets.{Branch, allowed_target, branch_if, first_of, is_absolute, term_branch}
+use Rattle.form_set.proofs.LinearLaws.{linear_is}
+use Rattle.form_set.proofs.ShapeBits.{shape_fits}
+use Rattle.form_set.proofs.SwapLaws.{swapped_alike}
+use Rattle.emit_seq.specs.Formed.{IsOnce}
+use Rattle.right_code.specs.Forks.{IsBranchForm, IsJumpForm, IsTargetTerm, one_side}
+use Rattle.right_code.specs.Known.{AreKnown, MoveFits}
+use Rattle.right_code.specs.Laid.{TargetReaches}
+use Rattle.right_code.proofs.Narrow.{jump_within}
+use Rattle.right_code.proofs.Once.{meet_none, once_of}
+use Rattle.right_code.proofs.Plain.{alike_of, words_in}
+use Rattle.right_code.proofs.Swapping.{IsSwapped, swapped_sides}
+
+-- ---- the next address
+
+reg_is : (pc : Counter) (t : Term) → is_reg pc t ≡ true → t ≡ reg pc.storage pc.width
+reg_is pc (reg q w) h =
+    let k = and_parts (q == pc.storage) (w == pc.width) h in
+    ap (λ n. reg n w) (eqb-true q pc.storage k.0) ∙ ap (λ n. reg pc.storage n) (eqb-true w pc.width k.1)
+reg_is pc _ h = absurd (cc)
+
+one_is : (bits : ℕ) (t : Term) → is_one bits t ≡ true → t ≡ const bits 1
+one_is bits (const w v) h =
+    let k = and_parts (w == bits) (v == 1) h in ap (λ n. const n v) (eqb-true w bits k.0) ∙ ap (λ n. const bits n) (eqb-true v 1 k.1)
+one_is bits _ h = absurd (cc)
+
+next_is : (pc : Counter) (t : Term) → is_next pc t ≡ true → (t ≡ next_of pc.storage pc.width) ⊎ (t ≡ swapped_next_of pc.storage pc.width)
+next_is pc (bin Add a b) h = by (is_reg pc a && is_one pc.width b) refl h
+  where
+    by : (p : Bool) → (is_reg pc a && is_one pc.width b) ≡ p → (p || (is_one pc.width a && is_reg pc b)) ≡ true → (bin Add a b ≡ next_of pc.storage pc.width) ⊎ (bin Add a b ≡ swapped_next_of pc.storage pc.width)
+    by true e k = inl (let q = and_parts (is_reg pc a) (is_one pc.width b) e in let x = reg_is pc a q.0 in let y = one_is pc.width b q.1 in (λ j. bin Add (x j) (y j)))
+    by false e k = inr (let q = and_parts (is_one pc.width a) (is_reg pc b) k in let x = one_is pc.width a q.0 in let y = reg_is pc b q.1 in (λ j. bin Add (x j) (y j)))
+next_is pc _ h = absurd (cc)
+
+-- ---- the parts of a branch
+
+-- a branch of a select, whose sides are the target and the step
+record IsOpened (pc : Counter) (reach : ℕ) (value : Term) (branch : Branch) : Type 0 where
+  target : Term
+  step : Term
+  is : value ≡ select branch.test (one_side branch.when_one target step) (one_side branch.when_one step target)
+  next : is_next pc step ≡ true
+  allowed : allowed_target pc reach target ≡ Some branch.to
+
+some_same : {A : Type 0} (x y : A) → Some x ≡ Some y → x ≡ y
+some_same x y e = cc
+
+opened : (pc : Counter) (reach : ℕ) (value : Term) (branch : Branch) → term_branch pc reach value ≡ Some branch → IsOpened pc reach value branch
+opened pc reach (select c a b) branch e = go (is_next pc b) (is_next pc a) (allowed_target pc reach a) (allowed_target pc reach b) refl refl refl refl e
+  where
+    at_one : (to : BranchTarget) → is_next pc b ≡ true → allowed_target pc reach a ≡ Some to → IsOpened pc reach (select c a b) (record { when_one = true; test = c; to = to })
+    at_one to n t = record { target = a; step = b; is = refl; next = n; allowed = t }
+
+    at_zero : (to : BranchTarget) → is_next pc a ≡ true → allowed_target pc reach b ≡ Some to → IsOpened pc reach (select c a b) (record { when_one = false; test = c; to = to })
+    at_zero to n t = record { target = b; step = a; is = refl; next = n; allowed = t }
+
+    go : (p r : Bool) (o q : Option BranchTarget) → is_next pc b ≡ p → is_next pc a ≡ r → allowed_target pc reach a ≡ o → allowed_target pc reach b ≡ q
+        → first_of (branch_if p true c o) (branch_if r false c q) ≡ Some branch → IsOpened pc reach (select c a b) branch
+    go true r (Some to) q ep er eo eq h = subst (IsOpened pc reach (select c a b)) (some_same _ branch h) (at_one to ep eo)
+    go true true None (Some to) ep er eo eq h = subst (IsOpened pc reach (select c a b)) (some_same _ branch h) (at_zero to er eq)
+    go true true None None ep er eo eq h = absurd (cc)
+    go true false None q ep er eo eq h = absurd (cc)
+    go false true o (Some to) ep er eo eq h = subst (IsOpened pc reach (select c a b)) (some_same _ branch h) (at_zero to er eq)
+    go false true o None ep er eo eq h = absurd (cc)
+    go false false o q ep er eo eq h = absurd (cc)
+opened pc reach _ branch e = absurd (cc)
+
+-- what is known of the select is known of its parts
+record Parts (netlist : Netlist) (free : ℕ) (c x : Term) : Type 0 where
+  test_fits : TermFits c
+  test_terms : IsTermOf netlist c
+  test_linear : is_linear free c ≡ true
+  target_fits : TermFits x
+  target_terms : IsTermOf netlist x
+  apart : bit_and (fields c) (fields x) ≡ 0
+
+parts_of : (netlist : Netlist) (free : ℕ) (w : Bool) (c x y : Term) → TermFits (select c (one_side w x y) (one_side w y x)) → IsTermOf netlist (select c (one_side w x y) (one_side w y x))
+    → is_linear free (select c (one_side w x y) (one_side w y x)) ≡ true → Parts netlist free c x
+parts_of netlist free true c x y f t l =
+    let k = and_parts (are_apart free c x && (are_apart free c y && are_apart free x y)) (is_linear free c && (is_linear free x && is_linear free y)) l in
+    record {
+      test_fits = f.0;
+      test_terms = t.0;
+      test_linear = (and_parts (is_linear free c) (is_linear free x && is_linear free y) k.1).0;
+      target_fits = f.1;
+      target_terms = t.1;
+      apart = meet_none free c x (and_parts (are_apart free c x) (are_apart free c y && are_apart free x y) k.0).0;
+    }
+parts_of netlist free false c x y f t l =
+    let k = and_parts (are_apart free c y && (are_apart free c x && are_apart free y x)) (is_linear free c && (is_linear free y && is_linear free x)) l in
+    let m = and_parts (are_apart free c y) (are_apart free c x && are_apart free y x) k.0 in
+    record {
+      test_fits = f.0;
+      test_terms = t.0;
+      test_linear = (and_parts (is_linear free c) (is_linear free y && is_linear free x) k.1).0;
+      target_fits = f.2;
+      target_terms = t.2;
+      apart = meet_none free c x (and_parts (are_apart free c x) (are_apart free y x) m.1).0;
+    }
+
+module _ (netlist : Netlist) where
+  -- ---- what targets show
+
+  below_shown : (t : Term) → is_shape t ≡ true → TermFits t → IsTermOf netlist t → (v : ℕ) → v < reach_of t → shows t v ≡ true
+  below_shown t shape fits terms v lt = let x = exact_shape (word_width netlist) t shape (shape_fits netlist t shape terms fits) in (x.shown v).1 (x.reach.below v lt)
+
+  target_goes : (reach : ℕ) (t : Term) (way : BranchTarget) → TermFits t → IsTermOf netlist t → allowed_target (counter_at netlist) reach t ≡ Some way → IsTargetTerm netlist way t × TargetReaches reach way
+  target_goes reach t way fits terms e = by (is_absolute reach t) refl e
+    where
+      by : (b : Bool) → is_absolute reach t ≡ b → (if b then Some (absolute t) else None) ≡ Some way → IsTargetTerm netlist way t × TargetReaches reach way
+      by true a h =
+          (let k = and_parts (is_shape t) _ a in
+          let le : reach ≤ reach_of t = leb-true reach (reach_of t) k.1 in
+          subst (λ w. IsTargetTerm netlist w t × TargetReaches reach w) (some_same (absolute t) way h) (refl, λ v lt. below_shown t k.0 fits terms v (omega (arith, le, lt))))
+      by false a h = absurd (cc)
+
+  module _ (some : 0 < word_width netlist) (patterns : List Pattern) (known : AreKnown netlist patterns) where
+    -- ---- jump forms
+
+    pub jump_made : (number : ℕ) (p : Pattern) → slice_get patterns number ≡ Some p → (h : IsJump netlist p) (fields : ℕ) → IsJumpForm netlist patterns (jump_rule netlist number h.target fields)
+    jump_made number p at h fields = record { is = at ∙ ap Some (λ j. record { storage = h.storage j; move = h.move j }) }
+
+    pub jump_shows : (number : ℕ) (p : Pattern) → slice_get patterns number ≡ Some p → (h : IsJump netlist p) (v : ℕ) → v < reach_of h.target → shows h.target v ≡ true
+    jump_shows number p at h = below_shown h.target h.shape (subst MoveFits h.move (known number p at).fits) (subst (IsMoveOf netlist) h.move (known number p at).terms)
+
+    -- ---- branch forms
+
+    module _ (reach number : ℕ) (p : Pattern) (at : slice_get patterns number ≡ Some p) (parts : Branch) (h : IsBranch netlist reach p parts) where
+      abbrev free : ℕ
+      free = 2 ^ counter_of netlist.codes
+
+      o : IsOpened (counter_at netlist) reach h.value parts
+      o = opened (counter_at netlist) reach h.value parts h.parts
+
+      known_parts : Parts netlist free parts.test o.target
+      known_parts =
+          parts_of netlist free parts.when_one parts.test o.target o.step (subst TermFits o.is (subst MoveFits h.move (known number p at).fits))
+          (subst (IsTermOf netlist) o.is (subst (IsMoveOf netlist) h.move (known number p at).terms))
+          (ap (is_linear free) (sym o.is) ∙ ap (move_linear free) (sym h.move) ∙ (linear_is free p.move).1 h.linear)
+
+      pub test_terms : IsTermOf netlist parts.test
+      test_terms = known_parts.test_terms
+
+      pub test_swapped : (choice : ℕ) → IsSwapped parts.test (swapped choice (test_sides parts)).value
+      test_swapped choice = (swapped_sides choice (test_sides parts)).value
+
+      pub test_once : (choice : ℕ) → IsOnce (swapped choice (test_sides parts)).value
+      test_once choice = (test_swapped choice).once (once_of (word_width netlist) free parts.test some (words_in netlist parts.test test_terms known_parts.test_fits) known_parts.test_linear)
+
+      pub branch_made : (choice : ℕ) → IsBranchForm netlist patterns (branch_rule netlist number p parts choice) parts.when_one parts.to
+      branch_made choice = record {
+        goal = refl;
+        condition = parts.test;
+        target = o.target;
+        step = o.step;
+        is = at ∙ ap Some (λ j. record { storage = h.storage j; move = (h.move ∙ ap write o.is) j });
+        goes = (target_goes reach o.target parts.to known_parts.target_fits known_parts.target_terms o.allowed).0;
+        steps = next_is (counter_at netlist) o.step o.next;
+        alike = alike_of parts.test (swapped choice (test_sides parts)).value known_parts.test_fits (swapped_alike choice (test_sides parts)).value (test_swapped choice);
+        same_fields = sym (test_swapped choice).fields_same;
+        apart = known_parts.apart;
+      }
+
+      pub branch_reaches : TargetReaches reach parts.to
+      branch_reaches = (target_goes reach o.target parts.to known_parts.target_fits known_parts.target_terms o.allowed).1
+
+  -- a jump form reaches no further than the program counter counts
+  pub jump_narrow : (order : List ℕ) (keeps : KeepsRules netlist order) (some : 0 < word_width netlist) (patterns : List Pattern) (known : AreKnown netlist patterns) (number : ℕ) (p : Pattern) → slice_get patterns number ≡ Some p → (h : IsJump netlist p) → reach_of h.target ≤ 2 ^ counter_width netlist
+  jump_narrow order keeps some patterns known number p at h =
+      jump_within netlist order keeps (word_width netlist) p (known number p at).is h.storage h.target h.move
+      (shape_fits netlist h.target h.shape (subst (IsMoveOf netlist) h.move (known number p at).terms) (subst MoveFits h.move (known number p at).fits))

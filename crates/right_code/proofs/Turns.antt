@@ -1,0 +1,146 @@
+-- The jump and branch forms of a netlist are as the layout wants them.
+use Rattle.std.proofs.Common.{◌≡◌, ℕ, zero, suc, ◌<◌, ◌≤◌, ◌^◌, ◌==◌, max, Bool, true, false, if◌then◌else◌, List, [], ◌∷◌, Some, slice_get, refl, sym, ◌∙◌, ap, subst, arith, eqb-true}
+use Rattle.std.proofs.lemmas.Bool.{true≢false, eqb-false}
+use Rattle.net_model.specs.declared.hardware.Netlist.{Netlist}
+use Rattle.net_model.specs.CheckedRules.{KeepsRules}
+use Rattle.net_model.specs.Nets.{counter_width, memory_id, word_width}
+use Rattle.net_model.specs.Patterns.{IsPattern, Pattern}
+use Rattle.form_model.specs.Rules.{BranchTarget, Kind, Rule, into_memory, into_reg, jumps, branches}
+use Rattle.form_model.specs.Shapes.{reach_of, shows}
+use Rattle.form_set.specs.Listing.{AreForms, goal_at, goal_reach, greatest_reach}
+use Rattle.form_set.specs.Words.{CanJump}
+use Rattle.form_set.specs.Promises.{IsFormOf, is_control, of_branch, of_jump, of_plain}
+use Rattle.branch_fix.specs.Items.{jump_form, reaches}
+use Rattle.right_code.specs.Forks.{IsBranchForm, IsJumpForm}
+use Rattle.right_code.specs.Known.{AreKnown}
+use Rattle.right_code.specs.Laid.{AreTurns, TargetReaches}
+use Rattle.right_code.proofs.Listed.{placed}
+use Rattle.right_code.proofs.Turning.{branch_made, branch_reaches, jump_made, jump_narrow, jump_shows}
+
+-- the first jump form of a reach
+record IsFirstJump (rules : List Rule) (reach : ℕ) : Type 0 where
+  rule : Rule
+  first : jump_form rules reach ≡ Some rule
+  place : ℕ
+  at : slice_get rules place ≡ Some rule
+  goal : rule.goal ≡ jumps reach
+
+reached : (k : Kind) (reach : ℕ) → reaches k reach ≡ true → k ≡ jumps reach
+reached (jumps r) reach e = ap jumps (eqb-true r reach e)
+reached (into_reg id) reach e = absurd (cc)
+reached into_memory reach e = absurd (cc)
+reached (branches b to) reach e = absurd (cc)
+
+unreached : (k : Kind) (reach : ℕ) → 1 ≤ reach → reaches k reach ≡ false → goal_reach k ≡ reach → ⊥
+unreached (jumps r) reach l e g = eqb-false r reach e g
+unreached (into_reg id) reach l e g = omega (arith, l, g)
+unreached into_memory reach l e g = omega (arith, l, g)
+unreached (branches b to) reach l e g = omega (arith, l, g)
+
+first_jump : (rules : List Rule) (reach : ℕ) → 1 ≤ reach → reach ≡ greatest_reach rules → IsFirstJump rules reach
+first_jump [] reach l e = absurd (omega (arith, l, e))
+first_jump (rule ∷ rules) reach l e = by (reaches rule.goal reach) refl (first_jump rules reach l)
+  where
+    greater : (m n r : ℕ) → r ≡ max m n → (m ≡ r → ⊥) → r ≡ n
+    greater m n r e h = elim_cases (m == r) refl
+      where
+        elim_cases : (b : Bool) → (m == r) ≡ b → r ≡ n
+        elim_cases true q = absurd (h (eqb-true m r q))
+        elim_cases false q = let d = eqb-false m r q in omega (arith, e, d)
+
+    by : (b : Bool) → reaches rule.goal reach ≡ b → (reach ≡ greatest_reach rules → IsFirstJump rules reach) → IsFirstJump (rule ∷ rules) reach
+    by true q later = record { rule = rule; first = ap (λ b. if b then Some rule else jump_form rules reach) q; place = zero; at = refl; goal = reached rule.goal reach q }
+    by false q later =
+        (let f = later (greater (goal_reach rule.goal) (greatest_reach rules) reach e (unreached rule.goal reach l q)) in
+        record { rule = f.rule; first = ap (λ b. if b then Some rule else jump_form rules reach) q ∙ f.first; place = suc f.place; at = f.at; goal = f.goal })
+
+-- a plain form is none of the two
+plain_goal : (netlist : Netlist) (storage : ℕ) (k : Kind) → k ≡ goal_at netlist storage → is_control k ≡ true → ⊥
+plain_goal netlist storage k e h = true≢false (sym h ∙ ap is_control e ∙ by (storage == memory_id netlist.storages))
+  where
+    by : (b : Bool) → is_control (if b then into_memory else into_reg storage) ≡ false
+    by true = refl
+    by false = refl
+
+module _ (netlist : Netlist) (order : List ℕ) (keeps : KeepsRules netlist order) (some : 0 < word_width netlist) (patterns : List Pattern) (known : AreKnown netlist patterns) (reach : ℕ) (rules : List Rule) (forms : AreForms netlist patterns rules reach) where
+  record IsJumping (rule : Rule) : Type 0 where
+    form : IsJumpForm netlist patterns rule
+    shown : (v : ℕ) → v < reach → shows rule.value v ≡ true
+    narrow : reach ≤ 2 ^ counter_width netlist
+
+  jumping : (number : ℕ) (p : Pattern) (rule : Rule) → slice_get patterns number ≡ Some p → IsFormOf netlist reach number p rule → rule.goal ≡ jumps reach → IsJumping rule
+  jumping number p rule at (of_plain choice clobbers plain are e) g =
+      absurd (plain_goal netlist p.storage rule.goal (ap (λ (r : Rule). r.goal) e) (ap is_control g))
+  jumping number p rule at (of_jump h e) g =
+      subst IsJumping (sym e)
+      (record {
+        form = jump_made netlist some patterns known number p at h _;
+        shown = λ v lt. jump_shows netlist some patterns known number p at h v (omega (arith, lt, is_reach));
+        narrow = let n = jump_narrow netlist order keeps some patterns known number p at h in omega (arith, n, is_reach);
+      })
+    where
+      same : (a b : ℕ) → jumps a ≡ jumps b → a ≡ b
+      same a b e = cc
+
+      is_reach : reach_of h.target ≡ reach
+      is_reach = same (reach_of h.target) reach (sym (ap (λ (r : Rule). r.goal) e) ∙ g)
+  jumping number p rule at (of_branch choice parts b e) g = let x : branches parts.when_one parts.to ≡ jumps reach = sym (ap (λ (r : Rule). r.goal) e) ∙ g in absurd (cc)
+
+  record IsTurning (rule : Rule) (when_one : Bool) (way : BranchTarget) : Type 0 where
+    form : IsBranchForm netlist patterns rule when_one way
+    reached : TargetReaches reach way
+
+  turning : (number : ℕ) (p : Pattern) (rule : Rule) (when_one : Bool) (way : BranchTarget) → slice_get patterns number ≡ Some p → IsFormOf netlist reach number p rule → rule.goal ≡ branches when_one way → IsTurning rule when_one way
+  turning number p rule when_one way at (of_plain choice clobbers plain are e) g =
+      absurd (plain_goal netlist p.storage rule.goal (ap (λ (r : Rule). r.goal) e) (ap is_control g))
+  turning number p rule when_one way at (of_jump h e) g = let x : jumps _ ≡ branches when_one way = sym (ap (λ (r : Rule). r.goal) e) ∙ g in absurd (cc)
+  turning number p rule when_one way at (of_branch choice parts b e) g =
+      let s = same parts.when_one when_one parts.to way (sym (ap (λ (r : Rule). r.goal) e) ∙ g) in
+      subst (λ w. IsTurning rule w way) s.0
+      (subst (λ w. IsTurning rule parts.when_one w) s.1
+      (subst (λ (r : Rule). IsTurning r parts.when_one parts.to) (sym e)
+      (record { form = branch_made netlist some patterns known reach number p at parts b choice; reached = branch_reaches netlist some patterns known reach number p at parts b })))
+    where
+      same : (a b : Bool) (c d : BranchTarget) → branches a c ≡ branches b d → (a ≡ b) × (c ≡ d)
+      same a b c d e = (cc, cc)
+
+  -- where there is a jump form
+  pub are_turns : 1 ≤ reach → AreTurns netlist patterns rules reach
+  are_turns l =
+      let f = first_jump rules reach l forms.greatest_is in
+      let q = placed netlist order keeps some patterns known reach rules forms.list f.place f.rule f.at in
+      let j = jumping q.number q.pattern f.rule q.at q.of f.goal in
+      record {
+        rule = f.rule;
+        first = f.first;
+        jump = j.form;
+        shown = j.shown;
+        narrow = j.narrow;
+        forks = λ k turn when_one way at g. (let r = placed netlist order keeps some patterns known reach rules forms.list k turn at in (turning r.number r.pattern turn when_one way r.at r.of g).form);
+        reaches = λ k turn when_one way at g. (let r = placed netlist order keeps some patterns known reach rules forms.list k turn at in (turning r.number r.pattern turn when_one way r.at r.of g).reached);
+      }
+
+  -- ---- words of jumps and branches
+
+  -- the form's pattern has a word for each setting
+  pub record CanTurn (rule : Rule) : Type 0 where
+    pub pattern : Pattern
+    pub at : slice_get patterns rule.pattern ≡ Some pattern
+    pub is : IsPattern netlist pattern
+    pub can : CanJump netlist pattern
+
+  can_turn : (number : ℕ) (p : Pattern) (rule : Rule) → slice_get patterns number ≡ Some p → IsFormOf netlist reach number p rule → is_control rule.goal ≡ true → CanTurn rule
+  can_turn number p rule at (of_plain choice clobbers plain are e) g = absurd (plain_goal netlist p.storage rule.goal (ap (λ (r : Rule). r.goal) e) g)
+  can_turn number p rule at (of_jump h e) g = record { pattern = p; at = ap (λ (r : Rule). slice_get patterns r.pattern) e ∙ at; is = (known number p at).is; can = h.can }
+  can_turn number p rule at (of_branch choice parts b e) g = record { pattern = p; at = ap (λ (r : Rule). slice_get patterns r.pattern) e ∙ at; is = (known number p at).is; can = b.can }
+
+  pub turn_can : (k : ℕ) (rule : Rule) → slice_get rules k ≡ Some rule → is_control rule.goal ≡ true → CanTurn rule
+  turn_can k rule at g = let r = placed netlist order keeps some patterns known reach rules forms.list k rule at in can_turn r.number r.pattern rule r.at r.of g
+
+  pub jump_can : 1 ≤ reach → (rule : Rule) → jump_form rules reach ≡ Some rule → CanTurn rule
+  jump_can l rule e =
+      let f = first_jump rules reach l forms.greatest_is in
+      turn_can f.place rule (f.at ∙ sym f.first ∙ e) (ap (λ (r : Rule). is_control r.goal) (same rule f.rule (sym e ∙ f.first)) ∙ ap is_control f.goal)
+    where
+      same : (a b : Rule) → Some a ≡ Some b → a ≡ b
+      same a b e = cc

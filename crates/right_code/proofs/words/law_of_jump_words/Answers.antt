@@ -1,0 +1,5 @@
+use Rattle.right_code.proofs.Right.{jump_words_of}
+use Rattle.right_code.proofs.words.law_of_jump_words.Goals as goal
+
+pub returns : goal.returns
+returns c = λ order task checked patterns are rules reach forms choices chosen parts layout branch k step e. jump_words_of order task checked patterns are rules reach forms choices chosen parts layout branch k step e

@@ -1,0 +1,49 @@
+-- Lists from left to right against lists in the order of evaluation: an item put in at a place, and one taken out.
+use Rattle.std.proofs.Common.{◌≡◌, ℕ, zero, suc, ◌+◌, List, [], ◌∷◌, length, map, Some, refl, ap, subst, arith}
+use Rattle.std.specs.Prelude.{slice_get, remove, insert}
+use Rattle.std.specs.List.{AllZip}
+
+pub zip_put : {X Y : Type 0} (R : X → Y → Type 0) (xs : List X) (ys : List Y) (i : ℕ) (x : X) (y : Y) → slice_get xs i ≡ Some x → R x y → AllZip R (remove xs i) ys → AllZip R xs (insert ys i y)
+zip_put R [] ys i x y e r h = absurd (cc)
+zip_put R (z ∷ xs) ys zero x y e r h = (subst (λ w. R w y) (cc) r, h)
+zip_put R (z ∷ xs) [] (suc i) x y e r h = absurd h
+zip_put R (z ∷ xs) (w ∷ ys) (suc i) x y e r h = (h.0, zip_put R xs ys i x y e r h.1)
+
+pub zip_at : {X Y : Type 0} (R : X → Y → Type 0) (xs : List X) (ys : List Y) (i : ℕ) (x : X) (y : Y) → slice_get xs i ≡ Some x → AllZip R xs (insert ys i y) → R x y × AllZip R (remove xs i) ys
+zip_at R [] ys i x y e h = absurd (cc)
+zip_at R (z ∷ xs) ys zero x y e h = (subst (λ w. R w y) (cc) h.0, h.1)
+zip_at R (z ∷ []) [] (suc i) x y e h = absurd (cc)
+zip_at R (z ∷ w ∷ xs) [] (suc i) x y e h = absurd h.1
+zip_at R (z ∷ xs) (w ∷ ys) (suc i) x y e h = let r : R x y × AllZip R (remove xs i) ys = zip_at R xs ys i x y e h.1 in (r.0, (h.0, r.1))
+
+pub map-remove : {X Y : Type 0} (f : X → Y) (xs : List X) (i : ℕ) → map f (remove xs i) ≡ remove (map f xs) i
+map-remove f [] zero = refl
+map-remove f [] (suc i) = refl
+map-remove f (x ∷ xs) zero = refl
+map-remove f (x ∷ xs) (suc i) = ap (λ z. f x ∷ z) (map-remove f xs i)
+
+pub get_mapped : {X Y : Type 0} (f : X → Y) (xs : List X) (i : ℕ) (y : Y) → slice_get (map f xs) i ≡ Some y → (x : X) × (slice_get xs i ≡ Some x) × (f x ≡ y)
+get_mapped f [] i y h = absurd (cc)
+get_mapped f (x ∷ xs) zero y h = (x, refl, cc)
+get_mapped f (x ∷ xs) (suc i) y h = get_mapped f xs i y h
+
+-- ---- lengths and sums
+
+pub length_in : {X : Type 0} (xs : List X) (i : ℕ) (x : X) → length (insert xs i x) ≡ suc (length xs)
+length_in xs zero x = refl
+length_in [] (suc i) x = refl
+length_in (y ∷ xs) (suc i) x = let e = length_in xs i x in omega (arith, e)
+
+pub length_out : {X : Type 0} (xs : List X) (i : ℕ) (x : X) → slice_get xs i ≡ Some x → length xs ≡ suc (length (remove xs i))
+length_out [] i x e = absurd (cc)
+length_out (y ∷ xs) zero x e = refl
+length_out (y ∷ xs) (suc i) x e = let h = length_out xs i x e in omega (arith, h)
+
+abbrev pub total : List ℕ → ℕ
+total [] = 0
+total (n ∷ ns) = n + total ns
+
+pub total-insert : (ns : List ℕ) (i n : ℕ) → total (insert ns i n) ≡ n + total ns
+total-insert ns zero n = refl
+total-insert [] (suc i) n = refl
+total-insert (m ∷ ns) (suc i) n = let e = total-insert ns i n in omega (arith, e)

@@ -1,0 +1,42 @@
+-- The cells that the steps of a cover fill, in the order in which they are filled: where the steps put a cut into its cell, its cell stands.
+use Rattle.std.specs.Prelude.{ℕ, Bool, false, List, [], ◌∷◌, ◌++◌, slice_get, remove, insert, drop}
+use Rattle.net_model.specs.Terms.{Term}
+use Rattle.form_model.specs.Rules.{Destination, into, temporary}
+use Rattle.form_model.specs.Matches.{Site, operand, cut}
+use Rattle.form_model.specs.Plans.{Plan, use_form, Operands, no_operands, operand_then, Cuts, no_cuts, cut_then}
+use Rattle.form_model.specs.Covers.{Stock}
+use Rattle.form_model.specs.Steps.{OperandCells, CutCells, plan_operand_cells, plan_cut_cells, operand_cells_or_none, cut_cells_or_none, found_at}
+
+abbrev pub first_cells : List (List ℕ) → List ℕ
+first_cells [] = []
+first_cells (cells ∷ rest) = cells
+
+-- the cells inside the operands and those of the form's own cuts, joined in the order of the sites
+abbrev pub woven_cells : List Site → List (List ℕ) → List (List ℕ) → List ℕ
+woven_cells [] of_operands of_cuts = []
+woven_cells (operand id tree whole ∷ sites) of_operands of_cuts = first_cells of_operands ++ woven_cells sites (drop 1 of_operands) of_cuts
+woven_cells (cut shape tree ∷ sites) of_operands of_cuts = first_cells of_cuts ++ woven_cells sites of_operands (drop 1 of_cuts)
+
+abbrev mutual
+  -- those of a cover of a tree that goes to a destination, where n is the first cell
+  pub filled_cells : Stock → Plan → ℕ → Destination → Term → Bool → List ℕ
+  filled_cells stock (use_form k ps cs) n destination tree whole =
+      woven_cells (found_at stock k destination tree whole).sites
+      (filled_in_operands stock ps (plan_operand_cells (found_at stock k destination tree whole).sites ps cs n))
+      (filled_by_cuts stock cs (plan_cut_cells (found_at stock k destination tree whole).sites ps cs n))
+
+  -- for each operand, from left to right, those inside it
+  pub filled_in_operands : Stock → Operands → List OperandCells → List (List ℕ)
+  filled_in_operands stock no_operands left = []
+  filled_in_operands stock (operand_then i p ps) left =
+      insert (filled_in_operands stock ps (remove left i)) i
+      (filled_cells stock p (operand_cells_or_none (slice_get left i)).first (into (operand_cells_or_none (slice_get left i)).operand.id)
+      (operand_cells_or_none (slice_get left i)).operand.tree (operand_cells_or_none (slice_get left i)).operand.whole)
+
+  -- for each of the form's own cuts, those inside it, and then its own
+  pub filled_by_cuts : Stock → Cuts → List CutCells → List (List ℕ)
+  filled_by_cuts stock no_cuts cuts = []
+  filled_by_cuts stock (cut_then p cs) cuts =
+      (filled_cells stock p (cut_cells_or_none (slice_get cuts 0)).first temporary (cut_cells_or_none (slice_get cuts 0)).tree false
+      ++ ((cut_cells_or_none (slice_get cuts 0)).cell ∷ []))
+      ∷ filled_by_cuts stock cs (drop 1 cuts)

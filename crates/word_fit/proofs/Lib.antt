@@ -1,0 +1,10 @@
+pub mod Occurring
+pub mod Words
+pub mod Storages
+pub mod Follows
+pub mod Clocks
+pub mod Runs
+pub mod Needed
+pub mod Least
+pub mod StepRows
+pub mod WorkedWords

@@ -1,0 +1,103 @@
+-- Words that fit the groups leave what the groups leave, in memory and in the live registers.
+use Rattle.std.proofs.Common.{◌≡◌, ℕ, ◌≤◌, ◌==◌, ◌||◌, ◌&&◌, inl, inr, Bool, true, false, not, List, [], ◌∷◌, length, slice_index, slice_set, refl, sym, ◌∙◌, ap, arith, subst}
+use Rattle.std.proofs.lemmas.Bool.{true≢false, ne_eqb, cases_eq, cases_lt, or_left, or_right}
+use Rattle.std.proofs.Math.Bool.{or_assoc}
+use Rattle.std.proofs.lemmas.List.{get_or-set_same, get_or-set_other, length-set, set_past, get_or_past}
+use Rattle.net_model.specs.declared.states.State.{State}
+use Rattle.net_model.specs.Terms.{Term, Move, keep, write, write_at}
+use Rattle.net_model.specs.Meaning.{mean}
+use Rattle.net_model.specs.Occurs.{AgreeOn}
+use Rattle.net_model.proofs.TermLaws.{mean_alike, agree_less as on_less}
+use Rattle.form_model.specs.Effects.{Operation, register, term_reads, move_reads, reads, move_writes, writes, apply_move, apply_operation, apply_all, group_effect}
+use Rattle.form_model.specs.Live.{Regs, group_reads, group_writes}
+use Rattle.word_fit.specs.Groups.{Agree}
+use Rattle.word_fit.proofs.Occurring.{reads_occurs}
+
+pub agree_less : (k l : Regs) (s t : State) → ((r : ℕ) → l r ≡ true → k r ≡ true) → Agree k s t → Agree l s t
+agree_less k l s t h a = record { size = a.size; cells = a.cells; regs = λ r e. a.regs r (h r e) }
+
+pub agree_trans : (l : Regs) (s t u : State) → Agree l s t → Agree l t u → Agree l s u
+agree_trans l s t u a b = record { size = a.size ∙ b.size; cells = a.cells ∙ b.cells; regs = λ r e. a.regs r e ∙ b.regs r e }
+
+-- two states with the same memory, and the same in each register that is read
+abbrev SeenAlike : Regs → State → State → Type 0
+SeenAlike reads o p = AgreeOn reads true o p
+
+seen_less : (k l : Regs) (o p : State) → ((r : ℕ) → l r ≡ true → k r ≡ true) → SeenAlike k o p → SeenAlike l o p
+seen_less k l o p h a = on_less l k true true o p h (λ e. e) a
+
+mean_seen : (t : Term) (i : ℕ) (o p : State) → SeenAlike (λ r. term_reads i t (register r)) o p → mean t o i ≡ mean t p i
+mean_seen t i o p a = mean_alike t i o p (record { regs = λ r e. a.regs r (reads_occurs t i r ∙ e); cells = λ e. a.cells refl })
+
+-- the same value goes into the same register of two files
+set_alike : (xs ys : List ℕ) (q x r : ℕ) (b : Bool) → length xs ≡ length ys → (b ≡ true → slice_index xs r ≡ slice_index ys r) → (b || (q == r)) ≡ true → slice_index (slice_set xs q x) r ≡ slice_index (slice_set ys q x) r
+set_alike xs ys q x r b n h e =
+    elim (cases_eq r q) as (λ _. slice_index (slice_set xs q x) r ≡ slice_index (slice_set ys q x) r) [
+      | inl k ↦ subst (λ i. slice_index (slice_set xs q x) i ≡ slice_index (slice_set ys q x) i) (sym k)
+          (elim (cases_lt q (length xs)) as (λ _. slice_index (slice_set xs q x) q ≡ slice_index (slice_set ys q x) q) [
+            | inl u ↦ get_or-set_same xs q x 0 u ∙ sym (get_or-set_same ys q x 0 (omega arith))
+            | inr u ↦ past xs ys q x n u
+          ])
+      | inr k ↦ get_or-set_other xs q r x 0 k ∙ h (here b (q == r) e (ne_eqb q r (λ z. k (sym z)))) ∙ sym (get_or-set_other ys q r x 0 k)
+    ]
+  where
+    here : (a c : Bool) → (a || c) ≡ true → c ≡ false → a ≡ true
+    here true c f g = refl
+    here false c f g = absurd (true≢false (sym f ∙ g))
+
+    past : (xs ys : List ℕ) (q x : ℕ) → length xs ≡ length ys → length xs ≤ q → slice_index (slice_set xs q x) q ≡ slice_index (slice_set ys q x) q
+    past xs ys q x n u =
+        let v : length ys ≤ q = omega arith in
+        ap (λ (z : List ℕ). slice_index z q) (set_past xs q x u) ∙ get_or_past xs q 0 u ∙ sym (ap (λ (z : List ℕ). slice_index z q) (set_past ys q x v) ∙ get_or_past ys q 0 v)
+
+or_false : (a : Bool) → (a || false) ≡ true → a ≡ true
+or_false true e = refl
+or_false false e = e
+
+move_alike : (move : Move) (storage setting : ℕ) (o u n k : State) (l : Regs) → SeenAlike (λ r. move_reads setting move (register r)) o u → Agree l n k → Agree (λ r. l r || move_writes storage move r) (apply_move storage move setting o n) (apply_move storage move setting u k)
+move_alike keep storage setting o u n k l a b = agree_less l _ n k (λ r e. or_false (l r) e) b
+move_alike (write v) storage setting o u n k l a b =
+    let e : mean v o setting ≡ mean v u setting = mean_seen v setting o u (a) in
+    subst (λ x. Agree (λ r. l r || move_writes storage (write v) r) (apply_move storage (write v) setting o n) (let s : State = record { regs = slice_set k.regs storage x; cells = k.cells } in s)) e
+    (record {
+      size = length-set n.regs storage (mean v o setting) ∙ b.size ∙ sym (length-set k.regs storage (mean v o setting));
+      cells = b.cells;
+      regs = λ r f. set_alike n.regs k.regs storage (mean v o setting) r (l r) b.size (b.regs r) f;
+    })
+move_alike (write_at c v) storage setting o u n k l a b =
+    let e : mean c o setting ≡ mean c u setting = mean_seen c setting o u (seen_less _ _ o u (λ r z. or_left (term_reads setting c (register r)) (term_reads setting v (register r)) z) a) in
+    let f : mean v o setting ≡ mean v u setting = mean_seen v setting o u (seen_less _ _ o u (λ r z. or_right (term_reads setting c (register r)) (term_reads setting v (register r)) z) a) in
+    record {
+      size = b.size;
+      cells = rw (e, f, b.cells) refl;
+      regs = λ r z. b.regs r (or_false (l r) z);
+    }
+
+operation_alike : (p : Operation) (o u n k : State) (l : Regs) → SeenAlike (λ r. reads p (register r)) o u → Agree l n k → Agree (λ r. l r || writes p r) (apply_operation p o n) (apply_operation p u k)
+operation_alike p o u n k l a b = move_alike p.move p.storage p.setting o u n k l a b
+
+module _ {A : Type 0} (m : A → Operation) where
+  all_alike : (g : List A) (o u n k : State) (l : Regs) → SeenAlike (group_reads m g) o u → Agree l n k → Agree (λ r. l r || group_writes m g r) (apply_all m g o n) (apply_all m g u k)
+  all_alike [] o u n k l a b = agree_less l _ n k (λ r e. or_false (l r) e) b
+  all_alike (x ∷ g) o u n k l a b =
+      let c : Agree (λ r. l r || writes (m x) r) (apply_operation (m x) o n) (apply_operation (m x) u k) =
+      operation_alike (m x) o u n k l (seen_less _ _ o u (λ r z. or_left (reads (m x) (register r)) (group_reads m g r) z) a) b in
+      let d : Agree (λ r. (l r || writes (m x) r) || group_writes m g r) (apply_all m g o (apply_operation (m x) o n)) (apply_all m g u (apply_operation (m x) u k)) =
+      all_alike g o u (apply_operation (m x) o n) (apply_operation (m x) u k) (λ r. l r || writes (m x) r) (seen_less _ _ o u (λ r z. or_right (reads (m x) (register r)) (group_reads m g r) z) a) c in
+      agree_less _ _ _ _ (λ r z. or_assoc (l r) (writes (m x) r) (group_writes m g r) ∙ z) d
+
+  kept_or_written : (a w : Bool) → (a || w) ≡ true → ((a && not w) || w) ≡ true
+  kept_or_written true true e = refl
+  kept_or_written true false e = refl
+  kept_or_written false w e = e
+
+  kept_live : (a l w : Bool) → (l && not w) ≡ true → (a || (l && not w)) ≡ true
+  kept_live a l w e = or_right a (l && not w) e
+
+  -- a group leaves alike what was alike in the registers live before it
+  pub effect_alike : (g : List A) (l : Regs) (s t : State) → Agree (λ r. group_reads m g r || (l r && not (group_writes m g r))) s t → Agree (λ r. l r || group_writes m g r) (group_effect m g s) (group_effect m g t)
+  effect_alike g l s t a =
+      agree_less _ _ _ _ (λ r z. kept_or_written (l r) (group_writes m g r) z)
+      (all_alike g s t s t (λ r. l r && not (group_writes m g r))
+      (record { cells = λ z. a.cells; regs = λ r z. a.regs r (or_left (group_reads m g r) (l r && not (group_writes m g r)) z) })
+      (agree_less _ _ s t (λ r z. or_right (group_reads m g r) (l r && not (group_writes m g r)) z) a))

@@ -1,0 +1,49 @@
+-- Which words fit a group of steps, over the netlist alone.
+use Rattle.std.specs.Prelude.{ℕ, ◌≡◌, ◌≢◌, ◌≤◌, ◌||◌, Bool, true, false, List, [], ◌∷◌, slice_get, bit_and}
+use Rattle.net_model.specs.declared.hardware.Netlist.{Netlist}
+use Rattle.net_model.specs.Nets.{IsRegister}
+use Rattle.net_model.specs.Terms.{keep}
+use Rattle.net_model.specs.Transfers.{IsClean, Steps, move_at, memory_move}
+use Rattle.net_model.specs.Fields.{move_fields}
+use Rattle.form_model.specs.Effects.{Operation, is_store}
+use Rattle.form_model.specs.Live.{Regs, group_writes}
+
+-- the word does the transfer, which is one other than to keep, with its setting: the word's bits in the fields of the transfer
+pub record Does (netlist : Netlist) (word : ℕ) (d : Operation) : Type 0 where
+  pub changes : d.move ≢ keep
+  pub gives : move_at netlist word d.storage ≡ d.move
+  pub setting : bit_and word (move_fields d.move) ≡ d.setting
+
+-- it does the transfer of each step
+abbrev pub DoesAll : {A : Type 0} → Netlist → (A → Operation) → ℕ → List A → Type 0
+DoesAll netlist m word [] = Unit {0}
+DoesAll netlist m word (x ∷ g) = Does netlist word (m x) × DoesAll netlist m word g
+
+-- a step of the group writes the data memory
+abbrev pub group_stores : {A : Type 0} → (A → Operation) → List A → Bool
+group_stores m [] = false
+group_stores m (x ∷ g) = is_store (m x).move || group_stores m g
+
+-- the word does each step's transfer with its setting, steps, keeps the data memory unless a step writes it, keeps each live register
+-- that isn't a destination, and doesn't clash
+pub record FitsGroup {A : Type 0} (netlist : Netlist) (m : A → Operation) (word : ℕ) (g : List A) (live : Regs) : Type 0 where
+  pub clean : IsClean netlist word
+  pub does : DoesAll netlist m word g
+  pub steps : Steps netlist word
+  pub memory : group_stores m g ≡ false → memory_move netlist word ≡ keep
+  pub registers : (r : ℕ) → IsRegister (slice_get netlist.storages r) → live r ≡ true → group_writes m g r ≡ false → move_at netlist word r ≡ keep
+
+-- the same as a relation of words, groups and live registers
+abbrev pub fits_over : {A : Type 0} → Netlist → (A → Operation) → ℕ → List A → Regs → Type 0
+fits_over netlist m word g live = FitsGroup netlist m word g live
+
+-- a jump or branch word: it does the transfer with its setting, keeps the data memory, and doesn't clash
+pub record FitsJump (netlist : Netlist) (word : ℕ) (d : Operation) : Type 0 where
+  pub clean : IsClean netlist word
+  pub does : Does netlist word d
+  pub memory : memory_move netlist word ≡ keep
+
+-- the least word that fits
+pub record IsLeastFit (fits : ℕ → Type 0) (word : ℕ) : Type 0 where
+  pub is : fits word
+  pub least : (other : ℕ) → fits other → word ≤ other

@@ -1,0 +1,7 @@
+pub mod Fits
+pub mod Groups
+pub mod Runs
+pub mod Steps
+pub mod Writing
+pub mod Laws
+pub mod Worked
