@@ -2,5 +2,5 @@ pub mod Fixed
 pub mod Flowing
 pub mod Heads
 pub mod Stores
-pub mod Straight
+pub mod Ending
 pub mod Tracing

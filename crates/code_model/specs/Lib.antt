@@ -3,10 +3,7 @@ pub mod Layout
 pub mod Machine
 pub mod Right
 pub mod Words
-pub mod Programs
-pub mod Straight
 pub mod Flow
 pub mod ImageText
-pub mod Tests
 pub mod ImageFits
 pub mod ImageLines

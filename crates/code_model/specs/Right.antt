@@ -1,5 +1,5 @@
--- When an image is right code: its layout, its marks and its trace.
-use Rattle.std.specs.Prelude.{ℕ, List, [], ◌∷◌, ◌+◌, ◌*◌, ◌≡◌, ◌≤◌, length, take, Some, None}
+-- When an image is right code: its layout and its trace.
+use Rattle.std.specs.Prelude.{ℕ, List, [], ◌∷◌, ◌+◌, ◌*◌, ◌≡◌, ◌≤◌, length, take, Some}
 use Rattle.net_model.specs.declared.hardware.Netlist.{Netlist}
 use Rattle.net_model.specs.declared.states.State.{State}
 use Rattle.net_model.specs.Nets.{memory_size}
@@ -17,14 +17,6 @@ pub record IsLaidOut (netlist : Netlist) (cells : ℕ) (vars : List (List ℕ ×
   pub temps : image.temps ≡ cells
   pub places : image.places ≡ places_from image.temps vars
   pub apart : Apart image.temps image.places (memory_size netlist.storages)
-
--- ---- marks
-
--- of a program without tests: the last word has the one mark, that of the end
-pub record IsEndMarked (image : Image) : Type 0 where
-  pub last : ℕ
-  pub words : length (words_of image) ≡ last + 1
-  pub marks : image.marks ≡ record { address = last; label = None } ∷ []
 
 -- ---- trace
 

@@ -1,10 +1,10 @@
 -- What a word does to the memory and the program counter, whatever the state.
-use Rattle.std.specs.Prelude.{ℕ, Bool, true, false, List, [], ◌∷◌, ◌+◌, ◌≡◌, ◌&&◌}
+use Rattle.std.specs.Prelude.{ℕ, Bool, true, false, ◌≡◌, ◌&&◌}
 use Rattle.net_model.specs.declared.hardware.Netlist.{Netlist}
-use Rattle.net_model.specs.Terms.{Term, word, reg, const, read, un, bin, slice, cat, zext, sext, select, keep, write, write_at}
+use Rattle.net_model.specs.Terms.{Term, word, reg, const, read, un, bin, slice, cat, zext, sext, select, keep, write}
 use Rattle.net_model.specs.Symbolic.{blank}
 use Rattle.net_model.specs.Meaning.{mean}
-use Rattle.net_model.specs.Transfers.{IsClean, Steps, counter_move, memory_move}
+use Rattle.net_model.specs.Transfers.{IsClean, counter_move, memory_move}
 
 -- an expression without registers and reads
 abbrev pub is_fixed : Term → Bool
@@ -25,14 +25,6 @@ pub record IsFixedAt (i : ℕ) (e : Term) (value : ℕ) : Type 0 where
   pub fixed : is_fixed e ≡ true
   pub is : mean e blank i ≡ value
 
--- the word writes this value to this cell of the memory
-pub record DoesStore (netlist : Netlist) (i address value : ℕ) : Type 0 where
-  pub at_term : Term
-  pub value_term : Term
-  pub move : memory_move netlist i ≡ write_at at_term value_term
-  pub at_is : IsFixedAt i at_term address
-  pub value_is : IsFixedAt i value_term value
-
 -- the word makes the program counter this address
 pub record DoesJump (netlist : Netlist) (i address : ℕ) : Type 0 where
   pub to_term : Term
@@ -42,21 +34,8 @@ pub record DoesJump (netlist : Netlist) (i address : ℕ) : Type 0 where
 pub record KeepsMemory (netlist : Netlist) (i : ℕ) : Type 0 where
   pub move : memory_move netlist i ≡ keep
 
--- a word for an assignment of a number to a cell: it steps, and stores
-pub record DoesAssign (netlist : Netlist) (i address value : ℕ) : Type 0 where
-  pub clean : IsClean netlist i
-  pub step : Steps netlist i
-  pub store : DoesStore netlist i address value
-
 -- a word that goes to an address and keeps the memory: a jump, and the end, which goes to itself
 pub record DoesGoto (netlist : Netlist) (i address : ℕ) : Type 0 where
   pub clean : IsClean netlist i
   pub jump : DoesJump netlist i address
   pub keeps : KeepsMemory netlist i
-
--- each pair of a variable's cell and a number has its word, in order; the variables' cells stand behind the temporary ones
-abbrev pub AreStored : Netlist → ℕ → List (ℕ × ℕ) → List ℕ → Type 0
-AreStored netlist temps [] [] = Unit {0}
-AreStored netlist temps [] (i ∷ words) = ⊥
-AreStored netlist temps (store ∷ rest) [] = ⊥
-AreStored netlist temps (store ∷ rest) (i ∷ words) = DoesAssign netlist i (temps + store.0) store.1 × AreStored netlist temps rest words

@@ -2,9 +2,7 @@
 #![tactic(auto)]
 
 mod image;
-mod laws;
 mod limits;
 
 pub use image::{Image, Mark, Place, Places, Word, bytes_of};
-pub use laws::law_of_straight;
 pub use limits::Limits;

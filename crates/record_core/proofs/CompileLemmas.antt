@@ -6,90 +6,128 @@ use Rattle.net_extract.specs.Extracts.{BreaksAnyRule}
 use Rattle.src_front.proofs.FrontLaws.{no_text_fault as no_src_fault}
 use Rattle.src_model.specs.declared.fault.SrcFault.{SrcFault}
 use Rattle.src_parser.specs.Texts.{IsNoSrcText}
-use Rattle.first_path.proofs.FirstLemmas.{has_net, none_broken, weaker, no_full, no_stepless, no_jumpless, no_wide, no_crooked, no_wordless, narrow_of_code, straight_of_code}
-use Rattle.first_path.specs.declared.compiler.FirstFault.{FirstFault}
-use Rattle.first_path.specs.declared.compiler.FirstFault.TheVariants.{NetText as FirstNetText, Net as FirstNet, SrcText as FirstSrcText, Src as FirstSrc, DataFull as NoRoom, NoStep as Stepless, NoJump as Jumpless, WideCode, NotStraight, NoWord as Wordless, Memory as FirstMemory}
-use Rattle.first_path.specs.Code.{IsFull, IsWide, IsNotStraight, IsWordless, FailsWith, HasRoom, HasSteps, HasJumps, IsStepless, IsJumpless, IsNarrow, HasStores}
-use Rattle.first_path.specs.First.{HasNet, IsCompiled, BreaksSrc, IsFirstFault}
-use Rattle.first_path.specs.Tasks.{Property, Holds}
-use Rattle.record_core.proofs.NetLemmas.{past_rules, stops_at_text, stops_at_rule}
-use Rattle.record_core.proofs.StageLemmas.{By-none, Just-none}
-use Rattle.record_core.specs.Answers.{CompileAnswers, IsLater}
+use Rattle.right_code.specs.Covered.{HasBareTree}
+use Rattle.right_code.specs.Tasks.{Property}
+use Rattle.net_code.specs.Refusals.{HasJumps, HasSteps, IsBeyondReach, IsCoverable, IsJumpless, IsReached, IsStepless, IsTooLong as HasLongImage}
+use Rattle.net_compile.proofs.TaskLemmas.{has_net, none_broken, weaker, no_full, no_stepless, no_jumpless, no_uncovered, no_beyond, no_long, room_of_code, reached_of_code}
+use Rattle.net_compile.specs.declared.fault.CompileFault.{CompileFault}
+use Rattle.net_compile.specs.declared.fault.CompileFault.TheVariants.{NetText as CompileNetText, Net as CompileNet, SrcText as CompileSrcText, Src as CompileSrc, DataFull as NoRoom, NoStep as Stepless, NoJump as Jumpless, NoCover as Uncovered, NoReach as Beyond, ImageFull as Overlong, Memory as CompileMemory}
+use Rattle.net_compile.specs.Code.{IsFull, IsWithin, FailsWith, HasRoom}
+use Rattle.net_compile.specs.Compiled.{HasNet, IsCompiled, BreaksSrc, IsCompileFault}
+use Rattle.net_compile.specs.Tasks.{Holds}
+use Rattle.record_core.proofs.NetLemmas.{behind_rules, past_rules, stops_at_text, stops_at_rule}
+use Rattle.record_core.proofs.StageLemmas.{By-none, Just-none, Then-behind, Then-past}
+use Rattle.record_core.specs.Answers.{CompileAnswers, CompileEnds}
 use Rattle.record_core.specs.Stages.{By, Just, Then}
-use Rattle.record_core.specs.Told.{first_status}
+use Rattle.record_core.specs.Told.{compile_status}
 use Rattle.record_core.specs.declared.status.Status.{Status}
-use Rattle.record_core.specs.declared.status.Status.TheVariants.{Done, NetText, Net, SrcText, Src, NoStep, NoJump, DataFull, Memory, Later, NoWord}
+use Rattle.record_core.specs.declared.status.Status.TheVariants.{Done, NetText, Net, SrcText, Src, NoStep, NoJump, NoCover, DataFull, NoReach, ImageFull, Memory}
 
 module _ (line : Status → List ℕ) (net src : List ℕ) where
-  -- the later stages, by what the texts passed so far
-  abbrev word_answers : Status → List ℕ → Type 0
-  word_answers = Then line (By NoWord (λ (number : ℕ). Holds net src (IsWordless number))) (λ status text. (status ≡ Done) × IsCompiled net src text)
+  -- ---- the stages behind those of the netlist
 
-  abbrev straight_answers : Status → List ℕ → Type 0
-  straight_answers = Then line (By Later (IsLater 1 net src IsNotStraight)) word_answers
+  abbrev no_text : Status → Type 0
+  no_text = By SrcText (IsNoSrcText src)
 
-  abbrev wide_answers : Status → List ℕ → Type 0
-  wide_answers = Then line (By Later (IsLater 0 net src IsWide)) straight_answers
+  abbrev broken : Status → Type 0
+  broken = By Src (BreaksSrc net src)
+
+  abbrev full : Status → Type 0
+  full = By (λ (p : ℕ × ℕ). DataFull p.0 p.1) (λ (p : ℕ × ℕ). Holds net src (IsFull p.0 p.1))
+
+  abbrev stepless : Status → Type 0
+  stepless = Just NoStep (Holds net src (λ task. IsStepless task.netlist))
+
+  abbrev jumpless : Status → Type 0
+  jumpless = Just NoJump (Holds net src (λ task. IsJumpless task.netlist))
+
+  abbrev uncovered : Status → Type 0
+  uncovered = By NoCover (λ (tree : ℕ). Holds net src (HasBareTree tree))
+
+  abbrev beyond : Status → Type 0
+  beyond = By (λ (p : ℕ × ℕ). NoReach p.0 p.1) (λ (p : ℕ × ℕ). Holds net src (IsBeyondReach p.0 p.1))
+
+  -- ---- what is answered behind them
+
+  abbrev ends : Status → List ℕ → Type 0
+  ends = CompileEnds line net src
+
+  abbrev reach_answers : Status → List ℕ → Type 0
+  reach_answers = Then line beyond ends
+
+  abbrev cover_answers : Status → List ℕ → Type 0
+  cover_answers = Then line uncovered reach_answers
 
   abbrev jump_answers : Status → List ℕ → Type 0
-  jump_answers = Then line (Just NoJump (Holds net src (λ task. IsJumpless task.netlist))) wide_answers
+  jump_answers = Then line jumpless cover_answers
 
   abbrev step_answers : Status → List ℕ → Type 0
-  step_answers = Then line (Just NoStep (Holds net src (λ task. IsStepless task.netlist))) jump_answers
+  step_answers = Then line stepless jump_answers
 
   abbrev room_answers : Status → List ℕ → Type 0
-  room_answers = Then line (By (λ (p : ℕ × ℕ). DataFull p.0 p.1) (λ (p : ℕ × ℕ). Holds net src (IsFull p.0 p.1))) step_answers
+  room_answers = Then line full step_answers
+
+  abbrev rule_answers : Status → List ℕ → Type 0
+  rule_answers = Then line broken room_answers
 
   abbrev source_answers : Status → List ℕ → Type 0
-  source_answers = Then line (By SrcText (IsNoSrcText src)) (Then line (By Src (BreaksSrc net src)) room_answers)
+  source_answers = Then line no_text rule_answers
 
-  -- a netlist's text passes the stages of the netlist
+  -- ---- no stage refuses where there is nothing to refuse
+
+  not_text : (P : Property) → Holds net src P → (other : Status) → no_text other → ⊥
+  not_text P h = By-none SrcText (IsNoSrcText src) (λ at faulty. no_src_fault src h.task.listing at h.is.src_file.says faulty)
+
+  not_broken : (P : Property) → Holds net src P → (other : Status) → broken other → ⊥
+  not_broken P h = By-none Src (BreaksSrc net src) (λ fault breaks. none_broken net src P fault h breaks)
+
+  not_full : Holds net src HasRoom → (other : Status) → full other → ⊥
+  not_full h = By-none (λ (p : ℕ × ℕ). DataFull p.0 p.1) (λ (p : ℕ × ℕ). Holds net src (IsFull p.0 p.1)) (λ p is. no_full net src p.0 p.1 h is)
+
+  not_stepless : Holds net src HasSteps → (other : Status) → stepless other → ⊥
+  not_stepless h = Just-none NoStep (Holds net src (λ task. IsStepless task.netlist)) (no_stepless net src h)
+
+  not_jumpless : Holds net src HasJumps → (other : Status) → jumpless other → ⊥
+  not_jumpless h = Just-none NoJump (Holds net src (λ task. IsJumpless task.netlist)) (no_jumpless net src h)
+
+  not_uncovered : Holds net src IsCoverable → (other : Status) → uncovered other → ⊥
+  not_uncovered h = By-none NoCover (λ (tree : ℕ). Holds net src (HasBareTree tree)) (λ tree is. no_uncovered net src tree h is)
+
+  not_beyond : Holds net src IsReached → (other : Status) → beyond other → ⊥
+  not_beyond h = By-none (λ (p : ℕ × ℕ). NoReach p.0 p.1) (λ (p : ℕ × ℕ). Holds net src (IsBeyondReach p.0 p.1)) (λ p is. no_beyond net src p.0 p.1 h is)
+
+  -- ---- what each refusal that doesn't come leaves to the later stages
+
   past_net : HasNet net → (status : Status) (text : List ℕ) → source_answers status text → CompileAnswers line net src status text
   past_net h = past_rules line net source_answers h.entries h.file
 
-  -- a program for it passes those of the program
   past_program : (P : Property) → Holds net src P → (status : Status) (text : List ℕ) → room_answers status text → CompileAnswers line net src status text
-  past_program P h status text later = past_net (has_net net src P h) status text (inr (
-    By-none SrcText (IsNoSrcText src) (λ at faulty. no_src_fault src h.task.listing at h.is.src_file.says faulty),
-    inr (By-none Src (BreaksSrc net src) (λ fault breaks. none_broken net src P fault h breaks), later),
-  ))
+  past_program P h status text later = past_net (has_net net src P h) status text
+      (Then-past line no_text rule_answers (not_text P h) status text (Then-past line broken room_answers (not_broken P h) status text later))
 
-  -- one that has room passes that of the room, and so on
   past_room : Holds net src HasRoom → (status : Status) (text : List ℕ) → step_answers status text → CompileAnswers line net src status text
-  past_room h status text later = past_program HasRoom h status text (inr (
-    By-none (λ (p : ℕ × ℕ). DataFull p.0 p.1) (λ (p : ℕ × ℕ). Holds net src (IsFull p.0 p.1)) (λ p full. no_full net src p.0 p.1 h full),
-    later,
-  ))
+  past_room h status text later = past_program HasRoom h status text (Then-past line full step_answers (not_full h) status text later)
 
-  past_steps : Holds net src HasSteps → (status : Status) (text : List ℕ) → jump_answers status text → CompileAnswers line net src status text
-  past_steps h status text later = past_room (weaker net src HasSteps HasRoom (λ task steps. steps.room) h) status text (inr (
-    Just-none NoStep (Holds net src (λ task. IsStepless task.netlist)) (no_stepless net src h),
-    later,
-  ))
+  module _ (roomy : Holds net src HasRoom) where
+    past_steps : Holds net src HasSteps → (status : Status) (text : List ℕ) → jump_answers status text → CompileAnswers line net src status text
+    past_steps h status text later = past_room roomy status text (Then-past line stepless jump_answers (not_stepless h) status text later)
 
-  past_jumps : Holds net src HasJumps → (status : Status) (text : List ℕ) → wide_answers status text → CompileAnswers line net src status text
-  past_jumps h status text later = past_steps (weaker net src HasJumps HasSteps (λ task jumps. jumps.steps) h) status text (inr (
-    Just-none NoJump (Holds net src (λ task. IsJumpless task.netlist)) (no_jumpless net src h),
-    later,
-  ))
+    past_jumps : Holds net src HasJumps → (status : Status) (text : List ℕ) → cover_answers status text → CompileAnswers line net src status text
+    past_jumps h status text later =
+        past_steps (weaker net src HasJumps HasSteps (λ task x. x.steps) h) status text (Then-past line jumpless cover_answers (not_jumpless h) status text later)
 
-  past_wide : Holds net src IsNarrow → (status : Status) (text : List ℕ) → straight_answers status text → CompileAnswers line net src status text
-  past_wide h status text later = past_jumps (weaker net src IsNarrow HasJumps (λ task narrow. narrow.jumps) h) status text (inr (
-    By-none Later (IsLater 0 net src IsWide) (λ file reason. no_wide net src h reason.1),
-    later,
-  ))
+    past_covers : Holds net src IsCoverable → (status : Status) (text : List ℕ) → reach_answers status text → CompileAnswers line net src status text
+    past_covers h status text later =
+        past_jumps (weaker net src IsCoverable HasJumps (λ task x. x.jumps) h) status text (Then-past line uncovered reach_answers (not_uncovered h) status text later)
 
-  past_straight : Holds net src IsNarrow → Holds net src HasStores → (status : Status) (text : List ℕ) → word_answers status text → CompileAnswers line net src status text
-  past_straight h straight status text later = past_wide h status text (inr (
-    By-none Later (IsLater 1 net src IsNotStraight) (λ file reason. no_crooked net src straight reason.1),
-    later,
-  ))
+    past_reach : Holds net src IsReached → (status : Status) (text : List ℕ) → ends status text → CompileAnswers line net src status text
+    past_reach h status text later =
+        past_covers (weaker net src IsReached IsCoverable (λ task x. x.coverable) h) status text (Then-past line beyond ends (not_beyond h) status text later)
 
   pub answers_done : (out : List ℕ) → IsCompiled net src out → CompileAnswers line net src Done out
-  answers_done out code = past_straight (narrow_of_code net src out code) (straight_of_code net src out code) Done out (inr (
-    By-none NoWord (λ (number : ℕ). Holds net src (IsWordless number)) (λ number lacks. no_wordless net src out number code lacks),
-    (refl, code),
-  ))
+  answers_done out code = past_reach (room_of_code net src out code) (reached_of_code net src out code) Done out (inr (refl, code))
+
+  -- ---- each refusal is answered
 
   answers_no_net_text : (at : ℕ) → IsNoNetText net at → CompileAnswers line net src (NetText at) (line (NetText at))
   answers_no_net_text = stops_at_text line net source_answers
@@ -107,55 +145,97 @@ module _ (line : Status → List ℕ) (net src : List ℕ) where
   ))
 
   answers_full : (need have : ℕ) → Holds net src (IsFull need have) → CompileAnswers line net src (DataFull need have) (line (DataFull need have))
-  answers_full need have full = past_program (IsFull need have) full (DataFull need have) (line (DataFull need have)) (inl (((need, have), full, refl), refl))
+  answers_full need have is = past_program (IsFull need have) is (DataFull need have) (line (DataFull need have)) (inl (((need, have), is, refl), refl))
 
   answers_stepless : Holds net src (FailsWith Stepless) → CompileAnswers line net src NoStep (line NoStep)
-  answers_stepless h = past_room (weaker net src (FailsWith Stepless) HasRoom (λ task both. both.0) h) NoStep (line NoStep)
-      (inl ((weaker net src (FailsWith Stepless) (λ task. IsStepless task.netlist) (λ task both. both.1) h, refl), refl))
+  answers_stepless h = past_room (weaker net src (FailsWith Stepless) HasRoom (λ task x. x.0) h) NoStep (line NoStep)
+      (inl ((weaker net src (FailsWith Stepless) (λ task. IsStepless task.netlist) (λ task x. x.1) h, refl), refl))
 
   answers_jumpless : Holds net src (FailsWith Jumpless) → CompileAnswers line net src NoJump (line NoJump)
-  answers_jumpless h = past_steps (weaker net src (FailsWith Jumpless) HasSteps (λ task both. both.0) h) NoJump (line NoJump)
-      (inl ((weaker net src (FailsWith Jumpless) (λ task. IsJumpless task.netlist) (λ task both. both.1) h, refl), refl))
+  answers_jumpless h =
+      past_steps (weaker net src (FailsWith Jumpless) HasRoom (λ task x. x.0) h)
+      (weaker net src (FailsWith Jumpless) HasSteps (λ task x. x.1.0) h)
+      NoJump (line NoJump)
+      (inl ((weaker net src (FailsWith Jumpless) (λ task. IsJumpless task.netlist) (λ task x. x.1.1) h, refl), refl))
 
-  answers_wide : Holds net src (FailsWith WideCode) → CompileAnswers line net src (Later 0) (line (Later 0))
-  answers_wide h = past_jumps (weaker net src (FailsWith WideCode) HasJumps (λ task both. both.0) h) (Later 0) (line (Later 0))
-      (inl ((0, (refl, weaker net src (FailsWith WideCode) IsWide (λ task both. both.1) h), refl), refl))
+  answers_uncovered : (tree : ℕ) → Holds net src (FailsWith (Uncovered tree)) → CompileAnswers line net src (NoCover tree) (line (NoCover tree))
+  answers_uncovered tree h =
+      past_jumps (weaker net src (FailsWith (Uncovered tree)) HasRoom (λ task x. x.0) h)
+      (weaker net src (FailsWith (Uncovered tree)) HasJumps (λ task x. x.1.0) h)
+      (NoCover tree) (line (NoCover tree))
+      (inl ((tree, weaker net src (FailsWith (Uncovered tree)) (HasBareTree tree) (λ task x. x.1.1) h, refl), refl))
 
-  answers_crooked : Holds net src (FailsWith NotStraight) → CompileAnswers line net src (Later 1) (line (Later 1))
-  answers_crooked h = past_wide (weaker net src (FailsWith NotStraight) IsNarrow (λ task both. both.0) h) (Later 1) (line (Later 1))
-      (inl ((1, (refl, weaker net src (FailsWith NotStraight) IsNotStraight (λ task both. both.1) h), refl), refl))
+  answers_beyond : (bound reach : ℕ) → Holds net src (FailsWith (Beyond bound reach)) → CompileAnswers line net src (NoReach bound reach) (line (NoReach bound reach))
+  answers_beyond bound reach h =
+      past_covers (weaker net src (FailsWith (Beyond bound reach)) HasRoom (λ task x. x.0) h)
+      (weaker net src (FailsWith (Beyond bound reach)) IsCoverable (λ task x. x.1.0) h)
+      (NoReach bound reach) (line (NoReach bound reach))
+      (inl (((bound, reach), weaker net src (FailsWith (Beyond bound reach)) (IsBeyondReach bound reach) (λ task x. x.1.1) h, refl), refl))
 
-  answers_wordless : (number : ℕ) → Holds net src (FailsWith (Wordless number)) → CompileAnswers line net src (NoWord number) (line (NoWord number))
-  answers_wordless number h =
-      past_straight (weaker net src (FailsWith (Wordless number)) IsNarrow (λ task both. both.0) h)
-      (weaker net src (FailsWith (Wordless number)) HasStores (λ task both. record { stores = both.1.stores; are = both.1.are }) h)
-      (NoWord number) (line (NoWord number))
-      (inl ((number, weaker net src (FailsWith (Wordless number)) (IsWordless number) (λ task both. both.1) h, refl), refl))
+  answers_long : (len size bound : ℕ) → Holds net src (FailsWith (Overlong len size bound)) → CompileAnswers line net src (ImageFull len size bound) (line (ImageFull len size bound))
+  answers_long len size bound h =
+      past_reach (weaker net src (FailsWith (Overlong len size bound)) HasRoom (λ task x. x.0) h)
+      (weaker net src (FailsWith (Overlong len size bound)) IsReached (λ task x. x.1.0) h)
+      (ImageFull len size bound) (line (ImageFull len size bound))
+      (inl (len, size, bound, weaker net src (FailsWith (Overlong len size bound)) (HasLongImage len size bound) (λ task x. x.1.1) h, refl, refl))
 
   -- a fault of the compiler is what is answered
-  pub answers_fault : (fault : FirstFault) → IsFirstFault net src fault → (first_status fault ≡ Memory) ⊎ CompileAnswers line net src (first_status fault) (line (first_status fault))
-  answers_fault (FirstNetText at) is = inr (answers_no_net_text at is)
-  answers_fault (FirstNet fault) is = inr (answers_broken fault is)
-  answers_fault (FirstSrcText at) is = inr (answers_no_src_text at is)
-  answers_fault (FirstSrc fault) is = inr (answers_broken_src fault is)
+  pub answers_fault : (fault : CompileFault) → IsCompileFault net src fault →
+      (compile_status fault ≡ Memory) ⊎ CompileAnswers line net src (compile_status fault) (line (compile_status fault))
+  answers_fault (CompileNetText at) is = inr (answers_no_net_text at is)
+  answers_fault (CompileNet fault) is = inr (answers_broken fault is)
+  answers_fault (CompileSrcText at) is = inr (answers_no_src_text at is)
+  answers_fault (CompileSrc fault) is = inr (answers_broken_src fault is)
   answers_fault (NoRoom need have) is = inr (answers_full need have is)
   answers_fault Stepless is = inr (answers_stepless is)
   answers_fault Jumpless is = inr (answers_jumpless is)
-  answers_fault WideCode is = inr (answers_wide is)
-  answers_fault NotStraight is = inr (answers_crooked is)
-  answers_fault (Wordless number) is = inr (answers_wordless number is)
-  answers_fault FirstMemory is = inl refl
+  answers_fault (Uncovered tree) is = inr (answers_uncovered tree is)
+  answers_fault (Beyond bound reach) is = inr (answers_beyond bound reach is)
+  answers_fault (Overlong len size bound) is = inr (answers_long len size bound is)
+  answers_fault CompileMemory is = inl refl
 
--- what is written on `Done` is an image
-pub right_of : (line : Status → List ℕ) (net src text : List ℕ) → CompileAnswers line net src Done text → IsCompiled net src text
-right_of line net src text (inl ((at, reason, is), same)) = absurd cc
-right_of line net src text (inr (net_text, inl ((fault, reason, is), same))) = absurd cc
-right_of line net src text (inr (net_text, inr (rules, inl ((at, reason, is), same)))) = absurd cc
-right_of line net src text (inr (net_text, inr (rules, inr (src_text, inl ((fault, reason, is), same))))) = absurd cc
-right_of line net src text (inr (net_text, inr (rules, inr (src_text, inr (src_rules, inl ((p, reason, is), same)))))) = absurd cc
-right_of line net src text (inr (net_text, inr (rules, inr (src_text, inr (src_rules, inr (room, inl ((reason, is), same))))))) = absurd cc
-right_of line net src text (inr (net_text, inr (rules, inr (src_text, inr (src_rules, inr (room, inr (steps, inl ((reason, is), same)))))))) = absurd cc
-right_of line net src text (inr (net_text, inr (rules, inr (src_text, inr (src_rules, inr (room, inr (steps, inr (jumps, inl ((file, reason, is), same))))))))) = absurd cc
-right_of line net src text (inr (net_text, inr (rules, inr (src_text, inr (src_rules, inr (room, inr (steps, inr (jumps, inr (wide, inl ((file, reason, is), same)))))))))) = absurd cc
-right_of line net src text (inr (net_text, inr (rules, inr (src_text, inr (src_rules, inr (room, inr (steps, inr (jumps, inr (wide, inr (straight, inl ((number, reason, is), same))))))))))) = absurd cc
-right_of line net src text (inr (net_text, inr (rules, inr (src_text, inr (src_rules, inr (room, inr (steps, inr (jumps, inr (wide, inr (straight, inr (word, (is, right)))))))))))) = right
+  -- ---- where nothing is refused, whatever image is made
+
+  module _ (h : Holds net src IsWithin) where
+    reached : Holds net src IsReached
+    reached = weaker net src IsWithin IsReached (λ task x. x.reached) h
+
+    covered : Holds net src IsCoverable
+    covered = weaker net src IsReached IsCoverable (λ task x. x.coverable) reached
+
+    jumps : Holds net src HasJumps
+    jumps = weaker net src IsCoverable HasJumps (λ task x. x.jumps) covered
+
+    ends_done : (status : Status) (text : List ℕ) → ends status text → status ≡ Done
+    ends_done status text (inl (len, size, bound, long, is, same)) = absurd (no_long net src len size bound h long)
+    ends_done status text (inr (is, code)) = is
+
+    pub done_within : (status : Status) (text : List ℕ) → CompileAnswers line net src status text → status ≡ Done
+    done_within status text answers =
+        let a : source_answers status text = behind_rules line net source_answers (has_net net src IsWithin h).entries (has_net net src IsWithin h).file status text answers in
+        let b : rule_answers status text = Then-behind line no_text rule_answers (not_text IsWithin h) status text a in
+        let c : room_answers status text = Then-behind line broken room_answers (not_broken IsWithin h) status text b in
+        let d : step_answers status text = Then-behind line full step_answers (not_full (weaker net src IsWithin HasRoom (λ task x. x.room) h)) status text c in
+        let e : jump_answers status text =
+        Then-behind line stepless jump_answers (not_stepless (weaker net src HasJumps HasSteps (λ task x. x.steps) jumps)) status text d in
+        let f : cover_answers status text = Then-behind line jumpless cover_answers (not_jumpless jumps) status text e in
+        let g : reach_answers status text = Then-behind line uncovered reach_answers (not_uncovered covered) status text f in
+        ends_done status text (Then-behind line beyond ends (not_beyond reached) status text g)
+
+  -- ---- what is written on `Done` is an image
+
+  ends_code : (text : List ℕ) → ends Done text → IsCompiled net src text
+  ends_code text (inl (len, size, bound, long, is, same)) = absurd cc
+  ends_code text (inr (is, code)) = code
+
+  pub right_of : (text : List ℕ) → CompileAnswers line net src Done text → IsCompiled net src text
+  right_of text (inl ((at, reason, is), same)) = absurd cc
+  right_of text (inr (net_text, inl ((fault, reason, is), same))) = absurd cc
+  right_of text (inr (net_text, inr (rules, inl ((at, reason, is), same)))) = absurd cc
+  right_of text (inr (net_text, inr (rules, inr (src_text, inl ((fault, reason, is), same))))) = absurd cc
+  right_of text (inr (net_text, inr (rules, inr (src_text, inr (src_rules, inl ((p, reason, is), same)))))) = absurd cc
+  right_of text (inr (net_text, inr (rules, inr (src_text, inr (src_rules, inr (room, inl ((reason, is), same))))))) = absurd cc
+  right_of text (inr (net_text, inr (rules, inr (src_text, inr (src_rules, inr (room, inr (steps, inl ((reason, is), same)))))))) = absurd cc
+  right_of text (inr (net_text, inr (rules, inr (src_text, inr (src_rules, inr (room, inr (steps, inr (jumps, inl ((tree, reason, is), same))))))))) = absurd cc
+  right_of text (inr (net_text, inr (rules, inr (src_text, inr (src_rules, inr (room, inr (steps, inr (jumps, inr (covers, inl ((p, reason, is), same)))))))))) = absurd cc
+  right_of text (inr (net_text, inr (rules, inr (src_text, inr (src_rules, inr (room, inr (steps, inr (jumps, inr (covers, inr (reach, last)))))))))) = ends_code text last

@@ -18,13 +18,29 @@ Just-none one Reason none status just = none just.0
 pub Just-unique : (one : Status) (Reason : Type 0) → (s t : Status) → Just one Reason s → Just one Reason t → s ≡ t
 Just-unique one Reason s t p q = p.1 ∙ sym q.1
 
+-- any two statuses that are answered are alike
+abbrev pub AllAlike : (Status → Status → Type 0) → (Status → List ℕ → Type 0) → Type 0
+AllAlike Alike Answer = (s t : Status) (a b : List ℕ) → Answer s a → Answer t b → Alike s t
+
 -- at most one status is answered
 abbrev pub AtMostOne : (Status → List ℕ → Type 0) → Type 0
-AtMostOne Answer = (s t : Status) (a b : List ℕ) → Answer s a → Answer t b → s ≡ t
+AtMostOne = AllAlike (λ s t. s ≡ t)
 
--- where a stage and the later stages answer at most once, so do they together
-pub Then-unique : (line : Status → List ℕ) (Refuses : Status → Type 0) (Later : Status → List ℕ → Type 0) → ((s t : Status) → Refuses s → Refuses t → s ≡ t) → AtMostOne Later → AtMostOne (Then line Refuses Later)
-Then-unique line Refuses Later one later s t a b (inl p) (inl q) = one s t p.0 q.0
-Then-unique line Refuses Later one later s t a b (inl p) (inr q) = absurd (q.0 s p.0)
-Then-unique line Refuses Later one later s t a b (inr p) (inl q) = absurd (p.0 t q.0)
-Then-unique line Refuses Later one later s t a b (inr p) (inr q) = later s t a b p.1 q.1
+-- where a stage refuses with statuses that are alike, and the later stages answer with such, so do they together
+pub Then-alike : (Alike : Status → Status → Type 0) (line : Status → List ℕ) (Refuses : Status → Type 0) (Later : Status → List ℕ → Type 0) →
+    ((s t : Status) → Refuses s → Refuses t → Alike s t) → AllAlike Alike Later → AllAlike Alike (Then line Refuses Later)
+Then-alike Alike line Refuses Later one later s t a b (inl p) (inl q) = one s t p.0 q.0
+Then-alike Alike line Refuses Later one later s t a b (inl p) (inr q) = absurd (q.0 s p.0)
+Then-alike Alike line Refuses Later one later s t a b (inr p) (inl q) = absurd (p.0 t q.0)
+Then-alike Alike line Refuses Later one later s t a b (inr p) (inr q) = later s t a b p.1 q.1
+
+-- where a stage refuses nothing, the later stages answer
+pub Then-past : (line : Status → List ℕ) (Refuses : Status → Type 0) (Later : Status → List ℕ → Type 0) → ((other : Status) → Refuses other → ⊥) →
+    (status : Status) (text : List ℕ) → Later status text → Then line Refuses Later status text
+Then-past line Refuses Later none status text later = inr (none, later)
+
+-- and nothing else does
+pub Then-behind : (line : Status → List ℕ) (Refuses : Status → Type 0) (Later : Status → List ℕ → Type 0) → ((other : Status) → Refuses other → ⊥) →
+    (status : Status) (text : List ℕ) → Then line Refuses Later status text → Later status text
+Then-behind line Refuses Later none status text (inl p) = absurd (none status p.0)
+Then-behind line Refuses Later none status text (inr p) = p.1

@@ -1,29 +1,30 @@
--- At most one status applies, and what follows.
-use Rattle.std.proofs.Common.{◌≡◌, ℕ, ◌⊎◌, List, [], ◌∷◌, Some, None, IsSome, refl, sym, ap, subst, ◌∙◌, inl, inr, rules}
+-- Statuses that apply agree, and what follows.
+use Rattle.std.proofs.Common.{◌≡◌, ℕ, ◌+◌, ◌<◌, ◌⊎◌, List, [], ◌∷◌, Bool, true, false, cond, length, Some, None, IsSome, IsSomeAnd, refl, sym, ap, subst, ◌∙◌, inl, inr, rules, arith}
+use Rattle.std.proofs.lemmas.Slice.Eq.{bytes_eq-Decides}
+use Rattle.std.specs.Str.{bytes_eq}
 use Rattle.std.specs.declared.option.Option.{Option}
 use Rattle.net_parser.proofs.TextFaults.{one_net_fault}
 use Rattle.net_front.proofs.FrontLaws.{one_broken_rule}
 use Rattle.src_parser.proofs.TextFaults.{one_src_fault}
 use Rattle.net_extract.specs.Extracts.{IsExtracted}
-use Rattle.first_path.proofs.FirstLemmas.{one_broken, one_full, one_wordless}
-use Rattle.first_path.specs.Code.{IsWide, IsNotStraight}
-use Rattle.first_path.specs.Tasks.{Property}
+use Rattle.net_compile.proofs.TaskLemmas.{one_beyond, one_broken, one_full, one_limit, one_uncovered}
 use Rattle.net_run.proofs.RunLaws.{one_image_fault, one_memory_fault, one_clash, no_clash_shown}
 use Rattle.net_run.specs.Runs.{ClashedAt}
-use Rattle.first_path.specs.First.{IsCompiled}
 use Rattle.rec_io.specs.Causes.{Rose}
-use Rattle.rec_io.specs.Files.{Files}
+use Rattle.rec_io.specs.Files.{Files, file_of}
 use Rattle.rec_io.specs.Shelf.{ShelfState}
 use Rattle.rec_io.specs.Sink.{SinkState}
-use Rattle.record_core.proofs.NetLemmas.{NetStages-unique}
-use Rattle.record_core.proofs.StageLemmas.{AtMostOne, By-unique, Then-unique, Just-unique}
-use Rattle.record_core.specs.Answers.{Answers, FilesAnswer, CompileAnswers, ExtractAnswers, RunEnds, RunAnswers, TextAnswers, CommandAnswers, file_at, AreFiles, IsReadFault, IsTooLong, IsLater, IsFile, Gives, IsExact, IsAccepted}
+use Rattle.record_core.proofs.CompileLemmas.{done_within}
+use Rattle.record_core.proofs.NetLemmas.{NetStages-alike}
+use Rattle.record_core.proofs.StageLemmas.{AllAlike, AtMostOne, By-unique, Then-alike, Just-unique}
+use Rattle.record_core.specs.Answers.{Agree, Answers, FilesAnswer, CanCompile, CompileAnswers, CompileEnds, ExtractAnswers, RunEnds, RunAnswers, TextAnswers, CommandAnswers, file_at, file_limit, place_from, AreFiles, IsReadFault, IsTooLong, IsFile, Gives, IsExact, IsAccepted}
 use Rattle.record_core.specs.Lines.{due_line}
+use Rattle.record_core.specs.Stages.{Then}
 use Rattle.record_core.specs.Words.{command_of, names_of}
 use Rattle.record_core.specs.declared.words.Command.{Command}
 use Rattle.record_core.specs.declared.words.Command.TheVariants.{Compile, Extract, Run}
 use Rattle.record_core.specs.declared.status.Status.{Status}
-use Rattle.record_core.specs.declared.status.Status.TheVariants.{Done, Usage, ReadFault, TooLong, NetText, Net, SrcText, Src, NoStep, NoJump, DataFull, ImageText, MemText, Clash, Memory, Later, NoWord}
+use Rattle.record_core.specs.declared.status.Status.TheVariants.{Done, Usage, ReadFault, TooLong, NetText, Net, SrcText, Src, NoStep, NoJump, NoCover, DataFull, NoReach, ImageText, MemText, Clash, Memory}
 
 one_read : (names : List (List ℕ)) (before now : ShelfState) (x y : ℕ) → IsReadFault names before now x → IsReadFault names before now y → x ≡ y
 one_read names before now x y p q = let a = p.place in let b = q.place in cc
@@ -31,31 +32,50 @@ one_read names before now x y p q = let a = p.place in let b = q.place in cc
 one_long : (names : List (List ℕ)) (before now : ShelfState) (x y : ℕ × ℕ) → IsTooLong names before now x → IsTooLong names before now y → x ≡ y
 one_long names before now (a, b) (c, d) p q = let p0 = p.place in let p1 = p.bound in let q0 = q.place in let q1 = q.bound in cc
 
-one_later : (number : ℕ) (net src : List ℕ) (P : Property) (x y : ℕ) → IsLater number net src P x → IsLater number net src P y → x ≡ y
-one_later number net src P x y p q = p.0 ∙ sym q.0
-
 done_only : (Written : List ℕ → Type 0) → AtMostOne (λ status text. (status ≡ Done) × Written text)
 done_only Written s t a b p q = p.0 ∙ sym q.0
 
-CompileAnswers-unique : (line : Status → List ℕ) (net src : List ℕ) → AtMostOne (CompileAnswers line net src)
-CompileAnswers-unique line net src =
-    NetStages-unique line net _ (
-    Then-unique line _ _ (By-unique SrcText _ (one_src_fault src)) (
-    Then-unique line _ _ (By-unique Src _ (one_broken net src)) (
-    Then-unique line _ _ (By-unique (λ (p : ℕ × ℕ). DataFull p.0 p.1) _ (one_full net src)) (
-    Then-unique line _ _ (Just-unique NoStep _) (
-    Then-unique line _ _ (Just-unique NoJump _) (
-    Then-unique line _ _ (By-unique Later _ (one_later 0 net src IsWide)) (
-    Then-unique line _ _ (By-unique Later _ (one_later 1 net src IsNotStraight)) (
-    Then-unique line _ _ (By-unique NoWord _ (one_wordless net src)) (done_only (IsCompiled net src))))))))))
+-- one answer agrees with itself
+equal : (command : Option Command) (s t : Status) → s ≡ t → Agree command s t
+equal None s t e = e
+equal (Some Compile) s t e = inl e
+equal (Some Extract) s t e = e
+equal (Some (Run clocks)) s t e = e
+
+-- ---- `compile`
+
+-- what images of one task answer agrees
+CompileEnds-agree : (line : Status → List ℕ) (net src : List ℕ) → AllAlike (Agree (Some Compile)) (CompileEnds line net src)
+CompileEnds-agree line net src s t a b (inl (len, size, bound, p, is, x)) (inl (other, room, most, q, also, y)) =
+    rw (is, also) (inr (one_limit net src len size bound other room most p q))
+CompileEnds-agree line net src s t a b (inl (len, size, bound, p, is, x)) (inr (also, q)) = rw (is, also) (inr tt)
+CompileEnds-agree line net src s t a b (inr (is, p)) (inl (len, size, bound, q, also, y)) = rw (is, also) (inr tt)
+CompileEnds-agree line net src s t a b (inr (is, p)) (inr (also, q)) = inl (is ∙ sym also)
+
+module _ (line : Status → List ℕ) (net src : List ℕ) where
+  -- a stage that refuses with one status, before others that agree
+  stage : (Refuses : Status → Type 0) (Later : Status → List ℕ → Type 0) → ((s t : Status) → Refuses s → Refuses t → s ≡ t) →
+      AllAlike (Agree (Some Compile)) Later → AllAlike (Agree (Some Compile)) (Then line Refuses Later)
+  stage Refuses Later one = Then-alike (Agree (Some Compile)) line Refuses Later (λ s t p q. inl (one s t p q))
+
+  CompileAnswers-agree : AllAlike (Agree (Some Compile)) (CompileAnswers line net src)
+  CompileAnswers-agree =
+      NetStages-alike line net _ (Agree (Some Compile)) (equal (Some Compile)) (
+      stage _ _ (By-unique SrcText _ (one_src_fault src)) (
+      stage _ _ (By-unique Src _ (one_broken net src)) (
+      stage _ _ (By-unique (λ (p : ℕ × ℕ). DataFull p.0 p.1) _ (one_full net src)) (
+      stage _ _ (Just-unique NoStep _) (
+      stage _ _ (Just-unique NoJump _) (
+      stage _ _ (By-unique NoCover _ (one_uncovered net src)) (
+      stage _ _ (By-unique (λ (p : ℕ × ℕ). NoReach p.0 p.1) _ (one_beyond net src)) (
+      CompileEnds-agree line net src))))))))
+
+-- ---- `extract`
 
 ExtractAnswers-unique : (line : Status → List ℕ) (net : List ℕ) → AtMostOne (ExtractAnswers line net)
-ExtractAnswers-unique line net = NetStages-unique line net _ (done_only (IsExtracted net))
+ExtractAnswers-unique line net = NetStages-alike line net _ (λ s t. s ≡ t) (λ s t e. e) (done_only (IsExtracted net))
 
--- the bytes of a file that is told
-one_file : (files : Option Files) (name a b : List ℕ) → IsSome files → IsFile files name a → IsFile files name b → a ≡ b
-one_file None name a b told p q = absurd (search rules)
-one_file (Some all) name a b told p q = let x = p.same in let y = q.same in cc
+-- ---- `run`
 
 -- clocks end in one way
 RunEnds-unique : (line : Option ℕ → Status → List ℕ) (net image memory : List ℕ) (clocks : ℕ) → AtMostOne (RunEnds line net image memory clocks)
@@ -67,15 +87,22 @@ RunEnds-unique line net image memory clocks s t a b (inr (is, p)) (inr (also, q)
 
 RunAnswers-unique : (line : Option ℕ → Status → List ℕ) (net image memory : List ℕ) (clocks : ℕ) → AtMostOne (RunAnswers line net image memory clocks)
 RunAnswers-unique line net image memory clocks =
-    Then-unique (line None) _ _ (By-unique NetText _ (one_net_fault net)) (
-    Then-unique (line None) _ _ (By-unique Net _ (one_broken_rule net)) (
-    Then-unique (line None) _ _ (By-unique ImageText _ (one_image_fault net image)) (
-    Then-unique (line None) _ _ (By-unique MemText _ (one_memory_fault net memory)) (RunEnds-unique line net image memory clocks))))
+    Then-alike (λ s t. s ≡ t) (line None) _ _ (By-unique NetText _ (one_net_fault net)) (
+    Then-alike (λ s t. s ≡ t) (line None) _ _ (By-unique Net _ (one_broken_rule net)) (
+    Then-alike (λ s t. s ≡ t) (line None) _ _ (By-unique ImageText _ (one_image_fault net image)) (
+    Then-alike (λ s t. s ≡ t) (line None) _ _ (By-unique MemText _ (one_memory_fault net memory)) (RunEnds-unique line net image memory clocks))))
 
-TextAnswers-unique : (line : Option ℕ → Status → List ℕ) (command : Command) (files : List (List ℕ)) → AtMostOne (TextAnswers line command files)
-TextAnswers-unique line Compile files = CompileAnswers-unique (line None) (file_at files 0) (file_at files 1)
-TextAnswers-unique line Extract files = ExtractAnswers-unique (line None) (file_at files 0)
-TextAnswers-unique line (Run clocks) files = RunAnswers-unique line (file_at files 0) (file_at files 1) (file_at files 2) clocks
+-- ---- all commands
+
+TextAnswers-agree : (line : Option ℕ → Status → List ℕ) (command : Command) (files : List (List ℕ)) → AllAlike (Agree (Some command)) (TextAnswers line command files)
+TextAnswers-agree line Compile files = CompileAnswers-agree (line None) (file_at files 0) (file_at files 1)
+TextAnswers-agree line Extract files = ExtractAnswers-unique (line None) (file_at files 0)
+TextAnswers-agree line (Run clocks) files = RunAnswers-unique line (file_at files 0) (file_at files 1) (file_at files 2) clocks
+
+-- the bytes of a file that is told
+one_file : (files : Option Files) (name a b : List ℕ) → IsSome files → IsFile files name a → IsFile files name b → a ≡ b
+one_file None name a b told p q = absurd (search rules)
+one_file (Some all) name a b told p q = let x = p.same in let y = q.same in cc
 
 -- the files of these names are told
 same_files : (told : Option Files) (names a b : List (List ℕ)) → IsSome told → AreFiles told names a → AreFiles told names b → a ≡ b
@@ -86,30 +113,35 @@ same_files told [] [] (y ∷ b) some p q = absurd q
 same_files told (name ∷ names) [] b some p q = absurd p
 same_files told (name ∷ names) (x ∷ a) [] some p q = absurd q
 
-CommandAnswers-unique : (line : List ℕ → Option ℕ → Status → List ℕ) (told : Option Files) (command : Command) (names : List (List ℕ)) → IsSome told → AtMostOne (CommandAnswers line told command names)
-CommandAnswers-unique line told command names some s t a b (files, p, x) (others, q, y) =
+CommandAnswers-agree : (line : List ℕ → Option ℕ → Status → List ℕ) (told : Option Files) (command : Command) (names : List (List ℕ)) → IsSome told →
+    AllAlike (Agree (Some command)) (CommandAnswers line told command names)
+CommandAnswers-agree line told command names some s t a b (files, p, x) (others, q, y) =
     let e : others ≡ files = same_files told names others files some q p in
-    TextAnswers-unique (line (file_at files 0)) command files s t a b x (subst (λ (fs : List (List ℕ)). TextAnswers (line (file_at fs 0)) command fs t b) e y)
+    TextAnswers-agree (line (file_at files 0)) command files s t a b x (subst (λ (fs : List (List ℕ)). TextAnswers (line (file_at fs 0)) command fs t b) e y)
 
 usage_only : (line : List ℕ) → AtMostOne (λ status text. (status ≡ Usage) × (text ≡ line))
 usage_only line s t a b p q = p.0 ∙ sym q.0
 
-FilesAnswer-unique : (words : List (List ℕ)) (command : Option Command) (before now : ShelfState) → IsSome before.files → AtMostOne (FilesAnswer words command before now)
-FilesAnswer-unique words None before now told = usage_only (due_line words [] None Usage)
-FilesAnswer-unique words (Some command) before now told =
-    Then-unique (due_line words [] None) _ _ (By-unique ReadFault _ (one_read (names_of command words) before now)) (
-    Then-unique (due_line words [] None) _ _ (By-unique (λ (p : ℕ × ℕ). TooLong p.0 p.1) _ (one_long (names_of command words) before now)) (
-    CommandAnswers-unique (due_line words) before.files command (names_of command words) told))
+FilesAnswer-agree : (words : List (List ℕ)) (command : Option Command) (before now : ShelfState) → IsSome before.files →
+    AllAlike (Agree command) (FilesAnswer words command before now)
+FilesAnswer-agree words None before now told = usage_only (due_line words [] None Usage)
+FilesAnswer-agree words (Some command) before now told =
+    Then-alike (Agree (Some command)) (due_line words [] None) _ _
+    (λ s t p q. equal (Some command) s t (By-unique ReadFault _ (one_read (names_of command words) before now) s t p q))
+    (Then-alike (Agree (Some command)) (due_line words [] None) _ _
+    (λ s t p q. equal (Some command) s t (By-unique (λ (p : ℕ × ℕ). TooLong p.0 p.1) _ (one_long (names_of command words) before now) s t p q))
+    (CommandAnswers-agree (due_line words) before.files command (names_of command words) told))
 
--- where the files are told, one status applies
-pub Answers-unique : (words : List (List ℕ)) (before now : ShelfState) → IsSome before.files → AtMostOne (Answers words before now)
-Answers-unique words before now told = FilesAnswer-unique words (command_of words) before now told
+-- where the files are told, the statuses that apply agree
+pub Answers-agree : (words : List (List ℕ)) (before now : ShelfState) → IsSome before.files → AllAlike (Agree (command_of words)) (Answers words before now)
+Answers-agree words before now told = FilesAnswer-agree words (command_of words) before now told
 
-pub exact_of : (words : List (List ℕ)) (before now : ShelfState) (old new : SinkState) (result : Status) → Gives words before now old new result → IsSome before.files → IsExact words before now result
+pub exact_of : (words : List (List ℕ)) (before now : ShelfState) (old new : SinkState) (result : Status) → Gives words before now old new result →
+    IsSome before.files → IsExact words before now result
 exact_of words before now old new result gives told status text applies = elim gives.put [
   | inl whole ↦ elim gives.answer [
     | inl memory ↦ inr (inl (whole.0 ∙ memory.0))
-    | inr due ↦ inl (whole.0 ∙ Answers-unique words before now told gives.due status gives.text text due applies)
+    | inr due ↦ inl (subst (λ (r : Status). Agree (command_of words) r status) (sym whole.0) (Answers-agree words before now told gives.due status gives.text text due applies))
   ]
   | inr part ↦ inr (inr part.0)
 ]
@@ -122,3 +154,46 @@ complete_of words before now old new result gives accepted calm = elim gives.put
   ]
   | inr part ↦ absurd (calm part.1)
 ]
+
+-- ---- texts of which nothing is refused
+
+-- a file that is told and was taken is not too long
+not_long : (told : Files) (k : ℕ) (names files : List (List ℕ)) (name : List ℕ) (place : ℕ) → AreFiles (Some told) names files → place_from k names name ≡ Some place →
+    IsSomeAnd (file_of told name) (λ bytes. file_limit < length bytes) → ⊥
+not_long told k [] files name place are found long = absurd cc
+not_long told k (first ∷ names) [] name place are found long = absurd are
+not_long told k (first ∷ names) (bytes ∷ files) name place are found long =
+    by_test (bytes_eq first name) refl (λ later. not_long told (k + 1) names files name place are.1 later long) found
+  where
+    by_test : (same : Bool) → bytes_eq first name ≡ same → (place_from (k + 1) names name ≡ Some place → ⊥) →
+        cond same (Some k) (place_from (k + 1) names name) ≡ Some place → ⊥
+    by_test true e rest f =
+        let is : first ≡ name = (bytes_eq-Decides first name).0 e in
+        let there : file_of told first ≡ Some bytes = are.0.same in
+        let above : file_limit < length bytes = rw (sym is, there) at long in
+        let short = are.0.short in omega arith
+    by_test false e rest f = rest f
+
+no_long_file : (files : Option Files) → IsSome files → (names contents : List (List ℕ)) (before now : ShelfState) → before.files ≡ files → AreFiles files names contents →
+    (at : ℕ × ℕ) → IsTooLong names before now at → ⊥
+no_long_file None told names contents before now is are at long = absurd (search rules)
+no_long_file (Some all) told names contents before now is are at long =
+    not_long all 0 names contents now.last at.0 are long.place (rw (long.bound, is) at long.longer)
+
+accepted_by : (words : List (List ℕ)) (before now : ShelfState) → CanCompile words before.files → (Rose before.faults now.faults → ⊥) → (command : Option Command) →
+    command ≡ Some Compile → (status : Status) (text : List ℕ) → FilesAnswer words command before now status text → status ≡ Done
+accepted_by words before now can calm None is status text answers = absurd cc
+accepted_by words before now can calm (Some Extract) is status text answers = absurd cc
+accepted_by words before now can calm (Some (Run clocks)) is status text answers = absurd cc
+accepted_by words before now can calm (Some Compile) is status text (inl ((file, fault, e), t)) = absurd (calm fault.rose)
+accepted_by words before now can calm (Some Compile) is status text (inr (a, inl ((at, long, e), t))) =
+    absurd (no_long_file before.files can.told (names_of Compile words) can.files before now refl can.are at long)
+accepted_by words before now can calm (Some Compile) is status text (inr (a, inr (b, (files, are, answers)))) =
+    let same : files ≡ can.files = same_files before.files (names_of Compile words) files can.files can.told are can.are in
+    done_within (due_line words (file_at can.files 0) None) (file_at can.files 0) (file_at can.files 1) can.within status text
+    (subst (λ (fs : List (List ℕ)). TextAnswers (due_line words (file_at fs 0)) Compile fs status text) same answers)
+
+pub compiled_of : (words : List (List ℕ)) (before now : ShelfState) (old new : SinkState) (result : Status) → Gives words before now old new result →
+    CanCompile words before.files → (Rose before.faults now.faults → ⊥) → (Rose old.faults new.faults → ⊥) → (result ≡ Done) ⊎ (result ≡ Memory)
+compiled_of words before now old new result gives can read calm =
+    complete_of words before now old new result gives (accepted_by words before now can read (command_of words) can.command) calm

@@ -1,14 +1,16 @@
 -- What the call answers: the first refusal that applies, or `Done`.
-use Rattle.std.specs.Prelude.{◌≡◌, ℕ, ◌+◌, ◌<◌, ◌≤◌, ◌⊎◌, true, false, List, [], ◌∷◌, ◌++◌, length, take, Some, None, IfSome, IsSomeAnd, cond, slice_index_or, ⊤}
+use Rattle.std.specs.Prelude.{◌≡◌, ℕ, ◌+◌, ◌<◌, ◌≤◌, ◌⊎◌, true, false, List, [], ◌∷◌, ◌++◌, length, take, Some, None, IfSome, IsSome, IsSomeAnd, cond, slice_index_or, ⊤}
 use Rattle.std.specs.declared.option.Option.{Option}
 use Rattle.std.specs.Str.{bytes_eq}
 use Rattle.net_parser.specs.Texts.{IsNoNetText}
 use Rattle.net_front.specs.Fronts.{BreaksRule}
 use Rattle.net_extract.specs.Extracts.{BreaksAnyRule, IsExtracted}
 use Rattle.src_parser.specs.Texts.{IsNoSrcText}
-use Rattle.first_path.specs.Code.{IsFull, IsJumpless, IsStepless, IsWide, IsNotStraight, IsWordless}
-use Rattle.first_path.specs.First.{IsCompiled, BreaksSrc}
-use Rattle.first_path.specs.Tasks.{Property, Holds}
+use Rattle.right_code.specs.Covered.{HasBareTree}
+use Rattle.net_code.specs.Refusals.{IsBeyondReach, IsJumpless, IsStepless, IsTooLong as HasLongImage}
+use Rattle.net_compile.specs.Code.{IsFull, IsWithin}
+use Rattle.net_compile.specs.Compiled.{IsCompiled, BreaksSrc}
+use Rattle.net_compile.specs.Tasks.{Holds}
 use Rattle.net_run.specs.Runs.{IsNoImageFile, IsNoMemoryFile, ClashedAt, Clashes, ShowsState}
 use Rattle.rec_io.specs.Causes.{Rose}
 use Rattle.rec_io.specs.Files.{Files, file_of}
@@ -21,7 +23,7 @@ use Rattle.record_core.specs.Words.{command_of, names_of}
 use Rattle.record_core.specs.declared.words.Command.{Command}
 use Rattle.record_core.specs.declared.words.Command.TheVariants.{Compile, Extract, Run}
 use Rattle.record_core.specs.declared.status.Status.{Status}
-use Rattle.record_core.specs.declared.status.Status.TheVariants.{Done, Usage, ReadFault, TooLong, WriteFault, NetText, Net, SrcText, Src, NoStep, NoJump, DataFull, Memory, ImageText, MemText, Clash, Later, NoWord}
+use Rattle.record_core.specs.declared.status.Status.TheVariants.{Done, Usage, ReadFault, TooLong, WriteFault, NetText, Net, SrcText, Src, NoStep, NoJump, NoCover, DataFull, NoReach, ImageFull, Memory, ImageText, MemText, Clash}
 
 -- the most bytes of a file
 abbrev pub file_limit : ℕ
@@ -63,9 +65,13 @@ pub record IsTooLong (names : List (List ℕ)) (before now : ShelfState) (at : �
   pub earlier : HasFirst before.files names at.0
   pub longer : IfSome before.files (λ all. IsSomeAnd (file_of all now.last) (λ bytes. at.1 < length bytes))
 
--- the file of this number is one that is compiled later, for this reason
-abbrev pub IsLater : ℕ → List ℕ → List ℕ → Property → ℕ → Type 0
-IsLater number net src P file = (file ≡ number) × Holds net src P
+-- how the making of the code ends: there is an image made for the task that is too long, or one that is right code is written. Images made for
+-- one task may differ in length, so both may apply
+abbrev pub CompileEnds : (Status → List ℕ) → List ℕ → List ℕ → Status → List ℕ → Type 0
+CompileEnds line net src status text =
+    ((len : ℕ) × (size : ℕ) × (bound : ℕ) × Holds net src (HasLongImage len size bound)
+    × (status ≡ ImageFull len size bound) × (text ≡ line (ImageFull len size bound)))
+    ⊎ ((status ≡ Done) × IsCompiled net src text)
 
 -- what `compile` answers for these two texts
 abbrev pub CompileAnswers : (Status → List ℕ) → List ℕ → List ℕ → Status → List ℕ → Type 0
@@ -77,10 +83,9 @@ CompileAnswers line net src =
     Then line (By (λ (p : ℕ × ℕ). DataFull p.0 p.1) (λ (p : ℕ × ℕ). Holds net src (IsFull p.0 p.1))) (
     Then line (Just NoStep (Holds net src (λ task. IsStepless task.netlist))) (
     Then line (Just NoJump (Holds net src (λ task. IsJumpless task.netlist))) (
-    Then line (By Later (IsLater 0 net src IsWide)) (
-    Then line (By Later (IsLater 1 net src IsNotStraight)) (
-    Then line (By NoWord (λ (number : ℕ). Holds net src (IsWordless number))) (
-    λ status text. (status ≡ Done) × IsCompiled net src text))))))))))
+    Then line (By NoCover (λ (tree : ℕ). Holds net src (HasBareTree tree))) (
+    Then line (By (λ (p : ℕ × ℕ). NoReach p.0 p.1) (λ (p : ℕ × ℕ). Holds net src (IsBeyondReach p.0 p.1))) (
+    CompileEnds line net src)))))))))
 
 -- what `extract` answers for this text
 abbrev pub ExtractAnswers : (Status → List ℕ) → List ℕ → Status → List ℕ → Type 0
@@ -148,13 +153,35 @@ pub record Gives (words : List (List ℕ)) (before now : ShelfState) (old new : 
   pub answer : MayAnswer words before now due text
   pub put : Puts old new text due result
 
--- where an answer applies, nothing else is returned but want of memory or a fault of the sink
+-- two answers that images made for one task have: one of them is written and the other is too long, or both are too long, for one code and
+-- with one bound
+abbrev pub AreOfImages : Status → Status → Type 0
+AreOfImages Done (ImageFull len size bound) = ⊤
+AreOfImages (ImageFull len size bound) Done = ⊤
+AreOfImages (ImageFull len size bound) (ImageFull other room most) = (size ≡ room) × (bound ≡ most)
+AreOfImages _ _ = ⊥
+
+-- one answer; of `compile` alone, or two of images made for one task
+abbrev pub Agree : Option Command → Status → Status → Type 0
+Agree (Some Compile) status other = (status ≡ other) ⊎ AreOfImages status other
+Agree _ status other = status ≡ other
+
+-- where an answer applies, nothing else is returned but one that agrees with it, want of memory or a fault of the sink
 abbrev pub IsExact : List (List ℕ) → ShelfState → ShelfState → Status → Type 0
-IsExact words before now result = (status : Status) (text : List ℕ) → Answers words before now status text → (result ≡ status) ⊎ (result ≡ Memory) ⊎ (result ≡ WriteFault)
+IsExact words before now result = (status : Status) (text : List ℕ) → Answers words before now status text →
+    Agree (command_of words) result status ⊎ (result ≡ Memory) ⊎ (result ≡ WriteFault)
 
 -- no refusal applies
 abbrev pub IsAccepted : List (List ℕ) → ShelfState → ShelfState → Type 0
 IsAccepted words before now = (status : Status) (text : List ℕ) → Answers words before now status text → status ≡ Done
+
+-- the words ask to compile, the files are told, and they say a task of which nothing is refused, whatever image is made for it
+pub record CanCompile (words : List (List ℕ)) (given : Option Files) : Type 0 where
+  pub command : command_of words ≡ Some Compile
+  pub told : IsSome given
+  pub files : List (List ℕ)
+  pub are : AreFiles given (names_of Compile words) files
+  pub within : Holds (file_at files 0) (file_at files 1) IsWithin
 
 -- what is written on `Done`. Of `compile`: an image that is right code for the program on the netlist. Of `extract`: what the instruction
 -- words of the netlist do, each with its least word. Of `run`: the state that the clocks reach

@@ -5,7 +5,7 @@ use Rattle.std.specs.List.{concat}
 use Rattle.record_core.specs.NetLines.{net_line, name_place, name_from}
 use Rattle.record_core.specs.SrcLines.{src_line}
 use Rattle.record_core.specs.declared.status.Status.{Status}
-use Rattle.record_core.specs.declared.status.Status.TheVariants.{Done, Usage, ReadFault, TooLong, WriteFault, NetText, Net, SrcText, Src, NoStep, NoJump, NoCover, DataFull, NoReach, ImageFull, Memory, ImageText, MemText, Clash, Later, NoWord}
+use Rattle.record_core.specs.declared.status.Status.TheVariants.{Done, Usage, ReadFault, TooLong, WriteFault, NetText, Net, SrcText, Src, NoStep, NoJump, NoCover, DataFull, NoReach, ImageFull, Memory, ImageText, MemText, Clash}
 
 -- the word that names this file
 abbrev pub name_at : List (List ℕ) → ℕ → List ℕ
@@ -33,8 +33,6 @@ line_of words name Memory = codes "error memory\n"
 line_of words name (ImageText at) = concat (codes "error image text " ∷ decimal at ∷ codes "\n" ∷ [])
 line_of words name (MemText at) = concat (codes "error memory text " ∷ decimal at ∷ codes "\n" ∷ [])
 line_of words name (Clash cycle bus) = concat (codes "error clash " ∷ decimal cycle ∷ codes " " ∷ name ∷ codes "\n" ∷ [])
-line_of words name (Later file) = concat (codes "error later " ∷ decimal file ∷ codes "\n" ∷ [])
-line_of words name (NoWord number) = concat (codes "error no word " ∷ decimal number ∷ codes "\n" ∷ [])
 
 -- where the name stands that a line tells: the item's of a broken rule, or that of the bus which clashes
 abbrev pub told_place : Option ℕ → Status → Option ℕ

@@ -2,27 +2,27 @@
 use Rattle.std.specs.Prelude.{None, Some}
 use Rattle.net_front.specs.declared.front.NetRefusal.{NetRefusal}
 use Rattle.net_front.specs.declared.front.NetRefusal.TheVariants.{Text as NoNet, Fault as BrokenNet, Memory as NetMemory}
-use Rattle.first_path.specs.declared.compiler.FirstFault.{FirstFault}
-use Rattle.first_path.specs.declared.compiler.FirstFault.TheVariants.{NetText as FirstNetText, Net as FirstNet, SrcText as FirstSrcText, Src as FirstSrc, DataFull as NoRoom, NoStep as Stepless, NoJump as Jumpless, WideCode, NotStraight, NoWord as Wordless, Memory as FirstMemory}
+use Rattle.net_compile.specs.declared.fault.CompileFault.{CompileFault}
+use Rattle.net_compile.specs.declared.fault.CompileFault.TheVariants.{NetText as CompileNetText, Net as CompileNet, SrcText as CompileSrcText, Src as CompileSrc, DataFull as NoRoom, NoStep as Stepless, NoJump as Jumpless, NoCover as Uncovered, NoReach as Beyond, ImageFull as Overlong, Memory as CompileMemory}
 use Rattle.net_run.specs.declared.machine.RunFault.{RunFault}
 use Rattle.net_run.specs.declared.machine.RunFault.TheVariants.{NetText as RunNetText, Net as RunNet, ImageText as NoImage, MemText as NoMemoryText, Clash as Clashed, Memory as RunMemory}
 use Rattle.record_core.specs.declared.status.Status.{Status}
-use Rattle.record_core.specs.declared.status.Status.TheVariants.{NetText, Net, SrcText, Src, NoStep, NoJump, DataFull, Memory, ImageText, MemText, Clash, Later, NoWord}
+use Rattle.record_core.specs.declared.status.Status.TheVariants.{NetText, Net, SrcText, Src, NoStep, NoJump, NoCover, DataFull, NoReach, ImageFull, Memory, ImageText, MemText, Clash}
 use Rattle.record_core.specs.declared.stop.Stop.{Stop}
 
--- of the compiler of straight programs: of what it doesn't take yet, the file is told
-abbrev pub first_status : FirstFault → Status
-first_status (FirstNetText at) = NetText at
-first_status (FirstNet fault) = Net fault
-first_status (FirstSrcText at) = SrcText at
-first_status (FirstSrc fault) = Src fault
-first_status (NoRoom need have) = DataFull need have
-first_status Stepless = NoStep
-first_status Jumpless = NoJump
-first_status WideCode = Later 0
-first_status NotStraight = Later 1
-first_status (Wordless number) = NoWord number
-first_status FirstMemory = Memory
+-- of the compiler
+abbrev pub compile_status : CompileFault → Status
+compile_status (CompileNetText at) = NetText at
+compile_status (CompileNet fault) = Net fault
+compile_status (CompileSrcText at) = SrcText at
+compile_status (CompileSrc fault) = Src fault
+compile_status (NoRoom need have) = DataFull need have
+compile_status Stepless = NoStep
+compile_status Jumpless = NoJump
+compile_status (Uncovered tree) = NoCover tree
+compile_status (Beyond bound reach) = NoReach bound reach
+compile_status (Overlong len size bound) = ImageFull len size bound
+compile_status CompileMemory = Memory
 
 -- of the reading of a netlist
 abbrev pub net_status : NetRefusal → Status

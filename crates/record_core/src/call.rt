@@ -1,7 +1,7 @@
 //! The call of the program.
 ghost use Rattle.std.specs.Prelude.{◌≡◌, ◌≢◌, ◌⊎◌, ◌≤◌, Some, IfOk, IfErr, IsSome, OnOk, string_bytes};
 ghost use Rattle.rec_io.specs.Causes.{Rose};
-ghost use Rattle.record_core.specs.Answers.{file_at, TextAnswers, Answers, Puts, Gives, IsExact, IsAccepted, Wrote};
+ghost use Rattle.record_core.specs.Answers.{file_at, TextAnswers, Answers, Puts, Gives, IsExact, IsAccepted, CanCompile, Wrote};
 ghost use Rattle.record_core.specs.Fetch.{contents, AreShort};
 ghost use Rattle.record_core.specs.Lines.{due_line, IsRefusal};
 ghost use Rattle.record_core.specs.Words.{command_of, names_of, texts_of};
@@ -107,7 +107,7 @@ fn answer<F: Shelf, S: Sink>(alloc: Global, words: &[String], shelf: &mut F, out
 
 /// What the words ask for, over the files of this shelf, into this output.
 ///
-/// The words are those after the program's name: `compile NET SRC`, `extract NET` or `run NET IMG MEM CYCLES` so far, where NET, SRC, IMG and
+/// The words are those after the program's name: `compile NET SRC`, `extract NET` or `run NET IMG MEM CYCLES`, where NET, SRC, IMG and
 /// MEM are names of files, and CYCLES is a decimal number from 0 to 1,000,000. On `Done` the output took the whole text: an image, the patterns
 /// of a netlist, or a state. On `WriteFault` it took a prefix of the text that was due, and on every other status the line of the fault. Want
 /// of memory may be answered anywhere.
@@ -128,11 +128,16 @@ pub fn record_call<F: Shelf, S: Sink>(
     // What is due is the first refusal that applies, with its line, or `Done` and the text, or want of memory.
     ensures gives { Gives (texts_of words.now.items) (F.state shelf.old) (F.state shelf.new) (S.state out.old) (S.state out.new) result }
 
-    // Where the files are told, nothing else is answered than what applies.
+    // Where the files are told, nothing else is answered than what applies; of `compile` more than one answer may, since images made for
+    // one task may differ in length.
     ensures exactly { IsSome (F.state shelf.old).files → IsExact (texts_of words.now.items) (F.state shelf.old) (F.state shelf.new) result }
 
     // Where no refusal applies and the output did not fail, the call succeeds.
     ensures complete { IsAccepted (texts_of words.now.items) (F.state shelf.old) (F.state shelf.new) → ¬ Rose (S.state out.old).faults (S.state out.new).faults → (result ≡ Status.Done) ⊎ (result ≡ Status.Memory) }
+
+    // In particular, `compile` succeeds where the files are told and say a netlist and a program of which nothing is refused, whatever
+    // image is made for them, and neither the shelf nor the output failed.
+    ensures compiles { CanCompile (texts_of words.now.items) (F.state shelf.old).files → ¬ Rose (F.state shelf.old).faults (F.state shelf.new).faults → ¬ Rose (S.state out.old).faults (S.state out.new).faults → (result ≡ Status.Done) ⊎ (result ≡ Status.Memory) }
 
     // The main promise: what was written is the text of the command for its files, as of `compile` an image that is right code for the
     // program on the netlist.

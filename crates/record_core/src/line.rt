@@ -220,7 +220,5 @@ pub fn fault_line(
         Status::ImageText(at) => format!(in alloc; "error image text {at}\n"),
         Status::MemText(at) => format!(in alloc; "error memory text {at}\n"),
         Status::Clash { cycle, .. } => format!(in alloc; "error clash {cycle} {name}\n"),
-        Status::Later(file) => format!(in alloc; "error later {file}\n"),
-        Status::NoWord(number) => format!(in alloc; "error no word {number}\n"),
     }
 }

@@ -2,7 +2,7 @@
 ghost use Rattle.std.specs.Prelude.{◌≡◌};
 ghost use Rattle.record_core.specs.declared.status.Status.{Status};
 
-use first_path::FirstFault;
+use net_compile::CompileFault;
 use net_front::NetRefusal;
 use net_model::NetFault;
 use rec_bits::NoMemory;
@@ -34,13 +34,13 @@ pub enum Status {
     NoStep,
     /// The netlist has no jump.
     NoJump,
-    /// The tree of this number cannot be computed by the netlist.
+    /// This tree of the program is the first that the netlist's forms don't cover.
     NoCover(u32),
     /// The program needs more cells than the memory has.
     DataFull { need: u64, have: u64 },
-    /// The image may be longer than the jumps reach.
+    /// The code may have more words than the jumps reach.
     NoReach { bound: u64, reach: u64 },
-    /// The image has more words than the code's size; `bound` is the most that an image may need.
+    /// The image has more words than there is room for; it might have `bound`.
     ImageFull { len: u64, size: u64, bound: u64 },
     /// Want of memory.
     Memory,
@@ -50,10 +50,6 @@ pub enum Status {
     MemText(u64),
     /// Two drivers of the bus of this number differ in this clock cycle.
     Clash { cycle: u64, bus: u32 },
-    /// The file is beyond what is built so far.
-    Later(u8),
-    /// No single word does the assignment of this number, from 0; the number after the last is the end's.
-    NoWord(u32),
 }
 
 impl Status {
@@ -77,8 +73,6 @@ impl Status {
             Status::Memory => 11,
             Status::ImageText(_) | Status::MemText(_) => 12,
             Status::Clash { .. } => 13,
-            Status::Later(_) => 14,
-            Status::NoWord(_) => 15,
         }
     }
 }
@@ -107,25 +101,25 @@ impl<T: Drop> From<AllocFailed<T>> for Status {
     }
 }
 
-impl From<FirstFault> for Status {
-    ghost from_gives = { λ fault status. status ≡ first_status fault };
+impl From<CompileFault> for Status {
+    ghost from_gives = { λ fault status. status ≡ compile_status fault };
 
     ghost use Rattle.std.specs.Prelude.{◌≡◌};
-    ghost use Rattle.record_core.specs.Told.{first_status};
+    ghost use Rattle.record_core.specs.Told.{compile_status};
 
-    fn from(fault: FirstFault) -> Status {
+    fn from(fault: CompileFault) -> Status {
         match fault {
-            FirstFault::NetText(at) => Status::NetText(at),
-            FirstFault::Net(fault) => Status::Net(fault),
-            FirstFault::SrcText(at) => Status::SrcText(at),
-            FirstFault::Src(fault) => Status::Src(fault),
-            FirstFault::DataFull { need, have } => Status::DataFull { need, have },
-            FirstFault::NoStep => Status::NoStep,
-            FirstFault::NoJump => Status::NoJump,
-            FirstFault::WideCode => Status::Later(0),
-            FirstFault::NotStraight => Status::Later(1),
-            FirstFault::NoWord(number) => Status::NoWord(number),
-            FirstFault::Memory => Status::Memory,
+            CompileFault::NetText(at) => Status::NetText(at),
+            CompileFault::Net(fault) => Status::Net(fault),
+            CompileFault::SrcText(at) => Status::SrcText(at),
+            CompileFault::Src(fault) => Status::Src(fault),
+            CompileFault::DataFull { need, have } => Status::DataFull { need, have },
+            CompileFault::NoStep => Status::NoStep,
+            CompileFault::NoJump => Status::NoJump,
+            CompileFault::NoCover(tree) => Status::NoCover(tree),
+            CompileFault::NoReach { bound, reach } => Status::NoReach { bound, reach },
+            CompileFault::ImageFull { len, size, bound } => Status::ImageFull { len, size, bound },
+            CompileFault::Memory => Status::Memory,
         }
     }
 }

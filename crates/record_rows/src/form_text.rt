@@ -29,8 +29,8 @@ fn forms_in(
     Ok((found, patterns.len()))
 }
 
-// The forms of a netlist's text, the netlist, and how many patterns it has.
-fn forms_of(alloc: Global, name: &str, text: &str) -> Result<(Checked, Forms, u32)> {
+/// The forms of a netlist's text, the netlist, and how many patterns it has.
+pub fn forms_of(alloc: Global, name: &str, text: &str) -> Result<(Checked, Forms, u32)> {
     let bytes = text.as_bytes();
     if bytes.len() > 1_048_576 {
         bail!("{name} is too long");

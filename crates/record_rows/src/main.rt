@@ -50,10 +50,22 @@
 //! ```
 //!
 //! and for each of them the number of its pattern, its transfer, the mask of its instruction bits and its clobbers are printed: a jump's with
-//! its reach, a branch's with its target and its condition.
+//! its reach, a branch's with its target and its condition. The covers of a program's jobs by the forms of a netlist are asked for by
+//!
+//! ```text
+//! cover NAME
+//! | TEXT            a line of the netlist's text
+//! > TEXT            a line of the program
+//! run
+//! ```
+//!
+//! and for each job its number is printed, with the tree that is covered, what the cover costs and how many temporary cells it fills, or that
+//! there is no cover.
 #![tactic(auto)]
 
 mod call;
+mod cover_row;
+mod cover_text;
 mod form_text;
 mod forms;
 mod netlist;

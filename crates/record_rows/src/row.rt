@@ -1,6 +1,7 @@
 //! Rows, by their kinds.
 
 use crate::call::Call;
+use crate::cover_row::CoverRow;
 use crate::forms::FormRow;
 use crate::netlist::Netlist;
 use crate::program::Program;
@@ -18,6 +19,8 @@ pub enum Row {
     Netlist(Netlist),
     /// A netlist, and its forms.
     Forms(FormRow),
+    /// A netlist and a program, and the covers of its jobs.
+    Cover(CoverRow),
     /// No row has begun.
     Nothing,
 }
@@ -33,10 +36,12 @@ impl Row {
             ("program", _) => *self = Row::Program(Program::new(alloc, rest)?),
             ("netlist", _) => *self = Row::Netlist(Netlist::new(alloc, rest)?),
             ("forms", _) => *self = Row::Forms(FormRow::new(alloc, rest)?),
+            ("cover", _) => *self = Row::Cover(CoverRow::new(alloc, rest)?),
             (_, Row::Call(call)) => call.take(alloc, key, rest)?,
             (_, Row::Program(program)) => program.take(key, rest)?,
             (_, Row::Netlist(netlist)) => netlist.take(key, rest)?,
             (_, Row::Forms(row)) => row.take(key, rest)?,
+            (_, Row::Cover(row)) => row.take(key, rest)?,
             (_, Row::Nothing) => bail!("no kind of a row: {line}"),
         }
         Ok(())
@@ -49,6 +54,7 @@ impl Row {
             Row::Program(program) => program.found(alloc),
             Row::Netlist(netlist) => netlist.found(alloc),
             Row::Forms(row) => row.found(alloc),
+            Row::Cover(row) => row.found(alloc),
             Row::Nothing => bail!("no row to run"),
         }
     }

@@ -30,7 +30,7 @@ use Rattle.right_code.proofs.Inside.{IsWide, AreWide, Upto, ways_inside, goals_i
 use Rattle.right_code.proofs.Standing.{shown_some, still_shows}
 
 -- the form at the root of a test's cover is a branch form
-plan_goal : (stock : Stock) (tree : Term) (plan : Plan) → IsOrderly stock tested tree true plan → (b : Bool) × (way : BranchTarget) × ((plan_rule stock plan).goal ≡ branches b way)
+pub plan_goal : (stock : Stock) (tree : Term) (plan : Plan) → IsOrderly stock tested tree true plan → (b : Bool) × (way : BranchTarget) × ((plan_rule stock plan).goal ≡ branches b way)
 plan_goal stock tree (use_form k ps cs) o = by (rule_at stock k).goal refl (opened_plan stock k ps cs tested tree true o).takes
   where
     by : (g : Kind) → (rule_at stock k).goal ≡ g → goal_match stock.temps (rule_at stock k) g tested tree true ≡ Some (found_at stock k tested tree true) → (b : Bool) × (way : BranchTarget) × ((rule_at stock k).goal ≡ branches b way)

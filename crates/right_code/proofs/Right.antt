@@ -1,8 +1,9 @@
 -- An image that is made for a task traces its program.
-use Rattle.std.proofs.Common.{◌≡◌, zero, suc, [], ◌∷◌, Some, slice_get, true, ℕ, ◌≤◌, ◌<◌, List, length, ◌∙◌, ap, arith, subst}
+use Rattle.std.proofs.Common.{◌≡◌, zero, suc, [], ◌∷◌, Some, slice_get, true, ℕ, ◌≤◌, ◌<◌, List, length, slice_index, ◌∙◌, ap, arith, subst}
 use Rattle.net_model.specs.CheckedRules.{code_size, memory_addr_width}
 use Rattle.net_model.specs.Nets.{word_width}
 use Rattle.net_model.specs.Patterns.{ArePatterns, Pattern}
+use Rattle.net_model.specs.Widths.{WordFits}
 use Rattle.net_model.proofs.WordWidths.{has_bits}
 use Rattle.src_model.specs.Written.{acts_of}
 use Rattle.src_model.specs.Rules.{temp_count}
@@ -52,7 +53,7 @@ use Rattle.right_code.proofs.Covered.{covered_of}
 use Rattle.right_code.proofs.Inside.{program_upto}
 use Rattle.right_code.proofs.Jumping.{IsAsked, layout_words}
 use Rattle.right_code.proofs.Worded.{block_words, test_words}
-use Rattle.right_code.proofs.Fitting.{laid_traces}
+use Rattle.right_code.proofs.Fitting.{code_fits, laid_traces}
 use Rattle.right_code.proofs.Known.{known_of}
 use Rattle.right_code.proofs.OneBound.{made_reached}
 use Rattle.right_code.proofs.Listed.{all_read, are_formed}
@@ -172,6 +173,15 @@ module _ (order : List ℕ) (task : Task) (checked : IsChecked order task) where
         (turns made.patterns made.are made.rules made.reach made.forms (omega (arith, s, m, reached))) task.width (memory_addr_width task.netlist.storages) task.listing made.parts checked.program
         checked.words near checked.cells (made.layout.places ∙ ap (λ n. places_from n (variables_of task.listing.vars)) made.layout.temps)
         (made_laid task image made 510 (reads made.patterns made.are made.rules made.reach made.forms) small (works_one (task_memory task) (acts_of task.listing.body)) (program_tests (task_memory task) task.listing) room reached)
+
+    -- its words have the width of the netlist's words
+    pub image_fits : length (words_of image) ≤ code_size task.netlist.codes → length (words_of image) ≤ made.reach → (a : ℕ) → WordFits task.netlist (slice_index (words_of image) a)
+    image_fits room reached a =
+        let s = some_total made.rules made.parts fit in
+        let m = made.long in
+        code_fits task.netlist made.patterns (task_stock made.rules task) image (program_flow task.listing) (task_works task) made.parts made.reach (program_tests (task_memory task) task.listing)
+        (made_laid task image made 510 (reads made.patterns made.are made.rules made.reach made.forms) small (works_one (task_memory task) (acts_of task.listing.body)) (program_tests (task_memory task) task.listing) room reached)
+        (omega (arith, s, m)) a
 
     pub right_image : length (words_of image) ≤ code_size task.netlist.codes → length (words_of image) ≤ made.reach → IsRightImage task image
     right_image room reached = record { made = made; traces = made_traces room reached }

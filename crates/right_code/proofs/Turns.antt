@@ -104,6 +104,12 @@ module _ (netlist : Netlist) (order : List ℕ) (keeps : KeepsRules netlist orde
       same : (a b : Bool) (c d : BranchTarget) → branches a c ≡ branches b d → (a ≡ b) × (c ≡ d)
       same a b c d e = (cc, cc)
 
+  -- a form that branches is made of its pattern
+  pub fork_form : (k : ℕ) (turn : Rule) (when_one : Bool) (way : BranchTarget) → slice_get rules k ≡ Some turn → turn.goal ≡ branches when_one way → IsBranchForm netlist patterns turn when_one way
+  fork_form k turn when_one way at g =
+      let r = placed netlist order keeps some patterns known reach rules forms.list k turn at in
+      (turning r.number r.pattern turn when_one way r.at r.of g).form
+
   -- where there is a jump form
   pub are_turns : 1 ≤ reach → AreTurns netlist patterns rules reach
   are_turns l =
@@ -116,7 +122,7 @@ module _ (netlist : Netlist) (order : List ℕ) (keeps : KeepsRules netlist orde
         jump = j.form;
         shown = j.shown;
         narrow = j.narrow;
-        forks = λ k turn when_one way at g. (let r = placed netlist order keeps some patterns known reach rules forms.list k turn at in (turning r.number r.pattern turn when_one way r.at r.of g).form);
+        forks = fork_form;
         reaches = λ k turn when_one way at g. (let r = placed netlist order keeps some patterns known reach rules forms.list k turn at in (turning r.number r.pattern turn when_one way r.at r.of g).reached);
       }
 

@@ -37,7 +37,7 @@ use Rattle.src_model.specs.Trace.{strace}
 use Rattle.src_model.proofs.WayLemmas.{finish_whole, finish_steady}
 use Rattle.code_model.specs.Right.{TracesRight}
 use Rattle.code_model.proofs.Heads.{shows_of}
-use Rattle.code_model.proofs.Straight.{run_fits, stays_at, StaysAt}
+use Rattle.code_model.proofs.Ending.{run_fits, stays_at, StaysAt}
 use Rattle.src_trees.specs.Flows.{program_flow, program_works}
 use Rattle.src_model.proofs.SoundLemmas.{program_sound}
 use Rattle.src_model.proofs.TraceLemmas.{in_whole, in_steady}

@@ -1,6 +1,6 @@
 use Rattle.std.proofs.Common.{◌^◌, ◌<◌, ◌≤◌, subst, arith}
 use Rattle.net_model.proofs.WordWidths.{word_fits}
-use Rattle.word_search.proofs.Words.{one_shift}
+use Rattle.record_rows.proofs.WordCounts.{one_shift}
 use Rattle.record_rows.proofs.words.compare_all.Goals as goal
 
 pub compare_word-requires-clause-word : goal.compare_word-requires-clause-word

@@ -1,0 +1,219 @@
+-- An image that is put together of the words of its layout is made for its task.
+use Rattle.std.proofs.Common.{◌≡◌, ℕ, zero, suc, ◌+◌, ◌<◌, ◌≤◌, Bool, true, false, cond, if◌then◌else◌, List, [], ◌∷◌, ◌++◌, map, Option, Some, None, length, slice_get, slice_index, refl, sym, ap, subst, ◌∙◌, arith, length-append, append_assoc}
+use Rattle.std.specs.List.{AllByRecursion}
+use Rattle.std.proofs.lemmas.List.{length-map}
+use Rattle.std.proofs.lemmas.Option.{slice_get_within}
+use Rattle.net_model.specs.declared.hardware.Netlist.{Netlist}
+use Rattle.net_model.specs.Patterns.{ArePatterns, Pattern}
+use Rattle.code_model.specs.declared.image.Word.{Word}
+use Rattle.form_model.specs.Covers.{Choice, Stock}
+use Rattle.form_model.specs.Rules.{Rule}
+use Rattle.form_model.specs.declared.flow.Flow.{Flow}
+use Rattle.form_model.specs.declared.flow.Flow.TheVariants.{Assign, Test as Tested, Jump as Jumped, End as Ended}
+use Rattle.src_trees.specs.Blocks.{IsBlock, continues, jobs_at}
+use Rattle.src_trees.specs.Lowered.{Work}
+use Rattle.branch_fix.specs.declared.laid.Item.{Item}
+use Rattle.branch_fix.specs.declared.part.Fork.{Fork}
+use Rattle.branch_fix.specs.declared.part.Part.{Part}
+use Rattle.branch_fix.specs.declared.part.Part.TheVariants.{Block, Inner, Test, Jump, End}
+use Rattle.branch_fix.specs.Parts.{fork_to, given, part_for, parts_of, rule_at_one}
+use Rattle.branch_fix.specs.Rounds.{IsSettled}
+use Rattle.right_code.specs.Images.{AreBlockWords, AreTestWords, IsBranchOf, choices_at}
+use Rattle.right_code.specs.Words.{IsItemWord, StandItems}
+use Rattle.net_code.specs.Coded.{AreItemWords, IsBlockCode, words_at}
+use Rattle.net_code.specs.Places.{blocks_before, tests_before}
+use Rattle.net_code.proofs.Places.{IsPartOf, settled_part, shortened}
+
+-- ---- words in their order
+
+module _ (netlist : Netlist) (patterns : List Pattern) (blocks : ℕ → List ℕ) where
+  pub words_long : (items : List Item) (words : List Word) → AreItemWords netlist patterns blocks items words → length words ≡ length items
+  words_long [] [] h = refl
+  words_long [] (w ∷ words) h = absurd h
+  words_long (i ∷ items) [] h = absurd h
+  words_long (i ∷ items) (w ∷ words) h = ap suc (words_long items words h.2)
+
+  pub words_plain : (items : List Item) (words : List Word) → AreItemWords netlist patterns blocks items words → AllByRecursion (λ (word : Word). word.patterns ≡ []) words
+  words_plain [] [] h = tt
+  words_plain [] (w ∷ words) h = absurd h
+  words_plain (i ∷ items) [] h = absurd h
+  words_plain (i ∷ items) (w ∷ words) h = (h.1, words_plain items words h.2)
+
+  index_seam : (front : List ℕ) (w : ℕ) (rest : List ℕ) (at : ℕ) → at ≡ length front → slice_index (front ++ w ∷ rest) at ≡ w
+  index_seam [] w rest zero e = refl
+  index_seam [] w rest (suc at) e = absurd (omega arith)
+  index_seam (x ∷ front) w rest zero e = absurd (omega arith)
+  index_seam (x ∷ front) w rest (suc at) e = index_seam front w rest at (omega arith)
+
+  stand_behind : (front : List ℕ) (items : List Item) (words : List Word) (at : ℕ) → at ≡ length front → AreItemWords netlist patterns blocks items words
+      → StandItems netlist patterns blocks (front ++ map (λ (w : Word). w.word) words) at items
+  stand_behind front [] [] at e h = tt
+  stand_behind front [] (w ∷ words) at e h = absurd h
+  stand_behind front (i ∷ items) [] at e h = absurd h
+  stand_behind front (i ∷ items) (w ∷ words) at e h = (
+    subst (λ n. IsItemWord netlist patterns blocks n i) (sym (index_seam front w.word (map (λ (x : Word). x.word) words) at e)) h.0,
+    subst (λ code. StandItems netlist patterns blocks code (at + 1) items) (append_assoc front (w.word ∷ []) (map (λ (x : Word). x.word) words))
+        (stand_behind (front ++ w.word ∷ []) items words (at + 1) (let l = length-append front (w.word ∷ []) in omega (arith, e, l)) h.2),
+  )
+
+  pub words_stand : (items : List Item) (words : List Word) → AreItemWords netlist patterns blocks items words → StandItems netlist patterns blocks (map (λ (w : Word). w.word) words) 0 items
+  words_stand items words h = stand_behind [] items words 0 refl h
+
+-- ---- sizes
+
+pub sizes_at : (words : List (List ℕ)) (block : ℕ) → slice_index (map length words) block ≡ length (words_at words block)
+sizes_at [] block = refl
+sizes_at (w ∷ words) zero = refl
+sizes_at (w ∷ words) (suc block) = sizes_at words block
+
+-- ---- blocks and tests
+
+-- which block a part is
+abbrev block_part : Part → ℕ × ℕ
+block_part (Block block size) = (block, size)
+block_part Inner = (0, 0)
+block_part (Test f) = (0, 0)
+block_part (Jump to) = (0, 0)
+block_part End = (0, 0)
+
+abbrev is_run : Part → Bool
+is_run (Block block size) = true
+is_run Inner = false
+is_run (Test f) = false
+is_run (Jump to) = false
+is_run End = false
+
+abbrev fork_part : Part → Fork → Fork
+fork_part (Block block size) none = none
+fork_part Inner none = none
+fork_part (Test f) none = f
+fork_part (Jump to) none = none
+fork_part End none = none
+
+abbrev is_fork : Part → Bool
+is_fork (Block block size) = false
+is_fork Inner = false
+is_fork (Test f) = true
+is_fork (Jump to) = false
+is_fork End = false
+
+true_false : true ≡ false → ⊥
+true_false e = cc
+
+pub record IsBlockThere (flow : List Flow) (sizes : List ℕ) (at block size : ℕ) : Type 0 where
+  pub number : block ≡ blocks_before flow at
+  pub words : size ≡ slice_index sizes (blocks_before flow at)
+  pub within : at < length flow
+
+pub record IsTestThere (flow : List Flow) (sizes : List ℕ) (forks : List (ℕ × ℕ)) (at : ℕ) (f : Fork) : Type 0 where
+  pub when_one : ℕ
+  pub when_zero : ℕ
+  pub place : slice_get flow at ≡ Some (Tested f.tree when_one when_zero)
+  pub number : f.block ≡ blocks_before flow at
+  pub words : f.words ≡ slice_index sizes (blocks_before flow at)
+  pub form : f.form ≡ (given (slice_get forks (tests_before flow at))).0
+  pub setting : f.setting ≡ (given (slice_get forks (tests_before flow at))).1
+  pub within : at < length flow
+
+module _ (rules : List Rule) (flow : List Flow) (sizes : List ℕ) (forks : List (ℕ × ℕ)) (parts : List Part) (settled : IsSettled rules (parts_of rules flow sizes forks) parts) where
+  pub block_there : (at block size : ℕ) → slice_get parts at ≡ Some (Block block size) → IsBlockThere flow sizes at block size
+  block_there at block size e =
+      let h = settled_part rules flow sizes forks parts settled at (Block block size) e in
+      go h.1.f h.1.place (h.2 ∙ ap shortened h.1.is)
+    where
+      B : ℕ
+      B = blocks_before flow at
+
+      T : ℕ
+      T = tests_before flow at
+
+      no_fork : (b : Bool) (tree form setting one zero : ℕ) →
+          Block block size ≡ shortened (if b then fork_to tree (blocks_before flow at) (slice_index sizes (blocks_before flow at)) form setting at one zero else fork_to tree (blocks_before flow at) (slice_index sizes (blocks_before flow at)) form setting at zero one) → ⊥
+      no_fork true tree form setting one none e = true_false (ap is_run e)
+      no_fork false tree form setting one none e = true_false (ap is_run e)
+
+      by : (c : Bool) → Block block size ≡ shortened (if c then Inner else Block (blocks_before flow at) (slice_index sizes (blocks_before flow at))) → at < length flow → IsBlockThere flow sizes at block size
+      by true e lt = absurd (true_false (ap is_run e))
+      by false e lt = record { number = ap (λ p. (block_part p).0) e; words = ap (λ p. (block_part p).1) e; within = lt }
+
+      go : (f : Flow) → slice_get flow at ≡ Some f → Block block size ≡ shortened (part_for rules flow sizes forks f at (blocks_before flow at) (tests_before flow at)) → IsBlockThere flow sizes at block size
+      go (Assign tree) place e = by (continues flow at) e (slice_get_within flow at (Assign tree) place)
+      go (Tested tree one none) place e = absurd (no_fork (rule_at_one (slice_get rules (given (slice_get forks (tests_before flow at))).0)) tree (given (slice_get forks (tests_before flow at))).0 (given (slice_get forks (tests_before flow at))).1 one none e)
+      go (Jumped to) place e = absurd (true_false (ap is_run e))
+      go Ended place e = absurd (true_false (ap is_run e))
+
+  pub test_there : (at : ℕ) (f : Fork) → slice_get parts at ≡ Some (Test f) → IsTestThere flow sizes forks at f
+  test_there at f e =
+      let h = settled_part rules flow sizes forks parts settled at (Test f) e in
+      go h.1.f h.1.place (h.2 ∙ ap shortened h.1.is)
+    where
+      short : Fork
+      short = record f { long = false }
+
+      no_run : (c : Bool) → Test (record f { long = false }) ≡ shortened (if c then Inner else Block (blocks_before flow at) (slice_index sizes (blocks_before flow at))) → ⊥
+      no_run true e = true_false (ap is_fork e)
+      no_run false e = true_false (ap is_fork e)
+
+      by : (b : Bool) (tree one zero : ℕ) → slice_get flow at ≡ Some (Tested tree one zero)
+          → Test (record f { long = false }) ≡ shortened (if b
+          then fork_to tree (blocks_before flow at) (slice_index sizes (blocks_before flow at)) (given (slice_get forks (tests_before flow at))).0 (given (slice_get forks (tests_before flow at))).1 at one zero
+          else fork_to tree (blocks_before flow at) (slice_index sizes (blocks_before flow at)) (given (slice_get forks (tests_before flow at))).0 (given (slice_get forks (tests_before flow at))).1 at zero one)
+          → IsTestThere flow sizes forks at f
+      by true tree one none place e = record {
+        when_one = one;
+        when_zero = none;
+        place = place ∙ ap (λ t. Some (Tested t one none)) (sym (ap (λ p. (fork_part p f).tree) e));
+        number = ap (λ p. (fork_part p f).block) e;
+        words = ap (λ p. (fork_part p f).words) e;
+        form = ap (λ p. (fork_part p f).form) e;
+        setting = ap (λ p. (fork_part p f).setting) e;
+        within = slice_get_within flow at (Tested tree one none) place;
+      }
+      by false tree one none place e = record {
+        when_one = one;
+        when_zero = none;
+        place = place ∙ ap (λ t. Some (Tested t one none)) (sym (ap (λ p. (fork_part p f).tree) e));
+        number = ap (λ p. (fork_part p f).block) e;
+        words = ap (λ p. (fork_part p f).words) e;
+        form = ap (λ p. (fork_part p f).form) e;
+        setting = ap (λ p. (fork_part p f).setting) e;
+        within = slice_get_within flow at (Tested tree one none) place;
+      }
+
+      go : (g : Flow) → slice_get flow at ≡ Some g → Test (record f { long = false }) ≡ shortened (part_for rules flow sizes forks g at (blocks_before flow at) (tests_before flow at)) → IsTestThere flow sizes forks at f
+      go (Assign tree) place e = absurd (no_run (continues flow at) e)
+      go (Tested tree one none) place e = by (rule_at_one (slice_get rules (given (slice_get forks (tests_before flow at))).0)) tree one none place e
+      go (Jumped to) place e = absurd (true_false (ap is_fork e))
+      go Ended place e = absurd (true_false (ap is_fork e))
+
+-- ---- the words of blocks and tests, as the image has them
+
+module _ (netlist : Netlist) (patterns : List Pattern) (stock : Stock) (flow : List Flow) (works : List Work) (choices : List Choice) (words : List (List ℕ)) (branches : List (ℕ × ℕ))
+    (code : IsBlockCode netlist patterns stock flow works choices (length flow) words branches) (parts : List Part)
+    (settled : IsSettled stock.rules (parts_of stock.rules flow (map length words) branches) parts) where
+  pub blocks_made : (at n block size : ℕ) → IsBlock flow at n → slice_get parts at ≡ Some (Block block size)
+      → AreBlockWords netlist patterns stock (jobs_at flow works at n) (choices_at flow choices at n) (words_at words block) size
+  blocks_made at n block size run e =
+      let t = block_there stock.rules flow (map length words) branches parts settled at block size e in
+      subst (λ b. AreBlockWords netlist patterns stock (jobs_at flow works at n) (choices_at flow choices at n) (words_at words b) size) (sym t.number)
+      (record { least = code.runs at n t.within run; long = t.words ∙ sizes_at words (blocks_before flow at) })
+
+  pub tests_made : (at : ℕ) (f : Fork) → slice_get parts at ≡ Some (Test f) → (job : Work) → slice_get works f.tree ≡ Some job → (choice : Choice) → slice_get choices f.tree ≡ Some choice
+      → AreTestWords netlist patterns stock job choice (words_at words f.block) f
+  tests_made at f e job w choice c =
+      let t = test_there stock.rules flow (map length words) branches parts settled at f e in
+      let k = code.tests at f.tree t.when_one t.when_zero t.within t.place job choice w c in
+      subst (λ b. AreTestWords netlist patterns stock job choice (words_at words b) f) (sym t.number)
+      (record {
+        least = k.least;
+        long = t.words ∙ sizes_at words (blocks_before flow at);
+        branch = record { form = ap (slice_get stock.rules) t.form ∙ k.form; setting = t.setting ∙ k.setting };
+      })
+
+-- the branches of the layout are those of the covers
+module _ (stock : Stock) (flow : List Flow) (works : List Work) (choices : List Choice) (netlist : Netlist) (patterns : List Pattern) (words : List (List ℕ)) (branches : List (ℕ × ℕ))
+    (code : IsBlockCode netlist patterns stock flow works choices (length flow) words branches) (parts : List Part)
+    (settled : IsSettled stock.rules (parts_of stock.rules flow (map length words) branches) parts) where
+  pub branches_made : (at : ℕ) (f : Fork) → slice_get parts at ≡ Some (Test f) → (job : Work) → slice_get works f.tree ≡ Some job → (choice : Choice) → slice_get choices f.tree ≡ Some choice
+      → IsBranchOf stock job choice f
+  branches_made at f e job w choice c = (tests_made netlist patterns stock flow works choices words branches code parts settled at f e job w choice c).branch

@@ -1,0 +1,49 @@
+use Rattle.std.proofs.Common.{◌≡◌, ◌∙◌, ◌+◌, inl, inr, Some, ap, slice_get, sym, true, false}
+use Rattle.std.proofs.lemmas.Option.{slice_get-get_or}
+use Rattle.form_model.specs.declared.flow.Flow.{Flow}
+use Rattle.form_model.specs.declared.flow.Flow.TheVariants.{Assign, End, Jump, Test}
+use Rattle.src_trees.specs.Blocks.{continues, is_assign}
+use Rattle.net_code.specs.Coded.{IsBlockCode}
+use Rattle.net_code.specs.Covering.{machine_netlist, machine_patterns}
+use Rattle.net_code.specs.Places.{place_blocks, place_tests}
+use Rattle.net_code.specs.Views.{choices_in, stock_of, works_in}
+use Rattle.net_code.proofs.Coding.{skipped}
+use Rattle.net_code.proofs.blocks.push_code.Goals as goal
+
+pub returns-then-continues-clause-code : goal.returns-then-continues-clause-code
+returns-then-continues-clause-code c =
+    let machine = c.args.machine.now in
+    let program = c.args.program.now in
+    let flow = program.flow.now in
+    let place : slice_get flow c.args.at ≡ Some (Assign c.in-Assign.field-0) =
+    slice_get-get_or flow c.args.at (Assign 0) c.requires.within ∙ ap (λ (f : Flow). Some f) c.in-Assign.is in
+    let goes_on : continues flow c.args.at ≡ true = sym c.if-continues.ensures in
+    skipped (machine_netlist machine) (machine_patterns machine) (stock_of program) flow (works_in program) (choices_in program) c.args.at c.args.code.now.words.items c.args.code.now.branches.items
+    c.requires.code (λ j. place_blocks (place j) (goes_on j)) (ap place_tests place)
+
+pub push_run-requires-clause-assigns : goal.push_run-requires-clause-assigns
+push_run-requires-clause-assigns c =
+    ap is_assign (slice_get-get_or c.args.program.now.flow.now c.args.at (Assign 0) c.requires.within ∙ ap (λ (f : Flow). Some f) c.in-Assign.is)
+
+pub push_test-requires-clause-place : goal.push_test-requires-clause-place
+push_test-requires-clause-place c = record {
+  when_one = c.in-Test.when_one;
+  when_zero = c.in-Test.when_zero;
+  place = slice_get-get_or c.args.program.now.flow.now c.args.at (Assign 0) c.requires.within ∙ ap (λ (f : Flow). Some f) c.in-Test.is;
+}
+
+pub returns-in-Jump-clause-code : goal.returns-in-Jump-clause-code
+returns-in-Jump-clause-code c =
+    let machine = c.args.machine.now in
+    let program = c.args.program.now in
+    let flow = program.flow.now in
+    let read = slice_get-get_or flow c.args.at (Assign 0) c.requires.within in
+    let past = skipped (machine_netlist machine) (machine_patterns machine) (stock_of program) flow (works_in program) (choices_in program) c.args.at c.args.code.now.words.items c.args.code.now.branches.items c.requires.code in
+    elim c.in-Jump.is as (λ _. IsBlockCode (machine_netlist machine) (machine_patterns machine) (stock_of program) flow (works_in program) (choices_in program) (c.args.at + 1) c.args.code.now.words.items c.args.code.now.branches.items) [
+      | inl jump ↦
+          (let place : slice_get flow c.args.at ≡ Some (Jump jump.0) = read ∙ ap (λ (f : Flow). Some f) jump.1 in
+          past (ap (λ o. place_blocks o (continues flow c.args.at)) place) (ap place_tests place))
+      | inr e ↦
+          (let place : slice_get flow c.args.at ≡ Some End = read ∙ ap (λ (f : Flow). Some f) e in
+          past (ap (λ o. place_blocks o (continues flow c.args.at)) place) (ap place_tests place))
+    ]

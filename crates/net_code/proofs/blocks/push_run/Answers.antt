@@ -1,0 +1,17 @@
+use Rattle.std.proofs.Common.{◌+◌, slice_get, sym, subst}
+use Rattle.net_code.specs.Coded.{IsBlockCode}
+use Rattle.net_code.specs.Covering.{machine_netlist, machine_patterns}
+use Rattle.net_code.specs.Views.{choices_in, stock_of, works_in}
+use Rattle.net_code.proofs.Coding.{no_test, run_more}
+use Rattle.net_code.proofs.blocks.push_run.Goals as goal
+
+pub returns-clause-code : goal.returns-clause-code
+returns-clause-code c =
+    let machine = c.args.machine.now in
+    let program = c.args.program.now in
+    let flow = program.flow.now in
+    let code = c.args.code.now in
+    subst (λ words. IsBlockCode (machine_netlist machine) (machine_patterns machine) (stock_of program) flow (works_in program) (choices_in program) (c.args.at + 1) words code.branches.items)
+    (sym c.in_ok-push.ensures.items)
+    (run_more (machine_netlist machine) (machine_patterns machine) (stock_of program) flow (works_in program) (choices_in program) c.args.at c.block_length-count.result
+    code.words.items code.branches.items c.in_ok-words.words c.requires.code c.block_length-count.ensures.block (no_test (slice_get flow c.args.at) c.requires.assigns) c.in_ok-words.ensures.words)

@@ -1,0 +1,60 @@
+use Rattle.std.proofs.Common.{◌≡◌, ◌∙◌, ap, sym, subst}
+use Rattle.std.specs.Option.{unwrap_or}
+use Rattle.cover.specs.Best.{choice_of}
+use Rattle.emit_seq.specs.Emits.{branch_of}
+use Rattle.emit_seq.specs.Spares.{wanted}
+use Rattle.form_model.specs.Effects.{operation_of}
+use Rattle.form_model.specs.Live.{Regs, regs_of, singles}
+use Rattle.form_model.specs.Rules.{tested}
+use Rattle.form_model.specs.Steps.{branch_setting, cover_steps}
+use Rattle.src_trees.specs.Jobs.{work_of}
+use Rattle.word_fit.specs.Fits.{fits_over}
+use Rattle.word_fit.specs.Groups.{AllHaveWords}
+use Rattle.right_code.specs.Jobs.{job_steps, tree_or_none, tree_used}
+use Rattle.right_code.specs.Words.{AreStepWords}
+use Rattle.net_code.specs.Covering.{machine_netlist, machine_patterns}
+use Rattle.net_code.specs.Views.{stock_of}
+use Rattle.net_code.proofs.Frames.{root_form, test_have, wanted_is}
+use Rattle.net_code.proofs.blocks.test_words.Goals as goal
+
+pub step_words-requires-clause-words : goal.step_words-requires-clause-words
+step_words-requires-clause-words c =
+    let machine = c.args.machine.now in
+    let program = c.args.program.now in
+    let stock = stock_of program in
+    let job = work_of c.args.job.now in
+    let choice = choice_of c.args.chosen.now in
+    let t = c.requires.job in
+    let task = c.requires.covering.0 in
+    let covering = c.requires.covering.1 in
+    let e = c.in_ok-emitted.ensures in
+    let n = c.condition_registers-after.result in
+    let is : c.as_slice.result.now ≡ job_steps stock job choice =
+    c.as_slice.ensures ∙ e.steps ∙ ap (λ x. cover_steps stock job.destination x choice.plan) (sym (ap tree_or_none e.used)) in
+    let live = wanted_is machine program task covering t.tree job choice t.work t.covers t.test n c.condition_registers-after.type_inv c.condition_registers-after.ensures in
+    subst (λ xs. AllHaveWords (operation_of (machine_patterns machine)) (fits_over (machine_netlist machine) (operation_of (machine_patterns machine))) (singles xs) (regs_of n)) (sym is)
+    (test_have machine program task covering t.tree job choice t.work t.covers t.test n live)
+
+pub returns-clause-code : goal.returns-clause-code
+returns-clause-code c =
+    let machine = c.args.machine.now in
+    let program = c.args.program.now in
+    let stock = stock_of program in
+    let job = work_of c.args.job.now in
+    let choice = choice_of c.args.chosen.now in
+    let t = c.requires.job in
+    let task = c.requires.covering.0 in
+    let covering = c.requires.covering.1 in
+    let e = c.in_ok-emitted.ensures in
+    let n = c.condition_registers-after.result in
+    let tree : e.tree ≡ tree_used job choice = sym (ap tree_or_none e.used) in
+    let is : c.as_slice.result.now ≡ job_steps stock job choice = c.as_slice.ensures ∙ e.steps ∙ ap (λ x. cover_steps stock job.destination x choice.plan) tree in
+    let live : wanted stock tested (tree_used job choice) choice.plan ≡ regs_of n =
+    wanted_is machine program task covering t.tree job choice t.work t.covers t.test n c.condition_registers-after.type_inv c.condition_registers-after.ensures in
+    record {
+      least =
+          subst (λ (after : Regs). AreStepWords (machine_netlist machine) (machine_patterns machine) (job_steps stock job choice) after c.in_ok-words.words) (sym live)
+          (subst (λ xs. AreStepWords (machine_netlist machine) (machine_patterns machine) xs (regs_of n) c.in_ok-words.words) is c.in_ok-words.ensures.least);
+      form = root_form machine program task covering t.tree job choice t.work t.covers;
+      setting = c.unwrap_or.ensures ∙ ap (λ b. unwrap_or b 0) (e.branch ∙ ap (λ d. branch_of stock d e.tree choice.plan) t.test) ∙ ap (λ x. branch_setting stock x choice.plan) tree;
+    }

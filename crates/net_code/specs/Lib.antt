@@ -1,0 +1,9 @@
+pub mod Coded
+pub mod Covering
+pub mod Imaged
+pub mod Memories
+pub mod Places
+pub mod Refusals
+pub mod Registers
+pub mod Uncovered
+pub mod Views

@@ -1,0 +1,55 @@
+//! The jobs of a program, in the netlist's data memory.
+
+ghost use Rattle.std.specs.Prelude.{◌≡◌, ◌≤◌, IfOk, option_copied};
+ghost use Rattle.net_model.specs.CheckedRules.{KeepsRules, memory_addr_width};
+ghost use Rattle.net_model.specs.Nets.{memory_size, memory_width};
+ghost use Rattle.src_model.specs.Written.{listing_of};
+ghost use Rattle.code_model.specs.Layout.{layout_of, need_of};
+ghost use Rattle.src_trees.specs.Flows.{program_flow};
+ghost use Rattle.src_trees.specs.Jobs.{works_of};
+ghost use Rattle.right_code.specs.Tasks.{read_task, task_works};
+ghost use Rattle.net_code.specs.Memories.{storage_addr_bits};
+
+use code_model::Places;
+use form_model::Blocks;
+use net_model::{Checked, Storage};
+use rec_bits::NoMemory;
+use src_model::Typed;
+use src_trees::lower;
+use std::alloc::Global;
+
+// The bits of an address of a memory.
+fn addr_bits(storage: Option<&Storage>) -> u8
+    ensures { result ≡ storage_addr_bits (option_copied storage.entry) }
+{
+    match storage {
+        Some(Storage::Memory { addr_width, .. }) => *addr_width,
+        _ => 0,
+    }
+}
+
+// The number of bits of an address of the data memory. What holds of a checked netlist is said here.
+fn addr_width(checked: &Checked) -> u8
+    ensures width { result ≡ memory_addr_width checked.now.netlist.storages }
+    ensures rules { KeepsRules checked.now.netlist checked.now.order }
+{
+    addr_bits(checked.netlist().storage(checked.memory()))
+}
+
+/// The flow and the jobs of a program whose variables stand at the places of its layout in the netlist's data memory.
+pub(crate) fn blocks_of(
+    alloc: Global,
+    checked: &Checked,
+    typed: &Typed,
+    places: &Places,
+) -> Result<Blocks, NoMemory>
+    requires width { typed.now.width ≡ memory_width checked.now.netlist.storages }
+    requires places { places.now ≡ layout_of typed.now.width (listing_of typed.now.program) }
+    requires room { need_of typed.now.width (listing_of typed.now.program) ≤ memory_size checked.now.netlist.storages }
+    ensures flow { IfOk result (λ blocks. blocks.flow ≡ program_flow (listing_of typed.now.program)) }
+    ensures jobs { IfOk result (λ blocks. works_of blocks.jobs.items ≡ task_works (read_task checked.now typed.now)) }
+{
+    let width = addr_width(checked);
+    let blocks = lower(alloc, typed, places, width)?;
+    Ok(blocks)
+}

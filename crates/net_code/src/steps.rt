@@ -1,0 +1,109 @@
+//! The steps of blocks and of tests.
+
+ghost use Rattle.std.specs.Prelude.{◌≡◌, ◌<◌, ◌≤◌, ◌+◌, ◌++◌, IfOk, OnOk, IfSome, Some, length, slice_get, true, false};
+ghost use Rattle.std.proofs.Common.{replicate};
+ghost use Rattle.branch_fix.specs.Entered.{marked};
+ghost use Rattle.src_trees.specs.Blocks.{IsBlock, continues, is_assign, job_at, job_of, jobs_at};
+ghost use Rattle.right_code.specs.Images.{choice_at, choice_of, choices_at};
+ghost use Rattle.right_code.specs.Jobs.{jobs_steps};
+ghost use Rattle.net_code.specs.Views.{choices_in, stock_of, works_in};
+
+use crate::views::CoveredProgram;
+use branch_fix::continues;
+use emit_seq::emit;
+use form_model::{Flow, Step};
+use rec_bits::{Items, NoMemory};
+use std::alloc::Global;
+
+// Adds steps behind others.
+fn append(steps: &mut Items<Step>, more: &[Step]) -> Result<(), NoMemory>
+    ensures { OnOk result (steps.new ≡ steps.old ++ more.now) }
+{
+    for step in more {
+        steps.push(*step)?;
+    }
+    Ok(())
+}
+
+// Adds the steps of the job of this number, which are none where there is none.
+fn push_job(
+    alloc: Global,
+    program: &CoveredProgram<'_>,
+    tree: u32,
+    steps: &mut Items<Step>,
+) -> Result<(), NoMemory>
+    ensures { OnOk result (steps.new ≡ steps.old
+        ++ jobs_steps (stock_of program.now) (job_of (slice_get (works_in program.now) tree)) (choice_of (slice_get (choices_in program.now) tree))) }
+{
+    let Some(job) = program.jobs.get(tree as usize) else {
+        return Ok(());
+    };
+    let Some(chosen) = program.covers.get(tree as usize) else {
+        return Ok(());
+    };
+    let emitted = emit(
+        alloc,
+        program.forms,
+        job,
+        chosen.which,
+        &chosen.cover,
+        program.temps,
+    )?;
+    append(steps, emitted.steps.as_slice())?;
+    Ok(())
+}
+
+// Adds the steps of the job at a place of the flow, which are none where no assignment stands there.
+fn push_place(
+    alloc: Global,
+    program: &CoveredProgram<'_>,
+    at: usize,
+    steps: &mut Items<Step>,
+) -> Result<(), NoMemory>
+    ensures { OnOk result (steps.new ≡ steps.old
+        ++ jobs_steps (stock_of program.now) (job_at (works_in program.now) (slice_get program.now.flow.now at)) (choice_at (choices_in program.now) (slice_get program.now.flow.now at))) }
+{
+    let Some(place) = program.flow.get(at) else {
+        return Ok(());
+    };
+    match place {
+        Flow::Assign(tree) => push_job(alloc, program, *tree, steps),
+        _ => Ok(()),
+    }
+}
+
+/// The steps of the jobs at so many places from one on.
+pub(crate) fn block_steps(
+    alloc: Global,
+    program: &CoveredProgram<'_>,
+    at: usize,
+    count: usize,
+) -> Result<Items<Step>, NoMemory>
+    requires within { at + count ≤ length program.now.flow.now }
+    requires even { length (choices_in program.now) ≡ length (works_in program.now) }
+    ensures { IfOk result (λ steps. steps
+        ≡ jobs_steps (stock_of program.now) (jobs_at program.now.flow.now (works_in program.now) at count) (choices_at program.now.flow.now (choices_in program.now) at count)) }
+{
+    let mut steps = Items::new(alloc);
+    for k in 0..count {
+        push_place(alloc, program, at + k, &mut steps)?;
+    }
+    Ok(steps)
+}
+
+/// How many places the block has that begins at this place.
+pub(crate) fn block_length(flow: &[Flow], entered: &[bool], at: usize) -> usize
+    requires within { at < length flow.now }
+    requires begins { continues flow.now at ≡ false }
+    requires assigns { is_assign (slice_get flow.now at) ≡ true }
+    requires entered { entered.now ≡ marked flow.now (replicate (length flow.now) false) }
+    ensures block { IsBlock flow.now at result }
+    ensures within { at + result ≤ length flow.now }
+{
+    for place in at + 1..flow.len() {
+        if !continues(flow, entered, place) {
+            return place - at;
+        }
+    }
+    flow.len() - at
+}

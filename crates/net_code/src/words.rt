@@ -1,0 +1,102 @@
+//! The words of a layout.
+
+ghost use Rattle.std.specs.Prelude.{◌≡◌, ℕ, IfOk, slice_index};
+ghost use Rattle.std.specs.List.{AllByRecursion};
+ghost use Rattle.bit_bdd.specs.Diagrams.{Extends};
+ghost use Rattle.form_model.specs.Effects.{operation_of};
+ghost use Rattle.transfer_set.specs.Ready.{IsReady};
+ghost use Rattle.word_fit.specs.Fits.{FitsJump, IsLeastFit};
+ghost use Rattle.right_code.specs.Words.{IsItemWord};
+ghost use Rattle.net_code.specs.Coded.{AreItemWords, HasWord, words_at};
+ghost use Rattle.net_code.specs.Covering.{machine_netlist, machine_patterns};
+
+use crate::views::Machine;
+use bit_bdd::Book;
+use branch_fix::Item;
+use code_model::Word;
+use form_model::Step;
+use nop_synth::jump_word;
+use rec_bits::{Items, NoMemory};
+use std::alloc::Global;
+
+// The word of a jump or a branch.
+fn word_of_jump(
+    alloc: Global,
+    machine: &Machine<'_>,
+    book: &mut Book,
+    step: Step,
+) -> Result<u64, NoMemory>
+    requires ready { IsReady (machine_netlist machine.now) book.old machine.now.pool.now machine.now.patterns.now }
+    requires word { (w : ℕ) × FitsJump (machine_netlist machine.now) w (operation_of (machine_patterns machine.now) step) }
+    ensures grows { Extends book.old book.new }
+    ensures ready { IsReady (machine_netlist machine.now) book.new machine.now.pool.now machine.now.patterns.now }
+    ensures least { IfOk result (IsLeastFit (λ word. FitsJump (machine_netlist machine.now) word (operation_of (machine_patterns machine.now) step))) }
+{
+    let found = jump_word(
+        alloc,
+        machine.checked,
+        book,
+        machine.pool,
+        machine.patterns,
+        step,
+    )?;
+    match found {
+        Some(word) => Ok(word),
+        // each jump of a layout has a word
+        None => Ok(0),
+    }
+}
+
+// The word of a group of a block.
+fn word_of_group(blocks: &[Items<u64>], block: u32, at: u32) -> u64
+    ensures { result ≡ slice_index (words_at blocks.now block) at }
+{
+    match blocks.get(block as usize) {
+        Some(words) => words.get(at as usize).copied().unwrap_or(0),
+        None => 0,
+    }
+}
+
+fn word_of_item(
+    alloc: Global,
+    machine: &Machine<'_>,
+    book: &mut Book,
+    blocks: &[Items<u64>],
+    item: Item,
+) -> Result<u64, NoMemory>
+    requires ready { IsReady (machine_netlist machine.now) book.old machine.now.pool.now machine.now.patterns.now }
+    requires word { HasWord (machine_netlist machine.now) (machine_patterns machine.now) item }
+    ensures grows { Extends book.old book.new }
+    ensures ready { IsReady (machine_netlist machine.now) book.new machine.now.pool.now machine.now.patterns.now }
+    ensures word { IfOk result (λ word. IsItemWord (machine_netlist machine.now) (machine_patterns machine.now) (words_at blocks.now) word item) }
+{
+    match item {
+        Item::Group { block, at } => Ok(word_of_group(blocks, block, at)),
+        Item::Jump(step) => word_of_jump(alloc, machine, book, step),
+    }
+}
+
+/// The words of a layout's items, of which no patterns are told.
+pub(crate) fn words_of_items(
+    alloc: Global,
+    machine: &Machine<'_>,
+    book: &mut Book,
+    blocks: &[Items<u64>],
+    items: &[Item],
+) -> Result<Items<Word>, NoMemory>
+    requires ready { IsReady (machine_netlist machine.now) book.old machine.now.pool.now machine.now.patterns.now }
+    requires words { AllByRecursion (HasWord (machine_netlist machine.now) (machine_patterns machine.now)) items.now }
+    ensures grows { Extends book.old book.new }
+    ensures ready { IsReady (machine_netlist machine.now) book.new machine.now.pool.now machine.now.patterns.now }
+    ensures words { IfOk result (λ words. AreItemWords (machine_netlist machine.now) (machine_patterns machine.now) (words_at blocks.now) items.now words) }
+{
+    let mut words = Items::new(alloc);
+    for item in items {
+        let word = word_of_item(alloc, machine, book, blocks, *item)?;
+        words.push(Word {
+            word,
+            patterns: Items::new(alloc),
+        })?;
+    }
+    Ok(words)
+}

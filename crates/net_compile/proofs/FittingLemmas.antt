@@ -1,0 +1,40 @@
+-- The places of a program's variables, and the limits of a netlist's code.
+use Rattle.std.proofs.Common.{◌≤◌, ◌+◌, ℕ, List, [], ◌∷◌, arith}
+use Rattle.std.specs.List.{AllByRecursion}
+use Rattle.net_model.specs.declared.hardware.Code.{Code}
+use Rattle.net_model.specs.declared.hardware.Netlist.{Netlist}
+use Rattle.net_model.specs.declared.hardware.Storage.{Storage}
+use Rattle.net_model.specs.declared.hardware.Storage.TheVariants.{Register, Memory}
+use Rattle.net_model.specs.CheckedRules.{CodeKeeps, HasFewCells}
+use Rattle.net_model.specs.Nets.{memory_size}
+use Rattle.src_model.specs.declared.program.Var.{Var as Declared}
+use Rattle.src_model.specs.Meaning.{cells_in}
+use Rattle.code_model.specs.declared.image.Place.{Place}
+use Rattle.code_model.specs.ImageFits.{PlaceFits, limits_in}
+use Rattle.code_model.specs.Layout.{variables_of}
+use Rattle.code_model.specs.Places.{Apart, places_from}
+use Rattle.src_front.specs.Fronts.{AreNamed}
+
+-- an instruction word has at most 64 bits
+pub few_bits : (netlist : Netlist) (codes : List Code) → AllByRecursion (CodeKeeps netlist) codes → (limits_in codes).bits ≤ 64
+few_bits netlist [] keeps = omega arith
+few_bits netlist (code ∷ codes) keeps = keeps.0.0.1
+
+-- a data memory has at most 65,536 cells
+pub few_cells : (storages : List Storage) → AllByRecursion HasFewCells storages → memory_size storages ≤ 65536
+few_cells [] few = omega arith
+few_cells (Register name width input when ∷ storages) few = few_cells storages few.1
+few_cells (Memory name width size addr_width value addr when ∷ storages) few = few.0
+
+-- places that lie in a memory begin and end in it
+apart_within : (from end : ℕ) (places : List Place) → Apart from places end → from ≤ end
+apart_within from end [] apart = apart
+apart_within from end (place ∷ places) apart = omega (arith, apart.0, apart_within (place.address + place.len) end places apart.1)
+
+pub places_fit : (at end : ℕ) (vars : List Declared) → end ≤ 65536 → AreNamed vars → Apart at (places_from at (variables_of vars)) end → AllByRecursion PlaceFits (places_from at (variables_of vars))
+places_fit at end [] few named apart = tt
+places_fit at end (var ∷ vars) few named apart =
+    let behind = apart_within (at + cells_in var) end (places_from (at + cells_in var) (variables_of vars)) apart.1 in (
+      record { name = named.0; address = omega (arith, behind, few); len = omega (arith, behind, few) },
+      places_fit (at + cells_in var) end vars few named.1 apart.1,
+    )

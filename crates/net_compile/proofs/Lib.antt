@@ -1,0 +1,2 @@
+pub mod TaskLemmas
+mod FittingLemmas

@@ -1,0 +1,54 @@
+-- The text of a task's code, and why there is none. Everything here is of a task.
+use Rattle.std.specs.Prelude.{ℕ, ◌≡◌, ◌≤◌, ◌<◌, List}
+use Rattle.net_model.specs.CheckedRules.{code_size}
+use Rattle.net_model.specs.Nets.{memory_size}
+use Rattle.code_model.specs.declared.image.Image.{Image}
+use Rattle.code_model.specs.ImageFits.{limits_of}
+use Rattle.code_model.specs.ImageLines.{IsImageText}
+use Rattle.code_model.specs.Layout.{need_of}
+use Rattle.right_code.specs.Images.{IsRightImage}
+use Rattle.right_code.specs.Tasks.{Property, Task}
+use Rattle.net_code.specs.Refusals.{IsCodeFault, IsReached}
+use Rattle.net_code.specs.declared.fault.CodeFault.TheVariants.{NoStep as Stepless, NoJump as Jumpless, NoCover as Uncovered, NoReach as Beyond, ImageFull as Overlong}
+use Rattle.net_compile.specs.declared.fault.CompileFault.{CompileFault}
+use Rattle.net_compile.specs.declared.fault.CompileFault.TheVariants.{DataFull, NoStep, NoJump, NoCover, NoReach, ImageFull, Memory}
+
+-- the program needs more cells than the memory has, and these are the numbers
+pub record IsFull (need have : ℕ) (task : Task) : Type 0 where
+  pub needs : need ≡ need_of task.width task.listing
+  pub has : have ≡ memory_size task.netlist.storages
+  pub more : have < need
+
+-- the memory has the cells that the program needs
+pub record HasRoom (task : Task) : Type 0 where
+  pub room : need_of task.width task.listing ≤ memory_size task.netlist.storages
+
+-- bytes that are read as an image that is right code
+pub record IsCode (out : List ℕ) (task : Task) : Type 0 where
+  pub room : HasRoom task
+  pub reached : IsReached task
+  pub image : Image
+  pub read : IsImageText (limits_of task.netlist) out image
+  pub right : IsRightImage task image
+
+-- whatever image is made for it, nothing is refused: it has room, a step, a jump, covers of all trees, and the bound of its words is within
+-- the reach of the jumps and within the code
+pub record IsWithin (task : Task) : Type 0 where
+  pub room : HasRoom task
+  pub reached : IsReached task
+  pub small : reached.bound ≤ code_size task.netlist.codes
+
+-- when each refusal comes; nothing is said where memory ran out
+abbrev pub IsTaskFault : Task → CompileFault → Type 0
+IsTaskFault task (DataFull need have) = IsFull need have task
+IsTaskFault task NoStep = HasRoom task × IsCodeFault task Stepless
+IsTaskFault task NoJump = HasRoom task × IsCodeFault task Jumpless
+IsTaskFault task (NoCover number) = HasRoom task × IsCodeFault task (Uncovered number)
+IsTaskFault task (NoReach bound reach) = HasRoom task × IsCodeFault task (Beyond bound reach)
+IsTaskFault task (ImageFull len size bound) = HasRoom task × IsCodeFault task (Overlong len size bound)
+IsTaskFault task Memory = Unit {0}
+IsTaskFault task _ = ⊥
+
+-- the same, of one fault
+abbrev pub FailsWith : CompileFault → Property
+FailsWith fault task = IsTaskFault task fault

@@ -1,0 +1,4 @@
+pub mod Tasks
+pub mod Code
+pub mod Compiled
+pub mod Told

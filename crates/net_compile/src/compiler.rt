@@ -1,0 +1,150 @@
+//! From the two texts to the image's.
+
+ghost use Rattle.std.specs.Prelude.{◌≡◌, ◌<◌, ◌≤◌, ◌^◌, IfOk, IfErr, None, length};
+ghost use Rattle.std.specs.List.{AllByRecursion};
+ghost use Rattle.net_model.specs.CheckedRules.{KeepsRules};
+ghost use Rattle.net_model.specs.Nets.{memory_size, memory_width};
+ghost use Rattle.net_model.specs.Patterns.{ArePatterns};
+ghost use Rattle.net_extract.specs.Extraction.{IsExtractedFrom};
+ghost use Rattle.net_extract.specs.Extracts.{IsRoutedNet};
+ghost use Rattle.transfer_set.specs.Rows.{told_patterns};
+ghost use Rattle.src_model.specs.Rules.{first_fault};
+ghost use Rattle.src_model.specs.Written.{listing_of};
+ghost use Rattle.src_front.specs.Fronts.{AreNamed, IsSrcFile};
+ghost use Rattle.code_model.specs.ImageFits.{IsFitting, PlaceFits, limits_of};
+ghost use Rattle.code_model.specs.ImageLines.{IsImageText};
+ghost use Rattle.code_model.specs.Layout.{layout_of};
+ghost use Rattle.code_model.specs.Places.{Apart};
+ghost use Rattle.right_code.specs.Images.{IsRightImage};
+ghost use Rattle.right_code.specs.Tasks.{IsChecked, read_task};
+ghost use Rattle.net_code.specs.Refusals.{IsReached};
+ghost use Rattle.net_compile.specs.Code.{HasRoom, IsCode, IsTaskFault};
+ghost use Rattle.net_compile.specs.Compiled.{IsCompiled, IsCompileFault, IsNetFault, IsSrcFault};
+ghost use Rattle.net_compile.specs.declared.fault.CompileFault.{CompileFault};
+
+use crate::fault::CompileFault;
+use binding::bind;
+use code_model::{Image, Places};
+use net_code::image_of;
+use net_extract::{Extracted, read_extracted};
+use net_model::Checked;
+use rec_bits::NoMemory;
+use src_front::read_src;
+use src_model::Typed;
+use std::alloc::Global;
+
+// The netlist, which keeps all rules, and what is extracted from it.
+fn netlist(alloc: Global, net: &[u8]) -> Result<(Checked, Extracted), CompileFault>
+    requires { length net.now < 2 ^ 32 }
+    ensures found { IfOk result (λ both. IsRoutedNet net.now both.0) }
+    ensures extracted { IfOk result (λ both. IsExtractedFrom both.0.netlist both.1) }
+    ensures patterns { IfOk result (λ both. ArePatterns both.0.netlist (told_patterns both.1.pool both.1.patterns.rows)) }
+    ensures refused { IfErr result (IsNetFault net.now) }
+{
+    let both = read_extracted(alloc, net)?;
+    Ok(both)
+}
+
+// The program, which was checked for words of so many bits.
+fn program(alloc: Global, src: &[u8], width: u8) -> Result<Typed, CompileFault>
+    requires short { length src.now < 2 ^ 32 }
+    requires some { 1 ≤ width }
+    requires most { width ≤ 64 }
+    ensures found { IfOk result (λ typed. IsSrcFile src.now width (listing_of typed.program)) }
+    ensures width { IfOk result (λ typed. typed.width ≡ width) }
+    ensures refused { IfErr result (IsSrcFault src.now width) }
+{
+    let typed = read_src(alloc, src, width)?;
+    Ok(typed)
+}
+
+// The places of the program's variables.
+fn places(alloc: Global, checked: &Checked, typed: &Typed) -> Result<Places, CompileFault>
+    requires rules { KeepsRules checked.now.netlist checked.now.order }
+    requires few { length typed.now.program.vars < 2 ^ 32 }
+    requires named { AreNamed typed.now.program.vars }
+    ensures places { IfOk result (λ places. places ≡ layout_of typed.now.width (listing_of typed.now.program)) }
+    ensures room { IfOk result (λ _. HasRoom (read_task checked.now typed.now)) }
+    ensures apart { IfOk result (λ places. Apart places.temps places.list (memory_size checked.now.netlist.storages)) }
+    ensures named { IfOk result (λ places. AllByRecursion PlaceFits places.list) }
+    ensures refused { IfErr result (IsTaskFault (read_task checked.now typed.now)) }
+{
+    let places = bind(alloc, typed, checked.memory_size())?;
+    Ok(places)
+}
+
+// The image of the program, whose variables stand at these places.
+fn image(
+    alloc: Global,
+    checked: &Checked,
+    extracted: &mut Extracted,
+    typed: &Typed,
+    places: Places,
+) -> Result<Image, CompileFault>
+    requires extracted { IsExtractedFrom checked.now.netlist extracted.old }
+    requires patterns { ArePatterns checked.now.netlist (told_patterns extracted.old.pool extracted.old.patterns.rows) }
+    requires checked { IsChecked checked.now.order (read_task checked.now typed.now) }
+    requires places { places ≡ layout_of typed.now.width (listing_of typed.now.program) }
+    requires room { HasRoom (read_task checked.now typed.now) }
+    requires apart { Apart places.temps places.list (memory_size checked.now.netlist.storages) }
+    requires named { AllByRecursion PlaceFits places.list }
+    ensures right { IfOk result (IsRightImage (read_task checked.now typed.now)) }
+    ensures fits { IfOk result (IsFitting (limits_of checked.now.netlist)) }
+    ensures reached { IfOk result (λ _. IsReached (read_task checked.now typed.now)) }
+    ensures refused { IfErr result (IsTaskFault (read_task checked.now typed.now)) }
+{
+    let image = image_of(
+        alloc,
+        checked,
+        &mut extracted.book,
+        &extracted.pool,
+        &extracted.patterns,
+        typed,
+        places,
+    )?;
+    Ok(image)
+}
+
+// The text of an image that fits the netlist.
+fn text(alloc: Global, checked: &Checked, image: &Image) -> Result<Vec<u8>, NoMemory>
+    requires rules { KeepsRules checked.now.netlist checked.now.order }
+    requires fits { IsFitting (limits_of checked.now.netlist) image.now }
+    ensures { IfOk result (λ text. IsImageText (limits_of checked.now.netlist) text.items image.now) }
+{
+    image_text::write(alloc, image)
+}
+
+// The text of the image of the program for the netlist.
+fn code(
+    alloc: Global,
+    checked: &Checked,
+    extracted: &mut Extracted,
+    typed: &Typed,
+) -> Result<Vec<u8>, CompileFault>
+    requires rules { KeepsRules checked.now.netlist checked.now.order }
+    requires extracted { IsExtractedFrom checked.now.netlist extracted.old }
+    requires patterns { ArePatterns checked.now.netlist (told_patterns extracted.old.pool extracted.old.patterns.rows) }
+    requires width { typed.now.width ≡ memory_width checked.now.netlist.storages }
+    requires program { first_fault typed.now.width (listing_of typed.now.program) ≡ None }
+    requires few { length typed.now.program.vars < 2 ^ 32 }
+    requires named { AreNamed typed.now.program.vars }
+    ensures code { IfOk result (λ text. IsCode text.items (read_task checked.now typed.now)) }
+    ensures refused { IfErr result (IsTaskFault (read_task checked.now typed.now)) }
+{
+    let places = places(alloc, checked, typed)?;
+    let image = image(alloc, checked, extracted, typed, places)?;
+    let text = text(alloc, checked, &image)?;
+    Ok(text)
+}
+
+/// The text of the image of the program that `src` is, for the netlist that `net` is: right code for it.
+pub fn compile(alloc: Global, net: &[u8], src: &[u8]) -> Result<Vec<u8>, CompileFault>
+    requires net { length net.now < 2 ^ 32 }
+    requires src { length src.now < 2 ^ 32 }
+    ensures right { IfOk result (λ text. IsCompiled net.now src.now text.items) }
+    ensures refused { IfErr result (IsCompileFault net.now src.now) }
+{
+    let (checked, mut extracted) = netlist(alloc, net)?;
+    let typed = program(alloc, src, checked.memory_width())?;
+    code(alloc, &checked, &mut extracted, &typed)
+}

@@ -1,7 +1,0 @@
-pub mod Known
-pub mod Words
-pub mod Told
-pub mod Steps
-pub mod Least
-pub mod Does
-pub mod Straight
