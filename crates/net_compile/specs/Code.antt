@@ -3,7 +3,7 @@ use Rattle.std.specs.Prelude.{ℕ, ◌≡◌, ◌≤◌, ◌<◌, List}
 use Rattle.net_model.specs.CheckedRules.{code_size}
 use Rattle.net_model.specs.Nets.{memory_size}
 use Rattle.code_model.specs.declared.image.Image.{Image}
-use Rattle.code_model.specs.ImageFits.{limits_of}
+use Rattle.code_model.specs.ImageFits.{IsFitting, limits_of}
 use Rattle.code_model.specs.ImageLines.{IsImageText}
 use Rattle.code_model.specs.Layout.{need_of}
 use Rattle.right_code.specs.Images.{IsRightImage}
@@ -22,6 +22,13 @@ pub record IsFull (need have : ℕ) (task : Task) : Type 0 where
 -- the memory has the cells that the program needs
 pub record HasRoom (task : Task) : Type 0 where
   pub room : need_of task.width task.listing ≤ memory_size task.netlist.storages
+
+-- an image that is right code, and whose text is read as it is
+pub record IsRightFor (image : Image) (task : Task) : Type 0 where
+  pub room : HasRoom task
+  pub reached : IsReached task
+  pub right : IsRightImage task image
+  pub fits : IsFitting (limits_of task.netlist) image
 
 -- bytes that are read as an image that is right code
 pub record IsCode (out : List ℕ) (task : Task) : Type 0 where

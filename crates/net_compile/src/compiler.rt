@@ -18,7 +18,8 @@ ghost use Rattle.code_model.specs.Places.{Apart};
 ghost use Rattle.right_code.specs.Images.{IsRightImage};
 ghost use Rattle.right_code.specs.Tasks.{IsChecked, read_task};
 ghost use Rattle.net_code.specs.Refusals.{IsReached};
-ghost use Rattle.net_compile.specs.Code.{HasRoom, IsCode, IsTaskFault};
+ghost use Rattle.net_compile.specs.Code.{HasRoom, IsRightFor, IsTaskFault};
+ghost use Rattle.net_compile.specs.Read.{IsCompiledTo};
 ghost use Rattle.net_compile.specs.Compiled.{IsCompiled, IsCompileFault, IsNetFault, IsSrcFault};
 ghost use Rattle.net_compile.specs.declared.fault.CompileFault.{CompileFault};
 
@@ -73,6 +74,14 @@ fn places(alloc: Global, checked: &Checked, typed: &Typed) -> Result<Places, Com
     Ok(places)
 }
 
+/// A program and its image for a netlist.
+#[derive(Debug, Drop)]
+pub struct Compiled {
+    pub checked: Checked,
+    pub typed: Typed,
+    pub image: Image,
+}
+
 // The image of the program, whose variables stand at these places.
 fn image(
     alloc: Global,
@@ -114,13 +123,13 @@ fn text(alloc: Global, checked: &Checked, image: &Image) -> Result<Vec<u8>, NoMe
     image_text::write(alloc, image)
 }
 
-// The text of the image of the program for the netlist.
-fn code(
+// The image of the program for the netlist.
+fn image_for(
     alloc: Global,
     checked: &Checked,
     extracted: &mut Extracted,
     typed: &Typed,
-) -> Result<Vec<u8>, CompileFault>
+) -> Result<Image, CompileFault>
     requires rules { KeepsRules checked.now.netlist checked.now.order }
     requires extracted { IsExtractedFrom checked.now.netlist extracted.old }
     requires patterns { ArePatterns checked.now.netlist (told_patterns extracted.old.pool extracted.old.patterns.rows) }
@@ -128,13 +137,29 @@ fn code(
     requires program { first_fault typed.now.width (listing_of typed.now.program) ≡ None }
     requires few { length typed.now.program.vars < 2 ^ 32 }
     requires named { AreNamed typed.now.program.vars }
-    ensures code { IfOk result (λ text. IsCode text.items (read_task checked.now typed.now)) }
+    ensures image { IfOk result (λ image. IsRightFor image (read_task checked.now typed.now)) }
     ensures refused { IfErr result (IsTaskFault (read_task checked.now typed.now)) }
 {
     let places = places(alloc, checked, typed)?;
     let image = image(alloc, checked, extracted, typed, places)?;
-    let text = text(alloc, checked, &image)?;
-    Ok(text)
+    Ok(image)
+}
+
+/// The program that `src` is, with its image for the netlist that `net` is: right code for it.
+pub fn read_compiled(alloc: Global, net: &[u8], src: &[u8]) -> Result<Compiled, CompileFault>
+    requires net { length net.now < 2 ^ 32 }
+    requires src { length src.now < 2 ^ 32 }
+    ensures compiled { IfOk result (IsCompiledTo net.now src.now) }
+    ensures refused { IfErr result (IsCompileFault net.now src.now) }
+{
+    let (checked, mut extracted) = netlist(alloc, net)?;
+    let typed = program(alloc, src, checked.memory_width())?;
+    let image = image_for(alloc, &checked, &mut extracted, &typed)?;
+    Ok(Compiled {
+        checked,
+        typed,
+        image,
+    })
 }
 
 /// The text of the image of the program that `src` is, for the netlist that `net` is: right code for it.
@@ -144,7 +169,7 @@ pub fn compile(alloc: Global, net: &[u8], src: &[u8]) -> Result<Vec<u8>, Compile
     ensures right { IfOk result (λ text. IsCompiled net.now src.now text.items) }
     ensures refused { IfErr result (IsCompileFault net.now src.now) }
 {
-    let (checked, mut extracted) = netlist(alloc, net)?;
-    let typed = program(alloc, src, checked.memory_width())?;
-    code(alloc, &checked, &mut extracted, &typed)
+    let compiled = read_compiled(alloc, net, src)?;
+    let text = text(alloc, &compiled.checked, &compiled.image)?;
+    Ok(text)
 }

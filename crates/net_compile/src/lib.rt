@@ -4,5 +4,5 @@
 mod compiler;
 mod fault;
 
-pub use compiler::compile;
+pub use compiler::{Compiled, compile, read_compiled};
 pub use fault::CompileFault;

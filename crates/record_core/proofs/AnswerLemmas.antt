@@ -1,10 +1,10 @@
 -- What the words answer, by how the fetches end.
-use Rattle.std.proofs.Common.{◌≡◌, ℕ, ◌⊎◌, List, [], ◌∷◌, Some, inl, inr, arith, ◌∙◌}
+use Rattle.std.proofs.Common.{◌≡◌, ℕ, ◌⊎◌, List, [], ◌∷◌, Some, None, inl, inr, refl, arith, ◌∙◌}
 use Rattle.std.specs.declared.option.Option.{Option}
 use Rattle.rec_io.specs.Shelf.{ShelfState}
 use Rattle.record_core.proofs.StageLemmas.{By-none}
-use Rattle.record_core.specs.Answers.{Answers, TextAnswers, IsReadFault, IsTooLong, AreFiles, file_at}
-use Rattle.record_core.specs.Fetch.{FetchesPass}
+use Rattle.record_core.specs.Answers.{Answers, TextAnswers, IsReadFault, IsTooLong, AreFiles, file_at, netlist_in}
+use Rattle.record_core.specs.Fetch.{FetchStops, FetchesPass}
 use Rattle.record_core.specs.Lines.{due_line, IsRefusal}
 use Rattle.record_core.specs.Words.{command_of, names_of}
 use Rattle.record_core.specs.declared.status.Status.{Status}
@@ -22,7 +22,7 @@ no_long_file (name ∷ names) before now passes at long = let a = (passes (omega
 module _ (words : List (List ℕ)) (command : Command) (before now : ShelfState) (is : command_of words ≡ Some command) where
   -- the fetches passed, so the words answer what the command does on the files
   pub answers_fetched : FetchesPass (names_of command words) now → (files : List (List ℕ)) → AreFiles before.files (names_of command words) files
-      → (status : Status) (text : List ℕ) → TextAnswers (due_line words (file_at files 0)) command files status text → Answers words before now status text
+      → (status : Status) (text : List ℕ) → TextAnswers (due_line words (netlist_in command files)) command files status text → Answers words before now status text
   answers_fetched passes files are status text answers =
       rw is (
       inr (
@@ -32,6 +32,16 @@ module _ (words : List (List ℕ)) (command : Command) (before now : ShelfState)
           (files, are, answers),
         ),
       ))
+
+  -- a fetch stopped, and that is what the words answer
+  pub answers_stopped : (status : Status) → FetchStops (names_of command words) before now status → (status ≡ Memory) ⊎ Answers words before now status (due_line words [] None status)
+  answers_stopped status (inl memory) = inl memory
+  answers_stopped status (inr (inl read)) = inr (rw is (inl (read, refl)))
+  answers_stopped status (inr (inr long)) =
+      inr (
+      rw is
+      (inr (By-none ReadFault (IsReadFault (names_of command words) before now) (λ file fault. let a = fault.failed in let b = long.1.ended in absurd cc), inl (long, refl)))
+      )
 
 -- a refusal, made of its status and the line that is due
 pub refused_by : (Answer : Status → List ℕ → Type 0) (words : List (List ℕ)) (net : List ℕ) (bus : Option ℕ) (status refused : Status) (line : List ℕ) → IsRefusal words net bus status refused line → (status ≡ Memory) ⊎ Answer status (due_line words net bus status) → (refused ≡ Memory) ⊎ Answer refused line

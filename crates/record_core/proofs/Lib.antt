@@ -2,6 +2,8 @@ mod AnswerLemmas
 mod CompileLemmas
 mod ExtractLemmas
 mod FetchLemmas
+mod GoLemmas
+mod MakeLemmas
 mod StageLemmas
 mod UniqueLemmas
 mod WordLemmas

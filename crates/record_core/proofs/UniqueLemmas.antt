@@ -7,6 +7,11 @@ use Rattle.net_parser.proofs.TextFaults.{one_net_fault}
 use Rattle.net_front.proofs.FrontLaws.{one_broken_rule}
 use Rattle.src_parser.proofs.TextFaults.{one_src_fault}
 use Rattle.net_extract.specs.Extracts.{IsExtracted}
+use Rattle.job_gen.specs.NetText.{net_text as job_netlist}
+use Rattle.job_gen.specs.SrcText.{src_text as job_program}
+use Rattle.net_compile.specs.Compiled.{IsCompiled}
+use Rattle.net_compile.specs.Tasks.{Holds}
+use Rattle.net_make.specs.Summaries.{IsSummary}
 use Rattle.net_compile.proofs.TaskLemmas.{one_beyond, one_broken, one_full, one_limit, one_uncovered}
 use Rattle.net_run.proofs.RunLaws.{one_image_fault, one_memory_fault, one_clash, no_clash_shown}
 use Rattle.net_run.specs.Runs.{ClashedAt}
@@ -15,16 +20,18 @@ use Rattle.rec_io.specs.Files.{Files, file_of}
 use Rattle.rec_io.specs.Shelf.{ShelfState}
 use Rattle.rec_io.specs.Sink.{SinkState}
 use Rattle.record_core.proofs.CompileLemmas.{done_within}
+use Rattle.record_core.proofs.GoLemmas.{one_lack}
 use Rattle.record_core.proofs.NetLemmas.{NetStages-alike}
 use Rattle.record_core.proofs.StageLemmas.{AllAlike, AtMostOne, By-unique, Then-alike, Just-unique}
-use Rattle.record_core.specs.Answers.{Agree, Answers, FilesAnswer, CanCompile, CompileAnswers, CompileEnds, ExtractAnswers, RunEnds, RunAnswers, TextAnswers, CommandAnswers, file_at, file_limit, place_from, AreFiles, IsReadFault, IsTooLong, IsFile, Gives, IsExact, IsAccepted}
+use Rattle.record_core.specs.Answers.{Agree, Answers, FilesAnswer, CanCompile, AreOfImages, CodeAnswers, CodeEnds, ExtractAnswers, WatchAnswers, netlist_in, RunEnds, RunAnswers, TextAnswers, CommandAnswers, file_at, file_limit, place_from, AreFiles, IsReadFault, IsTooLong, IsFile, Gives, IsExact, IsAccepted}
 use Rattle.record_core.specs.Lines.{due_line}
 use Rattle.record_core.specs.Stages.{Then}
+use Rattle.record_core.specs.Watching.{IsWatched}
 use Rattle.record_core.specs.Words.{command_of, names_of}
 use Rattle.record_core.specs.declared.words.Command.{Command}
-use Rattle.record_core.specs.declared.words.Command.TheVariants.{Compile, Extract, Run}
+use Rattle.record_core.specs.declared.words.Command.TheVariants.{Compile, Extract, Run, Go, Make}
 use Rattle.record_core.specs.declared.status.Status.{Status}
-use Rattle.record_core.specs.declared.status.Status.TheVariants.{Done, Usage, ReadFault, TooLong, NetText, Net, SrcText, Src, NoStep, NoJump, NoCover, DataFull, NoReach, ImageText, MemText, Clash, Memory}
+use Rattle.record_core.specs.declared.status.Status.TheVariants.{Done, Usage, ReadFault, TooLong, NetText, Net, SrcText, Src, NoStep, NoJump, NoCover, DataFull, NoReach, ImageFull, ImageText, MemText, Clash, Memory}
 
 one_read : (names : List (List ℕ)) (before now : ShelfState) (x y : ℕ) → IsReadFault names before now x → IsReadFault names before now y → x ≡ y
 one_read names before now x y p q = let a = p.place in let b = q.place in cc
@@ -41,34 +48,64 @@ equal None s t e = e
 equal (Some Compile) s t e = inl e
 equal (Some Extract) s t e = e
 equal (Some (Run clocks)) s t e = e
+equal (Some (Go clocks)) s t e = inl e
+equal (Some (Make number)) s t e = inl e
 
--- ---- `compile`
+-- ---- commands that make code
 
--- what images of one task answer agrees
-CompileEnds-agree : (line : Status → List ℕ) (net src : List ℕ) → AllAlike (Agree (Some Compile)) (CompileEnds line net src)
-CompileEnds-agree line net src s t a b (inl (len, size, bound, p, is, x)) (inl (other, room, most, q, also, y)) =
-    rw (is, also) (inr (one_limit net src len size bound other room most p q))
-CompileEnds-agree line net src s t a b (inl (len, size, bound, p, is, x)) (inr (also, q)) = rw (is, also) (inr tt)
-CompileEnds-agree line net src s t a b (inr (is, p)) (inl (len, size, bound, q, also, y)) = rw (is, also) (inr tt)
-CompileEnds-agree line net src s t a b (inr (is, p)) (inr (also, q)) = inl (is ∙ sym also)
+-- one answer, or two of images made for one task
+abbrev CodeAgree : Status → Status → Type 0
+CodeAgree s t = (s ≡ t) ⊎ AreOfImages s t
 
-module _ (line : Status → List ℕ) (net src : List ℕ) where
+-- what is answered once there is an image: one status, which may stand beside an image that is too long
+record IsOfImage (Later : Status → List ℕ → Type 0) : Type 0 where
+  one : AtMostOne Later
+  beside : (s : Status) (text : List ℕ) → Later s text → (len size bound : ℕ) → AreOfImages s (ImageFull len size bound) × AreOfImages (ImageFull len size bound) s
+
+module _ (line : Status → List ℕ) (net src : List ℕ) (Later : Status → List ℕ → Type 0) (of : IsOfImage Later) where
+  CodeEnds-agree : AllAlike CodeAgree (CodeEnds line net src Later)
+  CodeEnds-agree s t a b (inl (len, size, bound, p, is, x)) (inl (other, room, most, q, also, y)) =
+      rw (is, also) (inr (one_limit net src len size bound other room most p q))
+  CodeEnds-agree s t a b (inl (len, size, bound, p, is, x)) (inr q) = rw is (inr (of.beside t b q len size bound).1)
+  CodeEnds-agree s t a b (inr p) (inl (len, size, bound, q, also, y)) = rw also (inr (of.beside s a p len size bound).0)
+  CodeEnds-agree s t a b (inr p) (inr q) = inl (of.one s t a b p q)
+
   -- a stage that refuses with one status, before others that agree
-  stage : (Refuses : Status → Type 0) (Later : Status → List ℕ → Type 0) → ((s t : Status) → Refuses s → Refuses t → s ≡ t) →
-      AllAlike (Agree (Some Compile)) Later → AllAlike (Agree (Some Compile)) (Then line Refuses Later)
-  stage Refuses Later one = Then-alike (Agree (Some Compile)) line Refuses Later (λ s t p q. inl (one s t p q))
+  stage : (Refuses : Status → Type 0) (Rest : Status → List ℕ → Type 0) → ((s t : Status) → Refuses s → Refuses t → s ≡ t) →
+      AllAlike CodeAgree Rest → AllAlike CodeAgree (Then line Refuses Rest)
+  stage Refuses Rest one = Then-alike CodeAgree line Refuses Rest (λ s t p q. inl (one s t p q))
 
-  CompileAnswers-agree : AllAlike (Agree (Some Compile)) (CompileAnswers line net src)
-  CompileAnswers-agree =
-      NetStages-alike line net _ (Agree (Some Compile)) (equal (Some Compile)) (
+  CodeAnswers-agree : AllAlike CodeAgree (CodeAnswers line net src Later)
+  CodeAnswers-agree =
+      NetStages-alike line net _ CodeAgree (λ s t e. inl e) (
       stage _ _ (By-unique SrcText _ (one_src_fault src)) (
       stage _ _ (By-unique Src _ (one_broken net src)) (
       stage _ _ (By-unique (λ (p : ℕ × ℕ). DataFull p.0 p.1) _ (one_full net src)) (
       stage _ _ (Just-unique NoStep _) (
       stage _ _ (Just-unique NoJump _) (
       stage _ _ (By-unique NoCover _ (one_uncovered net src)) (
-      stage _ _ (By-unique (λ (p : ℕ × ℕ). NoReach p.0 p.1) _ (one_beyond net src)) (
-      CompileEnds-agree line net src))))))))
+      stage _ _ (By-unique (λ (p : ℕ × ℕ). NoReach p.0 p.1) _ (one_beyond net src)) CodeEnds-agree)))))))
+
+-- what is written is beside an image that is too long
+done_beside : (Written : List ℕ → Type 0) → IsOfImage (λ status text. (status ≡ Done) × Written text)
+done_beside Written = record {
+  one = done_only Written;
+  beside = λ s text p len size bound. rw p.0 (tt, tt);
+}
+
+module _ (line : Status → List ℕ) (net src memory : List ℕ) (clocks : ℕ) where
+  abbrev Shown : Status → List ℕ → Type 0
+  Shown status text = (status ≡ Done) × Holds net src (IsWatched memory clocks text)
+
+  watch_one : AtMostOne (WatchAnswers line net src memory clocks)
+  watch_one s t a b p q = Then-alike (λ s t. s ≡ t) line _ Shown (By-unique MemText _ (one_lack net src memory)) (done_only (λ text. Holds net src (IsWatched memory clocks text))) s t a b p.1 q.1
+
+  watch_beside : IsOfImage (WatchAnswers line net src memory clocks)
+  watch_beside = record { one = watch_one; beside = beside }
+    where
+      beside : (s : Status) (text : List ℕ) → WatchAnswers line net src memory clocks s text → (len size bound : ℕ) → AreOfImages s (ImageFull len size bound) × AreOfImages (ImageFull len size bound) s
+      beside s text (image, inl ((at, lacks, is), same)) len size bound = rw is (tt, tt)
+      beside s text (image, inr (none, (is, shown))) len size bound = rw is (tt, tt)
 
 -- ---- `extract`
 
@@ -95,9 +132,13 @@ RunAnswers-unique line net image memory clocks =
 -- ---- all commands
 
 TextAnswers-agree : (line : Option ℕ → Status → List ℕ) (command : Command) (files : List (List ℕ)) → AllAlike (Agree (Some command)) (TextAnswers line command files)
-TextAnswers-agree line Compile files = CompileAnswers-agree (line None) (file_at files 0) (file_at files 1)
+TextAnswers-agree line Compile files =
+    CodeAnswers-agree (line None) (file_at files 0) (file_at files 1) _ (done_beside (IsCompiled (file_at files 0) (file_at files 1)))
 TextAnswers-agree line Extract files = ExtractAnswers-unique (line None) (file_at files 0)
 TextAnswers-agree line (Run clocks) files = RunAnswers-unique line (file_at files 0) (file_at files 1) (file_at files 2) clocks
+TextAnswers-agree line (Go clocks) files =
+    CodeAnswers-agree (line None) (file_at files 0) (file_at files 1) _ (watch_beside (line None) (file_at files 0) (file_at files 1) (file_at files 2) clocks)
+TextAnswers-agree line (Make number) files = CodeAnswers-agree (line None) (job_netlist number) (job_program number) _ (done_beside (IsSummary number))
 
 -- the bytes of a file that is told
 one_file : (files : Option Files) (name a b : List ℕ) → IsSome files → IsFile files name a → IsFile files name b → a ≡ b
@@ -117,7 +158,7 @@ CommandAnswers-agree : (line : List ℕ → Option ℕ → Status → List ℕ) 
     AllAlike (Agree (Some command)) (CommandAnswers line told command names)
 CommandAnswers-agree line told command names some s t a b (files, p, x) (others, q, y) =
     let e : others ≡ files = same_files told names others files some q p in
-    TextAnswers-agree (line (file_at files 0)) command files s t a b x (subst (λ (fs : List (List ℕ)). TextAnswers (line (file_at fs 0)) command fs t b) e y)
+    TextAnswers-agree (line (netlist_in command files)) command files s t a b x (subst (λ (fs : List (List ℕ)). TextAnswers (line (netlist_in command fs)) command fs t b) e y)
 
 usage_only : (line : List ℕ) → AtMostOne (λ status text. (status ≡ Usage) × (text ≡ line))
 usage_only line s t a b p q = p.0 ∙ sym q.0
@@ -185,6 +226,8 @@ accepted_by : (words : List (List ℕ)) (before now : ShelfState) → CanCompile
 accepted_by words before now can calm None is status text answers = absurd cc
 accepted_by words before now can calm (Some Extract) is status text answers = absurd cc
 accepted_by words before now can calm (Some (Run clocks)) is status text answers = absurd cc
+accepted_by words before now can calm (Some (Go clocks)) is status text answers = absurd cc
+accepted_by words before now can calm (Some (Make number)) is status text answers = absurd cc
 accepted_by words before now can calm (Some Compile) is status text (inl ((file, fault, e), t)) = absurd (calm fault.rose)
 accepted_by words before now can calm (Some Compile) is status text (inr (a, inl ((at, long, e), t))) =
     absurd (no_long_file before.files can.told (names_of Compile words) can.files before now refl can.are at long)

@@ -7,12 +7,14 @@ use Rattle.rec_io.specs.Sink.{SinkState}
 use Rattle.rec_io.specs.Written.{Takes}
 use Rattle.record_core.proofs.CompileLemmas.{right_of}
 use Rattle.record_core.proofs.ExtractLemmas.{patterns_of}
+use Rattle.record_core.proofs.GoLemmas.{watched_of}
+use Rattle.record_core.proofs.MakeLemmas.{summary_of}
 use Rattle.record_core.proofs.RunLemmas.{state_of}
-use Rattle.record_core.specs.Answers.{FilesAnswer, TextAnswers, CommandAnswers, Gives, IsText, Wrote, file_at}
+use Rattle.record_core.specs.Answers.{FilesAnswer, TextAnswers, CommandAnswers, Gives, IsText, Wrote, file_at, netlist_in}
 use Rattle.record_core.specs.Lines.{due_line}
 use Rattle.record_core.specs.Words.{command_of, names_of}
 use Rattle.record_core.specs.declared.words.Command.{Command}
-use Rattle.record_core.specs.declared.words.Command.TheVariants.{Compile, Extract, Run}
+use Rattle.record_core.specs.declared.words.Command.TheVariants.{Compile, Extract, Run, Go, Make}
 use Rattle.record_core.specs.declared.status.Status.{Status}
 use Rattle.record_core.specs.declared.status.Status.TheVariants.{Done}
 
@@ -20,6 +22,8 @@ text_is : (line : Option ℕ → Status → List ℕ) (command : Command) (files
 text_is line Compile files text answers = right_of (line None) (file_at files 0) (file_at files 1) text answers
 text_is line Extract files text answers = patterns_of (line None) (file_at files 0) text answers
 text_is line (Run clocks) files text answers = state_of line (file_at files 0) (file_at files 1) (file_at files 2) clocks text answers
+text_is line (Go clocks) files text answers = watched_of (line None) (file_at files 0) (file_at files 1) (file_at files 2) clocks text answers
+text_is line (Make number) files text answers = summary_of (line None) number text answers
 
 command_wrote : (line : List ℕ → Option ℕ → Status → List ℕ) (command : Command) (names : List (List ℕ)) (told : Option Files) (old new : Option (List ℕ)) (text : List ℕ) → CommandAnswers line told command names Done text → Takes old new text → Wrote command names told old new
 command_wrote line command names None old new text answers taken = tt
@@ -30,7 +34,7 @@ command_wrote line command names (Some all) (Some before) (Some now) text (files
   out = text;
   are = are;
   taken = cc;
-  text = text_is (line (file_at files 0)) command files text answers;
+  text = text_is (line (netlist_in command files)) command files text answers;
 }
 
 files_wrote : (words : List (List ℕ)) (command : Command) (before now : ShelfState) (old new : Option (List ℕ)) (text : List ℕ) → FilesAnswer words (Some command) before now Done text → Takes old new text → Wrote command (names_of command words) before.files old new

@@ -11,6 +11,9 @@ use Rattle.net_code.specs.Refusals.{IsBeyondReach, IsJumpless, IsStepless, IsToo
 use Rattle.net_compile.specs.Code.{IsFull, IsWithin}
 use Rattle.net_compile.specs.Compiled.{IsCompiled, BreaksSrc}
 use Rattle.net_compile.specs.Tasks.{Holds}
+use Rattle.job_gen.specs.NetText.{net_text as job_netlist}
+use Rattle.job_gen.specs.SrcText.{src_text as job_program}
+use Rattle.net_make.specs.Summaries.{IsSummary}
 use Rattle.net_run.specs.Runs.{IsNoImageFile, IsNoMemoryFile, ClashedAt, Clashes, ShowsState}
 use Rattle.rec_io.specs.Causes.{Rose}
 use Rattle.rec_io.specs.Files.{Files, file_of}
@@ -19,9 +22,10 @@ use Rattle.rec_io.specs.Sink.{SinkState}
 use Rattle.rec_io.specs.Written.{Takes, TakesPrefix}
 use Rattle.record_core.specs.Lines.{due_line}
 use Rattle.record_core.specs.Stages.{By, Just, Then}
+use Rattle.record_core.specs.Watching.{HasRightImage, IsWatched, LacksMemory}
 use Rattle.record_core.specs.Words.{command_of, names_of}
 use Rattle.record_core.specs.declared.words.Command.{Command}
-use Rattle.record_core.specs.declared.words.Command.TheVariants.{Compile, Extract, Run}
+use Rattle.record_core.specs.declared.words.Command.TheVariants.{Compile, Extract, Run, Go, Make}
 use Rattle.record_core.specs.declared.status.Status.{Status}
 use Rattle.record_core.specs.declared.status.Status.TheVariants.{Done, Usage, ReadFault, TooLong, WriteFault, NetText, Net, SrcText, Src, NoStep, NoJump, NoCover, DataFull, NoReach, ImageFull, Memory, ImageText, MemText, Clash}
 
@@ -65,17 +69,17 @@ pub record IsTooLong (names : List (List ℕ)) (before now : ShelfState) (at : �
   pub earlier : HasFirst before.files names at.0
   pub longer : IfSome before.files (λ all. IsSomeAnd (file_of all now.last) (λ bytes. at.1 < length bytes))
 
--- how the making of the code ends: there is an image made for the task that is too long, or one that is right code is written. Images made for
--- one task may differ in length, so both may apply
-abbrev pub CompileEnds : (Status → List ℕ) → List ℕ → List ℕ → Status → List ℕ → Type 0
-CompileEnds line net src status text =
+-- how the making of the code ends: there is an image made for the task that is too long, or there is one that is right code, and the later
+-- stages answer. Images made for one task may differ in length, so both may apply
+abbrev pub CodeEnds : (Status → List ℕ) → List ℕ → List ℕ → (Status → List ℕ → Type 0) → Status → List ℕ → Type 0
+CodeEnds line net src Later status text =
     ((len : ℕ) × (size : ℕ) × (bound : ℕ) × Holds net src (HasLongImage len size bound)
     × (status ≡ ImageFull len size bound) × (text ≡ line (ImageFull len size bound)))
-    ⊎ ((status ≡ Done) × IsCompiled net src text)
+    ⊎ Later status text
 
--- what `compile` answers for these two texts
-abbrev pub CompileAnswers : (Status → List ℕ) → List ℕ → List ℕ → Status → List ℕ → Type 0
-CompileAnswers line net src =
+-- what a command answers that makes code of these two texts, and what the later stages answer once there is an image
+abbrev pub CodeAnswers : (Status → List ℕ) → List ℕ → List ℕ → (Status → List ℕ → Type 0) → Status → List ℕ → Type 0
+CodeAnswers line net src Later =
     Then line (By NetText (IsNoNetText net)) (
     Then line (By Net (BreaksAnyRule net)) (
     Then line (By SrcText (IsNoSrcText src)) (
@@ -85,7 +89,11 @@ CompileAnswers line net src =
     Then line (Just NoJump (Holds net src (λ task. IsJumpless task.netlist))) (
     Then line (By NoCover (λ (tree : ℕ). Holds net src (HasBareTree tree))) (
     Then line (By (λ (p : ℕ × ℕ). NoReach p.0 p.1) (λ (p : ℕ × ℕ). Holds net src (IsBeyondReach p.0 p.1))) (
-    CompileEnds line net src)))))))))
+    CodeEnds line net src Later)))))))))
+
+-- what `compile` answers for these two texts
+abbrev pub CompileAnswers : (Status → List ℕ) → List ℕ → List ℕ → Status → List ℕ → Type 0
+CompileAnswers line net src = CodeAnswers line net src (λ status text. (status ≡ Done) × IsCompiled net src text)
 
 -- what `extract` answers for this text
 abbrev pub ExtractAnswers : (Status → List ℕ) → List ℕ → Status → List ℕ → Type 0
@@ -109,6 +117,20 @@ RunAnswers line net image memory clocks =
     Then (line None) (By MemText (IsNoMemoryFile net memory)) (
     RunEnds line net image memory clocks))))
 
+-- what `go` answers once there is an image: its checkpoints from the state that the memory text says
+abbrev pub WatchAnswers : (Status → List ℕ) → List ℕ → List ℕ → List ℕ → ℕ → Status → List ℕ → Type 0
+WatchAnswers line net src memory clocks status text =
+    Holds net src HasRightImage
+    × Then line (By MemText (λ (at : ℕ). Holds net src (LacksMemory memory at))) (λ status text. (status ≡ Done) × Holds net src (IsWatched memory clocks text)) status text
+
+-- what `go` answers for these three texts and this number of clocks
+abbrev pub GoAnswers : (Status → List ℕ) → List ℕ → List ℕ → List ℕ → ℕ → Status → List ℕ → Type 0
+GoAnswers line net src memory clocks = CodeAnswers line net src (WatchAnswers line net src memory clocks)
+
+-- what `make` answers for this number, which says two texts
+abbrev pub MakeAnswers : (Status → List ℕ) → ℕ → Status → List ℕ → Type 0
+MakeAnswers line number = CodeAnswers line (job_netlist number) (job_program number) (λ status text. (status ≡ Done) × IsSummary number text)
+
 -- the bytes of the file at this place
 abbrev pub file_at : List (List ℕ) → ℕ → List ℕ
 file_at files place = slice_index_or files place []
@@ -118,11 +140,18 @@ abbrev pub TextAnswers : (Option ℕ → Status → List ℕ) → Command → Li
 TextAnswers line Compile files = CompileAnswers (line None) (file_at files 0) (file_at files 1)
 TextAnswers line Extract files = ExtractAnswers (line None) (file_at files 0)
 TextAnswers line (Run clocks) files = RunAnswers line (file_at files 0) (file_at files 1) (file_at files 2) clocks
+TextAnswers line (Go clocks) files = GoAnswers (line None) (file_at files 0) (file_at files 1) (file_at files 2) clocks
+TextAnswers line (Make number) files = MakeAnswers (line None) number
 
--- what it answers once its files are there; a line is of the first file too, which is a netlist's text
+-- the netlist's text of a command: the first file, and of `make` that of its number
+abbrev pub netlist_in : Command → List (List ℕ) → List ℕ
+netlist_in (Make number) files = job_netlist number
+netlist_in command files = file_at files 0
+
+-- what it answers once its files are there; a line is of the netlist's text too
 abbrev pub CommandAnswers : (List ℕ → Option ℕ → Status → List ℕ) → Option Files → Command → List (List ℕ) → Status → List ℕ → Type 0
 CommandAnswers line told command names status text =
-    (files : List (List ℕ)) × AreFiles told names files × TextAnswers (line (file_at files 0)) command files status text
+    (files : List (List ℕ)) × AreFiles told names files × TextAnswers (line (netlist_in command files)) command files status text
 
 -- what the words answer by their command
 abbrev pub FilesAnswer : List (List ℕ) → Option Command → ShelfState → ShelfState → Status → List ℕ → Type 0
@@ -141,8 +170,8 @@ abbrev pub MayAnswer : List (List ℕ) → ShelfState → ShelfState → Status 
 MayAnswer words before now status text = ((status ≡ Memory) × (text ≡ due_line words [] None Memory)) ⊎ Answers words before now status text
 
 -- the sink took the whole text of the status, or it failed within the text and took a prefix
-abbrev pub Puts : SinkState → SinkState → List ℕ → Status → Status → Type 0
-Puts before now text status result =
+abbrev pub PutsText : SinkState → SinkState → List ℕ → Status → Status → Type 0
+PutsText before now text status result =
     ((result ≡ status) × Takes before.written now.written text)
     ⊎ ((result ≡ WriteFault) × Rose before.faults now.faults × TakesPrefix before.written now.written text)
 
@@ -151,19 +180,23 @@ pub record Gives (words : List (List ℕ)) (before now : ShelfState) (old new : 
   pub due : Status
   pub text : List ℕ
   pub answer : MayAnswer words before now due text
-  pub put : Puts old new text due result
+  pub put : PutsText old new text due result
 
--- two answers that images made for one task have: one of them is written and the other is too long, or both are too long, for one code and
--- with one bound
+-- two answers that images made for one task have: what is answered of one of them, and that the other is too long, or that both are too long, for
+-- one code and with one bound
 abbrev pub AreOfImages : Status → Status → Type 0
 AreOfImages Done (ImageFull len size bound) = ⊤
 AreOfImages (ImageFull len size bound) Done = ⊤
+AreOfImages (MemText at) (ImageFull len size bound) = ⊤
+AreOfImages (ImageFull len size bound) (MemText at) = ⊤
 AreOfImages (ImageFull len size bound) (ImageFull other room most) = (size ≡ room) × (bound ≡ most)
 AreOfImages _ _ = ⊥
 
--- one answer; of `compile` alone, or two of images made for one task
+-- one answer; of the commands that make code, or two of images made for one task
 abbrev pub Agree : Option Command → Status → Status → Type 0
 Agree (Some Compile) status other = (status ≡ other) ⊎ AreOfImages status other
+Agree (Some (Go clocks)) status other = (status ≡ other) ⊎ AreOfImages status other
+Agree (Some (Make number)) status other = (status ≡ other) ⊎ AreOfImages status other
 Agree _ status other = status ≡ other
 
 -- where an answer applies, nothing else is returned but one that agrees with it, want of memory or a fault of the sink
@@ -184,11 +217,14 @@ pub record CanCompile (words : List (List ℕ)) (given : Option Files) : Type 0 
   pub within : Holds (file_at files 0) (file_at files 1) IsWithin
 
 -- what is written on `Done`. Of `compile`: an image that is right code for the program on the netlist. Of `extract`: what the instruction
--- words of the netlist do, each with its least word. Of `run`: the state that the clocks reach
+-- words of the netlist do, each with its least word. Of `run`: the state that the clocks reach. Of `go`: the checkpoints that the netlist shows
+-- on the words of an image that is right code. Of `make`: the summary of the made-up texts of the number
 abbrev pub IsText : Command → List (List ℕ) → List ℕ → Type 0
 IsText Compile files = IsCompiled (file_at files 0) (file_at files 1)
 IsText Extract files = IsExtracted (file_at files 0)
 IsText (Run clocks) files = ShowsState (file_at files 0) (file_at files 1) (file_at files 2) clocks
+IsText (Go clocks) files = λ out. Holds (file_at files 0) (file_at files 1) (IsWatched (file_at files 2) clocks out)
+IsText (Make number) files = IsSummary number
 
 -- the bytes that were taken are the text of the command for the files of these names
 pub record HasText (command : Command) (names : List (List ℕ)) (told : Files) (old new : List ℕ) : Type 0 where

@@ -7,3 +7,5 @@ pub mod Stages
 pub mod Status
 pub mod Told
 pub mod Words
+pub mod Putting
+pub mod Watching

@@ -6,6 +6,8 @@ use Rattle.net_compile.specs.declared.fault.CompileFault.{CompileFault}
 use Rattle.net_compile.specs.declared.fault.CompileFault.TheVariants.{NetText as CompileNetText, Net as CompileNet, SrcText as CompileSrcText, Src as CompileSrc, DataFull as NoRoom, NoStep as Stepless, NoJump as Jumpless, NoCover as Uncovered, NoReach as Beyond, ImageFull as Overlong, Memory as CompileMemory}
 use Rattle.net_run.specs.declared.machine.RunFault.{RunFault}
 use Rattle.net_run.specs.declared.machine.RunFault.TheVariants.{NetText as RunNetText, Net as RunNet, ImageText as NoImage, MemText as NoMemoryText, Clash as Clashed, Memory as RunMemory}
+use Rattle.rec_bits.specs.declared.fault.ParseFault.{ParseFault}
+use Rattle.rec_bits.specs.declared.fault.ParseFault.TheVariants.{Text as NoState, Memory as NoStateMemory}
 use Rattle.record_core.specs.declared.status.Status.{Status}
 use Rattle.record_core.specs.declared.status.Status.TheVariants.{NetText, Net, SrcText, Src, NoStep, NoJump, NoCover, DataFull, NoReach, ImageFull, Memory, ImageText, MemText, Clash}
 use Rattle.record_core.specs.declared.stop.Stop.{Stop}
@@ -23,6 +25,11 @@ compile_status (Uncovered tree) = NoCover tree
 compile_status (Beyond bound reach) = NoReach bound reach
 compile_status (Overlong len size bound) = ImageFull len size bound
 compile_status CompileMemory = Memory
+
+-- of the reading of a memory text
+abbrev pub memory_status : ParseFault → Status
+memory_status (NoState at) = MemText at
+memory_status NoStateMemory = Memory
 
 -- of the reading of a netlist
 abbrev pub net_status : NetRefusal → Status

@@ -1,19 +1,21 @@
 //! The call of the program.
 ghost use Rattle.std.specs.Prelude.{◌≡◌, ◌≢◌, ◌⊎◌, ◌≤◌, Some, IfOk, IfErr, IsSome, OnOk, string_bytes};
 ghost use Rattle.rec_io.specs.Causes.{Rose};
-ghost use Rattle.record_core.specs.Answers.{file_at, TextAnswers, Answers, Puts, Gives, IsExact, IsAccepted, CanCompile, Wrote};
+ghost use Rattle.record_core.specs.Answers.{TextAnswers, Answers, PutsText, Gives, IsExact, IsAccepted, CanCompile, Wrote, netlist_in};
 ghost use Rattle.record_core.specs.Fetch.{contents, AreShort};
 ghost use Rattle.record_core.specs.Lines.{due_line, IsRefusal};
-ghost use Rattle.record_core.specs.Words.{command_of, names_of, texts_of};
+ghost use Rattle.record_core.specs.Putting.{PutsAnswer, PutsDone};
+ghost use Rattle.record_core.specs.Words.{CommandFits, command_of, names_of, texts_of};
 ghost use Rattle.record_core.specs.declared.words.Command.{Command};
 ghost use Rattle.record_core.specs.declared.status.Status.{Status};
 
 use crate::Status;
+use crate::commands::{file, put_command};
 use crate::fetch::fetch_all;
 use crate::line::{fault_line, name_from, told_place};
-use crate::text::{file, text_of};
+use crate::stop::Stop;
 use crate::words::{Command, command_of};
-use rec_io::{Shelf, Sink, put_all};
+use rec_io::{Shelf, Sink, WriteFault, put_all};
 use std::alloc::Global;
 
 const MEMORY_LINE: &[u8] = b"error memory\n";
@@ -39,38 +41,76 @@ fn refused(alloc: Global, words: &[String], net: &[u8], bus: Option<u64>, status
     }
 }
 
-// The text of the command for the bytes of its files, or the first refusal that applies.
-fn text_for(
+// Want of memory, whose line is not made.
+fn memory_refusal(alloc: Global) -> Refusal
+    ensures { result.status ≡ Status.Memory }
+{
+    Refusal {
+        status: Status::Memory,
+        line: String::new(alloc),
+    }
+}
+
+// The refusal of a command over these files.
+fn command_refused(
     alloc: Global,
     words: &[String],
     command: Command,
     files: &[Vec<u8>],
-) -> Result<Vec<u8>, Refusal>
-    requires { AreShort (contents files.now) }
-    ensures ok { IfOk result (λ text. TextAnswers (due_line (texts_of words.now) (file_at (contents files.now) 0)) command (contents files.now) Status.Done text.items) }
-    ensures refused { IfErr result (λ refusal. (refusal.status ≡ Status.Memory) ⊎ TextAnswers (due_line (texts_of words.now) (file_at (contents files.now) 0)) command (contents files.now) refusal.status (string_bytes refusal.line)) }
-    ensures other { IfErr result (λ refusal. refusal.status ≢ Status.Done) }
+    stop: Stop,
+) -> Refusal
+    ensures { IsRefusal (texts_of words.now) (netlist_in command (contents files.now)) stop.bus stop.status result.status (string_bytes result.line) }
 {
-    match text_of(alloc, command, files) {
-        Ok(text) => Ok(text),
-        Err(stop) => Err(refused(alloc, words, file(files, 0), stop.bus, stop.status)),
+    match command {
+        Command::Make(number) => match job_gen::netlist(alloc, u64::from(number)) {
+            Ok(net) => refused(alloc, words, &net, stop.bus, stop.status),
+            Err(_) => memory_refusal(alloc),
+        },
+        _ => refused(alloc, words, file(files, 0), stop.bus, stop.status),
     }
 }
 
-// The text, or the first refusal that applies. No fetch failed where there is a text.
-fn decide<F: Shelf>(alloc: Global, words: &[String], shelf: &mut F) -> Result<Vec<u8>, Refusal>
+// Puts the text of the command for the bytes of its files, or answers the first refusal that applies, where nothing was put.
+fn put_for<S: Sink>(
+    alloc: Global,
+    words: &[String],
+    command: Command,
+    files: &[Vec<u8>],
+    out: &mut S,
+) -> Result<Result<(), WriteFault>, Refusal>
+    requires short { AreShort (contents files.now) }
+    requires fits { CommandFits command }
+    ensures done { IfOk result (PutsDone (due_line (texts_of words.now) (netlist_in command (contents files.now))) command (contents files.now) (S.state out.old) (S.state out.new)) }
+    ensures refused { IfErr result (λ refusal. (refusal.status ≡ Status.Memory) ⊎ TextAnswers (due_line (texts_of words.now) (netlist_in command (contents files.now))) command (contents files.now) refusal.status (string_bytes refusal.line)) }
+    ensures other { IfErr result (λ refusal. refusal.status ≢ Status.Done) }
+    ensures still { IfErr result (λ _. S.state out.new ≡ S.state out.old) }
+{
+    match put_command(alloc, command, files, out) {
+        Ok(put) => Ok(put),
+        Err(stop) => Err(command_refused(alloc, words, command, files, stop)),
+    }
+}
+
+// Puts the text, or answers the first refusal that applies, where nothing was put. No fetch failed where a text was due.
+fn decide<F: Shelf, S: Sink>(
+    alloc: Global,
+    words: &[String],
+    shelf: &mut F,
+    out: &mut S,
+) -> Result<Result<(), WriteFault>, Refusal>
     ensures later { (F.state shelf.old).faults ≤ (F.state shelf.new).faults }
     ensures same { (F.state shelf.new).files ≡ (F.state shelf.old).files }
     ensures calm { OnOk result ((F.state shelf.new).faults ≡ (F.state shelf.old).faults) }
-    ensures ok { IfOk result (λ text. Answers (texts_of words.now) (F.state shelf.old) (F.state shelf.new) Status.Done text.items) }
+    ensures done { IfOk result (PutsAnswer (texts_of words.now) (F.state shelf.old) (F.state shelf.new) (S.state out.old) (S.state out.new)) }
     ensures refused { IfErr result (λ refusal. (refusal.status ≡ Status.Memory) ⊎ Answers (texts_of words.now) (F.state shelf.old) (F.state shelf.new) refusal.status (string_bytes refusal.line)) }
     ensures other { IfErr result (λ refusal. refusal.status ≢ Status.Done) }
+    ensures still { IfErr result (λ _. S.state out.new ≡ S.state out.old) }
 {
     let Some(command) = command_of(words) else {
         return Err(refused(alloc, words, &[], None, Status::Usage));
     };
     match fetch_all(alloc, &words[1..command.file_count() + 1], shelf) {
-        Ok(files) => text_for(alloc, words, command, &files),
+        Ok(files) => put_for(alloc, words, command, &files, out),
         Err(status) => Err(refused(alloc, words, &[], None, status)),
     }
 }
@@ -79,7 +119,7 @@ fn decide<F: Shelf>(alloc: Global, words: &[String], shelf: &mut F) -> Result<Ve
 fn put_text<S: Sink>(out: &mut S, text: &[u8], status: Status) -> Status
     ensures later { (S.state out.old).faults ≤ (S.state out.new).faults }
     ensures calm { result ≢ Status.WriteFault → (S.state out.new).faults ≡ (S.state out.old).faults }
-    ensures puts { Puts (S.state out.old) (S.state out.new) text.now status result }
+    ensures puts { PutsText (S.state out.old) (S.state out.new) text.now status result }
 {
     match put_all(out, text) {
         Ok(()) => status,
@@ -96,8 +136,9 @@ fn answer<F: Shelf, S: Sink>(alloc: Global, words: &[String], shelf: &mut F, out
     ensures sink_calm { result ≢ Status.WriteFault → (S.state out.new).faults ≡ (S.state out.old).faults }
     ensures gives { Gives (texts_of words.now) (F.state shelf.old) (F.state shelf.new) (S.state out.old) (S.state out.new) result }
 {
-    match decide(alloc, words, shelf) {
-        Ok(text) => put_text(out, &text, Status::Done),
+    match decide(alloc, words, shelf, out) {
+        Ok(Ok(())) => Status::Done,
+        Ok(Err(_)) => Status::WriteFault,
         Err(refusal) if refusal.status == Status::Memory => {
             put_text(out, MEMORY_LINE, Status::Memory)
         }
@@ -107,9 +148,9 @@ fn answer<F: Shelf, S: Sink>(alloc: Global, words: &[String], shelf: &mut F, out
 
 /// What the words ask for, over the files of this shelf, into this output.
 ///
-/// The words are those after the program's name: `compile NET SRC`, `extract NET` or `run NET IMG MEM CYCLES`, where NET, SRC, IMG and
-/// MEM are names of files, and CYCLES is a decimal number from 0 to 1,000,000. On `Done` the output took the whole text: an image, the patterns
-/// of a netlist, or a state. On `WriteFault` it took a prefix of the text that was due, and on every other status the line of the fault. Want
+/// The words are those after the program's name: `compile NET SRC`, `extract NET`, `run NET IMG MEM CYCLES`, `go NET SRC MEM CYCLES` or
+/// `make N`, where NET, SRC, IMG and MEM are names of files, CYCLES is a decimal number from 0 to 1,000,000, and N one from 1 to 1,000. On
+/// `Done` the output took the whole text: an image, the patterns of a netlist, a state, checkpoints, or a summary. On `WriteFault` it took a prefix of the text that was due, and on every other status the line of the fault. Want
 /// of memory may be answered anywhere.
 pub fn record_call<F: Shelf, S: Sink>(
     alloc: Global,
@@ -128,8 +169,8 @@ pub fn record_call<F: Shelf, S: Sink>(
     // What is due is the first refusal that applies, with its line, or `Done` and the text, or want of memory.
     ensures gives { Gives (texts_of words.now.items) (F.state shelf.old) (F.state shelf.new) (S.state out.old) (S.state out.new) result }
 
-    // Where the files are told, nothing else is answered than what applies; of `compile` more than one answer may, since images made for
-    // one task may differ in length.
+    // Where the files are told, nothing else is answered than what applies; where code is made more than one answer may, since images
+    // made for one task may differ in length.
     ensures exactly { IsSome (F.state shelf.old).files → IsExact (texts_of words.now.items) (F.state shelf.old) (F.state shelf.new) result }
 
     // Where no refusal applies and the output did not fail, the call succeeds.

@@ -2,14 +2,16 @@
 #![tactic(auto)]
 
 mod call;
+mod commands;
 mod compile;
 mod extract;
 mod fetch;
+mod go;
 mod line;
+mod make;
 mod run;
 mod status;
 mod stop;
-mod text;
 mod words;
 
 pub use call::record_call;

@@ -1,11 +1,14 @@
 //! The words of the command line.
-ghost use Rattle.std.specs.Prelude.{◌≡◌, ◌<◌, IfSome, length};
-ghost use Rattle.record_core.specs.Words.{texts_of, clocks_of, command_of, file_count};
+ghost use Rattle.std.specs.Prelude.{◌≡◌, ◌<◌, ◌≤◌, IfSome, length};
+ghost use Rattle.record_core.specs.Words.{CommandFits, texts_of, clocks_of, command_of, file_count, job_limit, job_of};
 
 use text_lines::number;
 
 /// The most clocks of a run.
 const CLOCK_LIMIT: u64 = 1_000_000;
+
+/// The greatest number of a made-up program.
+const JOB_LIMIT: u64 = 1_000;
 
 /// What the words ask for.
 #[derive(Clone, Copy, Debug, PartialEq, Eq)]
@@ -16,6 +19,10 @@ pub enum Command {
     Extract,
     /// `run NET IMG MEM CYCLES`: the state of a netlist after so many clocks on an image, from a memory text's state.
     Run(u32),
+    /// `go NET SRC MEM CYCLES`: the checkpoints that a netlist shows of a program over so many clocks, from a memory text's state.
+    Go(u32),
+    /// `make N`: the summary of the made-up netlist and program of this number, compiled and run.
+    Make(u32),
 }
 
 impl Command {
@@ -30,7 +37,8 @@ impl Command {
         match self {
             Command::Compile => 2,
             Command::Extract => 1,
-            Command::Run(_) => 3,
+            Command::Run(_) | Command::Go(_) => 3,
+            Command::Make(_) => 0,
         }
     }
 }
@@ -45,21 +53,69 @@ fn clocks(word: &str) -> Option<u32>
     }
 }
 
+// The number of the made-up program that a word asks for.
+fn job(word: &str) -> Option<u32>
+    ensures job { result ≡ job_of word.now }
+    ensures fits { IfSome result (λ number. (1 ≤ number) × (number ≤ job_limit)) }
+{
+    match number(word.as_bytes()) {
+        Some(job) if 1 <= job && job <= JOB_LIMIT => Some(job as u32),
+        _ => None,
+    }
+}
+
+// The command of one word and another, if they have the form of one.
+fn short_command(words: &[String]) -> Option<Command>
+    requires { length words.now ≡ 2 }
+    ensures command { result ≡ command_of (texts_of words.now) }
+    ensures named { IfSome result (λ command. file_count command < 2) }
+    ensures fits { IfSome result CommandFits }
+{
+    if words[0].as_str() == "extract" {
+        return Some(Command::Extract);
+    }
+    if words[0].as_str() == "make" {
+        if let Some(number) = job(words[1].as_str()) {
+            return Some(Command::Make(number));
+        }
+    }
+    None
+}
+
+// The command of five words, if they have the form of one.
+fn long_command(words: &[String]) -> Option<Command>
+    requires { length words.now ≡ 5 }
+    ensures command { result ≡ command_of (texts_of words.now) }
+    ensures named { IfSome result (λ command. file_count command < 5) }
+    ensures fits { IfSome result CommandFits }
+{
+    if words[0].as_str() == "run" {
+        if let Some(clocks) = clocks(words[4].as_str()) {
+            return Some(Command::Run(clocks));
+        }
+    }
+    if words[0].as_str() == "go" {
+        if let Some(clocks) = clocks(words[4].as_str()) {
+            return Some(Command::Go(clocks));
+        }
+    }
+    None
+}
+
 /// The command of the words, or None where they have no form of one.
 pub fn command_of(words: &[String]) -> Option<Command>
     ensures command { result ≡ command_of (texts_of words.now) }
     ensures named { IfSome result (λ command. file_count command < length words.now) }
+    ensures fits { IfSome result CommandFits }
 {
+    if words.len() == 2 {
+        return short_command(words);
+    }
     if words.len() == 3 && words[0].as_str() == "compile" {
         return Some(Command::Compile);
     }
-    if words.len() == 2 && words[0].as_str() == "extract" {
-        return Some(Command::Extract);
-    }
-    if words.len() == 5 && words[0].as_str() == "run" {
-        if let Some(clocks) = clocks(words[4].as_str()) {
-            return Some(Command::Run(clocks));
-        }
+    if words.len() == 5 {
+        return long_command(words);
     }
     None
 }

@@ -19,6 +19,7 @@ pub struct Call {
     put_fails: Vec<u64>,
     step: usize,
     room: usize,
+    ends: Option<usize>,
 }
 
 impl Call {
@@ -32,6 +33,7 @@ impl Call {
             put_fails: Vec::new(alloc),
             step: ROOM,
             room: ROOM,
+            ends: None,
         })
     }
 
@@ -75,6 +77,7 @@ impl Call {
             "byte" => self.byte(number(rest)?)?,
             "step" => self.step = number(rest)? as usize,
             "room" => self.room = number(rest)? as usize,
+            "ends" => self.ends = Some(number(rest)? as usize),
             "fail" => self.fail(rest)?,
             _ => bail!("no line of a call: {key} {rest}"),
         }
@@ -100,22 +103,45 @@ impl Call {
             put_fails,
             step,
             room,
+            ends,
         } = self;
         let mut shelf = MemShelf::new(files, fetch_fails);
         let mut sink = MemSink::new(alloc, step.max(1), room, put_fails).map_err(|_| AllocError)?;
         let status = record_call(alloc, &words, &mut shelf, &mut sink);
-        told(alloc, &name, sink.bytes(), status.code())
+        let taken = String::from_utf8_lossy(alloc, sink.bytes())?;
+        match ends {
+            None => told(alloc, &name, taken.as_str(), status.code()),
+            Some(count) => {
+                let short = shortened(alloc, taken.as_str(), count)?;
+                told(alloc, &name, short.as_str(), status.code())
+            }
+        }
     }
 }
 
+// The first lines of a text and its last, so many of both, and how many stand between them.
+fn shortened(alloc: Global, text: &str, count: usize) -> Result<String> {
+    let lines = text.lines().count();
+    let behind = lines.saturating_sub(count);
+    let mut short = String::new(alloc);
+    for (k, line) in text.lines().enumerate() {
+        if k < count || k >= behind {
+            short.push_str(line)?;
+            short.push_str("\n")?;
+        } else if k == count {
+            let between = behind - count;
+            short.push_str(&format!(in alloc; "({between} lines)\n")?)?;
+        }
+    }
+    Ok(short)
+}
+
 // The lines that tell of a call; what the sink took ends with a mark where it doesn't end with a line's end.
-fn told(alloc: Global, name: &str, bytes: &[u8], code: u8) -> Result<String> {
-    let taken = String::from_utf8_lossy(alloc, bytes)?;
-    let end = if bytes.is_empty() || bytes.ends_with(b"\n") {
+fn told(alloc: Global, name: &str, text: &str, code: u8) -> Result<String> {
+    let end = if text.is_empty() || text.ends_with("\n") {
         ""
     } else {
         "$\n"
     };
-    let text = taken.as_str();
     Ok(format!(in alloc; "row {name}\n{text}{end}status {code}\n\n")?)
 }

@@ -14,6 +14,7 @@
 //! byte N            a byte
 //! step N            a put takes at most N bytes
 //! room N            all puts together take at most N bytes
+//! ends N            only the first N lines and the last N are printed
 //! run
 //! ```
 //!

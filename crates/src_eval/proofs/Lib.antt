@@ -6,3 +6,4 @@ pub mod LaidLemmas
 pub mod BuildLemmas
 pub mod AssembleLemmas
 pub mod BlockLemmas
+mod CountLemmas

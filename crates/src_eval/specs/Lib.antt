@@ -4,3 +4,4 @@ pub mod Tables
 pub mod Resolved
 pub mod Laid
 pub mod Props
+pub mod Runs

@@ -1,7 +1,7 @@
 //! A program as steps, and a run through them.
 
-ghost use Rattle.std.specs.Prelude.{◌≡◌, ◌∷◌, [], ℕ, suc};
-ghost use Rattle.src_eval.specs.Steps.{Kept, Passes, Ended, SameAhead, SameSteps};
+ghost use Rattle.std.specs.Prelude.{◌≡◌, ◌∷◌, [], ℕ, suc, length};
+ghost use Rattle.src_eval.specs.Steps.{Kept, Passes, Ended, SameAhead, SameSteps, ahead_of};
 
 use crate::formula::{Comparison, Formula, put};
 use rec_bits::Items;
@@ -71,5 +71,19 @@ impl<'a> Machine<'a> {
                 }
             }
         }
+    }
+
+    /// Runs to the end, and counts the checkpoints on the way, the end among them, up to `limit` of them.
+    pub fn count(mut self, limit: u32) -> u32
+        requires { Kept self }
+        ensures { result ≡ length (ahead_of self.entry limit) }
+    {
+        for passed in 0..limit {
+            match self.advance() {
+                Checkpoint::End => return passed + 1,
+                Checkpoint::At(_) => {}
+            }
+        }
+        limit
     }
 }

@@ -1,10 +1,6 @@
 //! A run of a program, as its caller sees it.
 
-ghost use Rattle.std.specs.Prelude.{◌≡◌, ◌<◌, ◌^◌, ℕ, suc, [], ◌∷◌, List, IfOk};
-ghost use Rattle.src_model.specs.Written.{listing_of};
-ghost use Rattle.src_model.specs.Meaning.{FitsStore};
-ghost use Rattle.src_model.specs.Trace.{strace};
-ghost use Rattle.src_eval.specs.Steps.{Kept, Passes, Ended, ahead_of};
+ghost use Rattle.src_eval.specs.Steps.{Kept};
 ghost use Rattle.src_eval.specs.Props.{kept_prop};
 
 use crate::build::build_block;
@@ -14,7 +10,7 @@ use rec_bits::{Items, NoMemory};
 use src_model::{Checkpoint, Store, Typed};
 use std::alloc::Global;
 
-/// A run of a program, which stops at each checkpoint.
+/// A run of a program, which stops at each checkpoint. Contracts see the checkpoints that are ahead of it, and its store.
 #[derive(Drop)]
 pub struct Runner<'a> {
     machine: Machine<'a>,
@@ -22,11 +18,17 @@ pub struct Runner<'a> {
 }
 
 impl<'a> Runner<'a> {
+    ghost use Rattle.std.specs.Prelude.{◌≡◌, ◌<◌, ◌^◌, ℕ, IfOk, length};
+    ghost use Rattle.src_model.specs.Written.{listing_of};
+    ghost use Rattle.src_model.specs.Meaning.{FitsStore};
+    ghost use Rattle.src_model.specs.Trace.{strace};
+    ghost use Rattle.src_eval.specs.Runs.{HasEnded, Leads, ahead_in, store_in};
+
     /// A run from this store that has not begun. The store has as many cells as the program's variables, and each holds a word.
     pub fn new(alloc: Global, typed: &'a Typed, store: Store) -> Result<Runner<'a>, NoMemory>
         requires { FitsStore typed.now.width typed.now.program.vars store.cells }
-        ensures cells { IfOk result (λ run. run.machine.store ≡ store) }
-        ensures ahead { IfOk result (λ run. (m : ℕ) → ahead_of run.machine m ≡ strace typed.now.width (listing_of typed.now.program) store.cells m) }
+        ensures cells { IfOk result (λ run. store_in run ≡ store) }
+        ensures ahead { IfOk result (λ run. (m : ℕ) → ahead_in run m ≡ strace typed.now.width (listing_of typed.now.program) store.cells m) }
     {
         let word = typed.width();
         let program = typed.program();
@@ -45,15 +47,22 @@ impl<'a> Runner<'a> {
     /// Runs to the next checkpoint, and answers it: a test that is about to be evaluated, with its tree's number, or the end. After the end it
     /// answers the end again.
     pub fn next(&mut self) -> Checkpoint
-        ensures passes { Passes self.old.machine result self.new.machine }
-        ensures ended { result ≡ Checkpoint.End → Ended self.new.machine }
+        ensures passes { Leads self.old result self.new }
+        ensures ended { result ≡ Checkpoint.End → HasEnded self.new }
     {
         self.machine.advance()
     }
 
+    /// Runs to the end, and tells how many checkpoints it passed, the end included. After `limit` checkpoints it stops, and answers that.
+    pub fn count(self, limit: u32) -> u32
+        ensures { result ≡ length (ahead_in self.entry limit) }
+    {
+        self.machine.count(limit)
+    }
+
     /// What the variables hold now.
     pub fn store(&self) -> &Store
-        ensures { result.now ≡ self.now.machine.store }
+        ensures { result.now ≡ store_in self.now }
     {
         &self.machine.store
     }

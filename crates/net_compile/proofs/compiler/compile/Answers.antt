@@ -1,46 +1,17 @@
-use Rattle.std.proofs.Common.{ℕ, ◌≡◌, None, ◌∙◌, sym, subst, arith}
-use Rattle.std.proofs.lemmas.Result.{IfErr-weaker, IfOk-weaker, err_from_is_err_and}
-use Rattle.src_model.specs.Rules.{first_fault}
-use Rattle.src_model.specs.Written.{listing_of}
-use Rattle.src_front.proofs.Lengths.{few_variables}
-use Rattle.src_front.proofs.SourceNames.{source_names}
-use Rattle.src_front.specs.Fronts.{IsSrcFile}
+use Rattle.right_code.specs.Tasks.{read_task}
 use Rattle.net_compile.specs.Code.{IsCode}
-use Rattle.net_compile.proofs.TaskLemmas.{fault_of_code, fault_of_program, holds_of_read}
+use Rattle.net_compile.proofs.TaskLemmas.{holds_of_read}
 use Rattle.net_compile.proofs.compiler.compile.Goals as goal
 
-pub code-requires-clause-rules : goal.code-requires-clause-rules
-code-requires-clause-rules c = c.in_ok-checked.ensures.found.netlist.rules
+pub text-requires-clause-rules : goal.text-requires-clause-rules
+text-requires-clause-rules c = c.in_ok-compiled.ensures.compiled.net_file.netlist.rules
 
-pub code-requires-clause-program : goal.code-requires-clause-program
-code-requires-clause-program c =
-    subst (λ (n : ℕ). first_fault n (listing_of c.in_ok-typed.typed.program) ≡ None) (sym c.in_ok-typed.ensures.width) c.in_ok-typed.ensures.found.kept
-
-pub code-requires-clause-few : goal.code-requires-clause-few
-code-requires-clause-few c =
-    let k = few_variables c.args.src.now (listing_of c.in_ok-typed.typed.program) c.in_ok-typed.ensures.found.says.text in
-    omega (arith, k, c.requires.src)
-
-pub code-requires-clause-named : goal.code-requires-clause-named
-code-requires-clause-named c = source_names c.args.src.now (listing_of c.in_ok-typed.typed.program) c.in_ok-typed.ensures.found.says.text
-
-pub returns-in_err-typed-clause-refused : goal.returns-in_err-typed-clause-refused
-returns-in_err-typed-clause-refused c =
-    let p = err_from_is_err_and c.from_residual-in_err-typed.result c.from_residual-in_err-typed.ensures.1 in
-    rw (p.1, p.2) (fault_of_program c.args.net.now c.args.src.now c.in_ok-checked.checked _ c.in_ok-checked.ensures.found c.memory_width.ensures.width _ c.in_err-typed.ensures.refused)
+pub text-requires-clause-fits : goal.text-requires-clause-fits
+text-requires-clause-fits c = c.in_ok-compiled.ensures.compiled.image.fits
 
 pub returns-clause-right : goal.returns-clause-right
 returns-clause-right c =
-    let typed = c.in_ok-typed.typed in
-    IfOk-weaker c.code.result _ _
-    (λ text. holds_of_read c.args.net.now c.args.src.now c.in_ok-checked.checked typed c.in_ok-checked.ensures.found (c.in_ok-typed.ensures.width ∙ c.memory_width.ensures.width)
-    (subst (λ (n : ℕ). IsSrcFile c.args.src.now n (listing_of typed.program)) (sym c.in_ok-typed.ensures.width) c.in_ok-typed.ensures.found) (IsCode text.items))
-    c.code.ensures.code
-
-pub returns-clause-refused : goal.returns-clause-refused
-returns-clause-refused c =
-    let typed = c.in_ok-typed.typed in
-    IfErr-weaker c.code.result _ _
-    (fault_of_code c.args.net.now c.args.src.now c.in_ok-checked.checked typed c.in_ok-checked.ensures.found (c.in_ok-typed.ensures.width ∙ c.memory_width.ensures.width)
-    (subst (λ (n : ℕ). IsSrcFile c.args.src.now n (listing_of typed.program)) (sym c.in_ok-typed.ensures.width) c.in_ok-typed.ensures.found))
-    c.code.ensures.refused
+    let made = c.in_ok-compiled.ensures.compiled in
+    let program = c.in_ok-compiled.compiled in
+    holds_of_read c.args.net.now c.args.src.now program.checked program.typed made.net_file made.width made.src_file (IsCode c.in_ok-text.text.items)
+    (record { room = made.image.room; reached = made.image.reached; image = program.image; read = c.in_ok-text.ensures; right = made.image.right })

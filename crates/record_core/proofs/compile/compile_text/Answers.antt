@@ -1,5 +1,5 @@
 use Rattle.std.proofs.lemmas.Result.{err_from_is_err_and}
-use Rattle.record_core.proofs.CompileLemmas.{answers_done, answers_fault}
+use Rattle.record_core.proofs.CompileLemmas.{answers_done, compile_fault}
 use Rattle.record_core.proofs.compile.compile_text.Goals as goal
 
 pub returns-clause-ok : goal.returns-clause-ok
@@ -8,4 +8,4 @@ returns-clause-ok c = λ line. answers_done line c.args.net.now c.args.src.now c
 pub returns-in_err-text-clause-refused : goal.returns-in_err-text-clause-refused
 returns-in_err-text-clause-refused c = λ line.
     let p = err_from_is_err_and c.from_residual.result c.from_residual.ensures.1 in
-    rw (p.1, p.2) (answers_fault line c.args.net.now c.args.src.now c.in_err-text.field-0.0 c.in_err-text.ensures.refused)
+    rw (p.1, p.2) (compile_fault line c.args.net.now c.args.src.now c.in_err-text.field-0.0 c.in_err-text.ensures.refused)

@@ -1,0 +1,7 @@
+use Rattle.std.proofs.Common.{◌≡◌, ◌++◌}
+use Rattle.job_gen.specs.Each.{each}
+use Rattle.job_gen.specs.NetText.{register_line}
+use Rattle.job_gen.proofs.net_text.put_registers.Given as goal
+
+abbrev pub invariant-loop-k : goal.invariant-loop-k
+invariant-loop-k l = l.out.items ≡ l.initial.out.items ++ each register_line l.k

@@ -1,0 +1,7 @@
+use Rattle.std.proofs.Common.{◌≡◌, ◌++◌}
+use Rattle.job_gen.specs.Each.{each}
+use Rattle.job_gen.specs.NetText.{store_number}
+use Rattle.job_gen.proofs.net_text.put_store_numbers.Given as goal
+
+abbrev pub invariant-loop-k : goal.invariant-loop-k
+invariant-loop-k l = l.out.items ≡ l.initial.out.items ++ each store_number l.k

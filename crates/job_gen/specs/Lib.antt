@@ -1,0 +1,4 @@
+pub mod Each
+pub mod NetText
+pub mod SrcText
+pub mod Worked

@@ -1,0 +1,47 @@
+use Rattle.std.proofs.Common.{ℕ, ◌≡◌, None, ◌∙◌, sym, subst, arith}
+use Rattle.std.proofs.lemmas.Result.{IfErr-weaker, IfOk-weaker, err_from_is_err_and}
+use Rattle.src_model.specs.Rules.{first_fault}
+use Rattle.src_model.specs.Written.{listing_of}
+use Rattle.src_front.proofs.Lengths.{few_variables}
+use Rattle.src_front.proofs.SourceNames.{source_names}
+use Rattle.src_front.specs.Fronts.{IsSrcFile}
+use Rattle.net_compile.specs.Code.{IsCode}
+use Rattle.net_compile.proofs.TaskLemmas.{fault_of_code, fault_of_program, holds_of_read}
+use Rattle.net_compile.proofs.compiler.read_compiled.Goals as goal
+
+pub image_for-requires-clause-rules : goal.image_for-requires-clause-rules
+image_for-requires-clause-rules c = c.in_ok-checked.ensures.found.netlist.rules
+
+pub image_for-requires-clause-program : goal.image_for-requires-clause-program
+image_for-requires-clause-program c =
+    subst (λ (n : ℕ). first_fault n (listing_of c.in_ok-typed.typed.program) ≡ None) (sym c.in_ok-typed.ensures.width) c.in_ok-typed.ensures.found.kept
+
+pub image_for-requires-clause-few : goal.image_for-requires-clause-few
+image_for-requires-clause-few c =
+    let k = few_variables c.args.src.now (listing_of c.in_ok-typed.typed.program) c.in_ok-typed.ensures.found.says.text in
+    omega (arith, k, c.requires.src)
+
+pub image_for-requires-clause-named : goal.image_for-requires-clause-named
+image_for-requires-clause-named c = source_names c.args.src.now (listing_of c.in_ok-typed.typed.program) c.in_ok-typed.ensures.found.says.text
+
+pub returns-in_err-typed-clause-refused : goal.returns-in_err-typed-clause-refused
+returns-in_err-typed-clause-refused c =
+    let p = err_from_is_err_and c.from_residual-in_err-typed.result c.from_residual-in_err-typed.ensures.1 in
+    rw (p.1, p.2) (fault_of_program c.args.net.now c.args.src.now c.in_ok-checked.checked _ c.in_ok-checked.ensures.found c.memory_width.ensures.width _ c.in_err-typed.ensures.refused)
+
+pub returns-in_err-image-clause-refused : goal.returns-in_err-image-clause-refused
+returns-in_err-image-clause-refused c =
+    let typed = c.in_ok-typed.typed in
+    let p = err_from_is_err_and c.from_residual-in_err-image.result c.from_residual-in_err-image.ensures.1 in
+    rw (p.1, p.2) (fault_of_code c.args.net.now c.args.src.now c.in_ok-checked.checked typed c.in_ok-checked.ensures.found (c.in_ok-typed.ensures.width ∙ c.memory_width.ensures.width)
+    (subst (λ (n : ℕ). IsSrcFile c.args.src.now n (listing_of typed.program)) (sym c.in_ok-typed.ensures.width) c.in_ok-typed.ensures.found) _ c.in_err-image.ensures.refused)
+
+pub returns-clause-compiled : goal.returns-clause-compiled
+returns-clause-compiled c =
+    let typed = c.in_ok-typed.typed in
+    record {
+      net_file = c.in_ok-checked.ensures.found;
+      src_file = subst (λ (n : ℕ). IsSrcFile c.args.src.now n (listing_of typed.program)) (sym c.in_ok-typed.ensures.width) c.in_ok-typed.ensures.found;
+      width = c.in_ok-typed.ensures.width ∙ c.memory_width.ensures.width;
+      image = c.in_ok-image.ensures.image;
+    }

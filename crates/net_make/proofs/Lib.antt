@@ -1,0 +1,5 @@
+mod Clocks
+mod EndMarks
+mod Shown
+mod Blank
+mod RightRuns

@@ -1,0 +1,7 @@
+pub mod Zeros
+pub mod Marks
+pub mod Stops
+pub mod Summary
+pub mod Told
+pub mod Summaries
+pub mod Worked

@@ -1,0 +1,39 @@
+use Rattle.std.proofs.Common.{◌≡◌, Some, sym, ap, ◌∙◌}
+use Rattle.code_model.specs.Machine.{label_in, store_in}
+use Rattle.code_model.specs.Places.{label_at}
+use Rattle.net_watch.proofs.Putting.{puts_failed, puts_ok}
+use Rattle.net_watch.proofs.Seeing.{line_is, told_is}
+use Rattle.net_watch.proofs.Starting.{store_is}
+use Rattle.net_watch.proofs.watching.look.Goals as goal
+
+pub returns-in_err-write-in-Some-clause-puts : goal.returns-in_err-write-in-Some-clause-puts
+returns-in_err-write-in-Some-clause-puts g c =
+    let sim = c.args.sim.now in
+    let image = c.args.image.now in
+    let writer = c.args.writer.now in
+    let label : label_in sim.netlist image sim.state ≡ Some c.in-Some.label =
+    sym (c.label_at.ensures ∙ ap (λ marks. label_at marks c.pc.result) c.as_slice.ensures ∙ ap (label_at image.marks) c.pc.ensures) ∙ c.in-Some.is in
+    let store = store_is sim.netlist image writer.vars.now writer.address sim.state c.requires.scene in
+    puts_failed _ _ _ _ _ c.from_residual.result c.from_residual.ensures.0 (line_is writer.vars.now writer.told (label_in sim.netlist image sim.state) c.in-Some.label c.args.cycle (store_in image sim.state) _ label store)
+    c.in_err-write-in-Some.ensures.puts
+
+pub returns-in_ok-write-in-Some-clause-puts : goal.returns-in_ok-write-in-Some-clause-puts
+returns-in_ok-write-in-Some-clause-puts g c =
+    let sim = c.args.sim.now in
+    let image = c.args.image.now in
+    let writer = c.args.writer.now in
+    let label : label_in sim.netlist image sim.state ≡ Some c.in-Some.label =
+    sym (c.label_at.ensures ∙ ap (λ marks. label_at marks c.pc.result) c.as_slice.ensures ∙ ap (label_at image.marks) c.pc.ensures) ∙ c.in-Some.is in
+    let store = store_is sim.netlist image writer.vars.now writer.address sim.state c.requires.scene in
+    puts_ok _ _ _ _ _ c.eq.result (line_is writer.vars.now writer.told (label_in sim.netlist image sim.state) c.in-Some.label c.args.cycle (store_in image sim.state) _ label store)
+    c.in_ok-write-in-Some.ensures.puts
+
+pub returns-in_ok-write-in-Some-clause-told : goal.returns-in_ok-write-in-Some-clause-told
+returns-in_ok-write-in-Some-clause-told g c =
+    let sim = c.args.sim.now in
+    let image = c.args.image.now in
+    let writer = c.args.writer.now in
+    let label : label_in sim.netlist image sim.state ≡ Some c.in-Some.label =
+    sym (c.label_at.ensures ∙ ap (λ marks. label_at marks c.pc.result) c.as_slice.ensures ∙ ap (label_at image.marks) c.pc.ensures) ∙ c.in-Some.is in
+    let store = store_is sim.netlist image writer.vars.now writer.address sim.state c.requires.scene in
+    c.in_ok-write-in-Some.ensures.told ∙ told_is writer.told (label_in sim.netlist image sim.state) c.in-Some.label (store_in image sim.state) _ label store

@@ -1,0 +1,114 @@
+//! Watching a program.
+
+ghost use Rattle.std.specs.Prelude.{◌≡◌, IfOk};
+ghost use Rattle.net_model.specs.declared.hardware.Netlist.{Netlist};
+ghost use Rattle.src_model.specs.Rules.{temp_count};
+ghost use Rattle.src_model.specs.Trace.{strace};
+ghost use Rattle.src_model.specs.Written.{listing_of};
+ghost use Rattle.code_model.specs.ImageFits.{IsFitting, limits_of};
+ghost use Rattle.code_model.specs.Layout.{variables_of};
+ghost use Rattle.code_model.specs.Machine.{IsAt};
+ghost use Rattle.code_model.specs.Places.{words_of};
+ghost use Rattle.code_model.specs.Right.{IsLaidOut, TracesRight};
+ghost use Rattle.checkpoint_text.specs.Texts.{last_line};
+ghost use Rattle.net_watch.specs.Puts.{Puts};
+ghost use Rattle.net_watch.specs.Watched.{IsTold};
+
+use crate::watching::write_lines;
+use crate::writer::LineWriter;
+use code_model::Image;
+use cycle_sim::Sim;
+use net_model::{Checked, State};
+use rec_bits::{Items, NoMemory};
+use rec_io::{Sink, WriteFault, put_all};
+use src_model::Typed;
+use std::alloc::Global;
+use std::marker::Model;
+
+/// The text of the checkpoints that a netlist shows of a program. It is made while it is written, and all its room is taken before.
+#[derive(Drop)]
+pub struct Watch<'a> {
+    sim: Sim<'a>,
+    image: &'a Image,
+    writer: LineWriter<'a>,
+    clocks: u32,
+}
+
+impl<'a> Model for Watch<'a> {
+    ghost use Rattle.std.specs.Prelude.{ℕ, List};
+    ghost use Rattle.code_model.specs.Machine.{mtrace};
+    ghost use Rattle.net_watch.specs.Ready.{IsReady};
+    ghost use Rattle.net_watch.specs.Traces.{trace_text};
+
+    ghost Value = { List ℕ };
+
+    ghost view = { λ watch. trace_text watch.writer.vars.now (mtrace watch.sim.netlist watch.image.now watch.sim.state 0 watch.clocks) };
+
+    ghost invariant = { λ watch. IsReady watch.sim watch.image.now watch.writer.vars.now watch.writer.address watch.writer.told watch.clocks };
+}
+
+// The words of an image.
+fn words_of(alloc: Global, image: &Image) -> Result<Items<u64>, NoMemory>
+    ensures { IfOk result (λ words. words ≡ words_of image.now) }
+{
+    let mut words = Items::new(alloc);
+    for word in image.words.as_slice() {
+        words.push(word.word)?;
+    }
+    Ok(words)
+}
+
+fn last_line(ended: bool) -> &'static [u8]
+    ensures { result.now ≡ last_line ended }
+{
+    if ended { b"end\n" } else { b"budget\n" }
+}
+
+impl<'a> Watch<'a> {
+    /// The text of the checkpoints of a program over so many clocks from the state `start`, where `image` is code that traces the program and
+    /// fits the netlist. Nothing more is asked for when the text is written.
+    pub fn new(
+        alloc: Global,
+        checked: &'a Checked,
+        typed: &'a Typed,
+        image: &'a Image,
+        start: State,
+        clocks: u32,
+    ) -> Result<Watch<'a>, NoMemory>
+        requires layout { IsLaidOut checked.now.netlist (temp_count typed.now.width (listing_of typed.now.program)) (variables_of typed.now.program.vars) image.now }
+        requires traces { TracesRight checked.now.netlist image.now (strace typed.now.width (listing_of typed.now.program)) }
+        requires fits { IsFitting (limits_of checked.now.netlist) image.now }
+        requires start { IsAt checked.now.netlist 0 start }
+        ensures { IfOk result (λ watch. IsTold checked.now.netlist image.now typed.now.program.vars (strace typed.now.width (listing_of typed.now.program)) start clocks watch) }
+    {
+        // the rules that a checked netlist keeps, for the sizes of its memory
+        let _netlist = checked.netlist();
+        let words = words_of(alloc, image)?;
+        let sim = Sim::new(alloc, checked, words, start)?;
+        let writer = LineWriter::new(alloc, typed.program().vars.as_slice(), image.temps)?;
+        Ok(Watch {
+            sim,
+            image,
+            writer,
+            clocks,
+        })
+    }
+
+    /// Clocks the netlist and puts the text, line by line. Takes no memory.
+    ///
+    /// # Errors
+    ///
+    /// `WriteFault` only where the sink's count of faults rose; the sink took a front of the text then, and not all of it.
+    pub fn run<S: Sink>(self, sink: &mut S) -> Result<(), WriteFault>
+        ensures { Puts (S.state sink.old) (S.state sink.new) self.entry result }
+    {
+        let Watch {
+            mut sim,
+            image,
+            mut writer,
+            clocks,
+        } = self;
+        let ended = write_lines(image, &mut sim, &mut writer, clocks, sink)?;
+        put_all(sink, last_line(ended))
+    }
+}
