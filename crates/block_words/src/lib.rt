@@ -5,4 +5,4 @@ mod laws;
 mod words;
 
 pub use laws::{law_of_forms, law_of_jumps};
-pub use words::{step_words, words_of};
+pub use words::words_of;

@@ -1,8 +1,8 @@
 //! The words of groups.
 
-ghost use Rattle.std.specs.Prelude.{◌≡◌, ◌∷◌, [], ℕ, IfOk};
+ghost use Rattle.std.specs.Prelude.{ℕ, IfOk};
 ghost use Rattle.bit_bdd.specs.Diagrams.{Extends};
-ghost use Rattle.form_model.specs.Live.{regs_of, singles};
+ghost use Rattle.form_model.specs.Live.{regs_of};
 ghost use Rattle.transfer_set.specs.Ready.{IsReady};
 ghost use Rattle.word_fit.specs.Fits.{FitsGroup, IsLeastFit};
 ghost use Rattle.word_fit.specs.Steps.{step_operation};
@@ -68,54 +68,4 @@ pub fn words_of(
         words.push(word)?;
     }
     Ok(words)
-}
-
-// A group of one step.
-fn single(alloc: Global, step: Step) -> Result<Group, NoMemory>
-    ensures { IfOk result (λ group. group ≡ step ∷ []) }
-{
-    let mut group = Items::new(alloc);
-    group.push(step)?;
-    Ok(group)
-}
-
-// The steps in groups of one.
-fn groups_of(alloc: Global, steps: &[Step]) -> Result<Items<Group>, NoMemory>
-    ensures { IfOk result (λ groups. groups ≡ singles steps.now) }
-{
-    let mut groups = Items::new(alloc);
-    for step in steps {
-        groups.push(single(alloc, *step)?)?;
-    }
-    Ok(groups)
-}
-
-/// For each step the least word that does it and fits with the registers that are live after it, where `after` are live after the last step:
-/// `words_of` for groups of one step. Each step has to have a word that fits it, as `law_of_forms` says of the steps of forms. The book grows,
-/// and what it held means what it meant. Want of memory is the only refusal.
-pub fn step_words(
-    alloc: Global,
-    checked: &Checked,
-    book: &mut Book,
-    pool: &Pool,
-    patterns: &Patterns,
-    steps: &[Step],
-    after: RegSet,
-) -> Result<Items<u64>, NoMemory>
-    requires ready { IsReady checked.now.netlist book.old pool.now patterns.now }
-    requires words { HaveWords checked.now.netlist pool.now patterns.now (singles steps.now) (regs_of after) }
-    ensures grows { Extends book.old book.new }
-    ensures ready { IsReady checked.now.netlist book.new pool.now patterns.now }
-    ensures least { IfOk result (λ words. AreLeastWords checked.now.netlist pool.now patterns.now words (singles steps.now) (regs_of after)) }
-{
-    let groups = groups_of(alloc, steps)?;
-    words_of(
-        alloc,
-        checked,
-        book,
-        pool,
-        patterns,
-        groups.as_slice(),
-        after,
-    )
 }

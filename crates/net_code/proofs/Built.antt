@@ -1,5 +1,5 @@
 -- What is built for a covered program is built for its task.
-use Rattle.std.proofs.Common.{◌≡◌, ℕ, zero, suc, ◌+◌, ◌<◌, ◌≤◌, ◌^◌, List, [], ◌∷◌, map, Some, length, slice_get, refl, sym, ◌∙◌, ap, subst, arith}
+use Rattle.std.proofs.Common.{◌≡◌, ℕ, suc, ◌+◌, ◌<◌, ◌≤◌, ◌^◌, List, [], ◌∷◌, map, Some, length, slice_get, refl, sym, ◌∙◌, ap, subst, arith}
 use Rattle.std.specs.List.{AllByRecursion}
 use Rattle.std.proofs.lemmas.List.{length-map}
 use Rattle.net_model.specs.declared.hardware.Netlist.{Netlist}
@@ -17,7 +17,7 @@ use Rattle.code_model.specs.Layout.{variables_of}
 use Rattle.code_model.specs.Places.{Apart, places_from, words_of}
 use Rattle.cover.specs.Best.{choice_of}
 use Rattle.cover.specs.declared.covers.JobCover.{JobCover}
-use Rattle.form_model.specs.Covers.{Choice, Stock, job_cost}
+use Rattle.form_model.specs.Covers.{Choice, Stock}
 use Rattle.form_model.specs.Effects.{operation_of}
 use Rattle.form_model.specs.Rules.{Rule}
 use Rattle.form_model.specs.declared.flow.Flow.{Flow}
@@ -32,9 +32,7 @@ use Rattle.src_trees.proofs.LowerLemmas.{in_few}
 use Rattle.src_trees.proofs.Parts.{works_in_length}
 use Rattle.branch_fix.specs.Bounds.{bound_of, control_words, program_bound, sum_of}
 use Rattle.branch_fix.specs.Costs.{AreWithin, block_costs}
-use Rattle.branch_fix.specs.Items.{items_from, jump_form}
 use Rattle.branch_fix.specs.Laid.{IsLaid, Outline}
-use Rattle.branch_fix.specs.Parts.{starts}
 use Rattle.branch_fix.specs.declared.laid.Item.{Item}
 use Rattle.branch_fix.specs.declared.laid.Item.TheVariants.{Group, Jump}
 use Rattle.branch_fix.specs.declared.laid.Laid.{Laid}
@@ -48,7 +46,7 @@ use Rattle.right_code.proofs.OneBound.{bound_one}
 use Rattle.right_code.proofs.Right.{jump_words_of, right_image}
 use Rattle.net_code.specs.declared.views.CoveredProgram.{CoveredProgram}
 use Rattle.net_code.specs.declared.views.Machine.{Machine}
-use Rattle.net_code.specs.Coded.{AreItemWords, HasWord, IsBlockCode, words_at}
+use Rattle.net_code.specs.Coded.{AreItemWords, HasWord, IsBlockCode}
 use Rattle.net_code.specs.Covering.{IsCovering, machine_netlist, machine_patterns}
 use Rattle.net_code.specs.Imaged.{ArePlaces, IsImageMade, IsLengthFault, IsNear, IsTaskImage, OfTask}
 use Rattle.net_code.specs.Refusals.{HasJumps, IsBeyondReach, IsCodeFault, IsCoverable, IsJumpless, IsReached, IsStepless, IsTooLong}
@@ -59,7 +57,8 @@ use Rattle.net_code.specs.Views.{choices_in, stock_of, works_in}
 use Rattle.net_code.proofs.Fitting.{image_fitting}
 use Rattle.net_code.proofs.Frames.{are, chosen, covered, forms, of_program, of_task, tests}
 use Rattle.net_code.proofs.Lengths.{code_within}
-use Rattle.net_code.proofs.Making.{branches_made}
+use Rattle.net_code.proofs.Making.{branches_made, sizes}
+use Rattle.net_code.specs.declared.blocks.PackedBlock.{PackedBlock}
 use Rattle.net_code.proofs.Whole.{image_made}
 
 -- jobs with chosen covers have as many costs
@@ -110,24 +109,24 @@ module _ (machine : Machine) (program : CoveredProgram) (task : Task) (c : IsCov
   pub bound_there : bound_of program.flow.now (map (λ (j : JobCover). j.cost) program.covers.now) ≡ program_bound task.listing (job_costs (task_works task) (choices_in program))
   bound_there = (λ j. bound_of (c.flow j) (costs_are j)) ∙ program_words task.listing (job_costs (task_works task) (choices_in program))
 
-  module _ (words : List (List ℕ)) (branches : List (ℕ × ℕ))
-      (code : IsBlockCode (machine_netlist machine) patterns (stock_of program) program.flow.now (works_in program) (choices_in program) (length program.flow.now) words branches) where
+  module _ (blocks : List PackedBlock) (branches : List (ℕ × ℕ))
+      (code : IsBlockCode (machine_netlist machine) patterns (stock_of program) program.flow.now (works_in program) (choices_in program) (length program.flow.now) blocks branches) where
     -- the blocks keep to the bound
-    pub within : sum_of (map length words) + control_words program.flow.now ≤ bound_of program.flow.now (map (λ (j : JobCover). j.cost) program.covers.now)
+    pub within : sum_of (sizes blocks) + control_words program.flow.now ≤ bound_of program.flow.now (map (λ (j : JobCover). j.cost) program.covers.now)
     within =
-        subst (λ f. sum_of (map length words) + control_words f ≤ bound_of f (map (λ (j : JobCover). j.cost) program.covers.now)) (sym c.flow)
-        (subst (λ cs. sum_of (map length words) + control_words (program_flow task.listing) ≤ bound_of (program_flow task.listing) cs) (sym c.costs)
-        (bound_is task.listing (job_costs (works_in program) (choices_in program)) (map length words) (costs_many ∙ works_in_length (task_memory task) (acts_of task.listing.body))
-        (subst (λ f. AreWithin (map length words) (block_costs f (job_costs (works_in program) (choices_in program)) f 0)) c.flow
-        (code_within (stock_of program) (works_in program) (choices_in program) c.chosen covered_there (machine_netlist machine) patterns program.flow.now words branches (tests machine program task c) code))))
+        subst (λ f. sum_of (sizes blocks) + control_words f ≤ bound_of f (map (λ (j : JobCover). j.cost) program.covers.now)) (sym c.flow)
+        (subst (λ cs. sum_of (sizes blocks) + control_words (program_flow task.listing) ≤ bound_of (program_flow task.listing) cs) (sym c.costs)
+        (bound_is task.listing (job_costs (works_in program) (choices_in program)) (sizes blocks) (costs_many ∙ works_in_length (task_memory task) (acts_of task.listing.body))
+        (subst (λ f. AreWithin (sizes blocks) (block_costs f (job_costs (works_in program) (choices_in program)) f 0)) c.flow
+        (code_within (stock_of program) (works_in program) (choices_in program) c.chosen covered_there (machine_netlist machine) patterns program.flow.now blocks branches (tests machine program task c) code))))
 
-    module _ (laid : Laid) (most bound : ℕ) (is : IsLaid (flow_outline rules reach (map length words) branches most bound program.flow.now) laid)
+    module _ (laid : Laid) (most bound : ℕ) (is : IsLaid (flow_outline rules reach (sizes blocks) branches most bound program.flow.now) laid)
         (bound_of_costs : bound ≡ bound_of program.flow.now (map (λ (j : JobCover). j.cost) program.covers.now)) where
-      laid_there : IsLaid (flow_outline rules reach (map length words) branches most bound (program_flow task.listing)) laid
-      laid_there = subst (λ f. IsLaid (flow_outline rules reach (map length words) branches most bound f) laid) c.flow is
+      laid_there : IsLaid (flow_outline rules reach (sizes blocks) branches most bound (program_flow task.listing)) laid
+      laid_there = subst (λ f. IsLaid (flow_outline rules reach (sizes blocks) branches most bound f) laid) c.flow is
 
-      code_there : IsBlockCode task.netlist patterns (task_stock rules task) (program_flow task.listing) (task_works task) (choices_in program) (length (program_flow task.listing)) words branches
-      code_there = of_task machine program task c (λ nt t f w. IsBlockCode nt patterns (record { rules = rules; temps = t }) f w (choices_in program) (length f) words branches) code
+      code_there : IsBlockCode task.netlist patterns (task_stock rules task) (program_flow task.listing) (task_works task) (choices_in program) (length (program_flow task.listing)) blocks branches
+      code_there = of_task machine program task c (λ nt t f w. IsBlockCode nt patterns (record { rules = rules; temps = t }) f w (choices_in program) (length f) blocks branches) code
 
       items_there : (k : ℕ) (step : Step) → slice_get laid.items k ≡ Some (Jump step) → (word : ℕ) × FitsJump task.netlist word (operation_of patterns step)
       items_there k step e =
@@ -135,8 +134,8 @@ module _ (machine : Machine) (program : CoveredProgram) (task : Task) (c : IsCov
           let reaches = laid_there.reached in
           let long = laid_there.long in
           jump_words_of order task c.checked patterns (are machine program task c) rules reach (forms machine program task c) (choices_in program) (chosen machine program task c) laid_there.parts
-          (record { sizes = map length words; settings = branches; settled = laid_there.settled; reached = omega (arith, most_words, reaches, long) })
-          (branches_made (task_stock rules task) (program_flow task.listing) (task_works task) (choices_in program) task.netlist patterns words branches code_there laid_there.parts laid_there.settled)
+          (record { sizes = sizes blocks; settings = branches; settled = laid_there.settled; reached = omega (arith, most_words, reaches, long) })
+          (branches_made (task_stock rules task) (program_flow task.listing) (task_works task) (choices_in program) task.netlist patterns blocks branches code_there laid_there.parts laid_there.settled)
           k step (ap (λ xs. slice_get xs k) (sym laid_there.items) ∙ e)
 
       -- each jump and branch has a word
@@ -144,13 +143,13 @@ module _ (machine : Machine) (program : CoveredProgram) (task : Task) (c : IsCov
       items_have = subst (λ n. AllByRecursion (HasWord n patterns) laid.items) c.netlist (all_have task.netlist patterns laid.items items_there)
 
       -- the image is made for the task
-      module _ (places : Places) (placed : ArePlaces task places) (image : Image) (items : AreItemWords (machine_netlist machine) patterns (words_at words) laid.items image.words) where
+      module _ (places : Places) (placed : ArePlaces task places) (image : Image) (items : AreItemWords (machine_netlist machine) patterns blocks laid.items image.words) where
         pub is_made : image.marks ≡ laid.marks → image.costs ≡ numbered 0 (map (λ (j : JobCover). j.cost) program.covers.now) → image.bits ≡ word_width (machine_netlist machine)
             → image.temps ≡ places.temps → image.places ≡ places.list → IsImageMade program image task
         is_made marks costs bits temps list =
             let made =
-            image_made task patterns (are machine program task c) rules reach (forms machine program task c) (choices_in program) (chosen machine program task c) words branches code_there laid most bound laid_there
-            (bound_of_costs ∙ bound_there) image (subst (λ n. AreItemWords n patterns (words_at words) laid.items image.words) (sym c.netlist) items)
+            image_made task patterns (are machine program task c) rules reach (forms machine program task c) (choices_in program) (chosen machine program task c) blocks branches code_there laid most bound laid_there
+            (bound_of_costs ∙ bound_there) image (subst (λ n. AreItemWords n patterns blocks laid.items image.words) (sym c.netlist) items)
             marks (costs ∙ ap (numbered 0) costs_are) (bits ∙ ap word_width (sym c.netlist)) (temps ∙ ap (λ (p : Places). p.temps) placed.layout)
             (list ∙ ap (λ (p : Places). p.list) placed.layout)
             (subst (λ t. Apart t image.places (memory_size task.netlist.storages)) (sym temps)

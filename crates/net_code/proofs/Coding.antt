@@ -1,5 +1,5 @@
 -- The code of blocks and tests, one place of the flow after the other.
-use Rattle.std.proofs.Common.{◌≡◌, ◌⊎◌, ℕ, zero, suc, ◌+◌, ◌<◌, ◌≤◌, ◌-◌, Bool, true, false, List, [], ◌∷◌, ◌++◌, Option, Some, None, length, slice_get, refl, sym, ap, subst, ◌∙◌, inl, inr, add-one, arith, length-append}
+use Rattle.std.proofs.Common.{◌≡◌, ℕ, zero, suc, ◌+◌, ◌<◌, ◌≤◌, ◌-◌, Bool, true, false, List, [], ◌∷◌, ◌++◌, Option, Some, None, length, slice_get, refl, sym, ap, subst, ◌∙◌, inl, inr, add-one, arith, length-append}
 use Rattle.std.specs.Prelude.{slice_index_or}
 use Rattle.std.proofs.lemmas.Bool.{cases_lt}
 use Rattle.net_model.specs.declared.hardware.Netlist.{Netlist}
@@ -13,8 +13,8 @@ use Rattle.src_trees.specs.Lowered.{Work}
 use Rattle.branch_fix.specs.Parts.{given}
 use Rattle.right_code.specs.Images.{choices_at}
 use Rattle.right_code.specs.Jobs.{jobs_steps}
-use Rattle.right_code.specs.Words.{AreStepWords}
-use Rattle.net_code.specs.Coded.{IsBlockCode, IsTestCode, words_at}
+use Rattle.net_code.specs.declared.blocks.PackedBlock.{PackedBlock}
+use Rattle.net_code.specs.Coded.{IsBlockCode, IsPackedBlock, IsTestCode, block_at, no_block}
 use Rattle.net_code.specs.Places.{blocks_before, place_blocks, place_tests, tests_before}
 
 -- ---- lists
@@ -108,16 +108,16 @@ no_test (Some End) e = refl
 -- ---- one place more
 
 module _ (netlist : Netlist) (patterns : List Pattern) (stock : Stock) (flow : List Flow) (works : List Work) (choices : List Choice) where
-  abbrev Coded : ℕ → List (List ℕ) → List (ℕ × ℕ) → Type 0
+  abbrev Coded : ℕ → List PackedBlock → List (ℕ × ℕ) → Type 0
   Coded = IsBlockCode netlist patterns stock flow works choices
 
   pub nothing_coded : Coded 0 [] []
   nothing_coded = record { long = refl; many = refl; runs = λ at n lt. absurd (omega arith); tests = λ at tree one none lt. absurd (omega arith) }
 
   -- where no block begins
-  pub skipped : (upto : ℕ) (words : List (List ℕ)) (branches : List (ℕ × ℕ)) → Coded upto words branches → place_blocks (slice_get flow upto) (continues flow upto) ≡ 0 → place_tests (slice_get flow upto) ≡ 0
-      → Coded (upto + 1) words branches
-  skipped upto words branches h b t = record {
+  pub skipped : (upto : ℕ) (blocks : List PackedBlock) (branches : List (ℕ × ℕ)) → Coded upto blocks branches → place_blocks (slice_get flow upto) (continues flow upto) ≡ 0 → place_tests (slice_get flow upto) ≡ 0
+      → Coded (upto + 1) blocks branches
+  skipped upto blocks branches h b t = record {
     long = let e = ap (blocks_before flow) (add-one upto) in omega (arith, h.long, b, e);
     many = let e = ap (tests_before flow) (add-one upto) in omega (arith, h.many, t, e);
     runs = λ at n lt block. elim (cases_lt at upto) [
@@ -131,20 +131,20 @@ module _ (netlist : Netlist) (patterns : List Pattern) (stock : Stock) (flow : L
   }
 
   -- a block of assignments
-  pub run_more : (upto n : ℕ) (words : List (List ℕ)) (branches : List (ℕ × ℕ)) (new : List ℕ) → Coded upto words branches → IsBlock flow upto n → place_tests (slice_get flow upto) ≡ 0
-      → AreStepWords netlist patterns (jobs_steps stock (jobs_at flow works upto n) (choices_at flow choices upto n)) no_regs new → Coded (upto + 1) (words ++ new ∷ []) branches
-  run_more upto n words branches new h block t least = record {
-    long = let e = ap (blocks_before flow) (add-one upto) in let l = length-append words (new ∷ []) in omega (arith, h.long, begins, e, l);
+  pub run_more : (upto n : ℕ) (blocks : List PackedBlock) (branches : List (ℕ × ℕ)) (new : PackedBlock) → Coded upto blocks branches → IsBlock flow upto n → place_tests (slice_get flow upto) ≡ 0
+      → IsPackedBlock netlist patterns (jobs_steps stock (jobs_at flow works upto n) (choices_at flow choices upto n)) no_regs new → Coded (upto + 1) (blocks ++ new ∷ []) branches
+  run_more upto n blocks branches new h block t least = record {
+    long = let e = ap (blocks_before flow) (add-one upto) in let l = length-append blocks (new ∷ []) in omega (arith, h.long, begins, e, l);
     many = let e = ap (tests_before flow) (add-one upto) in omega (arith, h.many, t, e);
     runs = λ at m lt other. elim (cases_lt at upto) [
-      | inl before ↦ subst (AreStepWords netlist patterns (jobs_steps stock (jobs_at flow works at m) (choices_at flow choices at m)) no_regs)
-          (sym (word_kept words new [] (blocks_before flow at) (omega (arith, h.long, block_counted flow at upto before (block_begins flow at m other)))))
+      | inl before ↦ subst (IsPackedBlock netlist patterns (jobs_steps stock (jobs_at flow works at m) (choices_at flow choices at m)) no_regs)
+          (sym (word_kept blocks new no_block (blocks_before flow at) (omega (arith, h.long, block_counted flow at upto before (block_begins flow at m other)))))
           (h.runs at m before other)
       | inr le ↦ here at m (omega arith) other
     ];
     tests = λ at tree one none lt there job choice w c. elim (cases_lt at upto) [
       | inl before ↦ subst (λ ws. IsTestCode netlist patterns stock job choice ws (given (slice_get branches (tests_before flow at))))
-          (sym (word_kept words new [] (blocks_before flow at) (omega (arith, h.long, block_counted flow at upto before (ap (λ o. place_blocks o (continues flow at)) there)))))
+          (sym (word_kept blocks new no_block (blocks_before flow at) (omega (arith, h.long, block_counted flow at upto before (ap (λ o. place_blocks o (continues flow at)) there)))))
           (h.tests at tree one none before there job choice w c)
       | inr le ↦ absurd (let e : at ≡ upto = omega arith in let c : place_tests (slice_get flow at) ≡ 1 = ap place_tests there in let d = ap (λ k. place_tests (slice_get flow k)) e in omega (arith, t, c, d))
     ];
@@ -153,36 +153,36 @@ module _ (netlist : Netlist) (patterns : List Pattern) (stock : Stock) (flow : L
       begins : place_blocks (slice_get flow upto) (continues flow upto) ≡ 1
       begins = block_begins flow upto n block
 
-      last : words_at (words ++ new ∷ []) (blocks_before flow upto) ≡ new
-      last = word_last words new [] (blocks_before flow upto) (sym h.long)
+      last : block_at (blocks ++ new ∷ []) (blocks_before flow upto) ≡ new
+      last = word_last blocks new no_block (blocks_before flow upto) (sym h.long)
 
       here : (at m : ℕ) → at ≡ upto → IsBlock flow at m
-          → AreStepWords netlist patterns (jobs_steps stock (jobs_at flow works at m) (choices_at flow choices at m)) no_regs (words_at (words ++ new ∷ []) (blocks_before flow at))
+          → IsPackedBlock netlist patterns (jobs_steps stock (jobs_at flow works at m) (choices_at flow choices at m)) no_regs (block_at (blocks ++ new ∷ []) (blocks_before flow at))
       here at m e other =
           let other_there : IsBlock flow upto m = subst (λ k. IsBlock flow k m) e other in
           let same : n ≡ m = block_one flow upto n m block other_there in
-          let mine : AreStepWords netlist patterns (jobs_steps stock (jobs_at flow works upto m) (choices_at flow choices upto m)) no_regs (words_at (words ++ new ∷ []) (blocks_before flow upto)) =
-          subst (λ k. AreStepWords netlist patterns (jobs_steps stock (jobs_at flow works upto k) (choices_at flow choices upto k)) no_regs (words_at (words ++ new ∷ []) (blocks_before flow upto))) same
-          (subst (AreStepWords netlist patterns (jobs_steps stock (jobs_at flow works upto n) (choices_at flow choices upto n)) no_regs) (sym last) least) in
-          subst (λ k. AreStepWords netlist patterns (jobs_steps stock (jobs_at flow works k m) (choices_at flow choices k m)) no_regs (words_at (words ++ new ∷ []) (blocks_before flow k))) (sym e) mine
+          let mine : IsPackedBlock netlist patterns (jobs_steps stock (jobs_at flow works upto m) (choices_at flow choices upto m)) no_regs (block_at (blocks ++ new ∷ []) (blocks_before flow upto)) =
+          subst (λ k. IsPackedBlock netlist patterns (jobs_steps stock (jobs_at flow works upto k) (choices_at flow choices upto k)) no_regs (block_at (blocks ++ new ∷ []) (blocks_before flow upto))) same
+          (subst (IsPackedBlock netlist patterns (jobs_steps stock (jobs_at flow works upto n) (choices_at flow choices upto n)) no_regs) (sym last) least) in
+          subst (λ k. IsPackedBlock netlist patterns (jobs_steps stock (jobs_at flow works k m) (choices_at flow choices k m)) no_regs (block_at (blocks ++ new ∷ []) (blocks_before flow k))) (sym e) mine
 
   -- a test
-  pub test_more : (upto tree one none : ℕ) (words : List (List ℕ)) (branches : List (ℕ × ℕ)) (new : List ℕ) (branch : ℕ × ℕ) → Coded upto words branches → slice_get flow upto ≡ Some (Test tree one none)
+  pub test_more : (upto tree one none : ℕ) (blocks : List PackedBlock) (branches : List (ℕ × ℕ)) (new : PackedBlock) (branch : ℕ × ℕ) → Coded upto blocks branches → slice_get flow upto ≡ Some (Test tree one none)
       → (job : Work) (choice : Choice) → slice_get works tree ≡ Some job → slice_get choices tree ≡ Some choice → IsTestCode netlist patterns stock job choice new branch
-      → Coded (upto + 1) (words ++ new ∷ []) (branches ++ branch ∷ [])
-  test_more upto tree one none words branches new branch h there job choice w c code = record {
-    long = let e = ap (blocks_before flow) (add-one upto) in let l = length-append words (new ∷ []) in omega (arith, h.long, begins, e, l);
+      → Coded (upto + 1) (blocks ++ new ∷ []) (branches ++ branch ∷ [])
+  test_more upto tree one none blocks branches new branch h there job choice w c code = record {
+    long = let e = ap (blocks_before flow) (add-one upto) in let l = length-append blocks (new ∷ []) in omega (arith, h.long, begins, e, l);
     many = let e = ap (tests_before flow) (add-one upto) in let l = length-append branches (branch ∷ []) in omega (arith, h.many, tests_here, e, l);
     runs = λ at m lt other. elim (cases_lt at upto) [
-      | inl before ↦ subst (AreStepWords netlist patterns (jobs_steps stock (jobs_at flow works at m) (choices_at flow choices at m)) no_regs)
-          (sym (word_kept words new [] (blocks_before flow at) (omega (arith, h.long, block_counted flow at upto before (block_begins flow at m other)))))
+      | inl before ↦ subst (IsPackedBlock netlist patterns (jobs_steps stock (jobs_at flow works at m) (choices_at flow choices at m)) no_regs)
+          (sym (word_kept blocks new no_block (blocks_before flow at) (omega (arith, h.long, block_counted flow at upto before (block_begins flow at m other)))))
           (h.runs at m before other)
       | inr le ↦ absurd (no_run at m (omega arith) other)
     ];
     tests = λ at other a b lt place k d e f. elim (cases_lt at upto) [
       | inl before ↦ subst (λ ws. IsTestCode netlist patterns stock k d ws (given (slice_get (branches ++ branch ∷ []) (tests_before flow at))))
-          (sym (word_kept words new [] (blocks_before flow at) (omega (arith, h.long, block_counted flow at upto before (ap (λ o. place_blocks o (continues flow at)) place)))))
-          (subst (λ o. IsTestCode netlist patterns stock k d (words_at words (blocks_before flow at)) (given o))
+          (sym (word_kept blocks new no_block (blocks_before flow at) (omega (arith, h.long, block_counted flow at upto before (ap (λ o. place_blocks o (continues flow at)) place)))))
+          (subst (λ o. IsTestCode netlist patterns stock k d (block_at blocks (blocks_before flow at)) (given o))
           (sym (get_kept branches branch (tests_before flow at) (omega (arith, h.many, test_counted flow at upto before (ap place_tests place)))))
           (h.tests at other a b before place k d e f))
       | inr le ↦ here at other a b (omega arith) place k d e f
@@ -201,8 +201,8 @@ module _ (netlist : Netlist) (patterns : List Pattern) (stock : Stock) (flow : L
           let t : is_assign (slice_get flow at) ≡ false = ap (λ k. is_assign (slice_get flow k)) e ∙ ap is_assign there in
           cc
 
-      last : words_at (words ++ new ∷ []) (blocks_before flow upto) ≡ new
-      last = word_last words new [] (blocks_before flow upto) (sym h.long)
+      last : block_at (blocks ++ new ∷ []) (blocks_before flow upto) ≡ new
+      last = word_last blocks new no_block (blocks_before flow upto) (sym h.long)
 
       last_branch : given (slice_get (branches ++ branch ∷ []) (tests_before flow upto)) ≡ branch
       last_branch = ap given (get_last branches branch (tests_before flow upto) (sym h.many))
@@ -214,7 +214,7 @@ module _ (netlist : Netlist) (patterns : List Pattern) (stock : Stock) (flow : L
       test_tree End = 0
 
       here : (at other a b : ℕ) → at ≡ upto → slice_get flow at ≡ Some (Test other a b) → (k : Work) (d : Choice) → slice_get works other ≡ Some k → slice_get choices other ≡ Some d
-          → IsTestCode netlist patterns stock k d (words_at (words ++ new ∷ []) (blocks_before flow at)) (given (slice_get (branches ++ branch ∷ []) (tests_before flow at)))
+          → IsTestCode netlist patterns stock k d (block_at (blocks ++ new ∷ []) (blocks_before flow at)) (given (slice_get (branches ++ branch ∷ []) (tests_before flow at)))
       here at other a b e place k d kw dc =
           let place_there : slice_get flow upto ≡ Some (Test other a b) = ap (slice_get flow) (sym e) ∙ place in
           let some : Some (Test tree one none) ≡ Some (Test other a b) = sym there ∙ place_there in
@@ -222,9 +222,9 @@ module _ (netlist : Netlist) (patterns : List Pattern) (stock : Stock) (flow : L
           let trees : tree ≡ other = ap test_tree flows in
           let jobs : job ≡ k = (let p : Some job ≡ Some k = sym w ∙ ap (slice_get works) trees ∙ kw in cc) in
           let covers : choice ≡ d = (let p : Some choice ≡ Some d = sym c ∙ ap (slice_get choices) trees ∙ dc in cc) in
-          let mine : IsTestCode netlist patterns stock job choice (words_at (words ++ new ∷ []) (blocks_before flow upto)) (given (slice_get (branches ++ branch ∷ []) (tests_before flow upto))) =
+          let mine : IsTestCode netlist patterns stock job choice (block_at (blocks ++ new ∷ []) (blocks_before flow upto)) (given (slice_get (branches ++ branch ∷ []) (tests_before flow upto))) =
           subst (λ ws. IsTestCode netlist patterns stock job choice ws (given (slice_get (branches ++ branch ∷ []) (tests_before flow upto)))) (sym last)
           (subst (IsTestCode netlist patterns stock job choice new) (sym last_branch) code) in
-          subst (λ n. IsTestCode netlist patterns stock k d (words_at (words ++ new ∷ []) (blocks_before flow n)) (given (slice_get (branches ++ branch ∷ []) (tests_before flow n)))) (sym e)
-          (subst (λ x. IsTestCode netlist patterns stock k x (words_at (words ++ new ∷ []) (blocks_before flow upto)) (given (slice_get (branches ++ branch ∷ []) (tests_before flow upto)))) covers
-          (subst (λ x. IsTestCode netlist patterns stock x choice (words_at (words ++ new ∷ []) (blocks_before flow upto)) (given (slice_get (branches ++ branch ∷ []) (tests_before flow upto)))) jobs mine))
+          subst (λ n. IsTestCode netlist patterns stock k d (block_at (blocks ++ new ∷ []) (blocks_before flow n)) (given (slice_get (branches ++ branch ∷ []) (tests_before flow n)))) (sym e)
+          (subst (λ x. IsTestCode netlist patterns stock k x (block_at (blocks ++ new ∷ []) (blocks_before flow upto)) (given (slice_get (branches ++ branch ∷ []) (tests_before flow upto)))) covers
+          (subst (λ x. IsTestCode netlist patterns stock x choice (block_at (blocks ++ new ∷ []) (blocks_before flow upto)) (given (slice_get (branches ++ branch ∷ []) (tests_before flow upto)))) jobs mine))

@@ -1,5 +1,5 @@
 -- The registers that a branch's condition reads, as a set of bits.
-use Rattle.std.proofs.Common.{◌≡◌, ℕ, ◌<◌, ◌≤◌, ◌==◌, ◌||◌, ◌^◌, nat_lt, if◌then◌else◌, Bool, true, false, bit_or, List, Some, None, length, slice_get, refl, sym, ◌∙◌, ap, subst, arith}
+use Rattle.std.proofs.Common.{◌≡◌, ℕ, ◌<◌, ◌≤◌, ◌==◌, ◌||◌, ◌^◌, nat_lt, if◌then◌else◌, Bool, true, false, bit_or, List, length, refl, sym, ◌∙◌, ap, arith}
 use Rattle.std.proofs.lemmas.Bool.{eqb-true, eqb-false, eq-eqb, ltb-true, ltb-false, ne_eqb}
 use Rattle.std.proofs.lemmas.Nat.{one_shl}
 use Rattle.net_model.specs.declared.hardware.Netlist.{Netlist}
@@ -7,10 +7,10 @@ use Rattle.net_model.specs.Patterns.{ArePatterns, Pattern}
 use Rattle.net_model.specs.Terms.{Term, word, reg, const, read, un, bin, slice, cat, zext, sext, select}
 use Rattle.net_model.proofs.KeptRules.{few_storages}
 use Rattle.net_model.proofs.WordWidths.{has_bits}
-use Rattle.transfer_set.specs.TextMarks.{IsMoveOf, IsTermOf}
+use Rattle.transfer_set.specs.TextMarks.{IsTermOf}
 use Rattle.form_model.specs.Covers.{IsOrderly}
 use Rattle.form_model.specs.Effects.{register, term_reads}
-use Rattle.form_model.specs.Live.{Regs, regs_of}
+use Rattle.form_model.specs.Live.{regs_of}
 use Rattle.form_model.specs.Plans.{Plan, use_form}
 use Rattle.form_model.specs.Rules.{BranchTarget, Rule, branches, tested}
 use Rattle.form_model.specs.Steps.{branch_setting, rule_at}
@@ -23,7 +23,7 @@ use Rattle.right_code.specs.Tasks.{IsChecked, Task, task_stock}
 use Rattle.right_code.proofs.Known.{known_of}
 use Rattle.right_code.proofs.Layouts.{plan_goal}
 use Rattle.right_code.proofs.Turns.{fork_form}
-use Rattle.net_code.specs.Registers.{form_registers, one_register, term_registers}
+use Rattle.net_code.specs.Registers.{one_register, term_registers}
 
 neither : (a b : Bool) → a ≡ false → b ≡ false → (a || b) ≡ false
 neither a b e f = ap (λ x. x || b) e ∙ f

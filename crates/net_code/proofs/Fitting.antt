@@ -1,5 +1,5 @@
 -- An image that is made for a task fits the netlist.
-use Rattle.std.proofs.Common.{◌≡◌, ℕ, suc, ◌+◌, ◌<◌, ◌≤◌, ◌^◌, Bool, true, false, cond, if◌then◌else◌, List, [], ◌∷◌, ◌++◌, map, Option, Some, None, length, slice_get, slice_index, refl, sym, ap, subst, ◌∙◌, arith}
+use Rattle.std.proofs.Common.{◌≡◌, ℕ, suc, ◌+◌, ◌<◌, ◌≤◌, ◌^◌, Bool, true, false, if◌then◌else◌, List, [], ◌∷◌, ◌++◌, map, Option, Some, None, length, slice_get, slice_index, refl, sym, ap, subst, ◌∙◌, arith}
 use Rattle.std.specs.List.{AllByRecursion}
 use Rattle.std.proofs.lemmas.List.{length-map}
 use Rattle.rec_bits.proofs.Lists.{all_append}
@@ -22,6 +22,7 @@ use Rattle.net_model.specs.Nets.{word_width}
 use Rattle.src_model.proofs.Bounds.{few_temps, rules_hold}
 use Rattle.code_model.specs.declared.image.Image.{Image}
 use Rattle.code_model.specs.Places.{words_of}
+use Rattle.net_code.proofs.Packing.{lists_ascend}
 use Rattle.right_code.specs.Images.{IsMadeFor}
 use Rattle.right_code.specs.Tasks.{IsChecked, Task}
 use Rattle.right_code.proofs.Right.{image_fits}
@@ -145,11 +146,11 @@ marks_fit l words marks few short h =
 
 -- ---- words
 
--- words of so many bits of which no patterns are told
-pub codes_fit : (bits : ℕ) (words : List Word) → ((k : ℕ) → slice_index (map (λ (w : Word). w.word) words) k < 2 ^ bits) → AllByRecursion (λ (word : Word). word.patterns ≡ []) words → AllByRecursion (CodeFits bits) words
-codes_fit bits [] fits plain = tt
-codes_fit bits (w ∷ words) fits plain =
-    (record { word = fits 0; patterns = subst (AscendFrom 0) (sym plain.0) tt }, codes_fit bits words (λ k. fits (suc k)) plain.1)
+-- words of so many bits whose patterns ascend
+pub codes_fit : (bits : ℕ) (words : List Word) → ((k : ℕ) → slice_index (map (λ (w : Word). w.word) words) k < 2 ^ bits) → AllByRecursion (λ (word : Word). AscendFrom 0 word.patterns) words → AllByRecursion (CodeFits bits) words
+codes_fit bits [] fits ascend = tt
+codes_fit bits (w ∷ words) fits ascend =
+    (record { word = fits 0; patterns = ascend.0 }, codes_fit bits words (λ k. fits (suc k)) ascend.1)
 
 -- ---- images
 
@@ -179,5 +180,5 @@ image_fitting order task checked image made room reached places costs =
       in_order = marks.1;
       words =
           codes_fit (limits_of task.netlist).bits image.words
-          (λ k. subst (λ b. slice_index (words_of image) k < 2 ^ b) bits ((image_fits order task checked image made room reached k).fits 0 some)) made.plain;
+          (λ k. subst (λ b. slice_index (words_of image) k < 2 ^ b) bits ((image_fits order task checked image made room reached k).fits 0 some)) (lists_ascend made.groups _ image.words made.lists);
     }

@@ -29,7 +29,7 @@ use Rattle.right_code.proofs.Right.{block_words_of, job_covered, test_words_of}
 use Rattle.net_code.specs.declared.views.CoveredProgram.{CoveredProgram}
 use Rattle.net_code.specs.declared.views.Machine.{Machine}
 use Rattle.net_code.specs.Covering.{IsCovering, machine_netlist, machine_patterns}
-use Rattle.net_code.specs.Registers.{form_registers, term_registers}
+use Rattle.net_code.specs.Registers.{form_registers}
 use Rattle.net_code.specs.Views.{choices_in, stock_of, works_in}
 use Rattle.net_code.proofs.Conditions.{wanted_registers}
 

@@ -1,5 +1,5 @@
 -- A block has as many words as its trees cost, where each step has one.
-use Rattle.std.proofs.Common.{◌≡◌, ℕ, zero, suc, ◌+◌, ◌<◌, List, [], ◌∷◌, ◌++◌, map, Option, Some, None, length, slice_get, slice_index, refl, sym, ap, subst, ◌∙◌, arith, length-append, append_assoc}
+use Rattle.std.proofs.Common.{◌≡◌, ℕ, zero, suc, ◌+◌, List, [], ◌∷◌, ◌++◌, map, Option, Some, None, length, slice_get, slice_index, refl, sym, ap, ◌∙◌, arith, length-append, append_assoc}
 use Rattle.std.proofs.lemmas.List.{append-nil, length-map}
 use Rattle.net_model.specs.declared.hardware.Netlist.{Netlist}
 use Rattle.net_model.specs.Patterns.{Pattern}
@@ -17,17 +17,13 @@ use Rattle.right_code.specs.Covered.{AllChosen, job_costs}
 use Rattle.right_code.specs.Images.{choice_at, choice_of, choices_at}
 use Rattle.right_code.specs.Jobs.{IsCovered, job_steps, jobs_steps, tree_or_none}
 use Rattle.right_code.proofs.Tasks.{AreTests, tests_get}
-use Rattle.net_code.specs.Coded.{IsBlockCode, words_at}
+use Rattle.net_code.specs.Coded.{IsBlockCode}
 use Rattle.net_code.specs.Places.{blocks_before}
-use Rattle.net_code.proofs.Making.{sizes_at}
+use Rattle.net_code.proofs.Making.{sizes, sizes_at}
+use Rattle.net_code.specs.declared.blocks.PackedBlock.{PackedBlock}
 use Rattle.net_code.proofs.Sizes.{place_cost, run_cost, run_more, sizes_within}
 
 -- ---- steps of jobs
-
--- as many groups of one step as steps
-pub singles_long : (xs : List Step) → length (singles xs) ≡ length xs
-singles_long [] = refl
-singles_long (x ∷ xs) = ap suc (singles_long xs)
 
 module _ (stock : Stock) where
   pub steps_append : (js ks : List Work) (cs ds : List Choice) → length js ≡ length cs → jobs_steps stock (js ++ ks) (cs ++ ds) ≡ jobs_steps stock js cs ++ jobs_steps stock ks ds
@@ -124,16 +120,27 @@ module _ (stock : Stock) where
         omega (arith, h, p, a, b, r)
 
     -- no block has more words than it costs
-    pub code_within : (netlist : Netlist) (patterns : List Pattern) (flow : List Flow) (words : List (List ℕ)) (branches : List (ℕ × ℕ)) → AreTests works flow
-        → IsBlockCode netlist patterns stock flow works choices (length flow) words branches → AreWithin (map length words) (block_costs flow (job_costs works choices) flow 0)
-    code_within netlist patterns flow words branches tests code =
-        sizes_within flow (job_costs works choices) (map length words) (length-map words length ∙ code.long)
-        (λ at n lt block. sizes_at words (blocks_before flow at) ∙ (code.runs at n lt block).long ∙ singles_long (jobs_steps stock (jobs_at flow works at n) (choices_at flow choices at n)) ∙ block_long flow at n)
+    pub code_within : (netlist : Netlist) (patterns : List Pattern) (flow : List Flow) (blocks : List PackedBlock) (branches : List (ℕ × ℕ)) → AreTests works flow
+        → IsBlockCode netlist patterns stock flow works choices (length flow) blocks branches → AreWithin (sizes blocks) (block_costs flow (job_costs works choices) flow 0)
+    code_within netlist patterns flow blocks branches tests code =
+        sizes_within flow (job_costs works choices) (sizes blocks) (length-map blocks (λ (block : PackedBlock). length block.words) ∙ code.long)
+        (λ at n lt block.
+        (let r = code.runs at n lt block in
+        let size = sizes_at blocks (blocks_before flow at) in
+        let long = r.least.long in
+        let few = r.few in
+        let cost = block_long flow at n in
+        omega (arith, size, long, few, cost)))
         (λ at tree one none lt place.
         (let t = tests_get works flow at tree one none tests place in
         let c = some_choice tree t.work t.at in
         let k = code.tests at tree one none lt place t.work c.0 t.at c.1 in
-        sizes_at words (blocks_before flow at) ∙ k.least.long ∙ singles_long (job_steps stock t.work c.0) ∙ job_long t.work c.0 (covered tree t.work c.0 t.at c.1) ∙ sym (cost_at works choices tree t.work c.0 t.at c.1)))
+        let size = sizes_at blocks (blocks_before flow at) in
+        let long = k.packed.least.long in
+        let few = k.packed.few in
+        let steps = job_long t.work c.0 (covered tree t.work c.0 t.at c.1) in
+        let cost = cost_at works choices tree t.work c.0 t.at c.1 in
+        omega (arith, size, long, few, steps, cost)))
       where
         there : (k : ℕ) (job : Work) (p : Option Choice) → slice_get works k ≡ Some job → slice_get choices k ≡ p → (choice : Choice) × (slice_get choices k ≡ Some choice)
         there k job None e f = absurd (no_choice works choices k job chosen e f)

@@ -13,3 +13,4 @@ pub mod Places
 pub mod Sizes
 pub mod Stepping
 pub mod Whole
+mod Packing

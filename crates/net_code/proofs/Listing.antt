@@ -12,8 +12,8 @@ use Rattle.form_model.specs.Covers.{Choice, IsChosen, Stock, job_cost}
 use Rattle.branch_fix.specs.declared.laid.Item.{Item}
 use Rattle.src_trees.specs.Lowered.{Work}
 use Rattle.right_code.specs.Covered.{AllChosen, HasCover, IsFirstBare, job_costs, numbered}
-use Rattle.right_code.specs.Words.{IsItemWord}
-use Rattle.net_code.specs.Coded.{AreItemWords}
+use Rattle.net_code.specs.declared.blocks.PackedBlock.{PackedBlock}
+use Rattle.net_code.specs.Coded.{AreItemWords, IsWordOf}
 use Rattle.net_code.specs.Uncovered.{IsOneBare, IsUncovered}
 use Rattle.net_code.specs.declared.fault.CodeFault.{CodeFault}
 use Rattle.net_code.specs.declared.fault.CodeFault.TheVariants.{NoStep, NoJump, NoCover, NoReach, ImageFull, Memory}
@@ -124,10 +124,10 @@ numbered_more lines number cost costs rest e =
 
 -- ---- words
 
-module _ (netlist : Netlist) (patterns : List Pattern) (blocks : ℕ → List ℕ) where
-  pub words_more : (items : List Item) (words : List Word) (item : Item) (word : Word) → AreItemWords netlist patterns blocks items words → IsItemWord netlist patterns blocks word.word item → word.patterns ≡ []
+module _ (netlist : Netlist) (patterns : List Pattern) (blocks : List PackedBlock) where
+  pub words_more : (items : List Item) (words : List Word) (item : Item) (word : Word) → AreItemWords netlist patterns blocks items words → IsWordOf netlist patterns blocks item word
       → AreItemWords netlist patterns blocks (items ++ item ∷ []) (words ++ word ∷ [])
-  words_more [] [] item word h is plain = (is, plain, tt)
-  words_more [] (w ∷ words) item word h is plain = absurd h
-  words_more (x ∷ items) [] item word h is plain = absurd h
-  words_more (x ∷ items) (w ∷ words) item word h is plain = (h.0, h.1, words_more items words item word h.2 is plain)
+  words_more [] [] item word h is = (is, tt)
+  words_more [] (w ∷ words) item word h is = absurd h
+  words_more (x ∷ items) [] item word h is = absurd h
+  words_more (x ∷ items) (w ∷ words) item word h is = (h.0, words_more items words item word h.1 is)

@@ -1,10 +1,8 @@
 -- An image that is put together of the words of its layout is made for its task.
-use Rattle.std.proofs.Common.{◌≡◌, ℕ, zero, suc, ◌+◌, ◌<◌, ◌≤◌, Bool, true, false, cond, if◌then◌else◌, List, [], ◌∷◌, ◌++◌, map, Option, Some, None, length, slice_get, slice_index, refl, sym, ap, subst, ◌∙◌, arith, length-append, append_assoc}
-use Rattle.std.specs.List.{AllByRecursion}
-use Rattle.std.proofs.lemmas.List.{length-map}
+use Rattle.std.proofs.Common.{◌≡◌, ℕ, zero, suc, ◌+◌, ◌<◌, Bool, true, false, if◌then◌else◌, List, [], ◌∷◌, ◌++◌, map, Some, length, slice_get, slice_index, refl, sym, ap, subst, ◌∙◌, arith, length-append, append_assoc}
 use Rattle.std.proofs.lemmas.Option.{slice_get_within}
 use Rattle.net_model.specs.declared.hardware.Netlist.{Netlist}
-use Rattle.net_model.specs.Patterns.{ArePatterns, Pattern}
+use Rattle.net_model.specs.Patterns.{Pattern}
 use Rattle.code_model.specs.declared.image.Word.{Word}
 use Rattle.form_model.specs.Covers.{Choice, Stock}
 use Rattle.form_model.specs.Rules.{Rule}
@@ -19,25 +17,27 @@ use Rattle.branch_fix.specs.declared.part.Part.TheVariants.{Block, Inner, Test, 
 use Rattle.branch_fix.specs.Parts.{fork_to, given, part_for, parts_of, rule_at_one}
 use Rattle.branch_fix.specs.Rounds.{IsSettled}
 use Rattle.right_code.specs.Images.{AreBlockWords, AreTestWords, IsBranchOf, choices_at}
-use Rattle.right_code.specs.Words.{IsItemWord, StandItems}
-use Rattle.net_code.specs.Coded.{AreItemWords, IsBlockCode, words_at}
+use Rattle.right_code.specs.Words.{IsItemWord, ListItems, StandItems}
+use Rattle.net_code.specs.declared.blocks.PackedBlock.{PackedBlock}
+use Rattle.net_code.specs.Coded.{AreItemWords, IsBlockCode, groups_at, words_at}
 use Rattle.net_code.specs.Places.{blocks_before, tests_before}
-use Rattle.net_code.proofs.Places.{IsPartOf, settled_part, shortened}
+use Rattle.net_code.proofs.Places.{settled_part, shortened}
 
 -- ---- words in their order
 
-module _ (netlist : Netlist) (patterns : List Pattern) (blocks : ℕ → List ℕ) where
+module _ (netlist : Netlist) (patterns : List Pattern) (blocks : List PackedBlock) where
   pub words_long : (items : List Item) (words : List Word) → AreItemWords netlist patterns blocks items words → length words ≡ length items
   words_long [] [] h = refl
   words_long [] (w ∷ words) h = absurd h
   words_long (i ∷ items) [] h = absurd h
-  words_long (i ∷ items) (w ∷ words) h = ap suc (words_long items words h.2)
+  words_long (i ∷ items) (w ∷ words) h = ap suc (words_long items words h.1)
 
-  pub words_plain : (items : List Item) (words : List Word) → AreItemWords netlist patterns blocks items words → AllByRecursion (λ (word : Word). word.patterns ≡ []) words
-  words_plain [] [] h = tt
-  words_plain [] (w ∷ words) h = absurd h
-  words_plain (i ∷ items) [] h = absurd h
-  words_plain (i ∷ items) (w ∷ words) h = (h.1, words_plain items words h.2)
+  -- they list the patterns of their steps
+  pub words_list : (items : List Item) (words : List Word) → AreItemWords netlist patterns blocks items words → ListItems (groups_at blocks) items words
+  words_list [] [] h = tt
+  words_list [] (w ∷ words) h = absurd h
+  words_list (i ∷ items) [] h = absurd h
+  words_list (i ∷ items) (w ∷ words) h = (h.0.lists, words_list items words h.1)
 
   index_seam : (front : List ℕ) (w : ℕ) (rest : List ℕ) (at : ℕ) → at ≡ length front → slice_index (front ++ w ∷ rest) at ≡ w
   index_seam [] w rest zero e = refl
@@ -46,25 +46,29 @@ module _ (netlist : Netlist) (patterns : List Pattern) (blocks : ℕ → List �
   index_seam (x ∷ front) w rest (suc at) e = index_seam front w rest at (omega arith)
 
   stand_behind : (front : List ℕ) (items : List Item) (words : List Word) (at : ℕ) → at ≡ length front → AreItemWords netlist patterns blocks items words
-      → StandItems netlist patterns blocks (front ++ map (λ (w : Word). w.word) words) at items
+      → StandItems netlist patterns (words_at blocks) (front ++ map (λ (w : Word). w.word) words) at items
   stand_behind front [] [] at e h = tt
   stand_behind front [] (w ∷ words) at e h = absurd h
   stand_behind front (i ∷ items) [] at e h = absurd h
   stand_behind front (i ∷ items) (w ∷ words) at e h = (
-    subst (λ n. IsItemWord netlist patterns blocks n i) (sym (index_seam front w.word (map (λ (x : Word). x.word) words) at e)) h.0,
-    subst (λ code. StandItems netlist patterns blocks code (at + 1) items) (append_assoc front (w.word ∷ []) (map (λ (x : Word). x.word) words))
-        (stand_behind (front ++ w.word ∷ []) items words (at + 1) (let l = length-append front (w.word ∷ []) in omega (arith, e, l)) h.2),
+    subst (λ n. IsItemWord netlist patterns (words_at blocks) n i) (sym (index_seam front w.word (map (λ (x : Word). x.word) words) at e)) h.0.is,
+    subst (λ code. StandItems netlist patterns (words_at blocks) code (at + 1) items) (append_assoc front (w.word ∷ []) (map (λ (x : Word). x.word) words))
+        (stand_behind (front ++ w.word ∷ []) items words (at + 1) (let l = length-append front (w.word ∷ []) in omega (arith, e, l)) h.1),
   )
 
-  pub words_stand : (items : List Item) (words : List Word) → AreItemWords netlist patterns blocks items words → StandItems netlist patterns blocks (map (λ (w : Word). w.word) words) 0 items
+  pub words_stand : (items : List Item) (words : List Word) → AreItemWords netlist patterns blocks items words → StandItems netlist patterns (words_at blocks) (map (λ (w : Word). w.word) words) 0 items
   words_stand items words h = stand_behind [] items words 0 refl h
 
 -- ---- sizes
 
-pub sizes_at : (words : List (List ℕ)) (block : ℕ) → slice_index (map length words) block ≡ length (words_at words block)
+-- how many words each block has
+abbrev pub sizes : List PackedBlock → List ℕ
+sizes blocks = map (λ (block : PackedBlock). length block.words) blocks
+
+pub sizes_at : (blocks : List PackedBlock) (block : ℕ) → slice_index (sizes blocks) block ≡ length (words_at blocks block)
 sizes_at [] block = refl
-sizes_at (w ∷ words) zero = refl
-sizes_at (w ∷ words) (suc block) = sizes_at words block
+sizes_at (b ∷ blocks) zero = refl
+sizes_at (b ∷ blocks) (suc block) = sizes_at blocks block
 
 -- ---- blocks and tests
 
@@ -188,32 +192,33 @@ module _ (rules : List Rule) (flow : List Flow) (sizes : List ℕ) (forks : List
 
 -- ---- the words of blocks and tests, as the image has them
 
-module _ (netlist : Netlist) (patterns : List Pattern) (stock : Stock) (flow : List Flow) (works : List Work) (choices : List Choice) (words : List (List ℕ)) (branches : List (ℕ × ℕ))
-    (code : IsBlockCode netlist patterns stock flow works choices (length flow) words branches) (parts : List Part)
-    (settled : IsSettled stock.rules (parts_of stock.rules flow (map length words) branches) parts) where
+module _ (netlist : Netlist) (patterns : List Pattern) (stock : Stock) (flow : List Flow) (works : List Work) (choices : List Choice) (blocks : List PackedBlock) (branches : List (ℕ × ℕ))
+    (code : IsBlockCode netlist patterns stock flow works choices (length flow) blocks branches) (parts : List Part)
+    (settled : IsSettled stock.rules (parts_of stock.rules flow (sizes blocks) branches) parts) where
   pub blocks_made : (at n block size : ℕ) → IsBlock flow at n → slice_get parts at ≡ Some (Block block size)
-      → AreBlockWords netlist patterns stock (jobs_at flow works at n) (choices_at flow choices at n) (words_at words block) size
+      → AreBlockWords netlist patterns stock (jobs_at flow works at n) (choices_at flow choices at n) (groups_at blocks block) (words_at blocks block) size
   blocks_made at n block size run e =
-      let t = block_there stock.rules flow (map length words) branches parts settled at block size e in
-      subst (λ b. AreBlockWords netlist patterns stock (jobs_at flow works at n) (choices_at flow choices at n) (words_at words b) size) (sym t.number)
-      (record { least = code.runs at n t.within run; long = t.words ∙ sizes_at words (blocks_before flow at) })
+      let t = block_there stock.rules flow (sizes blocks) branches parts settled at block size e in
+      subst (λ b. AreBlockWords netlist patterns stock (jobs_at flow works at n) (choices_at flow choices at n) (groups_at blocks b) (words_at blocks b) size) (sym t.number)
+      (let r = code.runs at n t.within run in record { packing = r.packing; least = r.least; long = t.words ∙ sizes_at blocks (blocks_before flow at) })
 
   pub tests_made : (at : ℕ) (f : Fork) → slice_get parts at ≡ Some (Test f) → (job : Work) → slice_get works f.tree ≡ Some job → (choice : Choice) → slice_get choices f.tree ≡ Some choice
-      → AreTestWords netlist patterns stock job choice (words_at words f.block) f
+      → AreTestWords netlist patterns stock job choice (groups_at blocks f.block) (words_at blocks f.block) f
   tests_made at f e job w choice c =
-      let t = test_there stock.rules flow (map length words) branches parts settled at f e in
+      let t = test_there stock.rules flow (sizes blocks) branches parts settled at f e in
       let k = code.tests at f.tree t.when_one t.when_zero t.within t.place job choice w c in
-      subst (λ b. AreTestWords netlist patterns stock job choice (words_at words b) f) (sym t.number)
+      subst (λ b. AreTestWords netlist patterns stock job choice (groups_at blocks b) (words_at blocks b) f) (sym t.number)
       (record {
-        least = k.least;
-        long = t.words ∙ sizes_at words (blocks_before flow at);
+        packing = k.packed.packing;
+        least = k.packed.least;
+        long = t.words ∙ sizes_at blocks (blocks_before flow at);
         branch = record { form = ap (slice_get stock.rules) t.form ∙ k.form; setting = t.setting ∙ k.setting };
       })
 
 -- the branches of the layout are those of the covers
-module _ (stock : Stock) (flow : List Flow) (works : List Work) (choices : List Choice) (netlist : Netlist) (patterns : List Pattern) (words : List (List ℕ)) (branches : List (ℕ × ℕ))
-    (code : IsBlockCode netlist patterns stock flow works choices (length flow) words branches) (parts : List Part)
-    (settled : IsSettled stock.rules (parts_of stock.rules flow (map length words) branches) parts) where
+module _ (stock : Stock) (flow : List Flow) (works : List Work) (choices : List Choice) (netlist : Netlist) (patterns : List Pattern) (blocks : List PackedBlock) (branches : List (ℕ × ℕ))
+    (code : IsBlockCode netlist patterns stock flow works choices (length flow) blocks branches) (parts : List Part)
+    (settled : IsSettled stock.rules (parts_of stock.rules flow (sizes blocks) branches) parts) where
   pub branches_made : (at : ℕ) (f : Fork) → slice_get parts at ≡ Some (Test f) → (job : Work) → slice_get works f.tree ≡ Some job → (choice : Choice) → slice_get choices f.tree ≡ Some choice
       → IsBranchOf stock job choice f
-  branches_made at f e job w choice c = (tests_made netlist patterns stock flow works choices words branches code parts settled at f e job w choice c).branch
+  branches_made at f e job w choice c = (tests_made netlist patterns stock flow works choices blocks branches code parts settled at f e job w choice c).branch

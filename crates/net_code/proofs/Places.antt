@@ -1,16 +1,13 @@
 -- The part of a layout at a place of the flow: which block or test it is.
-use Rattle.std.proofs.Common.{◌≡◌, ℕ, zero, suc, ◌+◌, ◌==◌, Bool, true, false, cond, if◌then◌else◌, List, [], ◌∷◌, map, Option, Some, None, slice_get, slice_index, refl, sym, ap, subst, ◌∙◌, add-one, arith}
-use Rattle.std.proofs.lemmas.Option.{slice_get-map}
-use Rattle.std.specs.Option.{option_map}
+use Rattle.std.proofs.Common.{◌≡◌, ℕ, zero, suc, ◌+◌, Bool, true, false, if◌then◌else◌, List, [], ◌∷◌, map, Option, Some, slice_get, slice_index, refl, sym, ap, subst, ◌∙◌, add-one, arith}
 use Rattle.form_model.specs.declared.flow.Flow.{Flow}
 use Rattle.form_model.specs.declared.flow.Flow.TheVariants.{Assign, Test as Tested, Jump as Jumped, End as Ended}
 use Rattle.form_model.specs.Rules.{Rule}
 use Rattle.src_trees.specs.Blocks.{continues}
-use Rattle.branch_fix.specs.declared.part.Fork.{Fork}
 use Rattle.branch_fix.specs.declared.part.Part.{Part}
 use Rattle.branch_fix.specs.declared.part.Part.TheVariants.{Block, Inner, Test, Jump, End}
-use Rattle.branch_fix.specs.Parts.{blocks_in, fork_of, fork_to, given, part_for, parts_from, parts_of, rule_at_one, tests_in}
-use Rattle.branch_fix.specs.Rounds.{IsSettled, round, rounds, widened_from, widened_part}
+use Rattle.branch_fix.specs.Parts.{blocks_in, fork_to, given, part_for, parts_from, parts_of, rule_at_one, tests_in}
+use Rattle.branch_fix.specs.Rounds.{IsSettled, round, rounds, widened_from}
 use Rattle.branch_fix.specs.Parts.{room, starts}
 use Rattle.branch_fix.proofs.Laying.{parts_step}
 use Rattle.net_code.specs.Places.{blocks_before, place_blocks, place_tests, tests_before}

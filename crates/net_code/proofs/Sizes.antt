@@ -1,5 +1,5 @@
 -- The blocks of a program have no more words than its trees cost.
-use Rattle.std.proofs.Common.{◌≡◌, ℕ, zero, suc, ◌+◌, ◌-◌, ◌<◌, ◌≤◌, Bool, true, false, cond, if◌then◌else◌, ◌&&◌, nat_lt, not, List, [], ◌∷◌, ◌++◌, drop, Option, Some, None, length, slice_get, slice_index, refl, sym, ap, subst, ◌∙◌, add-one, sub-one, arith, length-drop}
+use Rattle.std.proofs.Common.{◌≡◌, ℕ, zero, suc, ◌+◌, ◌-◌, ◌<◌, ◌≤◌, Bool, true, false, ◌&&◌, nat_lt, not, List, [], ◌∷◌, drop, Option, Some, None, length, slice_get, slice_index, refl, sym, ap, subst, ◌∙◌, add-one, arith}
 use Rattle.form_model.specs.declared.flow.Flow.{Flow}
 use Rattle.form_model.specs.declared.flow.Flow.TheVariants.{Assign, Test, Jump, End}
 use Rattle.src_trees.specs.Blocks.{IsBlock, continues, is_assign, is_entered}
@@ -63,8 +63,8 @@ continued_assign flow at e = by (nat_lt 0 at) (is_assign (slice_get flow (at - 1
     by false b c d e = absurd cc
 
 module _ (flow : List Flow) (costs sizes : List ℕ) (long : length sizes ≡ blocks_before flow (length flow))
-    (runs : (at n : ℕ) → at < length flow → IsBlock flow at n → slice_index sizes (blocks_before flow at) ≡ run_cost flow costs at n)
-    (tests : (at tree when_one when_zero : ℕ) → at < length flow → slice_get flow at ≡ Some (Test tree when_one when_zero) → slice_index sizes (blocks_before flow at) ≡ slice_index costs tree) where
+    (runs : (at n : ℕ) → at < length flow → IsBlock flow at n → slice_index sizes (blocks_before flow at) ≤ run_cost flow costs at n)
+    (tests : (at tree when_one when_zero : ℕ) → at < length flow → slice_get flow at ≡ Some (Test tree when_one when_zero) → slice_index sizes (blocks_before flow at) ≤ slice_index costs tree) where
   -- the sizes of the blocks behind a place
   abbrev behind : ℕ → List ℕ
   behind at = drop (blocks_before flow at) sizes

@@ -1,32 +1,28 @@
 -- The image of a program whose jobs are covered.
-use Rattle.std.proofs.Common.{◌≡◌, ℕ, ◌<◌, ◌≤◌, List, map, length, refl, sym, ap, subst, ◌∙◌, arith}
+use Rattle.std.proofs.Common.{◌≡◌, ℕ, ◌≤◌, List, map, length, sym, ap, subst, ◌∙◌, arith}
 use Rattle.std.proofs.lemmas.List.{length-map}
-use Rattle.net_model.specs.CheckedRules.{code_size}
 use Rattle.net_model.specs.Nets.{memory_size, word_width}
 use Rattle.net_model.specs.Patterns.{ArePatterns, Pattern}
 use Rattle.src_model.specs.Rules.{temp_count}
 use Rattle.code_model.specs.declared.image.Image.{Image}
 use Rattle.code_model.specs.declared.image.Word.{Word}
-use Rattle.code_model.specs.Layout.{layout_of, variables_of}
+use Rattle.code_model.specs.Layout.{variables_of}
 use Rattle.code_model.specs.Places.{Apart, places_from, words_of}
 use Rattle.form_model.specs.Covers.{Choice}
-use Rattle.form_model.specs.Rules.{Rule, rules_of}
-use Rattle.form_model.specs.declared.forms.Forms.{Forms}
+use Rattle.form_model.specs.Rules.{Rule}
 use Rattle.form_set.specs.Listing.{AreForms}
 use Rattle.src_trees.specs.Flows.{program_flow}
-use Rattle.branch_fix.specs.declared.laid.Item.{Item}
 use Rattle.branch_fix.specs.declared.laid.Laid.{Laid}
 use Rattle.branch_fix.specs.Bounds.{program_bound}
-use Rattle.branch_fix.specs.Items.{items_from, jump_form}
 use Rattle.branch_fix.specs.Laid.{IsLaid, Outline}
 use Rattle.branch_fix.specs.Marked.{AreMarked}
-use Rattle.branch_fix.specs.Parts.{starts}
 use Rattle.right_code.specs.Covered.{AllChosen, job_costs, numbered}
 use Rattle.right_code.specs.Images.{IsMadeFor}
 use Rattle.right_code.specs.Tasks.{Task, task_stock, task_works}
-use Rattle.right_code.specs.Words.{StandItems}
-use Rattle.net_code.specs.Coded.{AreItemWords, IsBlockCode, words_at}
-use Rattle.net_code.proofs.Making.{blocks_made, tests_made, words_long, words_plain, words_stand}
+use Rattle.right_code.specs.Words.{ListItems, StandItems}
+use Rattle.net_code.specs.declared.blocks.PackedBlock.{PackedBlock}
+use Rattle.net_code.specs.Coded.{AreItemWords, IsBlockCode, groups_at, words_at}
+use Rattle.net_code.proofs.Making.{blocks_made, tests_made, words_long, words_list, sizes, words_stand}
 
 -- what is laid out for a task with these blocks
 abbrev pub task_outline : Task → List Rule → ℕ → List ℕ → List (ℕ × ℕ) → ℕ → ℕ → Outline
@@ -35,13 +31,13 @@ task_outline task rules reach sizes branches words bound =
 
 module _ (task : Task) (patterns : List Pattern) (are : ArePatterns task.netlist patterns) (rules : List Rule) (reach : ℕ) (forms : AreForms task.netlist patterns rules reach)
     (choices : List Choice) (chosen : AllChosen (task_stock rules task) (task_works task) choices) where
-  module _ (words : List (List ℕ)) (branches : List (ℕ × ℕ))
-      (code : IsBlockCode task.netlist patterns (task_stock rules task) (program_flow task.listing) (task_works task) choices (length (program_flow task.listing)) words branches)
-      (laid : Laid) (most bound : ℕ) (is : IsLaid (task_outline task rules reach (map length words) branches most bound) laid)
+  module _ (blocks : List PackedBlock) (branches : List (ℕ × ℕ))
+      (code : IsBlockCode task.netlist patterns (task_stock rules task) (program_flow task.listing) (task_works task) choices (length (program_flow task.listing)) blocks branches)
+      (laid : Laid) (most bound : ℕ) (is : IsLaid (task_outline task rules reach (sizes blocks) branches most bound) laid)
       (bound_is : bound ≡ program_bound task.listing (job_costs (task_works task) choices))
-      (image : Image) (items : AreItemWords task.netlist patterns (words_at words) laid.items image.words) where
+      (image : Image) (items : AreItemWords task.netlist patterns blocks laid.items image.words) where
     long : length (words_of image) ≡ length laid.items
-    long = length-map image.words (λ (w : Word). w.word) ∙ words_long task.netlist patterns (words_at words) laid.items image.words items
+    long = length-map image.words (λ (w : Word). w.word) ∙ words_long task.netlist patterns blocks laid.items image.words items
 
     pub image_made : image.marks ≡ laid.marks → image.costs ≡ numbered 0 (job_costs (task_works task) choices) → image.bits ≡ word_width task.netlist
         → image.temps ≡ temp_count task.width task.listing → image.places ≡ places_from (temp_count task.width task.listing) (variables_of task.listing.vars)
@@ -62,19 +58,20 @@ module _ (task : Task) (patterns : List Pattern) (are : ArePatterns task.netlist
             choices = choices;
             chosen = chosen;
             costs = costs;
-            sizes = map length words;
+            sizes = sizes blocks;
             settings = branches;
             parts = is.parts;
             settled = is.settled;
-            words = words_at words;
-            blocks = blocks_made task.netlist patterns (task_stock rules task) (program_flow task.listing) (task_works task) choices words branches code is.parts is.settled;
-            tests = tests_made task.netlist patterns (task_stock rules task) (program_flow task.listing) (task_works task) choices words branches code is.parts is.settled;
-            stand = subst (StandItems task.netlist patterns (words_at words) (words_of image) 0) is.items (words_stand task.netlist patterns (words_at words) laid.items image.words items);
+            groups = groups_at blocks;
+            words = words_at blocks;
+            blocks = blocks_made task.netlist patterns (task_stock rules task) (program_flow task.listing) (task_works task) choices blocks branches code is.parts is.settled;
+            tests = tests_made task.netlist patterns (task_stock rules task) (program_flow task.listing) (task_works task) choices blocks branches code is.parts is.settled;
+            stand = subst (StandItems task.netlist patterns (words_at blocks) (words_of image) 0) is.items (words_stand task.netlist patterns blocks laid.items image.words items);
             long = long ∙ is.long;
             marks = marks ∙ is.marks;
             marked = subst (λ ms. AreMarked (program_flow task.listing) (length (words_of image)) ms) (sym marks) (subst (λ n. AreMarked (program_flow task.listing) n laid.marks) (sym long) is.marked);
             most = omega (arith, long, is.most, bound_is);
-            plain = words_plain task.netlist patterns (words_at words) laid.items image.words items;
+            lists = subst (λ xs. ListItems (groups_at blocks) xs image.words) is.items (words_list task.netlist patterns blocks laid.items image.words items);
           },
           le,
         )

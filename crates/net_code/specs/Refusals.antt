@@ -13,7 +13,7 @@ use Rattle.form_set.specs.Listing.{IsJump, IsPlain}
 use Rattle.right_code.specs.Bounded.{HasBound}
 use Rattle.right_code.specs.Covered.{HasBareTree, HasCovers}
 use Rattle.right_code.specs.Images.{IsMadeFor}
-use Rattle.right_code.specs.Tasks.{Property, Task}
+use Rattle.right_code.specs.Tasks.{Task}
 use Rattle.net_code.specs.declared.fault.CodeFault.{CodeFault}
 use Rattle.net_code.specs.declared.fault.CodeFault.TheVariants.{NoStep, NoJump, NoCover, NoReach, ImageFull, Memory}
 

@@ -1,5 +1,5 @@
 -- What the code's program stands for.
-use Rattle.std.specs.Prelude.{ℕ, ◌≡◌, List, map, Option, Some, None, slice_get}
+use Rattle.std.specs.Prelude.{ℕ, ◌≡◌, List, map, Some, slice_get}
 use Rattle.cover.specs.Best.{choice_of}
 use Rattle.form_model.specs.Covers.{Choice, Stock}
 use Rattle.form_model.specs.Rules.{rules_of, tested}

@@ -1,18 +1,19 @@
-//! The words of blocks and of tests.
+//! The blocks of a program and of its tests, packed.
 
 ghost use Rattle.std.specs.Prelude.{◌≡◌, ◌<◌, ◌≤◌, ◌+◌, ℕ, IfOk, OnOk, OnErr, Some, false, length, slice_get, true};
 ghost use Rattle.std.proofs.Common.{replicate};
+ghost use Rattle.std.specs.List.{AllByRecursion};
 ghost use Rattle.bit_bdd.specs.Diagrams.{Extends};
 ghost use Rattle.branch_fix.specs.Entered.{marked};
 ghost use Rattle.cover.specs.Best.{choice_of};
-ghost use Rattle.form_model.specs.Live.{no_regs};
+ghost use Rattle.form_model.specs.Live.{no_regs, regs_of, singles};
+ghost use Rattle.block_words.specs.Words.{HaveWords};
 ghost use Rattle.src_trees.specs.Blocks.{IsBlock, continues, is_assign, jobs_at};
 ghost use Rattle.src_trees.specs.Jobs.{work_of};
 ghost use Rattle.transfer_set.specs.Ready.{IsReady};
 ghost use Rattle.right_code.specs.Images.{choices_at};
 ghost use Rattle.right_code.specs.Jobs.{jobs_steps};
-ghost use Rattle.right_code.specs.Words.{AreStepWords};
-ghost use Rattle.net_code.specs.Coded.{IsBlockCode, IsTestCode};
+ghost use Rattle.net_code.specs.Coded.{IsBlockCode, IsOnce, IsPackedBlock, IsTestCode};
 ghost use Rattle.net_code.specs.Covering.{IsCovered, machine_netlist, machine_patterns};
 ghost use Rattle.net_code.specs.Registers.{form_registers};
 ghost use Rattle.net_code.specs.Views.{IsTestAt, IsTestJob, choices_in, stock_of, works_in};
@@ -21,51 +22,89 @@ use crate::registers::registers;
 use crate::steps::{block_length, block_steps};
 use crate::views::{CoveredProgram, Machine};
 use bit_bdd::Book;
-use block_words::step_words;
+use block_words::words_of;
 use branch_fix::{continues, entered};
+use compaction::pack;
 use cover::JobCover;
 use emit_seq::emit;
 use form_model::{Flow, Job, RegSet, Step};
 use rec_bits::{Items, NoMemory};
 use std::alloc::Global;
+use word_fit::Group;
 
-/// The words of the blocks of a flow, a test's operands among them, and for each test its branch form, by its place in the list of forms, and
-/// the setting of its condition's bits.
+/// A block's groups of steps, and the word of each.
+#[derive(Drop)]
+pub(crate) struct PackedBlock {
+    pub groups: Items<Group>,
+    pub words: Items<u64>,
+}
+
+/// The blocks of a flow, a test's operands among them, and for each test its branch form, by its place in the list of forms, and the setting of
+/// its condition's bits.
 #[derive(Drop)]
 pub(crate) struct BlockCode {
-    pub words: Vec<Items<u64>>,
+    pub blocks: Vec<PackedBlock>,
     pub branches: Vec<(u64, u64)>,
 }
 
-// The words of the steps of the block of so many places from one on. No register is live behind it.
-fn run_words(
+// The block of these steps, where `after` are live behind it.
+fn packed(
+    alloc: Global,
+    machine: &Machine<'_>,
+    book: &mut Book,
+    steps: &[Step],
+    after: RegSet,
+) -> Result<PackedBlock, NoMemory>
+    requires ready { IsReady (machine_netlist machine.now) book.old machine.now.pool.now machine.now.patterns.now }
+    requires words { HaveWords (machine_netlist machine.now) machine.now.pool.now machine.now.patterns.now (singles steps.now) (regs_of after) }
+    ensures grows { Extends book.old book.new }
+    ensures ready { IsReady (machine_netlist machine.now) book.new machine.now.pool.now machine.now.patterns.now }
+    ensures packed { IfOk result (IsPackedBlock (machine_netlist machine.now) (machine_patterns machine.now) steps.now (regs_of after)) }
+    ensures once { IfOk result IsOnce }
+{
+    let groups = pack(
+        alloc,
+        machine.checked,
+        book,
+        machine.pool,
+        machine.patterns,
+        steps,
+        after,
+    )?;
+    let words = words_of(
+        alloc,
+        machine.checked,
+        book,
+        machine.pool,
+        machine.patterns,
+        groups.as_slice(),
+        after,
+    )?;
+    Ok(PackedBlock { groups, words })
+}
+
+// The block of so many places from one on. No register is live behind it.
+fn run_block(
     alloc: Global,
     machine: &Machine<'_>,
     book: &mut Book,
     program: &CoveredProgram<'_>,
     at: usize,
     count: usize,
-) -> Result<Items<u64>, NoMemory>
+) -> Result<PackedBlock, NoMemory>
     requires ready { IsReady (machine_netlist machine.now) book.old machine.now.pool.now machine.now.patterns.now }
     requires covering { IsCovered machine.now program.now }
     requires block { IsBlock program.now.flow.now at count }
     requires within { at + count ≤ length program.now.flow.now }
     ensures grows { Extends book.old book.new }
     ensures ready { IsReady (machine_netlist machine.now) book.new machine.now.pool.now machine.now.patterns.now }
-    ensures words { IfOk result (AreStepWords (machine_netlist machine.now) (machine_patterns machine.now)
+    ensures packed { IfOk result (IsPackedBlock (machine_netlist machine.now) (machine_patterns machine.now)
         (jobs_steps (stock_of program.now) (jobs_at program.now.flow.now (works_in program.now) at count) (choices_at program.now.flow.now (choices_in program.now) at count)) no_regs) }
+    ensures once { IfOk result IsOnce }
 {
     let steps = block_steps(alloc, program, at, count)?;
-    let words = step_words(
-        alloc,
-        machine.checked,
-        book,
-        machine.pool,
-        machine.patterns,
-        steps.as_slice(),
-        0,
-    )?;
-    Ok(words)
+    let block = packed(alloc, machine, book, steps.as_slice(), 0)?;
+    Ok(block)
 }
 
 // The registers that the condition of a cover's branch form reads.
@@ -78,21 +117,22 @@ fn condition_registers(program: &CoveredProgram<'_>, form: usize) -> RegSet
     }
 }
 
-// The words of a test's operands, and the setting of its condition's bits.
-fn test_words(
+// The block of a test's operands, and the setting of its condition's bits.
+fn test_block(
     alloc: Global,
     machine: &Machine<'_>,
     book: &mut Book,
     program: &CoveredProgram<'_>,
     job: &Job,
     chosen: &JobCover,
-) -> Result<(Items<u64>, u64), NoMemory>
+) -> Result<(PackedBlock, u64), NoMemory>
     requires ready { IsReady (machine_netlist machine.now) book.old machine.now.pool.now machine.now.patterns.now }
     requires covering { IsCovered machine.now program.now }
     requires job { IsTestJob program.now (work_of job.now) (choice_of chosen.now) }
     ensures grows { Extends book.old book.new }
     ensures ready { IsReady (machine_netlist machine.now) book.new machine.now.pool.now machine.now.patterns.now }
     ensures code { IfOk result (λ made. IsTestCode (machine_netlist machine.now) (machine_patterns machine.now) (stock_of program.now) (work_of job.now) (choice_of chosen.now) made.0 (chosen.now.cover.form, made.1)) }
+    ensures once { IfOk result (λ made. IsOnce made.0) }
 {
     let emitted = emit(
         alloc,
@@ -103,16 +143,8 @@ fn test_words(
         program.temps,
     )?;
     let after = condition_registers(program, chosen.cover.form);
-    let words = step_words(
-        alloc,
-        machine.checked,
-        book,
-        machine.pool,
-        machine.patterns,
-        emitted.steps.as_slice(),
-        after,
-    )?;
-    Ok((words, emitted.branch.unwrap_or(0)))
+    let block = packed(alloc, machine, book, emitted.steps.as_slice(), after)?;
+    Ok((block, emitted.branch.unwrap_or(0)))
 }
 
 // Adds the code of the block that begins at a place.
@@ -131,14 +163,16 @@ fn push_run(
     requires begins { continues program.now.flow.now at ≡ false }
     requires assigns { is_assign (slice_get program.now.flow.now at) ≡ true }
     requires entered { entered.now ≡ marked program.now.flow.now (replicate (length program.now.flow.now) false) }
-    requires code { IsBlockCode (machine_netlist machine.now) (machine_patterns machine.now) (stock_of program.now) program.now.flow.now (works_in program.now) (choices_in program.now) at code.old.words.items code.old.branches.items }
+    requires once { AllByRecursion IsOnce code.old.blocks.items }
+    requires code { IsBlockCode (machine_netlist machine.now) (machine_patterns machine.now) (stock_of program.now) program.now.flow.now (works_in program.now) (choices_in program.now) at code.old.blocks.items code.old.branches.items }
     ensures grows { Extends book.old book.new }
     ensures ready { IsReady (machine_netlist machine.now) book.new machine.now.pool.now machine.now.patterns.now }
-    ensures code { OnOk result (IsBlockCode (machine_netlist machine.now) (machine_patterns machine.now) (stock_of program.now) program.now.flow.now (works_in program.now) (choices_in program.now) (at + 1) code.new.words.items code.new.branches.items) }
+    ensures once { OnOk result (AllByRecursion IsOnce code.new.blocks.items) }
+    ensures code { OnOk result (IsBlockCode (machine_netlist machine.now) (machine_patterns machine.now) (stock_of program.now) program.now.flow.now (works_in program.now) (choices_in program.now) (at + 1) code.new.blocks.items code.new.branches.items) }
 {
     let count = block_length(program.flow, entered, at);
-    let words = run_words(alloc, machine, book, program, at, count)?;
-    code.words.push(words)?;
+    let block = run_block(alloc, machine, book, program, at, count)?;
+    code.blocks.push(block)?;
     Ok(())
 }
 
@@ -154,16 +188,18 @@ fn push_test(
 ) -> Result<(), NoMemory>
     requires ready { IsReady (machine_netlist machine.now) book.old machine.now.pool.now machine.now.patterns.now }
     requires covering { IsCovered machine.now program.now }
-    requires code { IsBlockCode (machine_netlist machine.now) (machine_patterns machine.now) (stock_of program.now) program.now.flow.now (works_in program.now) (choices_in program.now) at code.old.words.items code.old.branches.items }
+    requires once { AllByRecursion IsOnce code.old.blocks.items }
+    requires code { IsBlockCode (machine_netlist machine.now) (machine_patterns machine.now) (stock_of program.now) program.now.flow.now (works_in program.now) (choices_in program.now) at code.old.blocks.items code.old.branches.items }
     requires place { IsTestAt program.now at tree }
     ensures grows { Extends book.old book.new }
     ensures ready { IsReady (machine_netlist machine.now) book.new machine.now.pool.now machine.now.patterns.now }
-    ensures code { OnOk result (IsBlockCode (machine_netlist machine.now) (machine_patterns machine.now) (stock_of program.now) program.now.flow.now (works_in program.now) (choices_in program.now) (at + 1) code.new.words.items code.new.branches.items) }
+    ensures once { OnOk result (AllByRecursion IsOnce code.new.blocks.items) }
+    ensures code { OnOk result (IsBlockCode (machine_netlist machine.now) (machine_patterns machine.now) (stock_of program.now) program.now.flow.now (works_in program.now) (choices_in program.now) (at + 1) code.new.blocks.items code.new.branches.items) }
 {
     let job = &program.jobs[tree as usize];
     let chosen = &program.covers[tree as usize];
-    let (words, setting) = test_words(alloc, machine, book, program, job, chosen)?;
-    code.words.push(words)?;
+    let (block, setting) = test_block(alloc, machine, book, program, job, chosen)?;
+    code.blocks.push(block)?;
     code.branches.push((chosen.cover.form as u64, setting))?;
     Ok(())
 }
@@ -182,10 +218,12 @@ fn push_code(
     requires covering { IsCovered machine.now program.now }
     requires within { at < length program.now.flow.now }
     requires entered { entered.now ≡ marked program.now.flow.now (replicate (length program.now.flow.now) false) }
-    requires code { IsBlockCode (machine_netlist machine.now) (machine_patterns machine.now) (stock_of program.now) program.now.flow.now (works_in program.now) (choices_in program.now) at code.old.words.items code.old.branches.items }
+    requires once { AllByRecursion IsOnce code.old.blocks.items }
+    requires code { IsBlockCode (machine_netlist machine.now) (machine_patterns machine.now) (stock_of program.now) program.now.flow.now (works_in program.now) (choices_in program.now) at code.old.blocks.items code.old.branches.items }
     ensures grows { Extends book.old book.new }
     ensures ready { IsReady (machine_netlist machine.now) book.new machine.now.pool.now machine.now.patterns.now }
-    ensures code { OnOk result (IsBlockCode (machine_netlist machine.now) (machine_patterns machine.now) (stock_of program.now) program.now.flow.now (works_in program.now) (choices_in program.now) (at + 1) code.new.words.items code.new.branches.items) }
+    ensures once { OnOk result (AllByRecursion IsOnce code.new.blocks.items) }
+    ensures code { OnOk result (IsBlockCode (machine_netlist machine.now) (machine_patterns machine.now) (stock_of program.now) program.now.flow.now (works_in program.now) (choices_in program.now) (at + 1) code.new.blocks.items code.new.branches.items) }
 {
     match program.flow[at] {
         Flow::Assign(_) => {
@@ -214,11 +252,12 @@ pub(crate) fn block_code(
     requires covering { IsCovered machine.now program.now }
     ensures grows { Extends book.old book.new }
     ensures ready { IsReady (machine_netlist machine.now) book.new machine.now.pool.now machine.now.patterns.now }
-    ensures code { IfOk result (λ code. IsBlockCode (machine_netlist machine.now) (machine_patterns machine.now) (stock_of program.now) program.now.flow.now (works_in program.now) (choices_in program.now) (length program.now.flow.now) code.words.items code.branches.items) }
+    ensures once { IfOk result (λ code. AllByRecursion IsOnce code.blocks.items) }
+    ensures code { IfOk result (λ code. IsBlockCode (machine_netlist machine.now) (machine_patterns machine.now) (stock_of program.now) program.now.flow.now (works_in program.now) (choices_in program.now) (length program.now.flow.now) code.blocks.items code.branches.items) }
 {
     let entered = entered(alloc, program.flow)?;
     let mut code = BlockCode {
-        words: Vec::new(alloc),
+        blocks: Vec::new(alloc),
         branches: Vec::new(alloc),
     };
     for at in 0..program.flow.len() {

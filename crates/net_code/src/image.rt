@@ -13,13 +13,14 @@ ghost use Rattle.transfer_set.specs.Rows.{told_patterns};
 ghost use Rattle.branch_fix.specs.Bounds.{bound_of, control_words, sum_of};
 ghost use Rattle.branch_fix.specs.Laid.{IsLaid, outline};
 ghost use Rattle.cover.specs.declared.covers.JobCover.{JobCover as TheCover};
+ghost use Rattle.net_code.specs.declared.blocks.PackedBlock.{PackedBlock as TheBlock};
 ghost use Rattle.right_code.specs.Images.{IsRightImage};
 ghost use Rattle.right_code.specs.Tasks.{IsChecked, read_task};
 ghost use Rattle.net_code.specs.Covering.{machine_netlist};
 ghost use Rattle.net_code.specs.Imaged.{HasTask, IsImageMade, IsLengthFault, IsTaskImage, OfTask};
 ghost use Rattle.net_code.specs.Refusals.{IsCodeFault, IsReached};
 
-use crate::blocks::block_code;
+use crate::blocks::{PackedBlock, block_code};
 use crate::covers::{cost_lines, costs_of, covers_of};
 use crate::fault::CodeFault;
 use crate::forms::usable_forms;
@@ -37,12 +38,12 @@ use sym_expr::Pool;
 use transfer_set::Patterns;
 
 // How many words each block has.
-fn sizes_of(alloc: Global, blocks: &[Items<u64>]) -> Result<Items<u32>, NoMemory>
-    ensures { IfOk result (λ sizes. sizes ≡ map length blocks.now) }
+fn sizes_of(alloc: Global, blocks: &[PackedBlock]) -> Result<Items<u32>, NoMemory>
+    ensures { IfOk result (λ sizes. sizes ≡ map (λ (block : TheBlock). length block.words) blocks.now) }
 {
     let mut sizes = Items::new(alloc);
-    for words in blocks {
-        match u32::try_from(words.len()) {
+    for block in blocks {
+        match u32::try_from(block.words.len()) {
             Ok(size) => sizes.push(size)?,
             Err(_) => return Err(NoMemory),
         }
@@ -98,9 +99,9 @@ fn laid_image(
     ensures costs { IfOk result (λ image. AllByRecursion CostFits image.costs) }
 {
     let code = block_code(alloc, machine, book, program)?;
-    let sizes = sizes_of(alloc, &code.words)?;
+    let sizes = sizes_of(alloc, &code.blocks)?;
     let laid = laid(alloc, program, sizes.as_slice(), &code.branches, bound)?;
-    let words = words_of_items(alloc, machine, book, &code.words, laid.items.as_slice())?;
+    let words = words_of_items(alloc, machine, book, &code.blocks, laid.items.as_slice())?;
     let costs = cost_lines(alloc, costs)?;
     Ok(Image {
         bits: machine.checked.netlist().word_width(),

@@ -1,19 +1,20 @@
 //! The words of a layout.
 
-ghost use Rattle.std.specs.Prelude.{◌≡◌, ℕ, IfOk, slice_index};
-ghost use Rattle.std.specs.List.{AllByRecursion};
+ghost use Rattle.std.specs.Prelude.{◌≡◌, ℕ, [], IfOk, slice_index};
+ghost use Rattle.std.specs.List.{AllByRecursion, slice_index_or};
 ghost use Rattle.bit_bdd.specs.Diagrams.{Extends};
 ghost use Rattle.form_model.specs.Effects.{operation_of};
 ghost use Rattle.transfer_set.specs.Ready.{IsReady};
 ghost use Rattle.word_fit.specs.Fits.{FitsJump, IsLeastFit};
-ghost use Rattle.right_code.specs.Words.{IsItemWord};
-ghost use Rattle.net_code.specs.Coded.{AreItemWords, HasWord, words_at};
+ghost use Rattle.net_code.specs.Coded.{AreItemWords, HasWord, IsOnce, IsWordOf, groups_at, words_at};
 ghost use Rattle.net_code.specs.Covering.{machine_netlist, machine_patterns};
 
+use crate::blocks::PackedBlock;
 use crate::views::Machine;
 use bit_bdd::Book;
 use branch_fix::Item;
 use code_model::Word;
+use compaction::pattern_list;
 use form_model::Step;
 use nop_synth::jump_word;
 use rec_bits::{Items, NoMemory};
@@ -48,55 +49,78 @@ fn word_of_jump(
 }
 
 // The word of a group of a block.
-fn word_of_group(blocks: &[Items<u64>], block: u32, at: u32) -> u64
+fn word_of_group(blocks: &[PackedBlock], block: u32, at: u32) -> u64
     ensures { result ≡ slice_index (words_at blocks.now block) at }
 {
     match blocks.get(block as usize) {
-        Some(words) => words.get(at as usize).copied().unwrap_or(0),
+        Some(block) => block.words.get(at as usize).copied().unwrap_or(0),
         None => 0,
     }
 }
 
+// The steps of a group of a block.
+fn steps_of_group(blocks: &[PackedBlock], block: u32, at: u32) -> &[Step]
+    ensures { result.now ≡ slice_index_or (groups_at blocks.now block) at [] }
+{
+    match blocks.get(block as usize) {
+        Some(block) => match block.groups.get(at as usize) {
+            Some(group) => group.as_slice(),
+            None => &[],
+        },
+        None => &[],
+    }
+}
+
+// The word of an item, which lists the patterns of its steps.
 fn word_of_item(
     alloc: Global,
     machine: &Machine<'_>,
     book: &mut Book,
-    blocks: &[Items<u64>],
+    blocks: &[PackedBlock],
     item: Item,
-) -> Result<u64, NoMemory>
+) -> Result<Word, NoMemory>
     requires ready { IsReady (machine_netlist machine.now) book.old machine.now.pool.now machine.now.patterns.now }
     requires word { HasWord (machine_netlist machine.now) (machine_patterns machine.now) item }
+    requires once { AllByRecursion IsOnce blocks.now }
     ensures grows { Extends book.old book.new }
     ensures ready { IsReady (machine_netlist machine.now) book.new machine.now.pool.now machine.now.patterns.now }
-    ensures word { IfOk result (λ word. IsItemWord (machine_netlist machine.now) (machine_patterns machine.now) (words_at blocks.now) word item) }
+    ensures word { IfOk result (IsWordOf (machine_netlist machine.now) (machine_patterns machine.now) blocks.now item) }
 {
     match item {
-        Item::Group { block, at } => Ok(word_of_group(blocks, block, at)),
-        Item::Jump(step) => word_of_jump(alloc, machine, book, step),
+        Item::Group { block, at } => {
+            let patterns = pattern_list(alloc, steps_of_group(blocks, block, at))?;
+            Ok(Word {
+                word: word_of_group(blocks, block, at),
+                patterns,
+            })
+        }
+        Item::Jump(step) => {
+            let patterns = pattern_list(alloc, &[step])?;
+            let word = word_of_jump(alloc, machine, book, step)?;
+            Ok(Word { word, patterns })
+        }
     }
 }
 
-/// The words of a layout's items, of which no patterns are told.
+/// The words of a layout's items.
 pub(crate) fn words_of_items(
     alloc: Global,
     machine: &Machine<'_>,
     book: &mut Book,
-    blocks: &[Items<u64>],
+    blocks: &[PackedBlock],
     items: &[Item],
 ) -> Result<Items<Word>, NoMemory>
     requires ready { IsReady (machine_netlist machine.now) book.old machine.now.pool.now machine.now.patterns.now }
     requires words { AllByRecursion (HasWord (machine_netlist machine.now) (machine_patterns machine.now)) items.now }
+    requires once { AllByRecursion IsOnce blocks.now }
     ensures grows { Extends book.old book.new }
     ensures ready { IsReady (machine_netlist machine.now) book.new machine.now.pool.now machine.now.patterns.now }
-    ensures words { IfOk result (λ words. AreItemWords (machine_netlist machine.now) (machine_patterns machine.now) (words_at blocks.now) items.now words) }
+    ensures words { IfOk result (AreItemWords (machine_netlist machine.now) (machine_patterns machine.now) blocks.now items.now) }
 {
     let mut words = Items::new(alloc);
     for item in items {
         let word = word_of_item(alloc, machine, book, blocks, *item)?;
-        words.push(Word {
-            word,
-            patterns: Items::new(alloc),
-        })?;
+        words.push(word)?;
     }
     Ok(words)
 }

@@ -99,17 +99,19 @@ module _ (task : Task) (image : Image) (made : IsMadeFor task image) (most : ℕ
         long = made.long;
         blocks = λ at n block size b e.
             (let p = made.blocks at n block size b e in
-            record { choices = choices_at flow made.choices at n; covered = covered_block task.width stock reads most works made.choices small one made.chosen flow at n; live = no_regs; least = p.least; long = p.long });
+            record { choices = choices_at flow made.choices at n; covered = covered_block task.width stock reads most works made.choices small one made.chosen flow at n; live = no_regs; groups = made.groups block; means = p.packing.means; least = p.least; long = p.long });
         forks = λ at f e job has.
             (let d = choice_there task.width stock reads works made.choices f.tree job made.chosen has in
             let t : IsTestWork works f.tree = test_work_of works made.rules flow made.parts at f fit tests e in
             let aim : job.destination ≡ tested = ap (λ (x : Work). x.destination) (same job t.work (sym has ∙ t.at)) ∙ t.destination in
-            let p : AreTestWords task.netlist made.patterns stock (test_of job) d.0 (made.words f.block) f =
-            subst (λ (x : Work). AreTestWords task.netlist made.patterns stock x d.0 (made.words f.block) f) (sym (as_test job aim)) (made.tests at f e job has d.0 d.1) in
+            let p : AreTestWords task.netlist made.patterns stock (test_of job) d.0 (made.groups f.block) (made.words f.block) f =
+            subst (λ (x : Work). AreTestWords task.netlist made.patterns stock x d.0 (made.groups f.block) (made.words f.block) f) (sym (as_test job aim)) (made.tests at f e job has d.0 d.1) in
             record {
               choice = d.0;
               covered = covered_test task.width stock reads most works made.choices small one made.chosen f.tree job d.0 has d.1 aim;
               live = wanted stock tested (tree_used (test_of job) d.0) d.0.plan;
+              groups = made.groups f.block;
+              means = p.packing.means;
               least = p.least;
               long = p.long;
               wants = λ r h. h;

@@ -1,5 +1,5 @@
 -- Covers of jobs, one after the other.
-use Rattle.std.proofs.Common.{◌≡◌, ℕ, zero, suc, ◌+◌, ◌<◌, List, [], ◌∷◌, ◌++◌, take, length, Some, slice_get, refl, subst, ap, arith}
+use Rattle.std.proofs.Common.{◌≡◌, ℕ, zero, suc, ◌<◌, List, [], ◌∷◌, ◌++◌, take, length, Some, slice_get, refl, subst, ap, arith}
 use Rattle.form_model.specs.Covers.{Choice, HasNoCover, IsChosen, Stock, job_cost}
 use Rattle.src_trees.specs.Lowered.{Work}
 use Rattle.right_code.specs.Covered.{AllChosen, HasCover, IsFirstBare, job_costs}

@@ -32,7 +32,7 @@ use Rattle.form_model.specs.declared.flow.Flow.{Flow}
 use Rattle.form_model.specs.declared.flow.Flow.TheVariants.{Assign, Test as Tested, Jump as Jumped, End as Ended}
 use Rattle.form_model.specs.declared.forms.Step.{Step}
 use Rattle.form_model.specs.Covers.{Stock}
-use Rattle.form_model.specs.Live.{Regs, singles}
+use Rattle.form_model.specs.Live.{Regs}
 use Rattle.form_model.specs.Rules.{Rule}
 use Rattle.src_trees.specs.Lowered.{Work}
 use Rattle.src_trees.specs.Blocks.{is_assign, is_entered, continues, IsBlock}
@@ -45,7 +45,7 @@ use Rattle.branch_fix.specs.declared.part.Part.TheVariants.{Block, Inner, Test, 
 use Rattle.branch_fix.proofs.Addresses.{part_at, fit_length}
 use Rattle.branch_fix.proofs.Laying.{settled_fit}
 use Rattle.right_code.specs.Laid.{IsLaidCode}
-use Rattle.right_code.specs.Words.{AreStepWords, StandItems}
+use Rattle.right_code.specs.Words.{AreGroupWords, StandItems}
 use Rattle.right_code.proofs.Coded.{there}
 use Rattle.right_code.proofs.Inside.{get_there}
 use Rattle.right_code.proofs.Tasks.{IsTestWork, AreTests, test_work_of}
@@ -95,10 +95,10 @@ module _ (netlist : Netlist) (patterns : List Pattern) (words : ℕ → List ℕ
   abbrev AreFitting : ℕ → ℕ → Type 0
   AreFitting block size = (k : ℕ) → k < size → WordFits netlist (slice_index (words block) k)
 
-  least_fit : (block : ℕ) (steps : List Step) (live : Regs) (size : ℕ) → AreStepWords netlist patterns steps live (words block) → size ≡ length (words block) → AreFitting block size
-  least_fit block steps live size p n = λ k l.
-      (let m : length (words block) ≡ length (singles steps) = p.long in
-      let g = get_there (singles steps) k (omega (arith, l, n, m)) in
+  least_fit : (block : ℕ) (gs : List (List Step)) (live : Regs) (size : ℕ) → AreGroupWords netlist patterns gs live (words block) → size ≡ length (words block) → AreFitting block size
+  least_fit block gs live size p n = λ k l.
+      (let m : length (words block) ≡ length gs = p.long in
+      let g = get_there gs k (omega (arith, l, n, m)) in
       (p.least k g.0 g.1).is.clean.fits)
 
   abbrev ItemsFit : List Item → Type 0
@@ -190,9 +190,9 @@ code_fits netlist patterns stock image flow jobs parts reach tests laid some =
     (items_fit netlist patterns laid.words stock.rules (jump_form stock.rules reach) (starts 0 parts) 0 parts (λ k p e. by fit k p e)) laid.stand (n ∙ sym (items_length stock.rules (jump_form stock.rules reach) (starts 0 parts) 0 parts)) (omega (arith, n, items, some))
   where
     by : AllFit stock.rules flow 0 flow parts → (k : ℕ) (p : Part) → slice_get parts k ≡ Some p → PartFits netlist patterns laid.words p
-    by fit k (Block block size) e = let b = block_at stock.rules flow parts k block size fit e in let r = laid.blocks k b.0 block size b.1 e in least_fit netlist patterns laid.words block _ r.live size r.least r.long
+    by fit k (Block block size) e = let b = block_at stock.rules flow parts k block size fit e in let r = laid.blocks k b.0 block size b.1 e in least_fit netlist patterns laid.words block r.groups r.live size r.least r.long
     by fit k Inner e = tt
-    by fit k (Test f) e = let t : IsTestWork jobs f.tree = test_work_of jobs stock.rules flow parts k f fit tests e in let r = laid.forks k f e t.work t.at in least_fit netlist patterns laid.words f.block _ r.live f.words r.least r.long
+    by fit k (Test f) e = let t : IsTestWork jobs f.tree = test_work_of jobs stock.rules flow parts k f fit tests e in let r = laid.forks k f e t.work t.at in least_fit netlist patterns laid.words f.block r.groups r.live f.words r.least r.long
     by fit k (Jump to) e = tt
     by fit k End e = tt
 

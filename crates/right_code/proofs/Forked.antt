@@ -60,7 +60,7 @@ module _ (netlist : Netlist) (order : List ℕ) (keeps : KeepsRules netlist orde
         walks = λ s here lie.
             (let u : State = steps_effect (operation_of patterns) (job_steps stock (test_of job) choice) s in
             let w : WalksTo netlist image at (length made.words) made.live s u =
-            walked netlist order keeps image (operation_of patterns) made.live (job_steps stock (test_of job) choice) made.words at s made.fit here made.stand (subst (λ k. at + k < 2 ^ counter_width netlist) made.long b) in
+            walked netlist order keeps image (operation_of patterns) made.live (job_steps stock (test_of job) choice) made.groups made.words at s made.means made.fit here made.stand (subst (λ k. at + k < 2 ^ counter_width netlist) made.long b) in
             let h : LeaveValue stock patterns tested used choice.plan s =
             subst (λ x. LeaveValue stock patterns tested x choice.plan s) (sym is)
             (leaves stock patterns (length netlist.storages) formed (test_of job) choice s made.covered here.state.regs (record { reads = lie.reads; destination = tt; below = lie.below })) in

@@ -1,7 +1,7 @@
 -- Where the parts of a layout stand, and the steps of its branch words.
 use Rattle.std.proofs.Common.{ℕ, ◌≡◌, ◌≤◌, ◌<◌, ◌+◌, ◌^◌, bit_or, Bool, true, false, List, length, Some, slice_get, slice_index, refl, sym, ◌∙◌, ap, arith, subst}
 use Rattle.net_model.specs.declared.hardware.Netlist.{Netlist}
-use Rattle.net_model.specs.CheckedRules.{KeepsRules, code_size}
+use Rattle.net_model.specs.CheckedRules.{KeepsRules}
 use Rattle.net_model.specs.Nets.{counter_width}
 use Rattle.net_model.specs.Patterns.{Pattern}
 use Rattle.net_model.specs.Terms.{Term, term_width}

@@ -15,10 +15,9 @@ use Rattle.code_model.specs.Layout.{variables_of}
 use Rattle.code_model.specs.Right.{TracesRight}
 use Rattle.form_model.specs.declared.flow.Flow.{Flow}
 use Rattle.form_model.specs.Shapes.{shape_setting}
-use Rattle.form_model.specs.Rules.{Rule, jumps}
+use Rattle.form_model.specs.Rules.{Rule}
 use Rattle.form_model.specs.Covers.{Stock}
 use Rattle.form_model.specs.Effects.{operation_of}
-use Rattle.form_model.specs.Live.{singles}
 use Rattle.form_model.specs.Steps.{branch_setting}
 use Rattle.emit_seq.specs.Formed.{AreFormed}
 use Rattle.word_fit.specs.Fits.{fits_over, FitsJump}
@@ -35,7 +34,7 @@ use Rattle.branch_fix.specs.declared.part.Part.{Part}
 use Rattle.branch_fix.specs.declared.part.Part.TheVariants.{Block, Test, Jump, End}
 use Rattle.branch_fix.proofs.Shapes.{program_is_flow}
 use Rattle.branch_fix.proofs.Words.{groups_length}
-use Rattle.right_code.specs.Jobs.{job_steps, jobs_steps, tree_used}
+use Rattle.right_code.specs.Jobs.{tree_used}
 use Rattle.right_code.specs.Blocks.{IsBlockMade}
 use Rattle.right_code.specs.Forks.{IsJumpMade, IsForkMade, BehindMade, plan_rule, test_of}
 use Rattle.right_code.specs.Code.{IsMadeCode}
@@ -91,8 +90,10 @@ module _ (netlist : Netlist) (order : List ℕ) (keeps : KeepsRules netlist orde
           operands = record {
             covered = r.covered;
             live = r.live;
+            groups = r.groups;
+            means = r.means;
             words = laid.words g.block;
-            fit = all_fit (operation_of patterns) (fits_over netlist (operation_of patterns)) r.live (laid.words g.block) (singles (job_steps stock (test_of job) r.choice)) r.least;
+            fit = all_fit (operation_of patterns) (fits_over netlist (operation_of patterns)) r.live (laid.words g.block) r.groups r.least;
             long = r.long;
             stand = groups_stand netlist patterns laid.words (words_of image) g.block (laid.words g.block) 0 a (λ j. let z : 0 + j ≡ j = omega arith in ap (slice_index (laid.words g.block)) z)
                 (subst (λ n. StandItems netlist patterns laid.words (words_of image) a (groups g.block 0 n)) r.long s.0);
@@ -114,8 +115,10 @@ module _ (netlist : Netlist) (order : List ℕ) (keeps : KeepsRules netlist orde
       choices = r.choices;
       covered = r.covered;
       live = r.live;
+      groups = r.groups;
+      means = r.means;
       words = laid.words block;
-      fit = all_fit (operation_of patterns) (fits_over netlist (operation_of patterns)) r.live (laid.words block) (singles (jobs_steps stock works r.choices)) r.least;
+      fit = all_fit (operation_of patterns) (fits_over netlist (operation_of patterns)) r.live (laid.words block) r.groups r.least;
       long = r.long;
       stand = groups_stand netlist patterns laid.words (words_of image) block (laid.words block) 0 (address parts at) (λ j. let z : 0 + j ≡ j = omega arith in ap (slice_index (laid.words block)) z)
           (subst (λ n. StandItems netlist patterns laid.words (words_of image) (address parts at) (groups block 0 n)) r.long (stands at (Block block size) e));

@@ -1,4 +1,4 @@
--- Words that fit steps, clocked one after the other, each clock to the next address.
+-- Words that fit groups, clocked one after the other, each clock to the next address.
 use Rattle.std.proofs.Common.{ℕ, zero, suc, ◌≡◌, ◌<◌, ◌+◌, ◌^◌, List, [], ◌∷◌, length, drop, refl, sym, ◌∙◌, ap, arith, subst, slice_index}
 use Rattle.net_model.specs.declared.hardware.Netlist.{Netlist}
 use Rattle.net_model.specs.declared.states.State.{State}
@@ -11,12 +11,12 @@ use Rattle.code_model.specs.Places.{words_of}
 use Rattle.code_model.specs.Machine.{IsAt}
 use Rattle.form_model.specs.Covers.{Stock}
 use Rattle.form_model.specs.Effects.{Operation, operation_of, steps_effect}
-use Rattle.form_model.specs.Live.{Regs, live_before, singles}
+use Rattle.form_model.specs.Live.{Regs, live_before}
 use Rattle.word_fit.specs.Fits.{fits_over, FitsGroup}
 use Rattle.word_fit.specs.Groups.{Agree, AllFit}
 use Rattle.word_fit.specs.Runs.{IsClocked, StandAt, RunsTo}
 use Rattle.word_fit.proofs.Clocks.{clocks}
-use Rattle.word_fit.proofs.Runs.{runs_steps}
+use Rattle.compaction.specs.Meant.{MeansSteps}
 use Rattle.emit_seq.specs.Formed.{AreFormed}
 use Rattle.src_trees.specs.Lowered.{Work}
 use Rattle.branch_fix.specs.Made.{Walks, DoesBlock}
@@ -49,14 +49,14 @@ module _ (netlist : Netlist) (order : List ℕ) (keeps : KeepsRules netlist orde
         let r = walk ws gs (at + 1) d.next f.1 (record { state = d.state; counter = one }) p.1 (omega (arith, b)) in
         (r.0, (h, (d.next, d.clocked, r.1)))
 
-    -- and leads to what the steps leave, in the memory and in the live registers
-    pub walked : (xs : List A) (ws : List ℕ) (at : ℕ) (s : State) → AllFit m (fits_over netlist m) ws (singles xs) after → IsAt netlist at s
+    -- and leads to what the steps leave that the groups mean, in the memory and in the live registers
+    pub walked : (xs : List A) (gs : List (List A)) (ws : List ℕ) (at : ℕ) (s : State) → MeansSteps netlist m after xs gs → AllFit m (fits_over netlist m) ws gs after → IsAt netlist at s
         → StandAt (words_of image) at ws → at + length ws < 2 ^ counter_width netlist → WalksTo netlist image at (length ws) after s (steps_effect m xs s)
-    walked xs ws at s f h p b =
+    walked xs gs ws at s means f h p b =
         let c : counter_in netlist s ≡ at = h.counter in
-        let w = walk ws (singles xs) at s f h p b in
+        let w = walk ws gs at s f h p b in
         let r : RunsTo netlist (words_of image) s (length ws) after (steps_effect m xs s) =
-        runs_steps netlist order keeps m (words_of image) after ws xs s f h.state (subst (λ n. StandAt (words_of image) n ws) (sym c) p) (omega (arith, b, c)) in
+        means (words_of image) ws s f h.state (subst (λ n. StandAt (words_of image) n ws) (sym c) p) (omega (arith, b, c)) in
         let e : r.last ≡ w.0 = reached_same r.last w.0 (sym r.is ∙ walk_runs (length ws) at 0 s w.0 w.1) in
         record { last = w.0; walks = w.1; agree = subst (λ t. Agree after t (steps_effect m xs s)) e r.agree }
 
@@ -66,7 +66,7 @@ module _ (netlist : Netlist) (order : List ℕ) (keeps : KeepsRules netlist orde
   block_does patterns stock formed jobs at n made b = record {
     walks = λ s here lie.
         (let w : WalksTo netlist image at (length made.words) made.live s (steps_effect (operation_of patterns) (jobs_steps stock jobs made.choices) s) =
-        walked (operation_of patterns) made.live (jobs_steps stock jobs made.choices) made.words at s made.fit here made.stand (subst (λ k. at + k < 2 ^ counter_width netlist) made.long b) in
+        walked (operation_of patterns) made.live (jobs_steps stock jobs made.choices) made.groups made.words at s made.means made.fit here made.stand (subst (λ k. at + k < 2 ^ counter_width netlist) made.long b) in
         let l : LeavesDone stock.temps jobs s (steps_effect (operation_of patterns) (jobs_steps stock jobs made.choices) s) = jobs_left stock patterns (length netlist.storages) formed jobs made.choices s made.covered here.state.regs lie in
         (w.last, subst (λ k. Walks netlist image at s k w.last) (sym made.long) w.walks, ap (drop stock.temps) w.agree.cells ∙ sym l.same));
   }

@@ -3,7 +3,7 @@ use Rattle.std.proofs.Common.{ℕ, ◌≡◌, ◌≤◌, ◌<◌, ◌+◌, ◌%�
 use Rattle.std.proofs.Math.Nat.{mod-eq_of_lt}
 use Rattle.net_model.specs.declared.hardware.Netlist.{Netlist}
 use Rattle.net_model.specs.declared.states.State.{State}
-use Rattle.net_model.specs.Terms.{Term, word, reg, bin, term_width}
+use Rattle.net_model.specs.Terms.{Term, reg, bin, term_width}
 use Rattle.rec_bits.specs.declared.operator.Op2.TheVariants.{Add}
 use Rattle.net_model.specs.Meaning.{mean}
 use Rattle.net_model.specs.Nets.{counter_of, counter_width}

@@ -7,10 +7,12 @@ use Rattle.code_model.specs.declared.image.Image.{Image}
 use Rattle.code_model.specs.Places.{words_of}
 use Rattle.form_model.specs.Covers.{Stock, Choice}
 use Rattle.form_model.specs.Effects.{operation_of}
-use Rattle.form_model.specs.Live.{Regs, singles}
+use Rattle.form_model.specs.declared.forms.Step.{Step}
+use Rattle.form_model.specs.Live.{Regs}
 use Rattle.word_fit.specs.Fits.{fits_over}
 use Rattle.word_fit.specs.Groups.{Agree, AllFit}
 use Rattle.word_fit.specs.Runs.{StandAt}
+use Rattle.compaction.specs.Meant.{MeansSteps}
 use Rattle.src_trees.specs.Lowered.{Work}
 use Rattle.branch_fix.specs.Made.{Walks}
 use Rattle.right_code.specs.Jobs.{AreCovered, jobs_steps}
@@ -21,12 +23,14 @@ pub record WalksTo (netlist : Netlist) (image : Image) (at n : ℕ) (live : Regs
   pub walks : Walks netlist image at s n last
   pub agree : Agree live last goal
 
--- so many words from an address on fit the steps of the jobs' covers, one each
+-- so many words from an address on fit groups, which mean the steps of the jobs' covers
 pub record IsBlockMade (netlist : Netlist) (patterns : List Pattern) (stock : Stock) (image : Image) (jobs : List Work) (at n : ℕ) : Type 0 where
   pub choices : List Choice
   pub covered : AreCovered stock jobs choices
   pub live : Regs
+  pub groups : List (List Step)
+  pub means : MeansSteps netlist (operation_of patterns) live (jobs_steps stock jobs choices) groups
   pub words : List ℕ
-  pub fit : AllFit (operation_of patterns) (fits_over netlist (operation_of patterns)) words (singles (jobs_steps stock jobs choices)) live
+  pub fit : AllFit (operation_of patterns) (fits_over netlist (operation_of patterns)) words groups live
   pub long : n ≡ length words
   pub stand : StandAt (words_of image) at words

@@ -13,13 +13,15 @@ use Rattle.form_model.specs.Rules.{Rule, BranchTarget, absolute, relative, branc
 use Rattle.form_model.specs.Plans.{Plan, use_form}
 use Rattle.form_model.specs.Covers.{Stock, Choice}
 use Rattle.form_model.specs.Effects.{operation_of}
-use Rattle.form_model.specs.Live.{Regs, singles}
+use Rattle.form_model.specs.declared.forms.Step.{Step}
+use Rattle.form_model.specs.Live.{Regs}
 use Rattle.form_model.specs.Steps.{rule_at, branch_setting}
 use Rattle.emit_seq.specs.Formed.{IsAlike}
 use Rattle.emit_seq.specs.Spares.{wanted}
 use Rattle.word_fit.specs.Fits.{fits_over, FitsJump}
 use Rattle.word_fit.specs.Groups.{AllFit}
 use Rattle.word_fit.specs.Runs.{StandAt}
+use Rattle.compaction.specs.Meant.{MeansSteps}
 use Rattle.src_trees.specs.Lowered.{Work}
 use Rattle.branch_fix.specs.Made.{word_in}
 use Rattle.branch_fix.specs.Rounds.{distance}
@@ -90,12 +92,14 @@ BehindMade netlist patterns image next true at to other =
 BehindMade netlist patterns image true false at to other = Unit {0}
 BehindMade netlist patterns image false false at to other = IsJumpMade netlist patterns (word_in image (at + 1)) other
 
--- the words of a test's operands fit the steps of its cover, one each, where the registers of the condition are live after them
+-- the words of a test's operands fit groups, which mean the steps of its cover where the registers of the condition are live behind them
 pub record IsTestMade (netlist : Netlist) (patterns : List Pattern) (stock : Stock) (image : Image) (job : Work) (choice : Choice) (at n : ℕ) : Type 0 where
   pub covered : IsCovered stock (test_of job) choice
   pub live : Regs
+  pub groups : List (List Step)
+  pub means : MeansSteps netlist (operation_of patterns) live (job_steps stock (test_of job) choice) groups
   pub words : List ℕ
-  pub fit : AllFit (operation_of patterns) (fits_over netlist (operation_of patterns)) words (singles (job_steps stock (test_of job) choice)) live
+  pub fit : AllFit (operation_of patterns) (fits_over netlist (operation_of patterns)) words groups live
   pub long : n ≡ length words
   pub stand : StandAt (words_of image) at words
   pub wants : (r : ℕ) → wanted stock tested (tree_used (test_of job) choice) choice.plan r ≡ true → live r ≡ true

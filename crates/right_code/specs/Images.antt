@@ -1,17 +1,16 @@
 -- The image of a task: all that is decided about it apart from its trace, and when it is right code.
 use Rattle.std.specs.Prelude.{ℕ, zero, suc, ◌+◌, ◌≤◌, ◌≡◌, List, [], ◌∷◌, ◌++◌, length, Option, Some, None, slice_get}
-use Rattle.std.specs.List.{AllByRecursion}
 use Rattle.net_model.specs.declared.hardware.Netlist.{Netlist}
 use Rattle.net_model.specs.Nets.{word_width}
 use Rattle.net_model.specs.Patterns.{ArePatterns, Pattern}
 use Rattle.src_model.specs.Rules.{temp_count}
 use Rattle.src_model.specs.Trace.{strace}
 use Rattle.code_model.specs.declared.image.Image.{Image}
-use Rattle.code_model.specs.declared.image.Word.{Word}
 use Rattle.code_model.specs.Layout.{variables_of}
 use Rattle.code_model.specs.Places.{words_of}
 use Rattle.code_model.specs.Right.{IsLaidOut, TracesRight}
 use Rattle.form_model.specs.declared.flow.Flow.{Flow}
+use Rattle.form_model.specs.declared.forms.Step.{Step}
 use Rattle.form_model.specs.declared.flow.Flow.TheVariants.{Assign}
 use Rattle.form_model.specs.Covers.{Choice, Stock}
 use Rattle.form_model.specs.Live.{no_regs}
@@ -34,7 +33,7 @@ use Rattle.right_code.specs.Covered.{AllChosen, job_costs, numbered}
 use Rattle.right_code.specs.Forks.{plan_rule}
 use Rattle.right_code.specs.Jobs.{job_steps, jobs_steps, tree_used}
 use Rattle.right_code.specs.Tasks.{Task, task_stock, task_works}
-use Rattle.right_code.specs.Words.{AreStepWords, StandItems}
+use Rattle.right_code.specs.Words.{AreGroupWords, IsPackingOf, ListItems, StandItems}
 
 -- ---- the words of a program's blocks and tests
 
@@ -51,9 +50,10 @@ abbrev pub choices_at : List Flow → List Choice → ℕ → ℕ → List Choic
 choices_at flow choices at zero = []
 choices_at flow choices at (suc n) = choices_at flow choices at n ++ choice_at choices (slice_get flow (at + n))
 
--- so many words are those of the steps of a block's jobs, one job after the other; no register is live behind a block
-pub record AreBlockWords (netlist : Netlist) (patterns : List Pattern) (stock : Stock) (jobs : List Work) (choices : List Choice) (words : List ℕ) (size : ℕ) : Type 0 where
-  pub least : AreStepWords netlist patterns (jobs_steps stock jobs choices) no_regs words
+-- so many words are those of groups that the steps of a block's jobs, one job after the other, are packed into; no register is live behind a block
+pub record AreBlockWords (netlist : Netlist) (patterns : List Pattern) (stock : Stock) (jobs : List Work) (choices : List Choice) (groups : List (List Step)) (words : List ℕ) (size : ℕ) : Type 0 where
+  pub packing : IsPackingOf netlist patterns (jobs_steps stock jobs choices) no_regs groups
+  pub least : AreGroupWords netlist patterns groups no_regs words
   pub long : size ≡ length words
 
 -- the branch of a test is one of the form at the root of its tree's cover, and its condition has the setting that the cover gives it
@@ -61,10 +61,11 @@ pub record IsBranchOf (stock : Stock) (job : Work) (choice : Choice) (f : Fork) 
   pub form : slice_get stock.rules f.form ≡ Some (plan_rule stock choice.plan)
   pub setting : f.setting ≡ branch_setting stock (tree_used job choice) choice.plan
 
--- so many words are those of the steps of a test's cover, behind which exactly the registers are live that the branch's condition reads under its
--- setting
-pub record AreTestWords (netlist : Netlist) (patterns : List Pattern) (stock : Stock) (job : Work) (choice : Choice) (words : List ℕ) (f : Fork) : Type 0 where
-  pub least : AreStepWords netlist patterns (job_steps stock job choice) (wanted stock tested (tree_used job choice) choice.plan) words
+-- so many words are those of groups that the steps of a test's cover are packed into, behind which exactly the registers are live that the branch's
+-- condition reads under its setting
+pub record AreTestWords (netlist : Netlist) (patterns : List Pattern) (stock : Stock) (job : Work) (choice : Choice) (groups : List (List Step)) (words : List ℕ) (f : Fork) : Type 0 where
+  pub packing : IsPackingOf netlist patterns (job_steps stock job choice) (wanted stock tested (tree_used job choice) choice.plan) groups
+  pub least : AreGroupWords netlist patterns groups (wanted stock tested (tree_used job choice) choice.plan) words
   pub long : f.words ≡ length words
   pub branch : IsBranchOf stock job choice f
 
@@ -91,13 +92,14 @@ pub record IsMadeFor (task : Task) (image : Image) : Type 0 where
   pub settings : List (ℕ × ℕ)
   pub parts : List Part
   pub settled : IsSettled rules (parts_of rules (program_flow task.listing) sizes settings) parts
-  -- the words of each block and of each test's operands, by the block's number
+  -- the groups and the words of each block and of each test's operands, by the block's number
+  pub groups : ℕ → List (List Step)
   pub words : ℕ → List ℕ
   pub blocks : (at n block size : ℕ) → IsBlock (program_flow task.listing) at n → slice_get parts at ≡ Some (Block block size)
       → AreBlockWords task.netlist patterns (task_stock rules task) (jobs_at (program_flow task.listing) (task_works task) at n)
-      (choices_at (program_flow task.listing) choices at n) (words block) size
+      (choices_at (program_flow task.listing) choices at n) (groups block) (words block) size
   pub tests : (at : ℕ) (f : Fork) → slice_get parts at ≡ Some (Test f) → (job : Work) → slice_get (task_works task) f.tree ≡ Some job
-      → (choice : Choice) → slice_get choices f.tree ≡ Some choice → AreTestWords task.netlist patterns (task_stock rules task) job choice (words f.block) f
+      → (choice : Choice) → slice_get choices f.tree ≡ Some choice → AreTestWords task.netlist patterns (task_stock rules task) job choice (groups f.block) (words f.block) f
   -- these words, and the jump and branch words between them, are all words of the image, in the order of the flow
   pub stand : StandItems task.netlist patterns words (words_of image) 0 (items_from rules (jump_form rules reach) (starts 0 parts) 0 parts)
   pub long : length (words_of image) ≡ total parts
@@ -106,8 +108,8 @@ pub record IsMadeFor (task : Task) (image : Image) : Type 0 where
   pub marked : AreMarked (program_flow task.listing) (length (words_of image)) image.marks
   -- there are no more words than the bound
   pub most : length (words_of image) ≤ program_bound task.listing (job_costs (task_works task) choices)
-  -- no word lists patterns
-  pub plain : AllByRecursion (λ (word : Word). word.patterns ≡ []) image.words
+  -- each word lists the patterns of its group's steps, or that of its jump or branch
+  pub lists : ListItems groups (items_from rules (jump_form rules reach) (starts 0 parts) 0 parts) image.words
 
 -- right code: an image made for the task, which traces the program
 pub record IsRightImage (task : Task) (image : Image) : Type 0 where

@@ -10,9 +10,12 @@ use Rattle.form_model.specs.declared.flow.Flow.{Flow}
 use Rattle.form_model.specs.Shapes.{shows}
 use Rattle.form_model.specs.Rules.{Rule, BranchTarget, absolute, relative, branches, tested}
 use Rattle.form_model.specs.Covers.{Stock, Choice}
+use Rattle.form_model.specs.declared.forms.Step.{Step}
+use Rattle.form_model.specs.Effects.{operation_of}
 use Rattle.form_model.specs.Live.{Regs}
 use Rattle.form_model.specs.Steps.{branch_setting}
 use Rattle.emit_seq.specs.Spares.{wanted}
+use Rattle.compaction.specs.Meant.{MeansSteps}
 use Rattle.src_trees.specs.Lowered.{Work}
 use Rattle.src_trees.specs.Blocks.{IsBlock, jobs_at}
 use Rattle.branch_fix.specs.Parts.{parts_of, total, starts, marks_from}
@@ -23,7 +26,7 @@ use Rattle.branch_fix.specs.declared.part.Part.{Part}
 use Rattle.branch_fix.specs.declared.part.Part.TheVariants.{Block, Test}
 use Rattle.right_code.specs.Jobs.{AreCovered, IsCovered, jobs_steps, job_steps, tree_used}
 use Rattle.right_code.specs.Forks.{IsBranchForm, IsJumpForm, plan_rule, test_of}
-use Rattle.right_code.specs.Words.{AreStepWords, StandItems}
+use Rattle.right_code.specs.Words.{AreGroupWords, StandItems}
 
 -- ---- jump and branch forms
 
@@ -44,20 +47,25 @@ pub record AreTurns (netlist : Netlist) (patterns : List Pattern) (rules : List 
 
 -- ---- blocks and tests
 
--- a block's words are those of its jobs' covers, so many
+-- a block's words are those of groups that mean the steps of its jobs' covers, so many
 pub record IsBlockReady (netlist : Netlist) (patterns : List Pattern) (stock : Stock) (jobs : List Work) (words : List ℕ) (size : ℕ) : Type 0 where
   pub choices : List Choice
   pub covered : AreCovered stock jobs choices
   pub live : Regs
-  pub least : AreStepWords netlist patterns (jobs_steps stock jobs choices) live words
+  pub groups : List (List Step)
+  pub means : MeansSteps netlist (operation_of patterns) live (jobs_steps stock jobs choices) groups
+  pub least : AreGroupWords netlist patterns groups live words
   pub long : size ≡ length words
 
--- a test's words are those of its cover, with the registers of the condition live after them, and its branch has the cover's form and setting
+-- a test's words are those of groups that mean the steps of its cover, with the registers of the condition live behind them, and its branch has the
+-- cover's form and setting
 pub record IsForkReady (netlist : Netlist) (patterns : List Pattern) (stock : Stock) (job : Work) (words : List ℕ) (f : Fork) : Type 0 where
   pub choice : Choice
   pub covered : IsCovered stock (test_of job) choice
   pub live : Regs
-  pub least : AreStepWords netlist patterns (job_steps stock (test_of job) choice) live words
+  pub groups : List (List Step)
+  pub means : MeansSteps netlist (operation_of patterns) live (job_steps stock (test_of job) choice) groups
+  pub least : AreGroupWords netlist patterns groups live words
   pub long : f.words ≡ length words
   pub wants : (r : ℕ) → wanted stock tested (tree_used (test_of job) choice) choice.plan r ≡ true → live r ≡ true
   pub form : slice_get stock.rules f.form ≡ Some (plan_rule stock choice.plan)

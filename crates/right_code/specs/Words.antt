@@ -1,20 +1,36 @@
--- The words of blocks, and those that stand in an image in the order of its layout.
-use Rattle.std.specs.Prelude.{ℕ, ◌+◌, ◌≡◌, List, [], ◌∷◌, slice_index}
+-- The groups and the words of blocks, and the words that stand in an image in the order of its layout.
+use Rattle.std.specs.Prelude.{ℕ, ◌+◌, ◌≡◌, List, [], ◌∷◌, slice_index, IsPermutation}
+use Rattle.std.specs.List.{slice_index_or}
 use Rattle.net_model.specs.declared.hardware.Netlist.{Netlist}
 use Rattle.net_model.specs.Patterns.{Pattern}
+use Rattle.code_model.specs.declared.image.Word.{Word}
 use Rattle.form_model.specs.declared.forms.Step.{Step}
 use Rattle.form_model.specs.Effects.{operation_of}
-use Rattle.form_model.specs.Live.{Regs, singles}
+use Rattle.form_model.specs.Live.{Regs}
 use Rattle.word_fit.specs.Fits.{FitsJump, IsLeastFit, fits_over}
 use Rattle.word_fit.specs.Groups.{AreLeast}
+use Rattle.compaction.specs.Lists.{IsPatternList}
+use Rattle.compaction.specs.Meant.{MeansSteps}
+use Rattle.compaction.specs.Packing.{IsPacked, all_steps}
 use Rattle.branch_fix.specs.declared.laid.Item.{Item}
 use Rattle.branch_fix.specs.declared.laid.Item.TheVariants.{Group, Jump}
 
--- each step has a word of its own, the least that fits it with the registers that are live behind it, where these are live behind the last step
-abbrev pub AreStepWords : Netlist → List Pattern → List Step → Regs → List ℕ → Type 0
-AreStepWords netlist patterns steps after words = AreLeast (operation_of patterns) (fits_over netlist (operation_of patterns)) words (singles steps) after
+-- ---- the groups of a block
 
--- the word of an item: that of its step in its block's words, or the least jump or branch word of the item's setting that keeps the data memory
+-- groups that the steps of a block are packed into, where these registers are live behind the block: they hold the steps, each as often; any words
+-- that fit the groups leave what the steps leave one after the other; no two neighbours may be merged, and no step may move to the group before
+pub record IsPackingOf (netlist : Netlist) (patterns : List Pattern) (steps : List Step) (after : Regs) (groups : List (List Step)) : Type 0 where
+  pub holds : IsPermutation steps (all_steps groups)
+  pub means : MeansSteps netlist (operation_of patterns) after steps groups
+  pub packed : IsPacked (operation_of patterns) (fits_over netlist (operation_of patterns)) after groups
+
+-- each group has one word, the least that fits it with the registers that are live behind it
+abbrev pub AreGroupWords : Netlist → List Pattern → List (List Step) → Regs → List ℕ → Type 0
+AreGroupWords netlist patterns groups after words = AreLeast (operation_of patterns) (fits_over netlist (operation_of patterns)) words groups after
+
+-- ---- the words of a layout
+
+-- the word of an item: that of its group in its block's words, or the least jump or branch word of the item's setting that keeps the data memory
 abbrev pub IsItemWord : Netlist → List Pattern → (ℕ → List ℕ) → ℕ → Item → Type 0
 IsItemWord netlist patterns words i (Group block at) = i ≡ slice_index (words block) at
 IsItemWord netlist patterns words i (Jump step) = IsLeastFit (λ word. FitsJump netlist word (operation_of patterns step)) i
@@ -24,3 +40,14 @@ abbrev pub StandItems : Netlist → List Pattern → (ℕ → List ℕ) → List
 StandItems netlist patterns words code at [] = Unit {0}
 StandItems netlist patterns words code at (item ∷ items) =
     IsItemWord netlist patterns words (slice_index code at) item × StandItems netlist patterns words code (at + 1) items
+
+-- the steps of an item's word: those of its group, by the blocks' groups, or the jump or branch alone
+abbrev pub item_steps : (ℕ → List (List Step)) → Item → List Step
+item_steps groups (Group block at) = slice_index_or (groups block) at []
+item_steps groups (Jump step) = step ∷ []
+
+-- the words of items list the patterns of their steps
+abbrev pub ListItems : (ℕ → List (List Step)) → List Item → List Word → Type 0
+ListItems groups [] [] = Unit {0}
+ListItems groups (item ∷ items) (word ∷ words) = IsPatternList (item_steps groups item) word.patterns × ListItems groups items words
+ListItems groups _ _ = ⊥

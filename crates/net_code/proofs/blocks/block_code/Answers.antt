@@ -12,5 +12,5 @@ returns-clause-code c =
     let most = c.loop-at.auto.at-end in
     let least = c.loop-at-test.false in
     let all : c.loop-at.at ≡ length flow = omega (arith, most, least) in
-    subst (λ upto. IsBlockCode (machine_netlist machine) (machine_patterns machine) (stock_of program) flow (works_in program) (choices_in program) upto c.loop-at.code.words.items c.loop-at.code.branches.items)
+    subst (λ upto. IsBlockCode (machine_netlist machine) (machine_patterns machine) (stock_of program) flow (works_in program) (choices_in program) upto c.loop-at.code.blocks.items c.loop-at.code.branches.items)
     all c.loop-at.invariant.code

@@ -1,7 +1,7 @@
-use Rattle.std.proofs.Common.{◌≡◌, ◌∙◌, ◌+◌, inl, inr, Some, ap, slice_get, sym, true, false}
+use Rattle.std.proofs.Common.{◌≡◌, ◌∙◌, ◌+◌, inl, inr, Some, ap, slice_get, sym, true}
 use Rattle.std.proofs.lemmas.Option.{slice_get-get_or}
 use Rattle.form_model.specs.declared.flow.Flow.{Flow}
-use Rattle.form_model.specs.declared.flow.Flow.TheVariants.{Assign, End, Jump, Test}
+use Rattle.form_model.specs.declared.flow.Flow.TheVariants.{Assign, End, Jump}
 use Rattle.src_trees.specs.Blocks.{continues, is_assign}
 use Rattle.net_code.specs.Coded.{IsBlockCode}
 use Rattle.net_code.specs.Covering.{machine_netlist, machine_patterns}
@@ -18,7 +18,7 @@ returns-then-continues-clause-code c =
     let place : slice_get flow c.args.at ≡ Some (Assign c.in-Assign.field-0) =
     slice_get-get_or flow c.args.at (Assign 0) c.requires.within ∙ ap (λ (f : Flow). Some f) c.in-Assign.is in
     let goes_on : continues flow c.args.at ≡ true = sym c.if-continues.ensures in
-    skipped (machine_netlist machine) (machine_patterns machine) (stock_of program) flow (works_in program) (choices_in program) c.args.at c.args.code.now.words.items c.args.code.now.branches.items
+    skipped (machine_netlist machine) (machine_patterns machine) (stock_of program) flow (works_in program) (choices_in program) c.args.at c.args.code.now.blocks.items c.args.code.now.branches.items
     c.requires.code (λ j. place_blocks (place j) (goes_on j)) (ap place_tests place)
 
 pub push_run-requires-clause-assigns : goal.push_run-requires-clause-assigns
@@ -38,8 +38,8 @@ returns-in-Jump-clause-code c =
     let program = c.args.program.now in
     let flow = program.flow.now in
     let read = slice_get-get_or flow c.args.at (Assign 0) c.requires.within in
-    let past = skipped (machine_netlist machine) (machine_patterns machine) (stock_of program) flow (works_in program) (choices_in program) c.args.at c.args.code.now.words.items c.args.code.now.branches.items c.requires.code in
-    elim c.in-Jump.is as (λ _. IsBlockCode (machine_netlist machine) (machine_patterns machine) (stock_of program) flow (works_in program) (choices_in program) (c.args.at + 1) c.args.code.now.words.items c.args.code.now.branches.items) [
+    let past = skipped (machine_netlist machine) (machine_patterns machine) (stock_of program) flow (works_in program) (choices_in program) c.args.at c.args.code.now.blocks.items c.args.code.now.branches.items c.requires.code in
+    elim c.in-Jump.is as (λ _. IsBlockCode (machine_netlist machine) (machine_patterns machine) (stock_of program) flow (works_in program) (choices_in program) (c.args.at + 1) c.args.code.now.blocks.items c.args.code.now.branches.items) [
       | inl jump ↦
           (let place : slice_get flow c.args.at ≡ Some (Jump jump.0) = read ∙ ap (λ (f : Flow). Some f) jump.1 in
           past (ap (λ o. place_blocks o (continues flow c.args.at)) place) (ap place_tests place))

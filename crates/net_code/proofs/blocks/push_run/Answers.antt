@@ -11,7 +11,7 @@ returns-clause-code c =
     let program = c.args.program.now in
     let flow = program.flow.now in
     let code = c.args.code.now in
-    subst (λ words. IsBlockCode (machine_netlist machine) (machine_patterns machine) (stock_of program) flow (works_in program) (choices_in program) (c.args.at + 1) words code.branches.items)
+    subst (λ blocks. IsBlockCode (machine_netlist machine) (machine_patterns machine) (stock_of program) flow (works_in program) (choices_in program) (c.args.at + 1) blocks code.branches.items)
     (sym c.in_ok-push.ensures.items)
     (run_more (machine_netlist machine) (machine_patterns machine) (stock_of program) flow (works_in program) (choices_in program) c.args.at c.block_length-count.result
-    code.words.items code.branches.items c.in_ok-words.words c.requires.code c.block_length-count.ensures.block (no_test (slice_get flow c.args.at) c.requires.assigns) c.in_ok-words.ensures.words)
+    code.blocks.items code.branches.items c.in_ok-block.block c.requires.code c.block_length-count.ensures.block (no_test (slice_get flow c.args.at) c.requires.assigns) c.in_ok-block.ensures.packed)

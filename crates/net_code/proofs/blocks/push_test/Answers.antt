@@ -6,7 +6,6 @@ use Rattle.cover.specs.Best.{choice_of}
 use Rattle.cover.specs.declared.covers.JobCover.{JobCover}
 use Rattle.form_model.specs.declared.trees.Job.{Job}
 use Rattle.form_model.specs.Covers.{Choice}
-use Rattle.form_model.specs.Rules.{tested}
 use Rattle.src_trees.specs.Jobs.{work_of}
 use Rattle.src_trees.specs.Lowered.{Work}
 use Rattle.net_code.specs.Coded.{IsBlockCode}
@@ -36,8 +35,8 @@ bounds-program-tree-2 c =
     let n = length-map program.covers.now choice_of in
     omega (arith, l, n)
 
-pub test_words-requires-clause-job : goal.test_words-requires-clause-job
-test_words-requires-clause-job c =
+pub test_block-requires-clause-job : goal.test_block-requires-clause-job
+test_block-requires-clause-job c =
     let program = c.args.program.now in
     let p = c.requires.place in
     let t = test_job c.args.machine.now program c.requires.covering.0 c.requires.covering.1 c.args.at c.args.tree p.when_one p.when_zero p.place in
@@ -81,8 +80,8 @@ returns-clause-code c =
     ∙ ap (λ (x : JobCover). Some (choice_of x)) c.index-program-tree-2.is in
     let more =
     test_more (machine_netlist machine) (machine_patterns machine) (stock_of program) flow (works_in program) (choices_in program) c.args.at c.args.tree p.when_one p.when_zero
-    code.words.items code.branches.items c.in_ok-words.words (chosen.cover.form, c.in_ok-words.setting) c.requires.code p.place (work_of job) (choice_of chosen) work choice c.in_ok-words.ensures.code in
-    subst (λ words. IsBlockCode (machine_netlist machine) (machine_patterns machine) (stock_of program) flow (works_in program) (choices_in program) (c.args.at + 1) words c.push-2.new.self.items)
+    code.blocks.items code.branches.items c.in_ok-block.block (chosen.cover.form, c.in_ok-block.setting) c.requires.code p.place (work_of job) (choice_of chosen) work choice c.in_ok-block.ensures.code in
+    subst (λ blocks. IsBlockCode (machine_netlist machine) (machine_patterns machine) (stock_of program) flow (works_in program) (choices_in program) (c.args.at + 1) blocks c.push-2.new.self.items)
     (sym c.in_ok-push.ensures.items)
-    (subst (λ branches. IsBlockCode (machine_netlist machine) (machine_patterns machine) (stock_of program) flow (works_in program) (choices_in program) (c.args.at + 1) (code.words.items ++ c.in_ok-words.words ∷ []) branches)
+    (subst (λ branches. IsBlockCode (machine_netlist machine) (machine_patterns machine) (stock_of program) flow (works_in program) (choices_in program) (c.args.at + 1) (code.blocks.items ++ c.in_ok-block.block ∷ []) branches)
     (sym c.in_ok-push-2.ensures.items) more)

@@ -1,9 +1,5 @@
-use Rattle.std.proofs.Common.{◌≡◌, ◌∙◌, ◌≤◌, ◌<◌, ap, arith, length, map, subst, sym}
-use Rattle.std.specs.List.{AllByRecursion}
+use Rattle.std.proofs.Common.{◌≡◌, ◌∙◌, ◌≤◌, ap, arith, length}
 use Rattle.branch_fix.specs.Bounds.{bound_of}
-use Rattle.code_model.specs.ImageFits.{PlaceFits}
-use Rattle.code_model.specs.declared.image.Places.{Places}
-use Rattle.cover.specs.declared.covers.JobCover.{JobCover}
 use Rattle.net_model.specs.CheckedRules.{code_size}
 use Rattle.net_model.specs.declared.hardware.Netlist.{Netlist}
 use Rattle.net_code.specs.Covering.{machine_netlist}

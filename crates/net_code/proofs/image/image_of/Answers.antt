@@ -1,9 +1,8 @@
-use Rattle.std.proofs.Common.{◌≡◌, ◌∙◌, ◌<◌, ◌≤◌, List, Result, ap, arith, length, map, refl, subst, sym}
+use Rattle.std.proofs.Common.{◌∙◌, List, ap, arith, length, map, refl, sym}
 use Rattle.std.proofs.lemmas.List.{length-map}
 use Rattle.std.proofs.lemmas.Result.{IfErr-weaker, IfOk-weaker, err_from_is_err_and}
 use Rattle.code_model.specs.declared.image.Places.{Places}
 use Rattle.cover.specs.Best.{choice_of}
-use Rattle.cover.specs.declared.covers.JobCover.{JobCover}
 use Rattle.form_model.specs.Rules.{rules_of}
 use Rattle.form_model.specs.declared.trees.Job.{Job}
 use Rattle.src_trees.specs.Jobs.{work_of, works_of}

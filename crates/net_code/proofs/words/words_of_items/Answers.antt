@@ -2,7 +2,7 @@ use Rattle.std.proofs.Common.{◌++◌, [], ◌∷◌, get_or, subst, sym, take}
 use Rattle.std.proofs.lemmas.List.{take_more}
 use Rattle.bit_bdd.proofs.CallerLemmas.{extends_trans}
 use Rattle.branch_fix.specs.declared.laid.Item.TheVariants.{Group}
-use Rattle.net_code.specs.Coded.{AreItemWords, words_at}
+use Rattle.net_code.specs.Coded.{AreItemWords}
 use Rattle.net_code.specs.Covering.{machine_netlist, machine_patterns}
 use Rattle.net_code.proofs.Listing.{words_more}
 use Rattle.net_code.proofs.words.words_of_items.Goals as goal
@@ -11,7 +11,7 @@ pub loop-item-preserved : goal.loop-item-preserved
 loop-item-preserved c =
     let netlist = machine_netlist c.args.machine.now in
     let patterns = machine_patterns c.args.machine.now in
-    let blocks = words_at c.args.blocks.now in
+    let blocks = c.args.blocks.now in
     let items = c.args.items.now in
     let at = c.loop-item.item-index in
     let front = take at items in
@@ -22,5 +22,5 @@ loop-item-preserved c =
       words =
           subst (λ list. AreItemWords netlist patterns blocks list c.push.new.self) (sym (take_more items at (Group 0 0) c.loop-item-test.true))
           (subst (AreItemWords netlist patterns blocks (front ++ item ∷ [])) (sym c.in_ok-push.ensures.pushed)
-          (words_more netlist patterns blocks front c.loop-item.words item (record { word = c.in_ok-word.word; patterns = c.new.result }) c.loop-item.invariant.words c.in_ok-word.ensures.word c.new.ensures));
+          (words_more netlist patterns blocks front c.loop-item.words item c.in_ok-word.word c.loop-item.invariant.words c.in_ok-word.ensures.word));
     }

@@ -1,7 +1,7 @@
 use Rattle.std.proofs.Common.{take}
 use Rattle.transfer_set.specs.Ready.{IsReady}
 use Rattle.bit_bdd.specs.Diagrams.{Extends}
-use Rattle.net_code.specs.Coded.{AreItemWords, words_at}
+use Rattle.net_code.specs.Coded.{AreItemWords}
 use Rattle.net_code.specs.Covering.{machine_netlist, machine_patterns}
 use Rattle.net_code.proofs.words.words_of_items.Given as goal
 
@@ -9,5 +9,5 @@ abbrev pub invariant-loop-item : goal.invariant-loop-item
 invariant-loop-item l = record {
   grows : Extends l.initial.book l.book;
   ready : IsReady (machine_netlist l.machine) l.book l.machine.pool.now l.machine.patterns.now;
-  words : AreItemWords (machine_netlist l.machine) (machine_patterns l.machine) (words_at l.blocks) (take l.item-index l.items) l.words;
+  words : AreItemWords (machine_netlist l.machine) (machine_patterns l.machine) l.blocks (take l.item-index l.items) l.words;
 }

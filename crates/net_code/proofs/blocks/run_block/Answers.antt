@@ -7,18 +7,18 @@ use Rattle.word_fit.specs.Fits.{fits_over}
 use Rattle.word_fit.specs.Groups.{AllHaveWords}
 use Rattle.right_code.specs.Images.{choices_at}
 use Rattle.right_code.specs.Jobs.{jobs_steps}
-use Rattle.right_code.specs.Words.{AreStepWords}
+use Rattle.net_code.specs.Coded.{IsPackedBlock}
 use Rattle.right_code.proofs.Covering.{chosen_length}
 use Rattle.net_code.specs.Covering.{machine_netlist, machine_patterns}
 use Rattle.net_code.specs.Views.{choices_in, stock_of, works_in}
 use Rattle.net_code.proofs.Frames.{run_have}
-use Rattle.net_code.proofs.blocks.run_words.Goals as goal
+use Rattle.net_code.proofs.blocks.run_block.Goals as goal
 
 pub block_steps-requires-clause-even : goal.block_steps-requires-clause-even
 block_steps-requires-clause-even c = chosen_length (stock_of c.args.program.now) (works_in c.args.program.now) (choices_in c.args.program.now) c.requires.covering.1.chosen
 
-pub step_words-requires-clause-words : goal.step_words-requires-clause-words
-step_words-requires-clause-words c =
+pub packed-requires-clause-words : goal.packed-requires-clause-words
+packed-requires-clause-words c =
     let machine = c.args.machine.now in
     let program = c.args.program.now in
     subst (λ xs. AllHaveWords (operation_of (machine_patterns machine)) (fits_over (machine_netlist machine) (operation_of (machine_patterns machine))) (singles xs) (regs_of 0))
@@ -28,11 +28,11 @@ step_words-requires-clause-words c =
 none_live : regs_of 0 ≡ no_regs
 none_live = λ j r. regs_of_none r j
 
-pub returns-clause-words : goal.returns-clause-words
-returns-clause-words c =
+pub returns-clause-packed : goal.returns-clause-packed
+returns-clause-packed c =
     let machine = c.args.machine.now in
     let program = c.args.program.now in
     let steps =
     jobs_steps (stock_of program) (jobs_at program.flow.now (works_in program) c.args.at c.args.count) (choices_at program.flow.now (choices_in program) c.args.at c.args.count) in
-    subst (λ (after : Regs). AreStepWords (machine_netlist machine) (machine_patterns machine) steps after c.in_ok-words.words) none_live
-    (subst (λ xs. AreStepWords (machine_netlist machine) (machine_patterns machine) xs (regs_of 0) c.in_ok-words.words) (c.as_slice.ensures ∙ c.in_ok-steps.ensures) c.in_ok-words.ensures.least)
+    subst (λ (after : Regs). IsPackedBlock (machine_netlist machine) (machine_patterns machine) steps after c.in_ok-block.block) none_live
+    (subst (λ xs. IsPackedBlock (machine_netlist machine) (machine_patterns machine) xs (regs_of 0) c.in_ok-block.block) (c.as_slice.ensures ∙ c.in_ok-steps.ensures) c.in_ok-block.ensures.packed)

@@ -11,14 +11,14 @@ use Rattle.src_trees.specs.Jobs.{work_of}
 use Rattle.word_fit.specs.Fits.{fits_over}
 use Rattle.word_fit.specs.Groups.{AllHaveWords}
 use Rattle.right_code.specs.Jobs.{job_steps, tree_or_none, tree_used}
-use Rattle.right_code.specs.Words.{AreStepWords}
+use Rattle.net_code.specs.Coded.{IsPackedBlock}
 use Rattle.net_code.specs.Covering.{machine_netlist, machine_patterns}
 use Rattle.net_code.specs.Views.{stock_of}
 use Rattle.net_code.proofs.Frames.{root_form, test_have, wanted_is}
-use Rattle.net_code.proofs.blocks.test_words.Goals as goal
+use Rattle.net_code.proofs.blocks.test_block.Goals as goal
 
-pub step_words-requires-clause-words : goal.step_words-requires-clause-words
-step_words-requires-clause-words c =
+pub packed-requires-clause-words : goal.packed-requires-clause-words
+packed-requires-clause-words c =
     let machine = c.args.machine.now in
     let program = c.args.program.now in
     let stock = stock_of program in
@@ -52,9 +52,9 @@ returns-clause-code c =
     let live : wanted stock tested (tree_used job choice) choice.plan ≡ regs_of n =
     wanted_is machine program task covering t.tree job choice t.work t.covers t.test n c.condition_registers-after.type_inv c.condition_registers-after.ensures in
     record {
-      least =
-          subst (λ (after : Regs). AreStepWords (machine_netlist machine) (machine_patterns machine) (job_steps stock job choice) after c.in_ok-words.words) (sym live)
-          (subst (λ xs. AreStepWords (machine_netlist machine) (machine_patterns machine) xs (regs_of n) c.in_ok-words.words) is c.in_ok-words.ensures.least);
+      packed =
+          subst (λ (after : Regs). IsPackedBlock (machine_netlist machine) (machine_patterns machine) (job_steps stock job choice) after c.in_ok-block.block) (sym live)
+          (subst (λ xs. IsPackedBlock (machine_netlist machine) (machine_patterns machine) xs (regs_of n) c.in_ok-block.block) is c.in_ok-block.ensures.packed);
       form = root_form machine program task covering t.tree job choice t.work t.covers;
       setting = c.unwrap_or.ensures ∙ ap (λ b. unwrap_or b 0) (e.branch ∙ ap (λ d. branch_of stock d e.tree choice.plan) t.test) ∙ ap (λ x. branch_setting stock x choice.plan) tree;
     }

@@ -1,8 +1,0 @@
-use Rattle.std.proofs.Common.{◌∙◌}
-use Rattle.block_words.proofs.Listed.{singles_more}
-use Rattle.block_words.proofs.words.groups_of.Goals as goal
-
-pub loop-step-preserved : goal.loop-step-preserved
-loop-step-preserved c =
-    c.in_ok-push.ensures.pushed
-    ∙ singles_more c.args.steps.now c.loop-step.step-index _ c.loop-step.groups _ c.loop-step-test.true c.loop-step.invariant c.in_ok-single.ensures

@@ -1,0 +1,78 @@
+-- A merged group does what its parts do one after the other.
+use Rattle.std.proofs.Common.{◌≡◌, ℕ, false, List, [], ◌∷◌, ◌++◌, slice_set, refl, sym, ◌∙◌, ap}
+use Rattle.std.proofs.lemmas.Bool.{true≢false, eqb-false, or_parts}
+use Rattle.std.proofs.lemmas.List.{set_comm}
+use Rattle.net_model.specs.declared.states.State.{State}
+use Rattle.net_model.specs.Terms.{Move, keep, write, write_at}
+use Rattle.net_model.specs.Meaning.{mean}
+use Rattle.form_model.specs.Effects.{Operation, location_of, term_reads, move_reads, reads, apply_move, apply_operation, apply_all, group_effect, groups_effect, steps_effect, same_destination}
+use Rattle.form_model.specs.Live.{singles}
+use Rattle.compaction.specs.Packing.{reads_from, reads_across, shares_destination}
+use Rattle.compaction.proofs.Apart.{mean_apart}
+
+-- a transfer that doesn't read the destination of another finds the values that stood before it
+move_apart : (move : Move) (storage setting : ℕ) (q : Operation) (o n k : State) → move_reads setting move (location_of q) ≡ false → apply_move storage move setting (apply_operation q o n) k ≡ apply_move storage move setting n k
+move_apart keep storage setting q o n k e = refl
+move_apart (write v) storage setting q o n k e =
+    ap (λ x. let s : State = record { regs = slice_set k.regs storage x; cells = k.cells } in s) (mean_apart v setting q.storage q.setting q.move o n e)
+move_apart (write_at a v) storage setting q o n k e =
+    let p : (term_reads setting a (location_of q) ≡ false) × (term_reads setting v (location_of q) ≡ false) = or_parts _ _ e in
+    let f = mean_apart a setting q.storage q.setting q.move o n p.0 in
+    let g = mean_apart v setting q.storage q.setting q.move o n p.1 in
+    ap (λ x. let s : State = record { regs = k.regs; cells = slice_set k.cells x (mean v (apply_operation q o n) setting) } in s) f
+    ∙ ap (λ x. let s : State = record { regs = k.regs; cells = slice_set k.cells (mean a n setting) x } in s) g
+
+apply_apart : (p q : Operation) (o n k : State) → reads p (location_of q) ≡ false → apply_operation p (apply_operation q o n) k ≡ apply_operation p n k
+apply_apart p q o n k e = move_apart p.move p.storage p.setting q o n k e
+
+module _ {A : Type 0} (m : A → Operation) where
+  apply_from : (p : Operation) (g : List A) (o n k : State) → reads_from m p g ≡ false → apply_operation p (apply_all m g o n) k ≡ apply_operation p n k
+  apply_from p [] o n k e = refl
+  apply_from p (x ∷ g) o n k e =
+      let w : (reads p (location_of (m x)) ≡ false) × (reads_from m p g ≡ false) = or_parts _ _ e in
+      apply_from p g o (apply_operation (m x) o n) k w.1 ∙ apply_apart p (m x) o n k w.0
+
+  -- a group that reads no destination of g finds the values that stood before g
+  pub all_from : (g h : List A) (o n k : State) → reads_across m g h ≡ false → apply_all m h (apply_all m g o n) k ≡ apply_all m h n k
+  all_from g [] o n k e = refl
+  all_from g (y ∷ h) o n k e =
+      let w : (reads_from m (m y) g ≡ false) × (reads_across m g h ≡ false) = or_parts _ _ e in
+      all_from g h o n (apply_operation (m y) (apply_all m g o n) k) w.1 ∙ ap (λ z. apply_all m h n z) (apply_from (m y) g o n k w.0)
+
+  pub apply_all-append : (g h : List A) (o n : State) → apply_all m (g ++ h) o n ≡ apply_all m h o (apply_all m g o n)
+  apply_all-append [] h o n = refl
+  apply_all-append (x ∷ g) h o n = apply_all-append g h o (apply_operation (m x) o n)
+
+  -- a merged group does what its parts do one after the other
+  pub effect-merge : (g h : List A) (s : State) → reads_across m g h ≡ false → group_effect m (g ++ h) s ≡ group_effect m h (group_effect m g s)
+  effect-merge g h s e = apply_all-append g h s s ∙ sym (all_from g h s s (apply_all m g s s) e)
+
+  pub effect-singles : (xs : List A) (s : State) → groups_effect m (singles xs) s ≡ steps_effect m xs s
+  effect-singles [] s = refl
+  effect-singles (x ∷ xs) s = effect-singles xs (apply_operation (m x) s s)
+
+  pub effect-append : (gs hs : List (List A)) (s : State) → groups_effect m (gs ++ hs) s ≡ groups_effect m hs (groups_effect m gs s)
+  effect-append [] hs s = refl
+  effect-append (g ∷ gs) hs s = effect-append gs hs (group_effect m g s)
+
+-- two transfers with different destinations may change places
+move_comm : (a b : ℕ) (p q : Move) (i j : ℕ) (o n : State) → same_destination (record { storage = a; move = p; setting = i }) (record { storage = b; move = q; setting = j }) ≡ false → apply_move a p i o (apply_move b q j o n) ≡ apply_move b q j o (apply_move a p i o n)
+move_comm a b keep q i j o n e = refl
+move_comm a b (write v) keep i j o n e = refl
+move_comm a b (write_at c v) keep i j o n e = refl
+move_comm a b (write v) (write w) i j o n e =
+    ap (λ (z : List ℕ). let s : State = record { regs = z; cells = n.cells } in s) (set_comm n.regs b a (mean w o j) (mean v o i) (λ k. eqb-false a b e (sym k)))
+move_comm a b (write v) (write_at c w) i j o n e = refl
+move_comm a b (write_at c v) (write w) i j o n e = refl
+move_comm a b (write_at c v) (write_at d w) i j o n e = absurd (true≢false e)
+
+apply_comm : (p q : Operation) (o n : State) → same_destination p q ≡ false → apply_operation p o (apply_operation q o n) ≡ apply_operation q o (apply_operation p o n)
+apply_comm p q o n e = move_comm p.storage q.storage p.move q.move p.setting q.setting o n e
+
+module _ {A : Type 0} (m : A → Operation) where
+  -- a step may be done first, before others of its group
+  pub apply_all-pull : (a b : List A) (x : A) (o n : State) → shares_destination m (m x) a ≡ false → apply_all m (a ++ x ∷ b) o n ≡ apply_all m (x ∷ (a ++ b)) o n
+  apply_all-pull [] b x o n e = refl
+  apply_all-pull (y ∷ a) b x o n e =
+      let w : (same_destination (m x) (m y) ≡ false) × (shares_destination m (m x) a ≡ false) = or_parts _ _ e in
+      apply_all-pull a b x o (apply_operation (m y) o n) w.1 ∙ ap (λ z. apply_all m (a ++ b) o z) (apply_comm (m x) (m y) o n w.0)

@@ -1,0 +1,15 @@
+pub mod Apart
+pub mod Effects
+pub mod Differing
+pub mod Appended
+pub mod Lives
+pub mod Meaning
+pub mod Memory
+pub mod Patterns
+pub mod Ascending
+pub mod Packed
+pub mod Turns
+pub mod LiveLists
+pub mod Leaving
+pub mod Choice
+pub mod WorkedPacking

@@ -1,0 +1,8 @@
+use Rattle.std.proofs.Common.{◌∙◌}
+use Rattle.block_words.proofs.Listed.{singles_more}
+use Rattle.compaction.proofs.copies.singles.Goals as goal
+
+pub loop-step-preserved : goal.loop-step-preserved
+loop-step-preserved c =
+    c.in_ok-push.ensures.items
+    ∙ singles_more c.args.steps.now c.loop-step.step-index _ c.loop-step.groups.items _ c.loop-step-test.true c.loop-step.invariant c.in_ok-group.ensures

@@ -1,0 +1,7 @@
+pub mod Packing
+pub mod Meant
+pub mod Chosen
+pub mod Lists
+pub mod Turns
+pub mod Machines
+pub mod Worked

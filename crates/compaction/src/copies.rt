@@ -1,0 +1,60 @@
+//! Groups made of others.
+
+ghost use Rattle.std.specs.Prelude.{◌≡◌, [], ◌∷◌, ◌++◌, IfOk, OnOk};
+ghost use Rattle.form_model.specs.Live.{singles};
+
+use form_model::Step;
+use rec_bits::{Items, NoMemory};
+use std::alloc::Global;
+use word_fit::Group;
+
+// Adds the steps at the end of the group.
+fn extend(group: &mut Group, steps: &[Step]) -> Result<(), NoMemory>
+    ensures { OnOk result (group.new ≡ group.old ++ steps.now) }
+{
+    for step in steps {
+        group.push(*step)?;
+    }
+    Ok(())
+}
+
+/// The steps of both groups.
+pub(crate) fn joined(alloc: Global, first: &[Step], second: &[Step]) -> Result<Group, NoMemory>
+    ensures { IfOk result (λ both. both ≡ first.now ++ second.now) }
+{
+    let mut both = Items::new(alloc);
+    extend(&mut both, first)?;
+    extend(&mut both, second)?;
+    Ok(both)
+}
+
+/// The group with one more step.
+pub(crate) fn added(alloc: Global, group: &[Step], step: Step) -> Result<Group, NoMemory>
+    ensures { IfOk result (λ more. more ≡ group.now ++ step ∷ []) }
+{
+    let mut more = Items::new(alloc);
+    extend(&mut more, group)?;
+    more.push(step)?;
+    Ok(more)
+}
+
+// The group of one step.
+fn single(alloc: Global, step: Step) -> Result<Group, NoMemory>
+    ensures { IfOk result (λ group. group ≡ step ∷ []) }
+{
+    let mut group = Items::new(alloc);
+    group.push(step)?;
+    Ok(group)
+}
+
+/// The steps in groups of one.
+pub(crate) fn singles(alloc: Global, steps: &[Step]) -> Result<Vec<Group>, NoMemory>
+    ensures { IfOk result (λ groups. groups.items ≡ singles steps.now) }
+{
+    let mut groups = Vec::new(alloc);
+    for step in steps {
+        let group = single(alloc, *step)?;
+        groups.push(group)?;
+    }
+    Ok(groups)
+}

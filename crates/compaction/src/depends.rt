@@ -1,0 +1,161 @@
+//! What steps of groups read and write of one another.
+
+ghost use Rattle.std.specs.Prelude.{◌≡◌, ◌++◌, IfOk};
+ghost use Rattle.form_model.specs.Effects.{location_of, reads};
+ghost use Rattle.compaction.specs.Packing.{all_differ, is_read_by, reads_across, reads_from, shares_destination};
+ghost use Rattle.compaction.specs.Machines.{IsTold, operation_in};
+
+use crate::machine::{Machine, reads_memory};
+use form_model::Step;
+use rec_bits::NoMemory;
+use std::alloc::Global;
+use word_fit::stores_memory;
+
+// Whether the first step may read what the second one writes. Only where the one reads the memory and the other writes it are their addresses
+// looked at.
+fn touches(
+    alloc: Global,
+    machine: &Machine<'_>,
+    reader: Step,
+    writer: Step,
+) -> Result<bool, NoMemory>
+    requires { IsTold machine.now }
+    ensures { IfOk result (λ read. read ≡ reads (operation_in machine.now reader) (location_of (operation_in machine.now writer))) }
+{
+    if stores_memory(machine.patterns, writer) && !reads_memory(machine, reader) {
+        return Ok(false);
+    }
+    live_sets::touches(
+        alloc,
+        machine.checked,
+        machine.patterns,
+        machine.pool,
+        machine.registers,
+        reader,
+        writer,
+    )
+}
+
+/// Whether the step reads a destination of the group.
+pub(crate) fn reads_from(
+    alloc: Global,
+    machine: &Machine<'_>,
+    step: Step,
+    group: &[Step],
+) -> Result<bool, NoMemory>
+    requires { IsTold machine.now }
+    ensures { IfOk result (λ read. read ≡ reads_from (operation_in machine.now) (operation_in machine.now step) group.now) }
+{
+    match group {
+        [] => Ok(false),
+        [writer, rest @ ..] => {
+            if touches(alloc, machine, step, *writer)? {
+                Ok(true)
+            } else {
+                reads_from(alloc, machine, step, rest)
+            }
+        }
+    }
+}
+
+/// Whether one of the readers reads a destination of the group.
+pub(crate) fn reads_across(
+    alloc: Global,
+    machine: &Machine<'_>,
+    group: &[Step],
+    readers: &[Step],
+) -> Result<bool, NoMemory>
+    requires { IsTold machine.now }
+    ensures { IfOk result (λ read. read ≡ reads_across (operation_in machine.now) group.now readers.now) }
+{
+    match readers {
+        [] => Ok(false),
+        [reader, rest @ ..] => {
+            if reads_from(alloc, machine, *reader, group)? {
+                Ok(true)
+            } else {
+                reads_across(alloc, machine, group, rest)
+            }
+        }
+    }
+}
+
+// Whether a step of the group reads the step's destination.
+fn is_read_by(
+    alloc: Global,
+    machine: &Machine<'_>,
+    step: Step,
+    group: &[Step],
+) -> Result<bool, NoMemory>
+    requires { IsTold machine.now }
+    ensures { IfOk result (λ read. read ≡ is_read_by (operation_in machine.now) (operation_in machine.now step) group.now) }
+{
+    match group {
+        [] => Ok(false),
+        [reader, rest @ ..] => {
+            if touches(alloc, machine, *reader, step)? {
+                Ok(true)
+            } else {
+                is_read_by(alloc, machine, step, rest)
+            }
+        }
+    }
+}
+
+/// Whether a step of one of two groups reads the step's destination.
+pub(crate) fn is_read_by_either(
+    alloc: Global,
+    machine: &Machine<'_>,
+    step: Step,
+    first: &[Step],
+    second: &[Step],
+) -> Result<bool, NoMemory>
+    requires { IsTold machine.now }
+    ensures { IfOk result (λ read. read ≡ is_read_by (operation_in machine.now) (operation_in machine.now step) (first.now ++ second.now)) }
+{
+    let in_first = is_read_by(alloc, machine, step, first)?;
+    let in_second = is_read_by(alloc, machine, step, second)?;
+    Ok(in_first || in_second)
+}
+
+/// Whether a step of the group has the step's destination.
+pub(crate) fn shares_destination(machine: &Machine<'_>, step: Step, group: &[Step]) -> bool
+    ensures { result ≡ shares_destination (operation_in machine.now) (operation_in machine.now step) group.now }
+{
+    match group {
+        [] => false,
+        [other, rest @ ..] => {
+            live_sets::shares(machine.patterns, step, *other)
+                || shares_destination(machine, step, rest)
+        }
+    }
+}
+
+// Whether a step of one of two groups has the step's destination.
+fn shares_either(machine: &Machine<'_>, step: Step, first: &[Step], second: &[Step]) -> bool
+    ensures { result ≡ shares_destination (operation_in machine.now) (operation_in machine.now step) (first.now ++ second.now) }
+{
+    shares_destination(machine, step, first) || shares_destination(machine, step, second)
+}
+
+/// Whether the destinations of two groups all differ.
+pub(crate) fn all_differ(machine: &Machine<'_>, first: &[Step], second: &[Step]) -> bool
+    ensures { result ≡ all_differ (operation_in machine.now) (first.now ++ second.now) }
+{
+    match first {
+        [] => differ(machine, second),
+        [step, rest @ ..] => {
+            !shares_either(machine, *step, rest, second) && all_differ(machine, rest, second)
+        }
+    }
+}
+
+// Whether the destinations of a group all differ.
+fn differ(machine: &Machine<'_>, group: &[Step]) -> bool
+    ensures { result ≡ all_differ (operation_in machine.now) group.now }
+{
+    match group {
+        [] => true,
+        [step, rest @ ..] => !shares_destination(machine, *step, rest) && differ(machine, rest),
+    }
+}

@@ -1,0 +1,171 @@
+//! The packer.
+
+ghost use Rattle.std.specs.Prelude.{◌≡◌, ◌+◌, ◌<◌, length, map, IfOk, OnOk, IsPermutation};
+ghost use Rattle.bit_bdd.specs.Diagrams.{Extends};
+ghost use Rattle.form_model.specs.Live.{regs_of, singles};
+ghost use Rattle.transfer_set.specs.Ready.{IsReady};
+ghost use Rattle.word_fit.specs.Groups.{lives_of};
+ghost use Rattle.word_fit.specs.Steps.{step_operation};
+ghost use Rattle.block_words.specs.Words.{HaveWords};
+ghost use Rattle.compaction.specs.Lists.{EachHasPatternsOnce};
+ghost use Rattle.compaction.specs.Machines.{ArePacked, IsReadyFor, IsTold, IsWritten, PackedTo, Packing, Turns, operation_in};
+ghost use Rattle.compaction.specs.Meant.{MeansSteps};
+ghost use Rattle.compaction.specs.Packing.{EachDiffers, all_steps};
+
+use crate::change::{Change, change_of};
+use crate::copies::singles;
+use crate::machine::{Machine, memory_table};
+use bit_bdd::Book;
+use form_model::{RegSet, Step};
+use live_sets::{live_between, live_with, reads_table};
+use net_model::Checked;
+use rec_bits::{Items, NoMemory};
+use std::alloc::Global;
+use sym_expr::Pool;
+use transfer_set::Patterns;
+use word_fit::Group;
+
+// One turn at the pair of neighbours of this number: the pair to go on with. `lives` has the registers that are live behind each group, of which a
+// change of two groups changes one entry.
+fn turn(
+    alloc: Global,
+    machine: &Machine<'_>,
+    book: &mut Book,
+    groups: &mut Vec<Group>,
+    lives: &mut Vec<RegSet>,
+    pair: usize,
+    _after: RegSet,
+) -> Result<usize, NoMemory>
+    requires ready { IsReadyFor machine.now book.old }
+    requires told { IsTold machine.now }
+    requires within { pair + 1 < length groups.old.items }
+    requires as_long { length lives.old.items ≡ length groups.old.items }
+    requires lives { map regs_of lives.old.items ≡ lives_of (operation_in machine.now) groups.old.items (regs_of _after) }
+    requires packed { PackedTo machine.now (regs_of _after) pair groups.old.items }
+    ensures grows { Extends book.old book.new }
+    ensures ready { IsReadyFor machine.now book.new }
+    ensures turn { IfOk result (λ next. Turns machine.now (regs_of _after) groups.old.items groups.new.items pair next) }
+    ensures lives { IfOk result (λ next. map regs_of lives.new.items ≡ lives_of (operation_in machine.now) groups.new.items (regs_of _after)) }
+{
+    let all = groups.as_slice();
+    let live = lives.as_slice()[pair + 1];
+    let first = all[pair].as_slice();
+    let second = all[pair + 1].as_slice();
+    match change_of(alloc, machine, book, first, second, live)? {
+        Change::Merged(both) => {
+            groups.remove(pair + 1);
+            groups[pair] = both;
+            lives.remove(pair);
+            Ok(pair.saturating_sub(1))
+        }
+        Change::Moved {
+            first: more,
+            second: rest,
+        } => {
+            let between = live_between(
+                machine.checked,
+                machine.patterns,
+                machine.pool,
+                machine.registers,
+                rest.as_slice(),
+                live,
+            );
+            groups[pair] = more;
+            groups[pair + 1] = rest;
+            lives[pair] = between;
+            Ok(pair.saturating_sub(1))
+        }
+        Change::Settled => Ok(pair + 1),
+    }
+}
+
+// Takes turns at the pairs of neighbours, from the first pair on, until none of them changes.
+fn settle(
+    alloc: Global,
+    machine: &Machine<'_>,
+    book: &mut Book,
+    groups: &mut Vec<Group>,
+    lives: &mut Vec<RegSet>,
+    after: RegSet,
+) -> Result<(), NoMemory>
+    requires ready { IsReadyFor machine.now book.old }
+    requires told { IsTold machine.now }
+    requires lives { map regs_of lives.old.items ≡ lives_of (operation_in machine.now) groups.old.items (regs_of after) }
+    requires start { PackedTo machine.now (regs_of after) 0 groups.old.items }
+    ensures grows { Extends book.old book.new }
+    ensures ready { IsReadyFor machine.now book.new }
+    ensures packing { OnOk result (Packing machine.now (regs_of after) groups.old.items groups.new.items) }
+{
+    let mut pair: usize = 0;
+    while pair < groups.len().saturating_sub(1) {
+        pair = turn(alloc, machine, book, groups, lives, pair, after)?;
+    }
+    Ok(())
+}
+
+// For each group the registers that are live behind it.
+fn live_behind(
+    alloc: Global,
+    machine: &Machine<'_>,
+    groups: &[Group],
+    after: RegSet,
+) -> Result<Vec<RegSet>, NoMemory>
+    requires { IsTold machine.now }
+    ensures { IfOk result (λ lives. map regs_of lives.items ≡ lives_of (operation_in machine.now) groups.now (regs_of after)) }
+{
+    let lives = live_with(
+        alloc,
+        machine.checked,
+        machine.patterns,
+        machine.pool,
+        machine.registers,
+        groups,
+        after,
+    )?;
+    Ok(lives.into_vec())
+}
+
+/// Packs the steps of a block into groups, each of which a word does at one clock edge, where `after` are live behind the block: bit `r` stands for
+/// the register of number `r`. From the front two neighbours are merged where they may be, or else the first movable step of the second moves to
+/// the first; after a change it goes on one group back. Each step has to have a word of its own that fits it, as `law_of_forms` of `block_words`
+/// says of the steps of forms. The book grows, and what it held means what it meant. Want of memory is the only refusal.
+pub fn pack(
+    alloc: Global,
+    checked: &Checked,
+    book: &mut Book,
+    pool: &Pool,
+    patterns: &Patterns,
+    steps: &[Step],
+    after: RegSet,
+) -> Result<Items<Group>, NoMemory>
+    requires ready { IsReady checked.now.netlist book.old pool.now patterns.now }
+    requires words { HaveWords checked.now.netlist pool.now patterns.now (singles steps.now) (regs_of after) }
+    ensures grows { Extends book.old book.new }
+    ensures ready { IsReady checked.now.netlist book.new pool.now patterns.now }
+
+    // the groups hold the same steps, each as often, and each group has a word and differing destinations, and so differing patterns
+    ensures steps { IfOk result (λ groups. IsPermutation steps.now (all_steps groups)) }
+    ensures differ { IfOk result (EachDiffers (step_operation pool.now patterns.now)) }
+    ensures once { IfOk result EachHasPatternsOnce }
+    ensures words { IfOk result (λ groups. HaveWords checked.now.netlist pool.now patterns.now groups (regs_of after)) }
+
+    ensures meaning { IfOk result (MeansSteps checked.now.netlist (step_operation pool.now patterns.now) (regs_of after) steps.now) }
+    ensures packed { IfOk result (ArePacked checked.now.netlist pool.now patterns.now (regs_of after)) }
+    ensures chosen { IfOk result (IsWritten checked.now.netlist pool.now patterns.now (regs_of after) (singles steps.now)) }
+{
+    // the netlist is read for what it keeps
+    let _netlist = checked.netlist();
+    let registers = reads_table(alloc, pool)?;
+    let memory = memory_table(alloc, pool)?;
+    let machine = Machine {
+        checked,
+        pool,
+        patterns,
+        registers: registers.as_slice(),
+        memory: memory.as_slice(),
+    };
+    let mut groups = singles(alloc, steps)?;
+    let mut lives = live_behind(alloc, &machine, groups.as_slice(), after)?;
+    settle(alloc, &machine, book, &mut groups, &mut lives, after)?;
+    Ok(Items::from_vec(groups))
+}

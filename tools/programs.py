@@ -1,0 +1,314 @@
+#!/usr/bin/env python3
+"""Compiles random programs for random small processors, runs them with `record go`, and holds every checkpoint against an interpreter of its own.
+
+Usage: programs.py BINARY [COUNT] [SEED]
+
+Each of COUNT runs (200 where none are given) makes a netlist and a program, and starts from random cells and registers. The lines of `go` have to
+show the stores that the interpreter below has before each test and at the end, each test always under one label, and each within one image length
+of clocks of the last. A run that is refused, for want of a cover for example, is counted and not compared.
+"""
+import collections
+import pathlib
+import random
+import subprocess
+import sys
+import tempfile
+
+CYCLES = 1500
+WORD = 1 << 16
+OPERATORS = {
+    '+': lambda a, b: a + b, '-': lambda a, b: a - b, '*': lambda a, b: a * b,
+    '&': lambda a, b: a & b, '|': lambda a, b: a | b, '^': lambda a, b: a ^ b,
+}
+GATES = {'+': 'add', '-': 'sub', '*': 'mul', '&': 'and', '|': 'or', '^': 'xor'}
+TESTS = {
+    '==': lambda a, b: a == b, '!=': lambda a, b: a != b, '<': lambda a, b: a < b, '<=': lambda a, b: a <= b,
+    '>': lambda a, b: a > b, '>=': lambda a, b: a >= b,
+    'slt': lambda a, b: signed(a) < signed(b), 'sle': lambda a, b: signed(a) <= signed(b),
+    'sgt': lambda a, b: signed(a) > signed(b), 'sge': lambda a, b: signed(a) >= signed(b),
+}
+
+
+def signed(value):
+    return value - WORD if value >= WORD // 2 else value
+
+
+class Fields:
+    """The fields of an instruction word, one after the other from bit 0."""
+
+    def __init__(self):
+        self.bits = 0
+
+    def take(self, width):
+        low = self.bits
+        self.bits += width
+        return f'I[{low + width - 1}:{low}]'
+
+
+def random_netlist(pick):
+    """The text of a processor with a few registers, the operators that it has, and its registers."""
+    fields = Fields()
+    registers = [f'R{k}' for k in range(pick.randint(1, 3))]
+    operators = ['+', '-'] + pick.sample('*&|^', pick.randint(0, 2))
+    encoded = pick.random() < 0.5
+    fields.take(8)
+    operation = fields.take(4) if encoded else None
+    lines = []
+    operands = ['read(M, f)'] * 3 + registers
+    if pick.random() < 0.5:
+        first, second = fields.take(1), fields.take(1)
+        lines.append(f'bus B : 16 {{ read(M, f) when {first}; {registers[-1]} when {second}; zext(f, 16) when and(not({first}), not({second})); }}')
+        operands += ['B', 'B']
+    codes = pick.sample(range(1, 16), 15)
+    for register in registers:
+        rows = ['read(M, f)', 'zext(f, 16)'] + [f'{GATES[o]}({register}, {pick.choice(operands)})' for o in operators]
+        rows += pick.sample([r for r in registers if r != register] + operands[3 + len(registers):], 1) if len(operands) > 4 else []
+        if pick.random() < 0.3 and register != 'R0':
+            rows = rows[:1] + rows[-1:]
+        if encoded:
+            mine, codes = codes[:len(rows)], codes[len(rows):] + codes[:len(rows)]
+            body = ' '.join(f'{code}: {row};' for code, row in zip(mine, rows))
+            enable = ', '.join(str(code) for code in sorted(mine))
+            lines.append(f'register {register} : 16 in case {operation} {{ {body} else: 0#16; }} '
+                         f'when case {operation} {{ {enable}: 1#1; else: 0#1; }};')
+        else:
+            selector = fields.take(3)
+            enable = fields.take(1) if pick.random() < 0.7 or register == 'R0' else enable
+            body = ' '.join(f'{k}: {row};' for k, row in enumerate(rows))
+            lines.append(f'register {register} : 16 in case {selector} {{ {body} else: {register}; }} when {enable};')
+    turns = [f'eq({pick.choice(registers[:2])}, 0#16)']
+    turns += [f'{order}({", ".join(pick.sample(registers, 2))})' for order in ('ltu', 'lts') if len(registers) > 1]
+    jump = fields.take(3)
+    rows = ' '.join(f'{k}: case {turn} {{ 1: f; 0: next; }};' for k, turn in enumerate(turns, 2))
+    lines.append(f'register PC : 8 in case {jump} {{ 1: f; {rows} else: next; }};')
+    stored = 'R0' if pick.random() < 0.7 else pick.choice(registers)
+    lines.append(f'memory M : 16 size 256 addr 8 write {stored} at f when {fields.take(1)};')
+    head = [f'code I : {fields.bits} size 256 at PC;', 'net f : 8 = I[7:0];', 'net next : 8 = add(PC, 1#8);']
+    return '\n'.join(head + lines) + '\n', operators, registers
+
+
+class Maker:
+    """A random program: its text and, beside it, a tree that the interpreter runs."""
+
+    def __init__(self, pick, operators):
+        self.pick, self.operators = pick, operators
+        self.plain, self.arrays = ['a', 'b', 'c'], {'x': 4}
+        self.counters = []
+        self.tests = 0
+        self.left = pick.randint(2, 9)
+
+    def leaf(self):
+        kind = self.pick.random()
+        if kind < 0.2:
+            return ('number', self.pick.choice([0, 1, 2, 5, 200, self.pick.randrange(256)]))
+        if kind < 0.4:
+            return ('element', 'x', ('number', self.pick.randrange(4)))
+        return ('plain', self.pick.choice(self.plain))
+
+    def value(self, depth):
+        if depth == 0 or self.pick.random() < 0.3:
+            return self.leaf()
+        return ('two', self.pick.choice(self.operators), self.value(depth - 1), self.value(depth - 1))
+
+    def test(self):
+        self.tests += 1
+        order = self.pick.choice(['==', '!=', self.pick.choice(sorted(TESTS))])
+        return (self.tests, order, self.value(1), self.leaf())
+
+    def statement(self, depth):
+        self.left -= 1
+        kind = self.pick.random()
+        if depth == 0 or kind < 0.55:
+            if self.pick.random() < 0.2:
+                return ('element', 'x', self.pick.randrange(4), self.value(2))
+            return ('assign', self.pick.choice(self.plain), self.value(2))
+        if kind < 0.8:
+            return ('if', self.test(), self.block(depth - 1), self.block(depth - 1) if self.pick.random() < 0.5 else None)
+        if kind < 0.9 or len(self.counters) == 2:
+            return ('while', self.test(), self.block(depth - 1))
+        counter = 'ij'[len(self.counters)]
+        self.counters.append(counter)
+        start = self.pick.randrange(3)
+        self.tests += 1
+        return ('for', counter, self.tests, start, max(0, start + self.pick.randrange(4) - 1), self.block(depth - 1))
+
+    def block(self, depth):
+        statements = []
+        while self.left > 0 and len(statements) < 3:
+            statements.append(self.statement(depth))
+            if self.pick.random() < 0.3:
+                break
+        return statements
+
+    def program(self):
+        statements = []
+        while self.left > 0:
+            statements.append(self.statement(2))
+        return statements
+
+
+def expression_text(e):
+    if e[0] == 'number':
+        return str(e[1])
+    if e[0] == 'plain':
+        return e[1]
+    if e[0] == 'element':
+        return f'{e[1]}[{expression_text(e[2])}]'
+    return f'({expression_text(e[2])} {e[1]} {expression_text(e[3])})'
+
+
+def test_text(t):
+    return f'{expression_text(t[2])} {t[1]} {expression_text(t[3])}'
+
+
+def block_text(block):
+    return '{ ' + ' '.join(statement_text(s) for s in block) + ' }'
+
+
+def statement_text(s):
+    if s[0] == 'assign':
+        return f'{s[1]} = {expression_text(s[2])};'
+    if s[0] == 'element':
+        return f'{s[1]}[{s[2]}] = {expression_text(s[3])};'
+    if s[0] == 'if':
+        other = f' else {block_text(s[3])}' if s[3] is not None else ''
+        return f'if {test_text(s[1])} {block_text(s[2])}{other}'
+    if s[0] == 'while':
+        return f'while {test_text(s[1])} {block_text(s[2])}'
+    return f'for {s[1]} = {s[3]} to {s[4]} {block_text(s[5])}'
+
+
+class Interpreter:
+    """Yields each test's number before it is decided, and None at the end; `cells` has the store by names."""
+
+    def __init__(self, cells):
+        self.cells = cells
+
+    def value(self, e):
+        if e[0] == 'number':
+            return e[1]
+        if e[0] == 'plain':
+            return self.cells[e[1]]
+        if e[0] == 'element':
+            return self.cells[f'{e[1]}[{self.value(e[2])}]']
+        return OPERATORS[e[1]](self.value(e[2]), self.value(e[3])) % WORD
+
+    def holds(self, t):
+        return TESTS[t[1]](self.value(t[2]), self.value(t[3]))
+
+    def run(self, block):
+        for s in block:
+            if s[0] == 'assign':
+                self.cells[s[1]] = self.value(s[2])
+            elif s[0] == 'element':
+                self.cells[f'{s[1]}[{s[2]}]'] = self.value(s[3])
+            elif s[0] == 'if':
+                yield s[1][0]
+                taken = s[2] if self.holds(s[1]) else s[3] or []
+                yield from self.run(taken)
+            elif s[0] == 'while':
+                yield s[1][0]
+                while self.holds(s[1]):
+                    yield from self.run(s[2])
+                    yield s[1][0]
+            else:
+                _, counter, number, start, last, body = s
+                self.cells[counter] = start
+                yield number
+                while self.cells[counter] != last + 1:
+                    yield from self.run(body)
+                    self.cells[counter] = (self.cells[counter] + 1) % WORD
+                    yield number
+
+
+def random_memory(pick, image, registers, cells):
+    """A memory text, which sets the cells of the store to random numbers, and registers."""
+    lines = [f'{r} {pick.randrange(WORD)}' for r in registers if pick.random() < 0.7]
+    written = {}
+    for line in image:
+        if line.startswith('place '):
+            _, name, address, length = line.split()
+            array = any(cell.startswith(name + '[') for cell in cells)
+            for k in range(int(length)):
+                written[int(address) + k] = f'{name}[{k}]' if array else name
+    for address, cell in sorted(written.items()):
+        cells[cell] = pick.choice([0, 1, 2, 3, pick.randrange(WORD)])
+        lines.append(f'M {address} {cells[cell]}')
+    for address in range(0, min(written, default=0)):
+        lines.append(f'M {address} {pick.randrange(WORD)}')
+    return ''.join(line + '\n' for line in lines)
+
+
+def differs(lines, program, cells, length):
+    """What is wrong with the lines that `go` wrote, or None."""
+    shown = {cell: 0 for cell in cells}
+    labels, last, source = {}, 0, Interpreter(cells)
+    expected = source.run(program)
+    for line in lines[:-1]:
+        words = line.split()
+        cycle, label = int(words[1]), words[2]
+        for change in words[3:]:
+            cell, value = change.split('=')
+            if shown[cell] == int(value):
+                return f'{line}: {cell} was told before'
+            shown[cell] = int(value)
+        test = next(expected, None)
+        if shown != source.cells:
+            return f'{line}: the store is {source.cells}'
+        if (test is None) != (label == 'end') or labels.setdefault(test, label) != label:
+            return f'{line}: the test is {test}'
+        if cycle - last > length:
+            return f'{line}: the last was at {last}'
+        last = cycle
+    if len(set(labels.values())) != len(labels):
+        return f'two tests have one label: {labels}'
+    ended = bool(lines[:-1]) and lines[-2].split()[2] == 'end'
+    if lines[-1] != ('end' if ended else 'budget') or not ended and CYCLES - last > length:
+        return f'{lines[-1]} after {last}'
+    return None
+
+
+def one(binary, folder, seed):
+    """What became of one run: what is wrong, or None, and how it is counted."""
+    pick = random.Random(seed)
+    netlist, operators, registers = random_netlist(pick)
+    maker = Maker(pick, operators)
+    program = maker.program()
+    source = 'var a, b, c, i, j, x[4];\n' + '\n'.join(statement_text(s) for s in program) + '\n'
+    net, src, mem = folder / 'n.rtn', folder / 'p.src', folder / 'm.mem'
+    net.write_text(netlist)
+    src.write_text(source)
+
+    def call(*words):
+        return subprocess.run([binary, *words], capture_output=True, text=True, timeout=60)
+
+    image = call('compile', net, src)
+    if image.returncode != 0:
+        return None, ' '.join(image.stdout.split()[:3])
+    cells = {cell: 0 for cell in ['a', 'b', 'c', 'i', 'j'] + [f'x[{k}]' for k in range(4)]}
+    image = image.stdout.split('\n')
+    mem.write_text(random_memory(pick, image, registers, cells))
+    went = call('go', net, src, mem, str(CYCLES))
+    if went.returncode != 0:
+        return f'status {went.returncode}: {went.stdout}', 'wrong'
+    found = differs(went.stdout.split('\n')[:-1], program, cells, int(image[0].split()[2]))
+    return found, 'wrong' if found else 'as it should be'
+
+
+def main():
+    binary = str(pathlib.Path(sys.argv[1]).resolve())
+    count = int(sys.argv[2]) if len(sys.argv) > 2 else 200
+    first = int(sys.argv[3]) if len(sys.argv) > 3 else 0
+    counts = collections.Counter()
+    with tempfile.TemporaryDirectory() as folder:
+        for seed in range(first, first + count):
+            found, kind = one(binary, pathlib.Path(folder), seed)
+            counts[kind] += 1
+            if found:
+                print(f'seed {seed}: {found}')
+    for kind, number in counts.most_common():
+        print(f'{number:6} {kind}')
+    sys.exit(1 if counts['wrong'] else 0)
+
+
+main()
