@@ -3,8 +3,8 @@
 
 Usage: short_memory.py BINARY
 
-Needs a C compiler, for a library that is loaded before the C library and counts the requests. On `compile`, `run` and
-`extract` of the examples each run has to end with status 11 and `error memory`, or with what the whole run answers.
+Needs a C compiler, for a library that is loaded before the C library and counts the requests. On all five forms of words
+each run has to end with status 11 and `error memory`, and nothing before it, or with what the whole run answers.
 """
 import os
 import pathlib
@@ -57,7 +57,11 @@ void *aligned_alloc(size_t align, size_t size) {
     return real(align, size);
 }
 '''
-CALLS = [['compile', 's8.rtn', 'two.src'], ['run', 'a16.rtn', 'sum.img', 'sum.mem', '4'], ['extract', 'a16.rtn'], ['extract', 'dsp.rtn']]
+CALLS = [
+    ['compile', 's8.rtn', 'two.src'], ['compile', 'a16.rtn', 'count.src'], ['compile', 'wide.rtn', 'levels.src'],
+    ['run', 'a16.rtn', 'sum.img', 'sum.mem', '4'], ['extract', 'a16.rtn'], ['extract', 'dsp.rtn'],
+    ['go', 'a16.rtn', 'count.src', 'sum.mem', '100'], ['make', '1'],
+]
 
 
 def main():
