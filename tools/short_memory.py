@@ -4,7 +4,8 @@
 Usage: short_memory.py BINARY
 
 Needs a C compiler, for a library that is loaded before the C library and counts the requests. On all five forms of words
-each run has to end with status 11 and `error memory`, and nothing before it, or with what the whole run answers.
+each run has to end with status 11 and `error memory`, or nothing, and with nothing before it, or with what the whole run answers. Those that
+say nothing are counted.
 """
 import os
 import pathlib
@@ -67,7 +68,7 @@ CALLS = [
 def main():
     binary = pathlib.Path(sys.argv[1]).resolve()
     examples = pathlib.Path(__file__).resolve().parent.parent / 'examples'
-    wrong = 0
+    wrong = silent = 0
     with tempfile.TemporaryDirectory() as folder:
         folder = pathlib.Path(folder)
         (folder / 'shim.c').write_text(SHIM)
@@ -83,11 +84,12 @@ def main():
                 run = subprocess.run([binary, *call], cwd=examples, capture_output=True, env=env)
                 if mark.exists():
                     break
+                silent += run.returncode == 11 and run.stdout == b''
                 if not (run.returncode == 11 and run.stdout in (b'', b'error memory\n')) and (run.returncode, run.stdout) != (whole.returncode, whole.stdout):
                     wrong += 1
                     print(f'{" ".join(call)}, request {number}: status {run.returncode}\n{run.stdout.decode(errors="replace")}{run.stderr.decode(errors="replace")}')
             print(f'{" ".join(call)}: {number - 1} requests failed in turn')
-    print(f'{wrong} wrong')
+    print(f'{silent} said nothing, {wrong} wrong')
     sys.exit(1 if wrong else 0)
 
 
