@@ -14,7 +14,7 @@ import subprocess
 import sys
 import tempfile
 
-STATUSES = {0, 2, 3, 5, 6, 7, 8, 10, 11, 12, 13, 14, 15}
+STATUSES = {0, 2, 3, 5, 6, 7, 8, 9, 10, 11, 12, 13}
 TOKENS = re.compile(r'//[^\n]*\n|\s+|\w+|.', re.S)
 RTN = '''code register memory net bus module part size at in out when addr write case else read slice zext sext cat add sub mul
 and or xor not neg shl shr sar eq ltu lts : ; , = . # ( ) { } [ ] 0 1 2 7 8 16 64 65 4096 65536 18446744073709551615

@@ -9,6 +9,8 @@ seconds or a gigabyte, and the exit status is 1 where there is one.
 """
 import os
 import pathlib
+import random
+import string
 import subprocess
 import sys
 import tempfile
@@ -56,6 +58,16 @@ def full_tree(depth):
     return 'a' if depth == 0 else f'({full_tree(depth - 1)}+{full_tree(depth - 1)})'
 
 
+LETTERS = [c for c in string.ascii_letters if c != 'x']
+
+
+def mixed_tree(depth, pick):
+    """A full binary tree of sums and differences of variables, few of whose subtrees are equal."""
+    if depth == 0:
+        return pick.choice(LETTERS)
+    return f'({mixed_tree(depth - 1, pick)}{pick.choice("+-")}{mixed_tree(depth - 1, pick)})'
+
+
 def long_name(number):
     return f'n{number:031d}'
 
@@ -72,14 +84,16 @@ def cases(examples):
     """Each case: its name, the words, and the files that it makes."""
     a16, dsp = (examples / 'a16.rtn').read_text(), (examples / 'dsp.rtn').read_text()
     accumulator = 'register A : 16 in {}when I[33];\n'
-    nets = ''.join(f'net {long_name(k)} : 16 = not(A);\n' for k in range(2030))
+    nets = ''.join(f'net {long_name(k)} : 16 = not(A);\n' for k in range(2041)) + 'net w : 16 = A;\n'
     trees = f'x={full_tree(7)[1:-1]};'
+    pick = random.Random(1)
     return [
-        ('a netlist with an expression of 63 levels', ['extract', 'n'], {'n': padded(IMMEDIATE + accumulator.format(nested(62) + ' '))}),
-        ('a netlist of 4,072 nets with names of 32 bytes', ['extract', 'n'], {'n': padded(IMMEDIATE + 'register A : 16 in I[15:0] when I[33];\n' + nets)}),
+        ('a netlist with an expression of 64 levels', ['extract', 'n'], {'n': padded(IMMEDIATE + accumulator.format(nested(64) + ' '))}),
+        ('a netlist of 4,096 nets with names of 32 bytes', ['extract', 'n'], {'n': padded(IMMEDIATE + 'register A : 16 in I[15:0] when I[33];\n' + nets)}),
         ('a netlist that is a comment to its end', ['extract', 'n'], {'n': IMMEDIATE + '//' + 'x' * (FULL - len(IMMEDIATE) - 2)}),
         ('a netlist of opening parentheses', ['extract', 'n'], {'n': IMMEDIATE + 'net x : 1 = ' + '(' * (FULL - len(IMMEDIATE) - 12)}),
         ('65,535 assignments', ['compile', 'n', 's'], {'n': IMMEDIATE, 's': padded('var a;' + 'a=1;' * 65535)}),
+        ('65,536 assignments', ['compile', 'n', 's'], {'n': IMMEDIATE, 's': padded('var a;' + 'a=1;' * 65536)}),
         ('65,537 assignments', ['compile', 'n', 's'], {'n': IMMEDIATE, 's': padded('var a;' + 'a=1;' * 65537)}),
         ('an array of 65,536', ['compile', 'n', 's'], {'n': IMMEDIATE, 's': padded('var x[65536]; x[65535] = 1;')}),
         ('variables with names of 32 bytes', ['compile', 'n', 's'], {'n': IMMEDIATE, 's': repeated('var a', lambda k: ',' + long_name(k), ';a=1;')}),
@@ -92,6 +106,7 @@ def cases(examples):
         ('a million clocks', ['go', 'n', 's', 'm', '1000000'], {'n': a16, 's': 'var a, b; while 1 != 0 { while a != 0 { a = a - 1; } b = b + 1; }', 'm': 'M 1 65535\n'}),
         ('the greatest made-up program', ['make', '1000'], {}),
         ('a megabyte of such sums, on dsp.rtn', ['compile', 'n', 's'], {'n': dsp, 's': repeated('var a,x;', lambda k: trees)}),
+        ('a megabyte of mixed sums and differences, on dsp.rtn', ['compile', 'n', 's'], {'n': dsp, 's': repeated(f'var x,{",".join(LETTERS)};', lambda k: f'x={mixed_tree(7, pick)[1:-1]};')}),
     ]
 
 

@@ -5,7 +5,8 @@ Usage: programs.py BINARY [COUNT] [SEED]
 
 Each of COUNT runs (200 where none are given) makes a netlist and a program, and starts from random cells and registers. The lines of `go` have to
 show the stores that the interpreter below has before each test and at the end, each test always under one label, and each within one image length
-of clocks of the last. A run that is refused, for want of a cover for example, is counted and not compared.
+of clocks of the last. Then `record run` clocks the image to one of these lines, and has to show the same store at that mark. A run that is refused,
+for want of a cover for example, is counted and not compared.
 """
 import collections
 import pathlib
@@ -20,6 +21,7 @@ OPERATORS = {
     '+': lambda a, b: a + b, '-': lambda a, b: a - b, '*': lambda a, b: a * b,
     '&': lambda a, b: a & b, '|': lambda a, b: a | b, '^': lambda a, b: a ^ b,
 }
+TARGETS = ['f', 'f', 'f', 'add(PC, f)', 'add(f, PC)', 'add(PC, zext(I[1:0], 8))', 'add(zext(I[2:0], 8), PC)', 'add(PC, sext(I[3:0], 8))']
 GATES = {'+': 'add', '-': 'sub', '*': 'mul', '&': 'and', '|': 'or', '^': 'xor'}
 TESTS = {
     '==': lambda a, b: a == b, '!=': lambda a, b: a != b, '<': lambda a, b: a < b, '<=': lambda a, b: a <= b,
@@ -43,6 +45,12 @@ class Fields:
         low = self.bits
         self.bits += width
         return f'I[{low + width - 1}:{low}]'
+
+
+def random_ways(pick):
+    """The two ways of a branch: to an address, or so many words on, where its condition is 1 or where it is 0."""
+    target = pick.choice(TARGETS)
+    return f'1: {target}; 0: next;' if pick.random() < 0.7 else f'0: {target}; 1: next;'
 
 
 def random_netlist(pick):
@@ -79,7 +87,7 @@ def random_netlist(pick):
     turns = [f'eq({pick.choice(registers[:2])}, 0#16)']
     turns += [f'{order}({", ".join(pick.sample(registers, 2))})' for order in ('ltu', 'lts') if len(registers) > 1]
     jump = fields.take(3)
-    rows = ' '.join(f'{k}: case {turn} {{ 1: f; 0: next; }};' for k, turn in enumerate(turns, 2))
+    rows = ' '.join(f'{k}: case {turn} {{ {random_ways(pick)} }};' for k, turn in enumerate(turns, 2))
     lines.append(f'register PC : 8 in case {jump} {{ 1: f; {rows} else: next; }};')
     stored = 'R0' if pick.random() < 0.7 else pick.choice(registers)
     lines.append(f'memory M : 16 size 256 addr 8 write {stored} at f when {fields.take(1)};')
@@ -221,22 +229,41 @@ class Interpreter:
                     yield number
 
 
-def random_memory(pick, image, registers, cells):
-    """A memory text, which sets the cells of the store to random numbers, and registers."""
-    lines = [f'{r} {pick.randrange(WORD)}' for r in registers if pick.random() < 0.7]
-    written = {}
+def addresses(image, cells):
+    """Which cell of the store each address holds, by the image's places."""
+    held = {}
     for line in image:
         if line.startswith('place '):
             _, name, address, length = line.split()
             array = any(cell.startswith(name + '[') for cell in cells)
             for k in range(int(length)):
-                written[int(address) + k] = f'{name}[{k}]' if array else name
-    for address, cell in sorted(written.items()):
+                held[int(address) + k] = f'{name}[{k}]' if array else name
+    return held
+
+
+def random_memory(pick, held, registers, cells):
+    """A memory text, which sets the cells of the store to random numbers, and registers."""
+    lines = [f'{r} {pick.randrange(WORD)}' for r in registers if pick.random() < 0.7]
+    for address, cell in sorted(held.items()):
         cells[cell] = pick.choice([0, 1, 2, 3, pick.randrange(WORD)])
         lines.append(f'M {address} {cells[cell]}')
-    for address in range(0, min(written, default=0)):
+    for address in range(0, min(held, default=0)):
         lines.append(f'M {address} {pick.randrange(WORD)}')
     return ''.join(line + '\n' for line in lines)
+
+
+def clocked_otherwise(state, image, held, line, shown):
+    """What differs between the state that `run` wrote and a line of `go`, behind which the store was `shown`; or None."""
+    words = [entry.split() for entry in state]
+    memory = {int(w[1]): int(w[2]) for w in words if w[0] == 'M'}
+    counter = next(int(w[1]) for w in words if w[0] == 'PC')
+    label = line.split()[2]
+    if f'mark {counter} {label}' not in image:
+        return f'{line}: run is at {counter}'
+    for address, cell in held.items():
+        if memory.get(address, 0) != shown[cell]:
+            return f'{line}: run has {memory.get(address, 0)} for {cell}'
+    return None
 
 
 def differs(lines, program, cells, length):
@@ -286,12 +313,25 @@ def one(binary, folder, seed):
     if image.returncode != 0:
         return None, ' '.join(image.stdout.split()[:3])
     cells = {cell: 0 for cell in ['a', 'b', 'c', 'i', 'j'] + [f'x[{k}]' for k in range(4)]}
+    (folder / 'p.img').write_text(image.stdout)
     image = image.stdout.split('\n')
-    mem.write_text(random_memory(pick, image, registers, cells))
+    held = addresses(image, cells)
+    mem.write_text(random_memory(pick, held, registers, cells))
+    shown = {cell: 0 for cell in cells}
     went = call('go', net, src, mem, str(CYCLES))
     if went.returncode != 0:
         return f'status {went.returncode}: {went.stdout}', 'wrong'
-    found = differs(went.stdout.split('\n')[:-1], program, cells, int(image[0].split()[2]))
+    lines = went.stdout.split('\n')[:-1]
+    found = differs(lines, program, cells, int(image[0].split()[2]))
+    if found or len(lines) < 2:
+        return found, 'wrong' if found else 'as it should be'
+    last = pick.randrange(len(lines) - 1)
+    for line in lines[:last + 1]:
+        shown.update((cell, int(value)) for cell, value in (change.split('=') for change in line.split()[3:]))
+    ran = call('run', net, folder / 'p.img', mem, lines[last].split()[1])
+    if ran.returncode != 0:
+        return f'run: status {ran.returncode}: {ran.stdout}', 'wrong'
+    found = clocked_otherwise(ran.stdout.split('\n')[1:-2], image, held, lines[last], shown)
     return found, 'wrong' if found else 'as it should be'
 
 

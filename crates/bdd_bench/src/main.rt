@@ -1,5 +1,16 @@
-//! Counts the nodes that some diagrams take, and asks a small book each question. The time that this takes is measured
-//! from outside.
+//! Counts the nodes that some diagrams take, and asks a small book each question. The time that
+//! this takes is measured from outside.
+//!
+//! It promises nothing but safety and an end: its functions have only the conditions under which
+//! `bit_bdd` may be called. What it prints is `stdout` beside `src/`. docs/BENCHMARKS.md has the
+//! times.
+//!
+//! Files:
+//!
+//! - `main`: the carry out of adders whose operands' bits lie in turn or apart, conjunctions of
+//!   random equalities over 48 bits, and the answers of a book of three bits.
+//! - `specs/`: empty but for its root.
+//! - `proofs/`: `carry_nodes/` and `equal_nodes/`, for the loops.
 #![tactic(auto)]
 
 ghost use Rattle.std.specs.Prelude.{◌≡◌, ◌+◌, ◌*◌, ◌<◌, ◌≤◌, length, IfOk};

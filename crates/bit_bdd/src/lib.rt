@@ -1,4 +1,27 @@
-//! Sets of words of up to 64 bits, as reduced ordered binary decision diagrams that share their nodes in one book.
+//! Sets of words of up to 64 bits, as reduced ordered binary decision diagrams that share their
+//! nodes in one book.
+//!
+//! Promise: `bit`, `and`, `or`, `not`, `ite`, `exists` and `fix` give exactly the set that their
+//! name says (`words`, in terms of `has_word`), and leave every node where it was, on want of
+//! memory too (`grows`: `Extends`). `holds`, `least` and `is_empty` tell of a set what it holds.
+//! Two ids of a book are equal exactly where their sets are (`canonical`: `IsCanonical`), and no id
+//! changes its set while the book grows (`keeps`: `KeepsWords`).
+//!
+//! Invariant: `IsBook` in `specs/Memo`. The two constants come first, each other node stands behind
+//! its two children, asks a higher bit than they, and has two different ones, and no two nodes are
+//! equal (`IsReducedBook` in `specs/Shape`); each result that is remembered is right. `make` is the
+//! one place that adds nodes.
+//!
+//! Files:
+//!
+//! - `lib`: `Book` with its public calls, then `choose` (and, or, not and if-then-else are cases of
+//!   it) and `project` (which forgets bits), each by recursion over levels with its remembered
+//!   results, and last `make`, `node`, `level`, `split`, `finished` and `remember`.
+//! - `specs/`: `Diagrams` is cited by public contracts; `Shape` and `Memo` say what a book keeps,
+//!   and stand in no public clause but through the invariant.
+//! - `proofs/`: `Canonical` and `Reduced` for equal sets, `Choice` and `Projection` for the
+//!   operations, `Words` from points to words, `Least`, `Memo`, and `CallerLemmas`, which callers
+//!   cite.
 #![tactic(auto)]
 
 ghost use Rattle.std.specs.Prelude.{◌≡◌, ℕ, ◌+◌, ◌<◌, ◌≤◌, [], ◌∷◌, length, IfOk, IfSome, IfNone, IsTrue, ◌&&◌, ◌||◌, ◌==◌, ◌^◌, ◌↔◌, true, false, not, if◌then◌else◌};

@@ -1,4 +1,25 @@
-//! Images of code, and in `specs/` what a netlist that is clocked on one shows and when it is right.
+//! Images of code, and in `specs/` what a netlist that is clocked on one shows and when it is
+//! right.
+//!
+//! Promise: `bytes_of` and `Limits::of` give what `specs/` defines: how many bytes a word fills,
+//! and the bits and the greatest number of words of a netlist's code. All else here is definitions:
+//! an image is right code where it `IsLaidOut` and `TracesRight`, which says of every start state
+//! and every m that the clocked netlist shows the first m checkpoints of a source, in time and
+//! without a clash, and that nothing changes after the end.
+//!
+//! Files:
+//!
+//! - `image`: an image: words with the patterns that are wanted of them, places, costs and marks.
+//! - `limits`: what an image has to keep to for a netlist.
+//! - `specs/`, cited by public contracts in the crates above: `Places` and `Layout` (words, labels,
+//!   and where variables stand), `Machine` (what is seen at marks), `Right` (right code),
+//!   `ImageText`, `ImageFits` and `ImageLines` (the text of an image, and which bytes are one),
+//!   `Words` (words that jump). The source is a parameter of `Right`: the trace of the language
+//!   stands in `src_model`.
+//! - `Flow` among these has `Reaches`, which the definition of placed words needs; the rest of it,
+//!   `Follows` above all, is what carries a proof from state to state.
+//! - `proofs/`: `Tracing`, `Heads` and `Flowing` from `Follows` to traces; `Ending`, `Fixed`,
+//!   `Stores`.
 #![tactic(auto)]
 
 mod image;

@@ -1,4 +1,33 @@
 //! Packing of a block's steps into groups, each of which one word does at one clock edge.
+//!
+//! Promise: `pack` gives groups that hold the steps, each as often (`steps`), with differing
+//! destinations and patterns (`differ`, `once`), each with a word that fits it (`words`); any words
+//! that fit them, clocked in order, leave what the steps leave (`meaning`: `MeansSteps`); no two
+//! neighbours may be merged and no step may move up (`packed`: `ArePacked`); and which packing it
+//! is, is settled (`chosen`: `IsWritten`, `law_of_choice`). `pattern_list` gives the numbers of a
+//! group's patterns, ascending.
+//!
+//! Invariant: before each turn of `settle` the pairs before the current one are settled (`PackedTo`
+//! in `specs/Machines`), and `lives` has the registers that are live behind each group. A turn
+//! keeps what the groups do in every state and what is live before them (`IsSame` in
+//! `specs/Turns`), so what was settled to the left stays so; after a change the packer goes on one
+//! pair back. A turn makes the list lighter or goes on by one pair, so it ends.
+//!
+//! Files:
+//!
+//! - `machine`: a netlist with its patterns, and which expressions read the memory.
+//! - `copies`: groups made of others.
+//! - `depends`: what steps of groups read and write of one another.
+//! - `change`: what is done with two neighbours: merge, move a step, or leave them; a word is
+//!   sought only where nothing else forbids the change.
+//! - `packer`: from pair to pair, and `pack`.
+//! - `list`: the list of a word's patterns.
+//! - `laws`: `law_of_choice`.
+//! - `specs/`: `Packing` (what may be merged or moved), `Meant`, `Chosen`, `Lists`, and of
+//!   `Machines` `ArePacked` and `IsWritten`, are cited by public contracts; the rest of `Machines`,
+//!   and `Turns`, mirror the packer; `Worked` is computed.
+//! - `proofs/`: `Effects`, `Leaving`, `Lives` for one change, `Turns` and `Packed` for the loop,
+//!   `Meaning`, `Choice`, `Ascending`, `Patterns`.
 #![tactic(auto)]
 
 mod change;

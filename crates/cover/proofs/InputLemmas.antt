@@ -7,6 +7,7 @@ use Rattle.std.proofs.lemmas.Option.{slice_get-map}
 use Rattle.net_model.specs.Terms.{Term, size_of}
 use Rattle.form_model.specs.Trees.{tree_term}
 use Rattle.form_model.specs.Covers.{Stock, Operand}
+use Rattle.form_model.specs.Rules.{Destination}
 use Rattle.cover.specs.declared.parts.OpenOperand.{OpenOperand}
 use Rattle.cover.specs.declared.parts.OpenCut.{OpenCut}
 use Rattle.cover.specs.Asks.{operand_ask, operands_size, rank}
@@ -64,6 +65,10 @@ pub cut_slot : IsSlot false 16
 cut_slot = record { within = omega arith; cut = λ e. refl }
 
 -- an entry of a row as what is asked for an operand
+pub register_ask : (r : ℕ) (t : Term) (w : Bool) (x : Operand) → (r ≡ x.id) × (r < 16) → t ≡ x.tree → w ≡ x.whole → row_ask t w r ≡ operand_ask x
+register_ask r t w x h et ew =
+    ap (λ u. row_ask u w r) et ∙ ap (λ v. row_ask x.tree v r) ew ∙ ap (row_ask x.tree x.whole) h.0 ∙ ap (λ (p : Destination). record { destination = p; tree = x.tree; whole = x.whole }) (slot_reg x.id (let e = h.0 in let l = h.1 in omega (arith, e, l)))
+
 pub register_least : (stock : Stock) (avoid r : ℕ) (x : Operand) (o : Option ℕ) → (r ≡ x.id) × (r < 16) → IsLeast stock avoid (row_ask x.tree x.whole r) o → IsLeast stock avoid (operand_ask x) o
 register_least stock avoid r x o h is =
     subst (λ p. IsLeast stock avoid (record { destination = p; tree = x.tree; whole = x.whole }) o) (slot_reg x.id (let e = h.0 in let l = h.1 in omega (arith, e, l)))

@@ -6,8 +6,11 @@ mod LeastLemmas
 mod OfferLemmas
 mod InputLemmas
 mod TableLemmas
+mod EntryLemmas
+mod SharingLemmas
 mod StartLemmas
 mod ChoiceLemmas
+mod MatchLemmas
 mod FitLemmas
 mod OrderlyLemmas
 mod BestLemmas

@@ -72,12 +72,6 @@ whole_job tested t = whole_tree t
 pub nodes_hold : (destination : Destination) (u : Term) (n : ℕ) (t : Term) → slice_get (job_nodes destination u) n ≡ Some t → Holds (job_nodes destination u) n t
 nodes_hold destination u n t h k s get = whole_job destination u n t k s h get
 
-pub into_stands : (nodes : List Term) (n id : ℕ) (t : Term) → Holds nodes n t → Stands nodes n (into id) t
-into_stands nodes n id t h = record { address = tt; value = h }
-
-pub cut_stands : (nodes : List Term) (n : ℕ) (t : Term) → Holds nodes n t → Stands nodes n temporary t
-cut_stands nodes n t h = record { address = tt; value = h }
-
 from_start : (xs : List Term) (k : ℕ) (s : Term) → slice_get xs k ≡ Some s → slice_get xs (0 + k) ≡ Some s
 from_start xs k s h = let e : 0 + k ≡ k = omega arith in ap (slice_get xs) e ∙ h
 

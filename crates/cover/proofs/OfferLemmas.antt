@@ -11,6 +11,8 @@ use Rattle.form_model.specs.Plans.{Plan, use_form, Operands, no_operands, operan
 use Rattle.form_model.specs.Covers.{Stock, Operand, operands_of, cuts_of}
 use Rattle.cover.specs.declared.rows.ChainRule.{ChainRule}
 use Rattle.cover.specs.declared.rows.Offer.{Offer}
+use Rattle.cover.specs.declared.matches.FormMatch.{FormMatch}
+use Rattle.cover.specs.Matched.{Takes}
 use Rattle.cover.specs.declared.rows.Offer.TheVariants.{Nothing, Chains, Reaches}
 use Rattle.cover.specs.Asks.{operand_ask, cut_ask, takes, IsSparing, AreSparing, AreStored, rest}
 use Rattle.cover.specs.Least.{AtMost, Reached, IsLeastForm}
@@ -147,12 +149,12 @@ module _ (stock : Stock) (avoid : ℕ) (t : Term) (whole : Bool) (k : ℕ) where
 
 -- ---- rows
 
-get_old : {X : Type 0} (xs : List X) (y x : X) (i : ℕ) → slice_get xs i ≡ Some x → slice_get (xs ++ (y ∷ [])) i ≡ Some x
+pub get_old : {X : Type 0} (xs : List X) (y x : X) (i : ℕ) → slice_get xs i ≡ Some x → slice_get (xs ++ (y ∷ [])) i ≡ Some x
 get_old [] y x i h = absurd (cc)
 get_old (z ∷ xs) y x zero h = h
 get_old (z ∷ xs) y x (suc i) h = get_old xs y x i h
 
-get_new : {X : Type 0} (xs : List X) (y : X) → slice_get (xs ++ (y ∷ [])) (length xs) ≡ Some y
+pub get_new : {X : Type 0} (xs : List X) (y : X) → slice_get (xs ++ (y ∷ [])) (length xs) ≡ Some y
 get_new [] y = refl
 get_new (z ∷ xs) y = get_new xs y
 
@@ -163,11 +165,11 @@ get_either (z ∷ xs) y x zero h = inl h
 get_either (z ∷ xs) y x (suc i) h = get_either xs y x i h
 
 module _ (stock : Stock) (avoid : ℕ) (t : Term) (whole : Bool) where
-  pub tried_none : (row : Row) → ((r : ℕ) → entry row r ≡ None) → IsTried stock avoid t whole 0 [] row
-  tried_none row blank = record {
+  pub tried_none : (list : List FormMatch) (row : Row) → ((r : ℕ) → entry row r ≡ None) → IsTried stock avoid t whole list 0 [] row
+  tried_none list row blank = record {
     sound = λ r slot. subst (λ o. Reached stock avoid (row_ask t whole r) o) (sym (blank r)) tt;
     lifts = λ i m get. absurd (cc);
-    met = λ k ps cs r lt. absurd (omega arith);
+    met = λ i f ps cs r lt. absurd (omega arith);
   }
 
   pub lifts_within : (chains : List ChainRule) → AreLifts stock avoid t whole chains → AreWithin chains
@@ -181,49 +183,58 @@ module _ (stock : Stock) (avoid : ℕ) (t : Term) (whole : Bool) where
   lower_met chains old new r n lower (inl h) = inl (lower r n h)
   lower_met chains old new r n lower (inr h) = inr h
 
-  pub tried_more : (n : ℕ) (offer : Offer) (chains chains' : List ChainRule) (old new : Row) → IsTried stock avoid t whole n chains old → IsOffer stock avoid t whole n offer → Noted offer chains chains' old new → IsTried stock avoid t whole (n + 1) chains' new
-  tried_more n Nothing chains chains' old new tried offer (e, e') =
-      subst (λ ms. IsTried stock avoid t whole (n + 1) ms new) (sym e) (subst (λ row. IsTried stock avoid t whole (n + 1) chains row) (sym e') (record {
-        sound = tried.sound;
-        lifts = tried.lifts;
-        met = λ k ps cs r lt slot sparing. elim (cases_eq k n) [
-          | inl at ↦ absurd (offer ps cs r slot (subst (λ j. IsSparing stock avoid (row_ask t whole r) (use_form j ps cs)) at sparing))
-          | inr other ↦ tried.met k ps cs r (omega arith) slot sparing
-        ];
-      }))
-  tried_more n (Chains m) chains chains' old new tried (lift, offer) (e, e') =
-      subst (λ ms. IsTried stock avoid t whole (n + 1) ms new) (sym e) (subst (λ row. IsTried stock avoid t whole (n + 1) (chains ++ (m ∷ [])) row) (sym e') (record {
-        sound = tried.sound;
-        lifts = λ i m' get. elim (get_either chains m m' i get) [
-          | inl before ↦ tried.lifts i m' before
-          | inr same ↦ subst (IsLift stock avoid t whole) (sym same) lift
-        ];
-        met = λ k ps cs r lt slot sparing. elim (cases_eq k n) [
-          | inl at ↦ (let (goal, q, sparing', le) = offer ps cs r slot (subst (λ j. IsSparing stock avoid (row_ask t whole r) (use_form j ps cs)) at sparing) in
-              inr (length chains, m, get_new chains m, goal, q, sparing', le))
-          | inr other ↦ more_met chains m old r (cost (use_form k ps cs)) (tried.met k ps cs r (omega arith) slot sparing)
-        ];
-      }))
-  tried_more n (Reaches d c) chains chains' old new tried (slot_d, reached, offer) (e, entered) =
-      subst (λ ms. IsTried stock avoid t whole (n + 1) ms new) (sym e) (record {
-        sound = λ q slot. elim (entered.others q) [
-          | inl same ↦ subst (λ o. Reached stock avoid (row_ask t whole q) o) (sym same) (tried.sound q slot)
-          | inr at ↦ subst (λ o. Reached stock avoid (row_ask t whole q) o) (sym at.1) (subst (λ j. Reached stock avoid (row_ask t whole j) (Some c)) (sym at.0) reached)
-        ];
-        lifts = tried.lifts;
-        met = λ k ps cs r lt slot sparing. elim (cases_eq k n) [
-          | inl at ↦ (let (goal, le) = offer ps cs r slot (subst (λ j. IsSparing stock avoid (row_ask t whole r) (use_form j ps cs)) at sparing) in
-              inl (subst (λ j. AtMost (entry new j) (cost (use_form k ps cs))) goal (at_most_more (entry new d) c (cost (use_form k ps cs)) le entered.at)))
-          | inr other ↦ lower_met chains old new r (cost (use_form k ps cs)) entered.lower (tried.met k ps cs r (omega arith) slot sparing)
-        ];
-      })
+  module _ (list : List FormMatch) (n : ℕ) (f : FormMatch) (here : slice_get list n ≡ Some f) where
+    -- a cover that begins with a match at n begins with the form of f
+    at_match : (i : ℕ) (x : FormMatch) (ps : Operands) (cs : Cuts) (r : ℕ) → i ≡ n → slice_get list i ≡ Some x → IsSparing stock avoid (row_ask t whole r) (use_form x.form ps cs) → IsSparing stock avoid (row_ask t whole r) (use_form f.form ps cs)
+    at_match i x ps cs r at got sparing =
+        let there : slice_get list n ≡ Some x = subst (λ j. slice_get list j ≡ Some x) at got in
+        let same : x ≡ f = cc in subst (λ (y : FormMatch). IsSparing stock avoid (row_ask t whole r) (use_form y.form ps cs)) same sparing
 
-  module _ (chains : List ChainRule) (old new : Row) (tried : IsTried stock avoid t whole (length stock.rules) chains old) (closed : IsClosed chains old new) where
+    pub tried_more : (offer : Offer) (chains chains' : List ChainRule) (old new : Row) → IsTried stock avoid t whole list n chains old → IsOffer stock avoid t whole f.form offer → Noted offer chains chains' old new → IsTried stock avoid t whole list (n + 1) chains' new
+    tried_more Nothing chains chains' old new tried offer (e, e') =
+        subst (λ ms. IsTried stock avoid t whole list (n + 1) ms new) (sym e) (subst (λ row. IsTried stock avoid t whole list (n + 1) chains row) (sym e') (record {
+          sound = tried.sound;
+          lifts = tried.lifts;
+          met = λ i x ps cs r lt got slot sparing. elim (cases_eq i n) [
+            | inl at ↦ absurd (offer ps cs r slot (at_match i x ps cs r at got sparing))
+            | inr other ↦ tried.met i x ps cs r (omega arith) got slot sparing
+          ];
+        }))
+    tried_more (Chains m) chains chains' old new tried (lift, offer) (e, e') =
+        subst (λ ms. IsTried stock avoid t whole list (n + 1) ms new) (sym e) (subst (λ row. IsTried stock avoid t whole list (n + 1) (chains ++ (m ∷ [])) row) (sym e') (record {
+          sound = tried.sound;
+          lifts = λ i m' get. elim (get_either chains m m' i get) [
+            | inl before ↦ tried.lifts i m' before
+            | inr same ↦ subst (IsLift stock avoid t whole) (sym same) lift
+          ];
+          met = λ i x ps cs r lt got slot sparing. elim (cases_eq i n) [
+            | inl at ↦ (let (goal, q, sparing', le) = offer ps cs r slot (at_match i x ps cs r at got sparing) in
+                inr (length chains, m, get_new chains m, goal, q, sparing', le))
+            | inr other ↦ more_met chains m old r (cost (use_form x.form ps cs)) (tried.met i x ps cs r (omega arith) got slot sparing)
+          ];
+        }))
+    tried_more (Reaches d c) chains chains' old new tried (slot_d, reached, offer) (e, entered) =
+        subst (λ ms. IsTried stock avoid t whole list (n + 1) ms new) (sym e) (record {
+          sound = λ q slot. elim (entered.others q) [
+            | inl same ↦ subst (λ o. Reached stock avoid (row_ask t whole q) o) (sym same) (tried.sound q slot)
+            | inr at ↦ subst (λ o. Reached stock avoid (row_ask t whole q) o) (sym at.1) (subst (λ j. Reached stock avoid (row_ask t whole j) (Some c)) (sym at.0) reached)
+          ];
+          lifts = tried.lifts;
+          met = λ i x ps cs r lt got slot sparing. elim (cases_eq i n) [
+            | inl at ↦ (let (goal, le) = offer ps cs r slot (at_match i x ps cs r at got sparing) in
+                inl (subst (λ j. AtMost (entry new j) (cost (use_form x.form ps cs))) goal (at_most_more (entry new d) c (cost (use_form x.form ps cs)) le entered.at)))
+            | inr other ↦ lower_met chains old new r (cost (use_form x.form ps cs)) entered.lower (tried.met i x ps cs r (omega arith) got slot sparing)
+          ];
+        })
+
+  module _ (list : List FormMatch) (all : (k : ℕ) → Takes stock t whole k → (i : ℕ) × (m : FormMatch) × (slice_get list i ≡ Some m) × (m.form ≡ k)) (chains : List ChainRule) (old new : Row) (tried : IsTried stock avoid t whole list (length list) chains old) (closed : IsClosed chains old new) where
     -- no cover is cheaper than its entry, by induction on a bound of its cost
     complete : (n : ℕ) (p : Plan) (r : ℕ) → cost p ≤ n → IsSlot whole r → IsSparing stock avoid (row_ask t whole r) p → AtMost (entry new r) (cost p)
     complete zero (use_form k ps cs) r le slot sparing = absurd (omega arith)
     complete (suc n) (use_form k ps cs) r le slot (rule, get, spared, found, is, orders, stored) =
-        go (complete n) (tried.met k ps cs r (slice_get_within stock.rules k rule get) slot (rule, get, spared, found, is, orders, stored))
+        let (i, f, got, same) = all k (record { entry = r; slot = slot; rule = rule; found = found; listed = get; takes_it = is }) in
+        go (complete n)
+        (tried.met i f ps cs r (slice_get_within list i f got) got slot (subst (λ j. IsSparing stock avoid (row_ask t whole r) (use_form j ps cs)) (sym same) (rule, get, spared, found, is, orders, stored)))
       where
         go : ((q : Plan) (s : ℕ) → cost q ≤ n → IsSlot whole s → IsSparing stock avoid (row_ask t whole s) q → AtMost (entry new s) (cost q)) → IsMet stock avoid t whole chains old r (cost (use_form k ps cs)) → AtMost (entry new r) (cost (use_form k ps cs))
         go ih (inl h) = closed.lower r (cost (use_form k ps cs)) h

@@ -1,5 +1,5 @@
 -- What is asked for, and covers that spare a set of registers.
-use Rattle.std.specs.Prelude.{ℕ, ◌+◌, ◌≡◌, ◌^◌, ◌==◌, ◌&&◌, Bool, false, if◌then◌else◌, List, [], ◌∷◌, Option, Some, None, slice_get, remove, bit_or, bit_and}
+use Rattle.std.specs.Prelude.{ℕ, ◌+◌, ◌≡◌, ◌^◌, ◌==◌, ◌&&◌, ◌||◌, nat_lt, Bool, false, if◌then◌else◌, List, [], ◌∷◌, Option, Some, None, slice_get, remove, bit_or, bit_and}
 use Rattle.net_model.specs.Terms.{Term, size_of}
 use Rattle.form_model.specs.Rules.{Rule, Destination, into, temporary}
 use Rattle.form_model.specs.Matches.{Site, operand, cut, Found, taken}
@@ -65,3 +65,8 @@ abbrev pub rest : ℕ → Bool → List Site → Option ℕ
 rest size free (operand id tree whole ∷ []) = if size_of tree == size then Some id else None
 rest size free (cut shape tree ∷ []) = if free && (size_of tree == size) then Some 16 else None
 rest size free _ = None
+
+-- the same from that where there is nothing to avoid: a register stays
+abbrev pub start_under : Option ℕ → Bool → Option ℕ
+start_under None free = None
+start_under (Some q) free = if free || nat_lt q 16 then Some q else None

@@ -10,6 +10,10 @@ use Rattle.tree_grammar.specs.Parts.{destination_at, Stands}
 use Rattle.cover.specs.declared.table.Instance.{Instance}
 use Rattle.cover.specs.declared.fits.Want.{Want}
 use Rattle.cover.specs.declared.fits.Fit.{Fit}
+use Rattle.cover.specs.declared.choice.PartCosts.{PartCosts}
+use Rattle.cover.specs.declared.matches.FormMatch.{FormMatch}
+use Rattle.cover.specs.declared.matches.Matches.{Matches}
+use Rattle.cover.specs.Rows.{row_ask}
 use Rattle.cover.specs.declared.parts.OpenOperand.{OpenOperand}
 use Rattle.cover.specs.declared.parts.OpenCut.{OpenCut}
 use Rattle.cover.specs.Asks.{Ask, operand_ask, cut_ask, with_reg, takes, IsSparing, AreSparing, AreStored}
@@ -50,6 +54,23 @@ NeverBegins stock avoid ask n k = (ps : Operands) (cs : Cuts) → IsSparing stoc
 abbrev pub Begins : Stock → ℕ → Ask → ℕ → ℕ → Option Fit → Type 0
 Begins stock avoid ask n k None = NeverBegins stock avoid ask n k
 Begins stock avoid ask n k (Some f) = Fits stock avoid ask k (open_operands f.operands.items) (open_cuts f.cuts.items) f.operands_cost f.cuts_cost × (1 + f.operands_cost + f.cuts_cost ≡ n)
+
+-- what is asked for an entry of the row of the matches' tree
+abbrev pub matches_ask : Matches → ℕ → Ask
+matches_ask ms slot = row_ask (tree_term ms.tree.now) ms.whole slot
+
+-- the two costs, where the form makes n with them
+abbrev pub CostsOf : ℕ → Option ℕ → Option ℕ → Option PartCosts → Type 0
+CostsOf n a b None = (j k : ℕ) → a ≡ Some j → b ≡ Some k → 1 + j + k ≢ n
+CostsOf n a b (Some c) = (a ≡ Some c.operands) × (b ≡ Some c.cuts) × (1 + c.operands + c.cuts ≡ n)
+
+-- the match begins a cover of cost n, and these are the costs of its parts
+abbrev pub BeginsOne : Stock → ℕ → Ask → ℕ → FormMatch → Option PartCosts → Type 0
+BeginsOne stock avoid ask n m None = NeverBegins stock avoid ask n m.form
+BeginsOne stock avoid ask n m (Some c) = Fits stock avoid ask m.form (open_operands m.operands.items) (open_cuts m.cuts.items) c.operands c.cuts × (1 + c.operands + c.cuts ≡ n)
+
+abbrev pub BeginsAt : Stock → ℕ → Matches → ℕ → ℕ → ℕ → Option PartCosts → Type 0
+BeginsAt stock avoid ms slot n i o = (m : FormMatch) → slice_get ms.list.items i ≡ Some m → BeginsOne stock avoid (matches_ask ms slot) n m o
 
 -- the operand at i begins an order of cost n, and itself costs m
 abbrev pub Starts : Stock → ℕ → List Operand → ℕ → ℕ → Option ℕ → Type 0

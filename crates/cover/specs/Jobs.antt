@@ -1,5 +1,5 @@
 -- What the code's values stand for, and the numbers of a job's trees.
-use Rattle.std.specs.Prelude.{ℕ, ◌≡◌, List, [], ◌∷◌, ◌++◌, map, Option, Some, slice_get, length}
+use Rattle.std.specs.Prelude.{◌≡◌, List, [], ◌∷◌, ◌++◌, map, Some, slice_get}
 use Rattle.net_model.specs.Terms.{Term}
 use Rattle.form_model.specs.Trees.{tree_term}
 use Rattle.form_model.specs.Rules.{Destination, into, cell, stored, temporary, tested, rules_of}
@@ -13,10 +13,6 @@ use Rattle.tree_grammar.specs.declared.parts.Part.TheVariants
 use Rattle.cover.specs.declared.table.Instance.{Instance}
 use Rattle.cover.specs.declared.parts.OpenOperand.{OpenOperand}
 use Rattle.cover.specs.declared.parts.OpenCut.{OpenCut}
-use Rattle.cover.specs.declared.table.Key.{Key}
-use Rattle.std.specs.declared.vec.Vec.{Vec}
-use Rattle.std.specs.declared.alloc.Global.{Global}
-use Rattle.cover.specs.Rows.{Row, IsLeastRow}
 
 abbrev pub stock_of : Instance → Stock
 stock_of s = record { rules = rules_of s.forms.now; temps = s.temps }
@@ -52,16 +48,6 @@ OperandsAt nodes (i ∷ is) = (slice_get nodes i.at ≡ Some (tree_term i.tree.n
 abbrev pub CutsAt : List Term → List OpenCut → Type 0
 CutsAt nodes [] = Unit {0}
 CutsAt nodes (s ∷ ss) = (slice_get nodes s.at ≡ Some (tree_term s.tree.now)) × CutsAt nodes ss
-
--- the row is the least of the tree of its key
-pub record IsRight (instance : Instance) (key : Key) (row : Row) : Type 0 where
-  pub len : length row ≡ 17
-  pub least : (t : Term) → slice_get (nodes_of instance) key.number ≡ Some t → IsLeastRow (stock_of instance) key.avoid t key.whole row
-
--- each row that is kept is right
-abbrev pub AreRight : Instance → List (Key × Vec (Option ℕ) Global) → Type 0
-AreRight instance [] = Unit {0}
-AreRight instance (e ∷ es) = IsRight instance e.0 e.1.items × AreRight instance es
 
 -- the list has one more item where the part is an operand
 abbrev pub HasOperand : Part → List OpenOperand → List OpenOperand → Type 0

@@ -7,6 +7,7 @@ use Rattle.form_model.specs.Plans.{Plan, use_form, Operands, Cuts, cost}
 use Rattle.form_model.specs.Covers.{Stock}
 use Rattle.cover.specs.declared.rows.ChainRule.{ChainRule}
 use Rattle.cover.specs.declared.rows.Offer.{Offer}
+use Rattle.cover.specs.declared.matches.FormMatch.{FormMatch}
 use Rattle.cover.specs.declared.rows.Offer.TheVariants.{Nothing, Chains, Reaches}
 use Rattle.cover.specs.Asks.{Ask, IsSparing}
 use Rattle.cover.specs.Least.{AtMost, Reached, IsLeast}
@@ -69,11 +70,11 @@ abbrev pub IsMet : Stock → ℕ → Term → Bool → List ChainRule → Row �
 IsMet stock avoid tree whole chains row r n =
     AtMost (entry row r) n ⊎ ((i : ℕ) × (m : ChainRule) × (slice_get chains i ≡ Some m) × (m.goal ≡ r) × (q : Plan) × IsSparing stock avoid (row_ask tree whole m.start) q × (cost q + 1 ≤ n))
 
--- what is known of a tree after the first n forms were tried
-pub record IsTried (stock : Stock) (avoid : ℕ) (tree : Term) (whole : Bool) (n : ℕ) (chains : List ChainRule) (row : Row) : Type 0 where
+-- what is known of a tree after the first n matches were tried
+pub record IsTried (stock : Stock) (avoid : ℕ) (tree : Term) (whole : Bool) (list : List FormMatch) (n : ℕ) (chains : List ChainRule) (row : Row) : Type 0 where
   pub sound : Sound stock avoid tree whole row
   pub lifts : AreLifts stock avoid tree whole chains
-  pub met : (k : ℕ) (ps : Operands) (cs : Cuts) (r : ℕ) → k < n → IsSlot whole r → IsSparing stock avoid (row_ask tree whole r) (use_form k ps cs) → IsMet stock avoid tree whole chains row r (cost (use_form k ps cs))
+  pub met : (i : ℕ) (m : FormMatch) (ps : Operands) (cs : Cuts) (r : ℕ) → i < n → slice_get list i ≡ Some m → IsSlot whole r → IsSparing stock avoid (row_ask tree whole r) (use_form m.form ps cs) → IsMet stock avoid tree whole chains row r (cost (use_form m.form ps cs))
 
 -- what the form at k gives: nothing, a chain rule, or a cost of its entry
 abbrev pub IsOffer : Stock → ℕ → Term → Bool → ℕ → Offer → Type 0

@@ -1,26 +1,38 @@
 //! The first cover of least cost: its form, then the order of its operands, then their covers, and those of its cuts.
 
-ghost use Rattle.std.specs.Prelude.{◌≡◌, ℕ, ◌+◌, ◌-◌, ◌<◌, ◌≤◌, ◌≢◌, Some, IfOk, OnOk, IfSome, IfNone, length};
+ghost use Rattle.std.specs.Prelude.{◌≡◌, ℕ, ◌+◌, ◌-◌, ◌<◌, ◌≤◌, ◌≢◌, Some, IfOk, OnOk, IfSome, IfNone, length, slice_get};
 ghost use Rattle.form_model.specs.Plans.{operand_then, cut_then, plan_of, operands_plan, cuts_plan};
 ghost use Rattle.cover.specs.Asks.{rest};
 ghost use Rattle.cover.specs.Least.{IsLeast, IsLeastOrder, IsLeastCut};
-ghost use Rattle.cover.specs.Choice.{ask_of, StandsWant, Begins, Starts, StartsCut, IsFirst, IsFirstOrder, IsFirstCuts};
-ghost use Rattle.cover.specs.Jobs.{stock_of, nodes_of, open_operands, open_cuts, OperandsAt, CutsAt, AreRight};
+ghost use Rattle.form_model.specs.Trees.{tree_term};
+ghost use Rattle.cover.specs.Rows.{IsSlot, row_ask};
+ghost use Rattle.cover.specs.Matched.{AreMatches};
+ghost use Rattle.cover.specs.Choice.{ask_of, matches_ask, StandsWant, Begins, BeginsAt, CostsOf, Starts, StartsCut, IsFirst, IsFirstOrder, IsFirstCuts};
+ghost use Rattle.cover.specs.Jobs.{stock_of, nodes_of, open_operands, open_cuts, OperandsAt, CutsAt};
+ghost use Rattle.cover.specs.Tables.{AreRight};
 
+use crate::costs::plus;
 use crate::fits::{Fit, Want, cost_of, fit_at};
-use crate::least::{least, orders};
+use crate::least::{cuts_cost, least, orders};
+use crate::matches::Matches;
 use crate::parts::{OpenCut, OpenOperand, put_reg, register_of, without};
-use crate::table::{CostTable, Instance};
-use form_model::{Cover, CoverCuts, CoverOperands, RegSet};
+use crate::table::{CostTable, Instance, matches_at};
+use form_model::{Cover, CoverCuts, CoverOperands, RegSet, Tree};
 use rec_bits::NoMemory;
 use std::alloc::Global;
-use tree_grammar::Destination;
+
+// The least costs of a match's operands and of its cuts.
+#[derive(Clone, Copy)]
+pub struct PartCosts {
+    pub operands: u64,
+    pub cuts: u64,
+}
 
 // The parts of the match of the form at `k`, if it begins a cover of the least cost `n`.
 fn begins<'a>(
     alloc: Global,
     instance: &Instance<'a>,
-    table: &mut CostTable,
+    table: &mut CostTable<'a>,
     want: &Want<'a>,
     avoid: RegSet,
     n: u64,
@@ -29,11 +41,11 @@ fn begins<'a>(
     requires form { k < length instance.now.forms.now }
     requires least { IsLeast (stock_of instance.now) avoid (ask_of want.now) (Some n) }
     requires stands { StandsWant instance.now want.now }
-    requires right { AreRight instance.now table.old.rows.entries }
+    requires right { AreRight instance.now table.old }
     ensures begins { IfOk result (λ o. Begins (stock_of instance.now) avoid (ask_of want.now) n k o) }
     ensures at { IfOk result (λ o. IfSome o (λ f. OperandsAt (nodes_of instance.now) f.operands.items)) }
     ensures cuts_at { IfOk result (λ o. IfSome o (λ f. CutsAt (nodes_of instance.now) f.cuts.items)) }
-    ensures right { OnOk result (AreRight instance.now table.new.rows.entries) }
+    ensures right { OnOk result (AreRight instance.now table.new) }
 {
     let Some(fit) = fit_at(alloc, instance, table, want, avoid, k)? else {
         return Ok(None);
@@ -56,11 +68,11 @@ fn if_sum(n: u64, a: Option<u64>, b: Option<u64>) -> Option<u64>
 }
 
 // The cost of the operand at `i`, if it begins an order of the least cost `n`.
-fn starts(
+fn starts<'a>(
     alloc: Global,
-    instance: &Instance,
-    table: &mut CostTable,
-    ops: &[OpenOperand],
+    instance: &Instance<'a>,
+    table: &mut CostTable<'a>,
+    ops: &[OpenOperand<'a>],
     avoid: RegSet,
     n: u64,
     i: usize,
@@ -68,9 +80,9 @@ fn starts(
     requires place { i < length ops.now }
     requires least { IsLeastOrder (stock_of instance.now) avoid (open_operands ops.now) (Some n) }
     requires at { OperandsAt (nodes_of instance.now) ops.now }
-    requires right { AreRight instance.now table.old.rows.entries }
+    requires right { AreRight instance.now table.old }
     ensures starts { IfOk result (λ o. Starts (stock_of instance.now) avoid (open_operands ops.now) n i o) }
-    ensures right { OnOk result (AreRight instance.now table.new.rows.entries) }
+    ensures right { OnOk result (AreRight instance.now table.new) }
 {
     let first = ops[i];
     let slot = register_of(first.id)?;
@@ -91,19 +103,19 @@ fn starts(
 }
 
 // The cost of the first cut, which is a part of the least cost `n` of the cuts.
-fn first_cut(
+fn first_cut<'a>(
     alloc: Global,
-    instance: &Instance,
-    table: &mut CostTable,
-    cuts: &[OpenCut],
+    instance: &Instance<'a>,
+    table: &mut CostTable<'a>,
+    cuts: &[OpenCut<'a>],
     n: u64,
 ) -> Result<u64, NoMemory>
     requires some { 0 < length cuts.now }
     requires least { IsLeastCut (stock_of instance.now) (open_cuts cuts.now) (Some n) }
     requires at { CutsAt (nodes_of instance.now) cuts.now }
-    requires right { AreRight instance.now table.old.rows.entries }
+    requires right { AreRight instance.now table.old }
     ensures starts { IfOk result (λ m. StartsCut (stock_of instance.now) (open_cuts cuts.now) n m) }
-    ensures right { OnOk result (AreRight instance.now table.new.rows.entries) }
+    ensures right { OnOk result (AreRight instance.now table.new) }
 {
     let first = cuts[0];
     let Some(m) = least(alloc, instance, table, first.tree, first.at, false, 16, 0)? else {
@@ -112,21 +124,20 @@ fn first_cut(
     Ok(m)
 }
 
-// The first cover of the least cost `n`.
-#[cycle(choosing)]
+// The first cover of the least cost `n` of what is asked for at the root.
 pub(crate) fn choose<'a>(
     alloc: Global,
     instance: &Instance<'a>,
-    table: &mut CostTable,
+    table: &mut CostTable<'a>,
     want: &Want<'a>,
     avoid: RegSet,
     n: u64,
 ) -> Result<Cover, NoMemory>
     requires least { IsLeast (stock_of instance.now) avoid (ask_of want.now) (Some n) }
     requires stands { StandsWant instance.now want.now }
-    requires right { AreRight instance.now table.old.rows.entries }
+    requires right { AreRight instance.now table.old }
     ensures first { IfOk result (λ c. IsFirst (stock_of instance.now) avoid (ask_of want.now) (plan_of c)) }
-    ensures right { OnOk result (AreRight instance.now table.new.rows.entries) }
+    ensures right { OnOk result (AreRight instance.now table.new) }
 {
     for k in 0..instance.forms.len() {
         if let Some(fit) = begins(alloc, instance, table, want, avoid, n, k)? {
@@ -141,6 +152,115 @@ pub(crate) fn choose<'a>(
             let cuts = choose_cuts(alloc, instance, table, &fit.cuts, fit.cuts_cost)?;
             return Ok(Cover {
                 form: k,
+                operands,
+                cuts,
+            });
+        }
+    }
+    unreachable!()
+}
+
+// The costs of a match's operands and of its cuts, where the form makes `n` with them.
+fn costs_of(n: u64, operands: Option<u64>, cuts: Option<u64>) -> Result<Option<PartCosts>, NoMemory>
+    ensures { IfOk result (λ o. CostsOf n operands cuts o) }
+{
+    let (Some(operands), Some(cuts)) = (operands, cuts) else {
+        return Ok(None);
+    };
+    if plus(plus(1, operands)?, cuts)? != n {
+        return Ok(None);
+    }
+    Ok(Some(PartCosts { operands, cuts }))
+}
+
+// The least costs of the parts of the match at `i`, if it begins a cover of the least cost `n` for the entry.
+fn begins_at<'a>(
+    alloc: Global,
+    instance: &Instance<'a>,
+    table: &mut CostTable<'a>,
+    matches: &Matches<'a>,
+    slot: u8,
+    avoid: RegSet,
+    n: u64,
+    i: usize,
+) -> Result<Option<PartCosts>, NoMemory>
+    requires place { i < length matches.now.list.items }
+    requires slot { IsSlot matches.now.whole slot }
+    requires least { IsLeast (stock_of instance.now) avoid (matches_ask matches.now slot) (Some n) }
+    requires matches { AreMatches instance.now matches.now }
+    requires right { AreRight instance.now table.old }
+    ensures begins { IfOk result (λ o. BeginsAt (stock_of instance.now) avoid matches.now slot n i o) }
+    ensures right { OnOk result (AreRight instance.now table.new) }
+{
+    let found = &matches.list[i];
+    if found.goal != slot {
+        return Ok(None);
+    }
+    if found.clobbers & avoid != 0 {
+        return Ok(None);
+    }
+    let a = orders(alloc, instance, table, &found.operands, avoid)?;
+    let b = cuts_cost(alloc, instance, table, &found.cuts)?;
+    costs_of(n, a, b)
+}
+
+// The first cover of the least cost `n` of a tree for an entry of its row.
+#[cycle(choosing)]
+fn choose_entry<'a>(
+    alloc: Global,
+    instance: &Instance<'a>,
+    table: &mut CostTable<'a>,
+    tree: &'a Tree,
+    number: u64,
+    whole: bool,
+    slot: u8,
+    avoid: RegSet,
+    n: u64,
+) -> Result<Cover, NoMemory>
+    requires slot { IsSlot whole slot }
+    requires least { IsLeast (stock_of instance.now) avoid (row_ask (tree_term tree.now) whole slot) (Some n) }
+    requires number { slice_get (nodes_of instance.now) number ≡ Some (tree_term tree.now) }
+    requires right { AreRight instance.now table.old }
+    ensures first { IfOk result (λ c. IsFirst (stock_of instance.now) avoid (row_ask (tree_term tree.now) whole slot) (plan_of c)) }
+    ensures right { OnOk result (AreRight instance.now table.new) }
+{
+    let matches = matches_at(alloc, instance, table, tree, number, whole)?;
+    let cover = choose_among(alloc, instance, table, &matches, slot, avoid, n)?;
+    Ok(cover)
+}
+
+// The same among the covers that begin with one of the matches of the tree.
+#[cycle(choosing)]
+fn choose_among<'a>(
+    alloc: Global,
+    instance: &Instance<'a>,
+    table: &mut CostTable<'a>,
+    matches: &Matches<'a>,
+    slot: u8,
+    avoid: RegSet,
+    n: u64,
+) -> Result<Cover, NoMemory>
+    requires slot { IsSlot matches.now.whole slot }
+    requires least { IsLeast (stock_of instance.now) avoid (matches_ask matches.now slot) (Some n) }
+    requires matches { AreMatches instance.now matches.now }
+    requires right { AreRight instance.now table.old }
+    ensures first { IfOk result (λ c. IsFirst (stock_of instance.now) avoid (matches_ask matches.now slot) (plan_of c)) }
+    ensures right { OnOk result (AreRight instance.now table.new) }
+{
+    for i in 0..matches.list.len() {
+        if let Some(costs) = begins_at(alloc, instance, table, matches, slot, avoid, n, i)? {
+            let found = &matches.list[i];
+            let operands = choose_order(
+                alloc,
+                instance,
+                table,
+                &found.operands,
+                avoid,
+                costs.operands,
+            )?;
+            let cuts = choose_cuts(alloc, instance, table, &found.cuts, costs.cuts)?;
+            return Ok(Cover {
+                form: found.form,
                 operands,
                 cuts,
             });
@@ -180,16 +300,16 @@ fn cut_first(alloc: Global, first: Cover, rest: CoverCuts) -> Result<CoverCuts, 
 fn choose_order<'a>(
     alloc: Global,
     instance: &Instance<'a>,
-    table: &mut CostTable,
+    table: &mut CostTable<'a>,
     ops: &[OpenOperand<'a>],
     avoid: RegSet,
     n: u64,
 ) -> Result<CoverOperands, NoMemory>
     requires least { IsLeastOrder (stock_of instance.now) avoid (open_operands ops.now) (Some n) }
     requires at { OperandsAt (nodes_of instance.now) ops.now }
-    requires right { AreRight instance.now table.old.rows.entries }
+    requires right { AreRight instance.now table.old }
     ensures first { IfOk result (λ c. IsFirstOrder (stock_of instance.now) avoid (open_operands ops.now) (operands_plan c)) }
-    ensures right { OnOk result (AreRight instance.now table.new.rows.entries) }
+    ensures right { OnOk result (AreRight instance.now table.new) }
 {
     if ops.is_empty() {
         return Ok(CoverOperands::Empty);
@@ -197,13 +317,18 @@ fn choose_order<'a>(
     for i in 0..ops.len() {
         if let Some(m) = starts(alloc, instance, table, ops, avoid, n, i)? {
             let first = ops[i];
-            let want = Want {
-                destination: Destination::Register(first.id),
-                tree: first.tree,
-                whole: first.whole,
-                at: first.at,
-            };
-            let here = choose(alloc, instance, table, &want, avoid, m)?;
+            let slot = register_of(first.id)?;
+            let here = choose_entry(
+                alloc,
+                instance,
+                table,
+                first.tree,
+                first.at,
+                first.whole,
+                slot,
+                avoid,
+                m,
+            )?;
             let rest = without(alloc, ops, i)?;
             let later = put_reg(avoid, first.id)?;
             let others = choose_order(alloc, instance, table, &rest, later, n - m)?;
@@ -218,28 +343,24 @@ fn choose_order<'a>(
 fn choose_cuts<'a>(
     alloc: Global,
     instance: &Instance<'a>,
-    table: &mut CostTable,
+    table: &mut CostTable<'a>,
     cuts: &[OpenCut<'a>],
     n: u64,
 ) -> Result<CoverCuts, NoMemory>
     requires least { IsLeastCut (stock_of instance.now) (open_cuts cuts.now) (Some n) }
     requires at { CutsAt (nodes_of instance.now) cuts.now }
-    requires right { AreRight instance.now table.old.rows.entries }
+    requires right { AreRight instance.now table.old }
     ensures first { IfOk result (λ c. IsFirstCuts (stock_of instance.now) (open_cuts cuts.now) (cuts_plan c)) }
-    ensures right { OnOk result (AreRight instance.now table.new.rows.entries) }
+    ensures right { OnOk result (AreRight instance.now table.new) }
 {
     if cuts.is_empty() {
         return Ok(CoverCuts::Empty);
     }
     let m = first_cut(alloc, instance, table, cuts, n)?;
     let first = cuts[0];
-    let want = Want {
-        destination: Destination::Temp,
-        tree: first.tree,
-        whole: false,
-        at: first.at,
-    };
-    let here = choose(alloc, instance, table, &want, 0, m)?;
+    let here = choose_entry(
+        alloc, instance, table, first.tree, first.at, false, 16, 0, m,
+    )?;
     let later = choose_cuts(alloc, instance, table, &cuts[1..], n - m)?;
     cut_first(alloc, here, later)
 }

@@ -3,7 +3,8 @@
 ghost use Rattle.std.specs.Prelude.{◌≡◌, ◌+◌, ◌<◌, IfOk, OnOk, IfSome, length};
 ghost use Rattle.cover.specs.Least.{IsLeast, IsLeastForm};
 ghost use Rattle.cover.specs.Choice.{ask_of, StandsWant, IsFit, FitOf};
-ghost use Rattle.cover.specs.Jobs.{stock_of, nodes_of, OperandsAt, CutsAt, AreRight};
+ghost use Rattle.cover.specs.Jobs.{stock_of, nodes_of, OperandsAt, CutsAt};
+ghost use Rattle.cover.specs.Tables.{AreRight};
 
 use crate::costs::{lesser_of, plus};
 use crate::least::{cuts_cost, orders};
@@ -36,18 +37,18 @@ pub struct Fit<'a> {
 pub(crate) fn fit_at<'a>(
     alloc: Global,
     instance: &Instance<'a>,
-    table: &mut CostTable,
+    table: &mut CostTable<'a>,
     want: &Want<'a>,
     avoid: RegSet,
     k: usize,
 ) -> Result<Option<Fit<'a>>, NoMemory>
     requires form { k < length instance.now.forms.now }
     requires stands { StandsWant instance.now want.now }
-    requires right { AreRight instance.now table.old.rows.entries }
+    requires right { AreRight instance.now table.old }
     ensures fit { IfOk result (λ o. IsFit (stock_of instance.now) avoid (ask_of want.now) k o) }
     ensures at { IfOk result (λ o. IfSome o (λ f. OperandsAt (nodes_of instance.now) f.operands.items)) }
     ensures cuts_at { IfOk result (λ o. IfSome o (λ f. CutsAt (nodes_of instance.now) f.cuts.items)) }
-    ensures right { OnOk result (AreRight instance.now table.new.rows.entries) }
+    ensures right { OnOk result (AreRight instance.now table.new) }
 {
     let form = &instance.forms[k];
     if form.clobbers & avoid != 0 {
@@ -102,15 +103,15 @@ pub(crate) fn cost_of(fit: &Fit) -> Result<u64, NoMemory>
 fn form_least<'a>(
     alloc: Global,
     instance: &Instance<'a>,
-    table: &mut CostTable,
+    table: &mut CostTable<'a>,
     want: &Want<'a>,
     k: usize,
 ) -> Result<Option<u64>, NoMemory>
     requires form { k < length instance.now.forms.now }
     requires stands { StandsWant instance.now want.now }
-    requires right { AreRight instance.now table.old.rows.entries }
+    requires right { AreRight instance.now table.old }
     ensures least { IfOk result (λ o. IsLeastForm (stock_of instance.now) 0 (ask_of want.now) k o) }
-    ensures right { OnOk result (AreRight instance.now table.new.rows.entries) }
+    ensures right { OnOk result (AreRight instance.now table.new) }
 {
     let Some(fit) = fit_at(alloc, instance, table, want, 0, k)? else {
         return Ok(None);
@@ -122,13 +123,13 @@ fn form_least<'a>(
 pub(crate) fn least_of<'a>(
     alloc: Global,
     instance: &Instance<'a>,
-    table: &mut CostTable,
+    table: &mut CostTable<'a>,
     want: &Want<'a>,
 ) -> Result<Option<u64>, NoMemory>
     requires stands { StandsWant instance.now want.now }
-    requires right { AreRight instance.now table.old.rows.entries }
+    requires right { AreRight instance.now table.old }
     ensures least { IfOk result (λ o. IsLeast (stock_of instance.now) 0 (ask_of want.now) o) }
-    ensures right { OnOk result (AreRight instance.now table.new.rows.entries) }
+    ensures right { OnOk result (AreRight instance.now table.new) }
 {
     let mut best = None;
     for k in 0..instance.forms.len() {

@@ -13,9 +13,8 @@ ghost use Rattle.cover.specs.Jobs.{trees_of, stock_of};
 use crate::choice::choose;
 use crate::covers::{CoverFault, JobCover, TreeCover};
 use crate::fits::{Want, least_of};
-use crate::table::{CostTable, Instance};
+use crate::table::{Instance, new_table};
 use form_model::{Aim, Form, Forms, Job};
-use indexmap::IndexMap;
 use rec_bits::NoMemory;
 use std::alloc::Global;
 use tree_grammar::Destination;
@@ -24,9 +23,7 @@ use tree_grammar::Destination;
 fn cover_tree(alloc: Global, instance: &Instance) -> Result<Option<TreeCover>, NoMemory>
     ensures { IfOk result (λ o. IsTreeCover (stock_of instance.now) (root_ask (destination_at instance.now.destination) (tree_term instance.now.tree.now)) o) }
 {
-    let mut table = CostTable {
-        rows: IndexMap::new(alloc),
-    };
+    let mut table = new_table(alloc, instance)?;
     let want = Want {
         destination: instance.destination,
         tree: instance.tree,

@@ -3,28 +3,29 @@
 ghost use Rattle.std.specs.Prelude.{◌≡◌, ◌<◌, Some, IfOk, OnOk, vec_len, length, slice_get};
 ghost use Rattle.form_model.specs.Trees.{tree_term};
 ghost use Rattle.cover.specs.Least.{IsLeast, IsLeastOrder, IsLeastFrom, IsLeastCut};
-ghost use Rattle.cover.specs.Rows.{row_ask, IsSlot, IsLeastRow, IsOffer};
-ghost use Rattle.cover.specs.Jobs.{stock_of, nodes_of, open_operands, open_cuts, OperandsAt, CutsAt, AreRight};
+ghost use Rattle.cover.specs.Rows.{row_ask, IsSlot, IsLeastRow};
+ghost use Rattle.cover.specs.Jobs.{stock_of, nodes_of, open_operands, open_cuts, OperandsAt, CutsAt};
+ghost use Rattle.cover.specs.Matched.{AreMatches, IsOfferAt};
+ghost use Rattle.cover.specs.Tables.{AreRight};
 
 use crate::costs::{lesser_of, sum_of};
-use crate::parts::{
-    OpenCut, OpenOperand, cuts_in, operands_in, put_reg, register_of, rest_of, without,
-};
-use crate::rows::{ChainRule, Offer, close, destination_of_entry, goal_of, note, offer_of};
-use crate::table::{CostTable, Instance, Key, keep, kept};
+use crate::matches::{Matches, start_of};
+use crate::parts::{OpenCut, OpenOperand, put_reg, register_of, without};
+use crate::rows::{ChainRule, Offer, close, note, offer_of};
+use crate::sharing::first_equal;
+use crate::table::{CostTable, Instance, Key, keep, kept, matches_at};
 use form_model::{RegSet, Tree};
 use rec_bits::NoMemory;
 use smallvec::SmallVec;
 use std::alloc::Global;
-use tree_grammar::{match_at, tree_size};
 
 // The least cost of the covers of a tree for an entry of its row that write none of the registers to avoid. The tree's row is found once.
 #[cycle(covering)]
-pub(crate) fn least(
+pub(crate) fn least<'a>(
     alloc: Global,
-    instance: &Instance,
-    table: &mut CostTable,
-    tree: &Tree,
+    instance: &Instance<'a>,
+    table: &mut CostTable<'a>,
+    tree: &'a Tree,
     number: u64,
     whole: bool,
     slot: u8,
@@ -32,111 +33,115 @@ pub(crate) fn least(
 ) -> Result<Option<u64>, NoMemory>
     requires slot { IsSlot whole slot }
     requires number { slice_get (nodes_of instance.now) number ≡ Some (tree_term tree.now) }
-    requires right { AreRight instance.now table.old.rows.entries }
+    requires right { AreRight instance.now table.old }
     ensures least { IfOk result (λ o. IsLeast (stock_of instance.now) avoid (row_ask (tree_term tree.now) whole slot) o) }
-    ensures right { OnOk result (AreRight instance.now table.new.rows.entries) }
+    ensures right { OnOk result (AreRight instance.now table.new) }
 {
     let key = Key {
-        number,
+        number: first_equal(&table.firsts, number),
         whole,
         avoid,
     };
     if let Some(cost) = kept(instance, table, key, slot) {
         return Ok(cost);
     }
-    let row = least_row(alloc, instance, table, tree, number, whole, avoid)?;
+    let row = least_row(alloc, instance, table, tree, key.number, whole, avoid)?;
     let cost = row[slot as usize];
     keep(instance, table, key, row)?;
     Ok(cost)
 }
 
-// The row of least costs of a tree: what each form gives, closed under the chain rules.
+// The row of least costs of a tree.
 #[cycle(covering)]
-fn least_row(
+fn least_row<'a>(
     alloc: Global,
-    instance: &Instance,
-    table: &mut CostTable,
-    tree: &Tree,
+    instance: &Instance<'a>,
+    table: &mut CostTable<'a>,
+    tree: &'a Tree,
     number: u64,
     whole: bool,
     avoid: RegSet,
 ) -> Result<Vec<Option<u64>>, NoMemory>
     requires number { slice_get (nodes_of instance.now) number ≡ Some (tree_term tree.now) }
-    requires right { AreRight instance.now table.old.rows.entries }
+    requires right { AreRight instance.now table.old }
     ensures len { IfOk result (λ row. vec_len row ≡ 17) }
     ensures least { IfOk result (λ row. IsLeastRow (stock_of instance.now) avoid (tree_term tree.now) whole row.items) }
-    ensures right { OnOk result (AreRight instance.now table.new.rows.entries) }
+    ensures right { OnOk result (AreRight instance.now table.new) }
+{
+    let matches = matches_at(alloc, instance, table, tree, number, whole)?;
+    let row = row_of(alloc, instance, table, &matches, avoid)?;
+    Ok(row)
+}
+
+// The row of the tree of the matches: what each of them gives, closed under the chain rules.
+#[cycle(covering)]
+fn row_of<'a>(
+    alloc: Global,
+    instance: &Instance<'a>,
+    table: &mut CostTable<'a>,
+    matches: &Matches<'a>,
+    avoid: RegSet,
+) -> Result<Vec<Option<u64>>, NoMemory>
+    requires matches { AreMatches instance.now matches.now }
+    requires right { AreRight instance.now table.old }
+    ensures len { IfOk result (λ row. vec_len row ≡ 17) }
+    ensures least { IfOk result (λ row. IsLeastRow (stock_of instance.now) avoid (tree_term matches.now.tree.now) matches.now.whole row.items) }
+    ensures right { OnOk result (AreRight instance.now table.new) }
 {
     let mut row = vec![in alloc; None; 17]?;
     let mut chains = SmallVec::new(alloc);
-    for k in 0..instance.forms.len() {
-        let offer = offer_at(alloc, instance, table, tree, number, whole, avoid, k)?;
+    for i in 0..matches.list.len() {
+        let offer = offer_at(alloc, instance, table, matches, avoid, i)?;
         note(offer, &mut chains, &mut row)?;
     }
     close(&chains, &mut row)?;
     Ok(row)
 }
 
-// What the form at `k` gives for the row of a tree.
+// What the match at `i` gives for the row of a tree.
 #[cycle(covering)]
-fn offer_at(
+fn offer_at<'a>(
     alloc: Global,
-    instance: &Instance,
-    table: &mut CostTable,
-    tree: &Tree,
-    number: u64,
-    whole: bool,
+    instance: &Instance<'a>,
+    table: &mut CostTable<'a>,
+    matches: &Matches<'a>,
     avoid: RegSet,
-    k: usize,
+    i: usize,
 ) -> Result<Offer, NoMemory>
-    requires form { k < length instance.now.forms.now }
-    requires number { slice_get (nodes_of instance.now) number ≡ Some (tree_term tree.now) }
-    requires right { AreRight instance.now table.old.rows.entries }
-    ensures offer { IfOk result (λ l. IsOffer (stock_of instance.now) avoid (tree_term tree.now) whole k l) }
-    ensures right { OnOk result (AreRight instance.now table.new.rows.entries) }
+    requires place { i < length matches.now.list.items }
+    requires matches { AreMatches instance.now matches.now }
+    requires right { AreRight instance.now table.old }
+    ensures offer { IfOk result (λ l. IsOfferAt (stock_of instance.now) avoid matches.now i l) }
+    ensures right { OnOk result (AreRight instance.now table.new) }
 {
-    let form = &instance.forms[k];
-    let Some(goal) = goal_of(form, whole)? else {
-        return Ok(Offer::Nothing);
-    };
-    if form.clobbers & avoid != 0 {
+    let found = &matches.list[i];
+    if found.clobbers & avoid != 0 {
         return Ok(Offer::Nothing);
     }
-    let Some(found) = match_at(
-        alloc,
-        form,
-        destination_of_entry(goal),
-        tree,
-        whole,
-        instance.temps,
-        number,
-    )?
-    else {
-        return Ok(Offer::Nothing);
-    };
-    if let Some(start) = rest_of(&found.parts, tree_size(tree)?, avoid == 0)? {
-        return Ok(Offer::Chains(ChainRule { start, goal }));
+    if let Some(start) = start_of(found, avoid) {
+        return Ok(Offer::Chains(ChainRule {
+            start,
+            goal: found.goal,
+        }));
     }
-    let operands = operands_in(alloc, &found.parts)?;
-    let cuts = cuts_in(alloc, &found.parts)?;
-    let a = orders(alloc, instance, table, &operands, avoid)?;
-    let b = cuts_cost(alloc, instance, table, &cuts)?;
-    Ok(offer_of(goal, sum_of(sum_of(Some(1), a)?, b)?))
+    let a = orders(alloc, instance, table, &found.operands, avoid)?;
+    let b = cuts_cost(alloc, instance, table, &found.cuts)?;
+    Ok(offer_of(found.goal, sum_of(sum_of(Some(1), a)?, b)?))
 }
 
 // The least cost of the operands, over their orders.
 #[cycle(covering)]
-pub(crate) fn orders(
+pub(crate) fn orders<'a>(
     alloc: Global,
-    instance: &Instance,
-    table: &mut CostTable,
-    ops: &[OpenOperand],
+    instance: &Instance<'a>,
+    table: &mut CostTable<'a>,
+    ops: &[OpenOperand<'a>],
     avoid: RegSet,
 ) -> Result<Option<u64>, NoMemory>
     requires at { OperandsAt (nodes_of instance.now) ops.now }
-    requires right { AreRight instance.now table.old.rows.entries }
+    requires right { AreRight instance.now table.old }
     ensures least { IfOk result (λ o. IsLeastOrder (stock_of instance.now) avoid (open_operands ops.now) o) }
-    ensures right { OnOk result (AreRight instance.now table.new.rows.entries) }
+    ensures right { OnOk result (AreRight instance.now table.new) }
 {
     if ops.is_empty() {
         return Ok(Some(0));
@@ -149,25 +154,25 @@ pub(crate) fn orders(
     Ok(best)
 }
 
-// The least cost of the operands, over the orders that begin with the one at `i`.
+// The least cost of the operands, over the orders that begin with the one at `i`. What follows isn't asked for where that has no cover.
 #[cycle(covering)]
-fn orders_from(
+fn orders_from<'a>(
     alloc: Global,
-    instance: &Instance,
-    table: &mut CostTable,
-    ops: &[OpenOperand],
+    instance: &Instance<'a>,
+    table: &mut CostTable<'a>,
+    ops: &[OpenOperand<'a>],
     avoid: RegSet,
     i: usize,
 ) -> Result<Option<u64>, NoMemory>
     requires place { i < length ops.now }
     requires at { OperandsAt (nodes_of instance.now) ops.now }
-    requires right { AreRight instance.now table.old.rows.entries }
+    requires right { AreRight instance.now table.old }
     ensures least { IfOk result (λ o. IsLeastFrom (stock_of instance.now) avoid (open_operands ops.now) i o) }
-    ensures right { OnOk result (AreRight instance.now table.new.rows.entries) }
+    ensures right { OnOk result (AreRight instance.now table.new) }
 {
     let first = ops[i];
     let slot = register_of(first.id)?;
-    let m = least(
+    let Some(m) = least(
         alloc,
         instance,
         table,
@@ -176,25 +181,31 @@ fn orders_from(
         first.whole,
         slot,
         avoid,
-    )?;
+    )?
+    else {
+        return Ok(None);
+    };
+    if ops.len() == 1 {
+        return Ok(Some(m));
+    }
     let rest = without(alloc, ops, i)?;
     let later = put_reg(avoid, first.id)?;
     let n = orders(alloc, instance, table, &rest, later)?;
-    sum_of(m, n)
+    sum_of(Some(m), n)
 }
 
 // The least cost of the cuts.
 #[cycle(covering)]
-pub(crate) fn cuts_cost(
+pub(crate) fn cuts_cost<'a>(
     alloc: Global,
-    instance: &Instance,
-    table: &mut CostTable,
-    cuts: &[OpenCut],
+    instance: &Instance<'a>,
+    table: &mut CostTable<'a>,
+    cuts: &[OpenCut<'a>],
 ) -> Result<Option<u64>, NoMemory>
     requires at { CutsAt (nodes_of instance.now) cuts.now }
-    requires right { AreRight instance.now table.old.rows.entries }
+    requires right { AreRight instance.now table.old }
     ensures least { IfOk result (λ o. IsLeastCut (stock_of instance.now) (open_cuts cuts.now) o) }
-    ensures right { OnOk result (AreRight instance.now table.new.rows.entries) }
+    ensures right { OnOk result (AreRight instance.now table.new) }
 {
     if cuts.is_empty() {
         return Ok(Some(0));

@@ -1,5 +1,30 @@
-//! Control as sets of instruction words: for each bit of a static net in a control place the words under which it is 1, and the words
-//! under which no bus clashes.
+//! Control as sets of instruction words: for each bit of a static net in a control place the words
+//! under which it is 1, and the words under which no bus clashes.
+//!
+//! Promise: `controls` gives for each bit of each static net in a control place the set of exactly
+//! the words under which it is 1, and the set of exactly the words without a clash, or
+//! `AlwaysClash` exactly where there is none (`control`: `IsControl`, `HasCause`). The book is only
+//! extended (`grows`). `bits_of` finds the sets of a net, and `equals` gives the words at which
+//! such bits give a number. No step goes over the words.
+//!
+//! Invariant: the table of sets is filled in the order of the checked netlist, for the nets that
+//! control needs alone, so the sets of the nets that a gate names are there before its own. Bits
+//! stand with the lowest first.
+//!
+//! Files:
+//!
+//! - `flags`: flags of nets.
+//! - `places`: the nets in control places, and all that they depend on.
+//! - `bits`: numbers whose bits are sets of words.
+//! - `gates`: the bits of a gate's value, from those of the nets that it names.
+//! - `table`: the bits of each net that control needs.
+//! - `legal`: the words under which no bus clashes.
+//! - `control`: `controls`.
+//! - `lib`: `ControlBits`, with `bits_of`, and `CtlFault`.
+//! - `specs/`: `Controls`, `Places`, and parts of `Bits` and `Tables` are cited by public
+//!   contracts; the rest of these, and `Flags`, mirror loops.
+//! - `proofs/`: `Filling` and `Needed` for the table, `Values`, `Numbers`, `Rows` and `Bools` for
+//!   gates, `Clashes` and `Enables` for buses, `Sets`, `CallerLemmas`.
 #![tactic(auto)]
 
 mod bits;

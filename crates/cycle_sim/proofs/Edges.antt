@@ -1,5 +1,5 @@
 -- A clock, from the values of all nets.
-use Rattle.std.proofs.Common.{◌≡◌, ℕ, ◌^◌, ◌<◌, List, [], ◌∷◌, Option, Some, None, length, sym, ◌∙◌, ap, subst, refl, Bool, true, false, slice_get, slice_index, slice_set, zero, suc, IsTrue, ◌↔◌}
+use Rattle.std.proofs.Common.{◌≡◌, ℕ, ◌^◌, ◌<◌, List, [], ◌∷◌, Option, Some, None, sym, ◌∙◌, ap, subst, refl, Bool, true, false, slice_get, slice_index, slice_set, zero, suc, IsTrue, ◌↔◌}
 use Rattle.std.specs.List.{AllByRecursion}
 use Rattle.std.proofs.lemmas.Nat.{pow_pos}
 use Rattle.std.proofs.lemmas.List.{length-set}
@@ -15,20 +15,9 @@ use Rattle.net_model.specs.CheckedRules.{StorageKeeps}
 use Rattle.net_model.proofs.Effects.{next_is_state}
 use Rattle.net_model.proofs.NextStates.{set_fits}
 use Rattle.cycle_sim.specs.declared.edge.Port.{Port}
-use Rattle.cycle_sim.specs.Clocks.{cell_in, written_cell}
-use Rattle.cycle_sim.specs.Ports.{port_of, cells_by, cell_by, port_width, HasPortWidth}
+use Rattle.cycle_sim.specs.Ports.{port_of, port_width, HasPortWidth}
 
 -- ---- the port is the memory's
-
-port_cells : (v : ℕ → ℕ) (storages : List Storage) (cells : List ℕ) → cells_by v (port_of storages) cells ≡ next_cells v storages cells
-port_cells v [] cells = refl
-port_cells v (Register name width input when ∷ storages) cells = port_cells v storages cells
-port_cells v (Memory name width size addr_width value addr when ∷ storages) cells = refl
-
-port_cell : (v : ℕ → ℕ) (storages : List Storage) (size : ℕ) → cell_by v (port_of storages) size ≡ cell_in v storages size
-port_cell v [] size = refl
-port_cell v (Register name width input when ∷ storages) size = port_cell v storages size
-port_cell v (Memory name width _ addr_width value addr when ∷ storages) size = refl
 
 pub port_width_is : (storages : List Storage) → port_width (port_of storages) ≡ memory_width storages
 port_width_is [] = refl
@@ -53,33 +42,22 @@ words_fit_at netlist (word ∷ words) h (suc k) = words_fit_at netlist words h.1
 
 -- ---- the clock
 
-module _ (netlist : Netlist) (words : List ℕ) (s : State) (v : ℕ → ℕ) (all : v ≡ value_of netlist s (word_at netlist words s)) where
-  pub clocks_clash : (bus : ℕ) → Some bus ≡ clash_in v netlist.nets → clock netlist words s ≡ Clash bus
-  clocks_clash bus e =
-      ap (outcome_of (value_of netlist s (word_at netlist words s)) netlist s)
-      (sym (subst (λ w. Some bus ≡ clash_in w netlist.nets) all e))
+module _ (netlist : Netlist) (words : List ℕ) (s : State) where
+  pub clocks_clash : (bus : ℕ) → Some bus ≡ clash_in (value_of netlist s (word_at netlist words s)) netlist.nets → clock netlist words s ≡ Clash bus
+  clocks_clash bus e = ap (outcome_of (value_of netlist s (word_at netlist words s)) netlist s) (sym e)
 
   -- registers and cells, each clocked by itself, are the next state
-  next_is : (regs cells : List ℕ) (port : Option Port) → port ≡ port_of netlist.storages → regs ≡ next_regs v netlist.storages s.regs → cells ≡ cells_by v port s.cells → record { regs = regs; cells = cells } ≡ next_state (value_of netlist s (word_at netlist words s)) netlist s
-  next_is regs cells port p r k =
-      subst (λ w. record { regs = regs; cells = cells } ≡ next_state w netlist s) all
-      (rw (r, k, p, port_cells v netlist.storages s.cells) refl)
+  next_is : (regs cells : List ℕ) → regs ≡ next_regs (value_of netlist s (word_at netlist words s)) netlist.storages s.regs → cells ≡ next_cells (value_of netlist s (word_at netlist words s)) netlist.storages s.cells → record { regs = regs; cells = cells } ≡ next_state (value_of netlist s (word_at netlist words s)) netlist s
+  next_is regs cells r k = rw (r, k) refl
 
-  pub clocks_next : (regs cells : List ℕ) (port : Option Port) → port ≡ port_of netlist.storages → None ≡ clash_in v netlist.nets → regs ≡ next_regs v netlist.storages s.regs → cells ≡ cells_by v port s.cells → clock netlist words s ≡ Next (record { regs = regs; cells = cells })
-  clocks_next regs cells port p e r k =
-      rw (next_is regs cells port p r k)
-      (ap (outcome_of (value_of netlist s (word_at netlist words s)) netlist s)
-      (sym (subst (λ w. None ≡ clash_in w netlist.nets) all e)))
-
-  pub cell_written : (written : Option ℕ) (port : Option Port) → port ≡ port_of netlist.storages → written ≡ cell_by v port (length s.cells) → written ≡ written_cell netlist words s
-  cell_written written port p e =
-      subst (λ w. written ≡ cell_in w netlist.storages (length s.cells)) all
-      (rw (e, p) (port_cell v netlist.storages (length s.cells)))
+  pub clocks_next : (regs cells : List ℕ) → None ≡ clash_in (value_of netlist s (word_at netlist words s)) netlist.nets → regs ≡ next_regs (value_of netlist s (word_at netlist words s)) netlist.storages s.regs → cells ≡ next_cells (value_of netlist s (word_at netlist words s)) netlist.storages s.cells → clock netlist words s ≡ Next (record { regs = regs; cells = cells })
+  clocks_next regs cells e r k =
+      rw (next_is regs cells r k) (ap (outcome_of (value_of netlist s (word_at netlist words s)) netlist s) (sym e))
 
   -- the next state fits
-  pub next_fits : (regs cells : List ℕ) (port : Option Port) → port ≡ port_of netlist.storages → regs ≡ next_regs v netlist.storages s.regs → cells ≡ cells_by v port s.cells → IsTyped netlist → AllByRecursion (WordFits netlist) words → IsState netlist s → IsState netlist (record { regs = regs; cells = cells })
-  next_fits regs cells port p r k typed w h =
-      subst (λ (u : State). IsState netlist u) (sym (next_is regs cells port p r k))
+  pub next_fits : (regs cells : List ℕ) → regs ≡ next_regs (value_of netlist s (word_at netlist words s)) netlist.storages s.regs → cells ≡ next_cells (value_of netlist s (word_at netlist words s)) netlist.storages s.cells → IsTyped netlist → AllByRecursion (WordFits netlist) words → IsState netlist s → IsState netlist (record { regs = regs; cells = cells })
+  next_fits regs cells r k typed w h =
+      subst (λ (u : State). IsState netlist u) (sym (next_is regs cells r k))
       (next_is_state netlist s (word_at netlist words s) typed h (words_fit_at netlist words w _))
 
 -- ---- one cell is set
@@ -95,8 +73,8 @@ set_is_state netlist s address value h k = record {
 }
 
 -- a value that a cell of the port takes is one that a cell of the memory takes
-pub told_of : (storages : List Storage) (port : Option Port) (value : ℕ) (r : Bool) → port ≡ port_of storages → (IsTrue r ↔ (value < 2 ^ port_width port)) → IsTrue r ↔ (value < 2 ^ memory_width storages)
-told_of storages port value r p e = rw (sym (ap port_width p ∙ port_width_is storages)) e
+pub told_of : (storages : List Storage) (port : Option Port) (value : ℕ) (r : Bool) → port_width port ≡ memory_width storages → (IsTrue r ↔ (value < 2 ^ port_width port)) → IsTrue r ↔ (value < 2 ^ memory_width storages)
+told_of storages port value r p e = rw (sym p) e
 
 pub refused : (r : Bool) (P Q : Type 0) → (IsTrue r ↔ Q) → r ≡ false → IsTrue false ↔ (P × Q)
 refused r P Q e f = (λ h. cc h, λ pq. sym f ∙ e.1 pq.1)

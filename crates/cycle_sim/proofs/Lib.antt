@@ -1,1 +1,4 @@
 pub mod Edges
+pub mod Gates
+pub mod Runs
+pub mod Programs

@@ -1,17 +1,21 @@
 -- What a simulator keeps.
-use Rattle.std.specs.Prelude.{ℕ, ◌≡◌, List, Option, length, slice_index}
+use Rattle.std.specs.Prelude.{ℕ, ◌≡◌, ◌≤◌, List}
 use Rattle.std.specs.List.{AllByRecursion}
 use Rattle.net_model.specs.declared.hardware.Netlist.{Netlist}
 use Rattle.net_model.specs.declared.states.State.{State}
-use Rattle.net_model.specs.Widths.{IsState, ValuesFit, WordFits}
-use Rattle.cycle_sim.specs.declared.edge.Port.{Port}
-use Rattle.cycle_sim.specs.Ports.{port_of, HasPortWidth}
+use Rattle.net_model.specs.Nets.{memory_size, memory_width}
+use Rattle.net_model.specs.Widths.{IsState, IsTyped, WordFits}
+use Rattle.cycle_sim.specs.declared.program.Program.{Program}
+use Rattle.cycle_sim.specs.Ports.{HasPortWidth, port_width}
+use Rattle.cycle_sim.specs.Programs.{IsProgram, IsRoom}
 
--- words and state fit the netlist, the port is its memory's, and the room has a place for each net
-pub record IsRunning (netlist : Netlist) (words : List ℕ) (s : State) (port : Option Port) (values : List ℕ) : Type 0 where
+-- words and state fit the netlist, the program is its own, and the room has a place for each net, where the constants stand
+pub record IsRunning (netlist : Netlist) (words : List ℕ) (s : State) (program : Program) (values : List ℕ) : Type 0 where
+  pub typed : IsTyped netlist
+  pub few : memory_size netlist.storages ≤ 65536
   pub words_fit : AllByRecursion (WordFits netlist) words
   pub state : IsState netlist s
-  pub port_is : port ≡ port_of netlist.storages
-  pub port_fits : HasPortWidth port
-  pub long : length values ≡ length netlist.nets
-  pub fit : ValuesFit netlist (slice_index values)
+  pub decoded : IsProgram netlist program
+  pub cell_width : port_width program.port ≡ memory_width netlist.storages
+  pub port_fits : HasPortWidth program.port
+  pub room : IsRoom netlist values

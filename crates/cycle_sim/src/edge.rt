@@ -1,8 +1,9 @@
 // A clock edge, from the values of all nets: whether a bus clashes, and what the storages become.
 
 ghost use Rattle.std.specs.Prelude.{◌≡◌, ◌<◌, ◌^◌, IfSome, length, slice_index};
-ghost use Rattle.net_model.specs.Clock.{clash_in, enabled_count, gate_clashes, is_enabled, next_reg, next_regs};
+ghost use Rattle.net_model.specs.Clock.{clash_in, enabled_count, gate_clashes, is_enabled};
 ghost use Rattle.cycle_sim.specs.Ports.{cell_by, cells_by, port_of};
+ghost use Rattle.cycle_sim.specs.Programs.{clash_by, latched, regs_by};
 
 use crate::values::value_at;
 use net_model::{Gate, Net, Storage};
@@ -18,6 +19,22 @@ pub(crate) struct Port {
     pub value: u32,
     pub addr: u32,
     pub when: Option<u32>,
+}
+
+// How a clock gives a storage's entry its next value.
+#[derive(Clone, Copy)]
+pub(crate) enum Latch {
+    /// From the place `input`, where the place `when` holds 1 or there is none.
+    Input { input: u32, when: Option<u32> },
+    /// It stays.
+    Held,
+}
+
+// A bus: the number of its net, and pairs of a driver's place and its enable's.
+#[derive(Drop)]
+pub(crate) struct BusDrivers {
+    pub net: u32,
+    pub drivers: Items<(u32, u32)>,
 }
 
 // How the data memory is written.
@@ -52,6 +69,18 @@ pub fn find_clash(values: &[u64], nets: &[Net]) -> Option<usize>
     nets.iter().position(|net| clashes(values, &net.gate))
 }
 
+// The first of the buses that clashes, by the numbers at their places.
+pub(crate) fn first_clash(values: &[u64], buses: &[BusDrivers]) -> Option<u32>
+    ensures { result ≡ clash_by (slice_index values.now) buses.now }
+{
+    for bus in buses {
+        if count_enabled(values, bus.drivers.as_slice()) > ENABLED_AT_MOST {
+            return Some(bus.net);
+        }
+    }
+    None
+}
+
 fn clashes(values: &[u64], gate: &Gate) -> bool
     ensures { result ≡ gate_clashes (slice_index values.now) gate.now }
 {
@@ -83,25 +112,25 @@ fn enables(values: &[u64], when: Option<u32>) -> bool
 }
 
 // What a storage's entry becomes.
-fn next_value(values: &[u64], storage: &Storage, old: u64) -> u64
-    ensures { result ≡ next_reg (slice_index values.now) storage.now old }
+fn next_value(values: &[u64], storage: &Latch, old: u64) -> u64
+    ensures { result ≡ latched (slice_index values.now) storage.now old }
 {
     match storage {
-        Storage::Register { input, when, .. } => {
+        Latch::Input { input, when } => {
             if enables(values, *when) {
                 value_at(values, *input)
             } else {
                 old
             }
         }
-        Storage::Memory { .. } => old,
+        Latch::Held => old,
     }
 }
 
 // Clocks all registers.
-pub(crate) fn clock_registers(values: &[u64], storages: &[Storage], regs: &mut Items<u64>)
+pub(crate) fn clock_registers(values: &[u64], storages: &[Latch], regs: &mut Items<u64>)
     requires { length regs.old ≡ length storages.now }
-    ensures { regs.new ≡ next_regs (slice_index values.now) storages.now regs.old }
+    ensures { regs.new ≡ regs_by (slice_index values.now) storages.now regs.old }
 {
     for (i, storage) in storages.iter().enumerate() {
         let old = regs.as_slice()[i];

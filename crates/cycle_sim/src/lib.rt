@@ -1,7 +1,39 @@
-//! A simulator: it clocks a checked netlist on a list of instruction words, one edge after the other.
+//! A simulator: it clocks a checked netlist on a list of instruction words, one edge after the
+//! other.
+//!
+//! Promise: `clock` is the clock equation, every storage from the old values, or it tells the first
+//! bus that clashes and changes nothing (`clocks`: `Clocks`, by `clock` of
+//! `net_model/specs/Clock`). `evaluate` gives the value of each net (`value_of`), `find_clash` the
+//! first bus that clashes. `pc`, `reg`, `cell` and `last_write` tell what the simulator holds. No
+//! call of a `Sim` but `new` takes memory.
+//!
+//! Invariant: a `Sim` keeps `IsRunning`: its words and its state fit the netlist, and its program is
+//! one of the netlist (`IsProgram`): run from any state under any word, the program's array gives
+//! registers, memory and buses what the values of the nets give them.
+//!
+//! A netlist is decoded once, when its simulator is made. Wires, and nets with zeros above another,
+//! have no place in the array, since what names them goes to their source; constants are written
+//! once; widths have become masks; a case over at most 8 bits looks its place up in a table.
+//!
+//! Files:
+//!
+//! - `values`: the values of all nets, each evaluated once, in the order of the checked netlist, as
+//!   `word_moves` asks for them.
+//! - `operation`: what an instruction is, and a run of many.
+//! - `decode`: gates, storages and buses turned into operations over places of one array.
+//! - `program`: the instructions of a netlist, in the order of its nets.
+//! - `edge`: what a clock does, given the array: clashes, registers, the memory.
+//! - `sim`: `Sim`, with its clock.
+//! - `specs/`: `Clocks` and `Shown` (what contracts see of a simulator) are cited by public
+//!   contracts; `Running`, `Ports`, `Operations`, `Decoding` and `Programs` are for the invariant.
+//! - `proofs/`: `Gates`: an instruction gives its net's value; `Runs`: so do all of them;
+//!   `Programs`: and so a program is one of its netlist; `Edges`: a clock, from the array.
 #![tactic(auto)]
 
+mod decode;
 mod edge;
+mod operation;
+mod program;
 mod sim;
 mod values;
 

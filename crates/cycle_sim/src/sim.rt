@@ -9,8 +9,11 @@ ghost use Rattle.net_model.specs.Clock.{counter_in, word_at};
 ghost use Rattle.cycle_sim.specs.Clocks.{Clocks, register_in};
 ghost use Rattle.cycle_sim.specs.Ports.{HasPortWidth, port_width};
 
-use crate::edge::{Port, clock_cells, clock_registers, find_clash, find_port};
-use crate::values::{evaluate, number_at, value_at, zeros};
+use crate::decode::constants;
+use crate::edge::{Port, clock_cells, clock_registers, first_clash};
+use crate::operation::run;
+use crate::program::{Program, program_of};
+use crate::values::{number_at, value_at};
 use net_model::{Checked, Netlist, State, Storage};
 use rec_bits::{Items, NoMemory, mask};
 use std::alloc::Global;
@@ -32,8 +35,8 @@ pub struct Sim<'a> {
     words: Items<u64>,
     state: State,
     last_write: Option<u32>,
-    port: Option<Port>,
-    // the room in which a clock evaluates the nets
+    // what a clock does, over the places of `values`
+    program: Program,
     values: Items<u64>,
 }
 
@@ -45,7 +48,7 @@ impl<'a> Model for Sim<'a> {
 
     ghost view = { λ sim. record { netlist = sim.checked.now.netlist; words = sim.words; state = sim.state; last_write = sim.last_write } };
 
-    ghost invariant = { λ sim. IsRunning sim.checked.now.netlist sim.words sim.state sim.port sim.values };
+    ghost invariant = { λ sim. IsRunning sim.checked.now.netlist sim.words sim.state sim.program sim.values };
 }
 
 impl<'a> Sim<'a> {
@@ -61,14 +64,14 @@ impl<'a> Sim<'a> {
         ensures { IfOk result (λ sim. sim ≡ record { netlist = checked.now.netlist; words = words; state = start; last_write = None }) }
     {
         let netlist = checked.netlist();
-        let port = find_port(netlist.storages.as_slice());
-        let values = zeros(alloc, netlist.nets.len())?;
+        let program = program_of(alloc, checked)?;
+        let values = constants(alloc, netlist.nets.as_slice())?;
         Ok(Sim {
             checked,
             words,
             state: start,
             last_write: None,
-            port,
+            program,
             values,
         })
     }
@@ -81,21 +84,22 @@ impl<'a> Sim<'a> {
         ensures clocks { Clocks self.old self.new result }
         ensures state { IsState self.new.netlist self.new.state }
     {
-        let netlist = self.checked.netlist();
         let words = self.words.as_slice();
         let word = word_of(self.checked, words, &self.state);
-        evaluate(self.checked, &self.state, word, &mut self.values);
+        let instructions = self.program.instructions.as_slice();
+        run(instructions, &self.state, word, &mut self.values);
         let values = self.values.as_slice();
-        let nets = netlist.nets.as_slice();
-        match find_clash(values, nets) {
+        let buses = self.program.buses.as_slice();
+        match first_clash(values, buses) {
             Some(bus) => {
                 self.last_write = None;
-                Clocked::Clash(bus as u32)
+                Clocked::Clash(bus)
             }
             None => {
-                let storages = netlist.storages.as_slice();
+                let storages = self.program.latches.as_slice();
                 clock_registers(values, storages, &mut self.state.regs);
-                self.last_write = clock_cells(values, self.port, &mut self.state.cells);
+                let port = self.program.port;
+                self.last_write = clock_cells(values, port, &mut self.state.cells);
                 Clocked::Stepped
             }
         }
@@ -137,7 +141,7 @@ impl<'a> Sim<'a> {
         if at >= self.state.cells.len() {
             return false;
         }
-        if !is_cell_value(self.port, value) {
+        if !is_cell_value(self.program.port, value) {
             return false;
         }
         self.state.cells.set(at, value);

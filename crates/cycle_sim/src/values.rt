@@ -95,7 +95,7 @@ fn gate_of(netlist: &Netlist, state: &State, word: u64, values: &[u64], net: &Ne
     }
 }
 
-fn net_width(netlist: &Netlist, id: u32) -> u8
+pub(crate) fn net_width(netlist: &Netlist, id: u32) -> u8
     ensures { result ≡ width_at netlist.now id }
 {
     match netlist.net(id) {
@@ -105,7 +105,7 @@ fn net_width(netlist: &Netlist, id: u32) -> u8
 }
 
 // The value of the row with this number, or of the rest.
-fn case_of(values: &[u64], key: u64, rows: &[(u64, u32)], rest: Option<u32>) -> u64
+pub(crate) fn case_of(values: &[u64], key: u64, rows: &[(u64, u32)], rest: Option<u32>) -> u64
     ensures { result ≡ case_value (slice_index values.now) key rows.now rest }
 {
     for row in rows {
@@ -120,7 +120,7 @@ fn case_of(values: &[u64], key: u64, rows: &[(u64, u32)], rest: Option<u32>) -> 
 }
 
 // The value of the first enabled driver, and 0 where none is enabled.
-fn bus_of(values: &[u64], drivers: &[(u32, u32)]) -> u64
+pub(crate) fn bus_of(values: &[u64], drivers: &[(u32, u32)]) -> u64
     ensures { result ≡ bus_value (slice_index values.now) drivers.now }
 {
     for driver in drivers {

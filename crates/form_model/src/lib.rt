@@ -1,4 +1,25 @@
-//! What a compiler has to choose from: the trees and the flow of a program, the forms of a netlist, and the covers of trees by forms.
+//! What a compiler has to choose from: the trees and the flow of a program, the forms of a netlist,
+//! and the covers of trees by forms.
+//!
+//! Promise: `law_of_shapes`: which values a field shape shows, under which bits of the word, and
+//! the least number that it doesn't show, is what is computed for it, for words of any width
+//! (`IsExactShape`). `law_of_trees`: a tree is an expression over numbers and the memory, in which
+//! no register and no instruction bit occurs (`is_tree`, `HasNoState`). All else here is
+//! definitions, on which the crates of covers, steps and words rest.
+//!
+//! Files:
+//!
+//! - `trees`: trees, their aims, and jobs.
+//! - `flow`: the flow of a program, a list of places.
+//! - `forms`: forms of a netlist, steps, and sets of registers.
+//! - `covers`: covers of trees by forms.
+//! - `laws`: the two laws above.
+//! - `specs/`, all cited by public contracts in the crates above: `Trees`, `Shapes` (field shapes),
+//!   `Rules` (forms as plain values), `Matches` (what a form takes of a tree), `Plans` and `Covers`
+//!   (covers, orderly ones, and the chosen one), `Steps` (the steps of a cover), `Effects` and
+//!   `Live` (what steps do and read, and live registers). `Worked` has shapes and matches,
+//!   computed.
+//! - `proofs/`: `FieldLaws` and `ShapeLaws` carry the law of shapes, `TreeLaws` that of trees.
 #![tactic(auto)]
 
 mod covers;

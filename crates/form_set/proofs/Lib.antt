@@ -14,3 +14,4 @@ pub mod FormLaws
 pub mod NoForms
 pub mod LinearLaws
 pub mod OneList
+pub mod ShowsTwo

@@ -1,6 +1,6 @@
 -- What jumps and branches consist of.
 use Rattle.std.specs.Prelude.{ℕ, ◌&&◌, Bool, true, false, if◌then◌else◌, nat_le, Option, Some, None}
-use Rattle.net_model.specs.Terms.{Term, bin, select}
+use Rattle.net_model.specs.Terms.{Term, bin, const, select}
 use Rattle.rec_bits.specs.declared.operator.Op2.TheVariants.{Add}
 use Rattle.form_model.specs.Shapes.{is_shape, reach_of, shows}
 use Rattle.form_model.specs.Rules.{BranchTarget, absolute, relative}
@@ -28,9 +28,14 @@ abbrev pub relative_target : Counter → Term → Option BranchTarget
 relative_target pc (bin Add a b) = first_of (distance_if (is_reg pc a) b) (distance_if (is_reg pc b) a)
 relative_target pc _ = None
 
--- the targets that are used: absolute ones. With relative ones it is `first_of (absolute_target reach t) (relative_target pc t)`
+-- the targets that are used: absolute ones that reach as far as jumps do, and distances among which is two
 abbrev pub allowed_target : Counter → ℕ → Term → Option BranchTarget
-allowed_target pc reach t = absolute_target reach t
+allowed_target pc reach t = first_of (absolute_target reach t) (relative_target pc t)
+
+-- the value of a constant
+abbrev pub const_value : Term → Option ℕ
+const_value (const w v) = Some v
+const_value _ = None
 
 -- ---- branches
 

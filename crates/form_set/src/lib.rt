@@ -1,4 +1,34 @@
 //! The forms of a netlist: the transfers that code is made of, and what they may change beside.
+//!
+//! Promise: `forms` gives exactly the forms of a netlist with these patterns, in their order, each
+//! with its clobbers, and the greatest reach of its jumps (`forms`: `AreForms`); the table of
+//! patterns stays right in the grown book (`ready`: `IsReady`). The laws, each a statement of
+//! `specs/Laws`: there is one such list (`law_of_lists`), each form is one of its pattern
+//! (`law_of_forms`), every setting of a plain form has a word that does it, steps, and keeps what
+//! is no clobber (`law_of_words`), swaps change nothing (`law_of_swaps`), when forms of a kind are
+//! absent (`law_of_absence`), and what settings and reaches are (`law_of_settings`,
+//! `law_of_reach`).
+//!
+//! Invariant: whether every setting has a word is asked of single words by the definitions, and of
+//! a set by the code: a set reaches all words by its other bits exactly where it is so (`decide`).
+//! At most eight operators are swapped in a transfer.
+//!
+//! Files:
+//!
+//! - `pattern_ids`: a pattern by its ids, as it is looked up.
+//! - `decide`, `words`: whether every setting has a word; the words of a pattern that step and
+//!   keep.
+//! - `linear`, `shapes`, `branches`: what has to hold of a pattern's expressions.
+//! - `classes`: from these, what a pattern is: plain, a jump, a branch, or nothing.
+//! - `copies`, `swaps`: expressions of the pool as values of their own, and with operators swapped.
+//! - `making`: the forms of a pattern of which it is known what it is; it knows no book.
+//! - `listing`: `forms`: over the patterns once for the reach of jumps and once for the forms.
+//! - `laws`: the laws above.
+//! - `specs/`: `Laws`, `Listing`, `Promises`, `Static`, and `Swaps`, `Targets` and `Words` but for
+//!   a few definitions, are cited by public contracts; `PatternIds`, `Copies`, `Linear` and
+//!   `Adding` mirror the code; `Worked` is computed.
+//! - `proofs/`: `Chosen` and `Deciding` for words, `Classifying`, `RuleLists`, `OneList` for the
+//!   list, `FormLaws`, `Registers`, `SwapLaws`, `NoForms`, `ShapeBits` for the laws.
 #![tactic(auto)]
 
 mod branches;

@@ -1,10 +1,10 @@
 //! Forms, made of patterns.
 
 ghost use Rattle.std.specs.Prelude.{◌≡◌, ◌<◌, ◌≤◌, ◌++◌, ◌==◌, None, length, IfOk, OnOk};
-ghost use Rattle.form_model.specs.Rules.{kind_of, rule_of, rules_of};
+ghost use Rattle.form_model.specs.Rules.{branch_target_of, kind_of, rule_of, rules_of};
 ghost use Rattle.form_model.specs.Shapes.{is_shape as is_shape_of};
 ghost use Rattle.form_set.specs.Adding.{HasAdded, IsClass};
-ghost use Rattle.form_set.specs.Copies.{AreBranchIds, ids_branch};
+ghost use Rattle.form_set.specs.Copies.{AreBranchIds, id_target, ids_branch};
 ghost use Rattle.form_set.specs.Listing.{branch_rule, branch_rules, goal_at as goal_at_of, jump_rule, plain_rule, plain_rules};
 ghost use Rattle.form_set.specs.PatternIds.{IsNarrow, ArePatternIds, ids_pattern};
 ghost use Rattle.net_model.specs.Terms.{term_width};
@@ -12,7 +12,7 @@ ghost use Rattle.sym_expr.specs.Pools.{term_at};
 ghost use Rattle.transfer_set.specs.Entries.{IsAddrKnown, ids_move};
 ghost use Rattle.net_model.specs.Fields.{move_fields};
 
-use crate::branches::BranchIds;
+use crate::branches::{BranchIds, TargetId};
 use crate::classes::Class;
 use crate::copies::{count_at, expr_at, swapped_at};
 use crate::pattern_ids::PatternIds;
@@ -111,6 +111,19 @@ fn jump_form(
     })
 }
 
+// Where a branch goes.
+fn target_of(alloc: Global, pool: &Pool, target: TargetId) -> Result<Target, NoMemory>
+    requires { target.expr < length pool.now }
+    ensures { IfOk result (λ made. branch_target_of made ≡ id_target pool.now target) }
+{
+    let expr = expr_at(alloc, pool, target.expr)?;
+    if target.relative {
+        Ok(Target::Relative(expr))
+    } else {
+        Ok(Target::Absolute(expr))
+    }
+}
+
 // The form of a branch with the swaps of a choice in its condition.
 fn branch_form(
     alloc: Global,
@@ -125,13 +138,13 @@ fn branch_form(
     requires fields { ids.fields ≡ move_fields (ids_move pool.now ids.addr ids.value) }
     ensures { IfOk result (λ form. rule_of form ≡ branch_rule checked.now.netlist number (ids_pattern pool.now ids) (ids_branch pool.now parts) choice) }
 {
-    let target = expr_at(alloc, pool, parts.target)?;
+    let target = target_of(alloc, pool, parts.target)?;
     let sides = swapped_at(alloc, pool, None, parts.test, choice)?;
     Ok(Form {
         pattern: number,
         goal: Goal::Branch {
             when_one: parts.when_one,
-            target: Target::Absolute(target),
+            target,
         },
         addr: None,
         value: sides.value,

@@ -1,4 +1,26 @@
 //! What steps read and write, and the registers that are live between groups of steps.
+//!
+//! Promise: `live`, `live_with` and `live_between` give for each group, or before one, exactly the
+//! registers that are live (`lives_of`, `live_before`). `touches` tells whether a step may read
+//! what another writes, where addresses that their settings settle to different numbers are apart
+//! (`reads`), and `shares` whether two have one destination. `law_of_lists`: a table of a netlist's
+//! patterns lists patterns of the netlist, with ids of the pool (`TablesAreListed`).
+//!
+//! Invariant: what expressions read is found once for a pool, parts before wholes, and handed on as
+//! `sets` (`AreReads`). A set of registers is a number: bit `r` for the register of number `r`,
+//! below 16.
+//!
+//! Files:
+//!
+//! - `regs`: sets of registers.
+//! - `locations`: the location that a step writes, as far as its setting settles it.
+//! - `reads`: what the expressions of a pool read, each told once.
+//! - `steps`: what steps read and write of one another.
+//! - `between`: live registers, from the last group to the first.
+//! - `laws`: `law_of_lists`.
+//! - `specs/`: `Listed`, and of `Reading` `AreReads`, are cited by public contracts; the rest of
+//!   `Reading` mirrors a loop.
+//! - `proofs/`: `Kept` and `Slices` for live registers, `Bits` for sets.
 #![tactic(auto)]
 
 mod between;

@@ -1,4 +1,30 @@
-//! The rules N5 to N9 of a netlist: it is accepted with an order of its nets, or refused with the first rule that it breaks.
+//! The rules N5 to N9 of a netlist: it is accepted with an order of its nets, or refused with the
+//! first rule that it breaks.
+//!
+//! Promise: `check` accepts a netlist that keeps N1 to N4 and N11 (`IsWellFormed`) as it is, with
+//! an order of its nets in which it keeps every rule, or refuses it with the first of N5 to N9 that
+//! it breaks (`found`). It accepts exactly where the rules are kept (`accepted`: `KeepsRules`) and
+//! refuses exactly where one is broken (`refused`: `FaultOf`), but for want of memory.
+//!
+//! Invariant: the walk that orders the nets keeps its own path, of which each open net names the
+//! next, and every placed net stands behind all that it names (`specs/Walk`). The search for cycles
+//! keeps, for the nets that it has met, at which of them components begin (`specs/Components`).
+//! Neither recurses, so no netlist exhausts the stack.
+//!
+//! Files:
+//!
+//! - `graph`: for each net, the nets that its gate names.
+//! - `stack`: a list whose last item is taken first.
+//! - `walk`: the nets in an order, or one that depends on itself.
+//! - `cycle`: N5; the least net on a cycle, by strongly connected components.
+//! - `role`: N6; the first part that the netlist lacks.
+//! - `control`: N7 to N9, on the nets in control places.
+//! - `rules`: the rules in their order, and `check`.
+//! - `specs/`: no public contract cites a file here, since the rules are
+//!   `net_model/specs/CheckedRules` and `NetFaults`; `Walk`, `Components`, `Graphs`, `Roles` and
+//!   `Control` mirror the loops, and `Worked` has two small netlists.
+//! - `proofs/`: `Walks`, `Steps`, `Ends` for the walk, `Meets`, `Joins`, `Closes`, `Marks`,
+//!   `SearchEnds` for the search, `Broken` and `Lacks` for the other rules.
 #![tactic(auto)]
 
 mod control;

@@ -1,4 +1,33 @@
 //! From a netlist and a program that were read to the code of the program.
+//!
+//! Promise: `image_of` gives an image that is right code for the task of the netlist and the
+//! program (`right`: `IsRightImage`), whose numbers and words fit an image's text (`fits`:
+//! `IsFitting`), and then none of the reasons before a full image applies (`reached`: `IsReached`).
+//! No step, no jump, no cover and no reach come exactly where they are the first that applies; a
+//! full image only where an image that is made for the task is longer than the code, and then so is
+//! the bound (`refused`: `IsCodeFault`).
+//!
+//! Invariant: a `CoveredProgram` has the covers of all jobs in the order of their numbers. Blocks
+//! and tests are made in the order of the flow, a block for each place that begins one, so the
+//! words of the layout's items are found by the number of their block.
+//!
+//! Files:
+//!
+//! - `fault`, `views`: why no image was made, and what code is made from.
+//! - `forms`: the forms of the netlist, of which one steps and one jumps.
+//! - `jobs`: the flow and the jobs of the program in the netlist's memory.
+//! - `covers`: a cover for each job, and their costs.
+//! - `steps`: the steps of a block, and how long it is.
+//! - `registers`: the registers that a branch's condition reads.
+//! - `blocks`: the groups of each block and of each test's operands, with their words.
+//! - `words`: the words of the layout's items, with their lists.
+//! - `image`: the layout, the bound, and `image_of`.
+//! - `specs/`: of `Refusals` all but two definitions are cited by public contracts, with
+//!   `right_code/specs`; the other files mirror the code: `Covering`, `Coded`, `Imaged`, `Views`,
+//!   `Places`, `Uncovered`, `Registers`, `Memories`.
+//! - `proofs/`: `Whole` and `Making` put the image together, `Coding`, `Packing` and `Stepping` its
+//!   blocks; `Lengths` and `Sizes` for the bound, `NeededForms` and `FormLemmas` for refusals;
+//!   `Fitting`, `Frames`, `Built` and `Listing` for the task.
 #![tactic(auto)]
 
 mod blocks;

@@ -1,4 +1,20 @@
 //! The compiler: from the texts of a netlist and a program to that of an image.
+//!
+//! Promise: `compile` gives bytes that the grammar of images reads as an image which is right code
+//! for exactly the program on exactly the netlist of the two texts (`right`: `IsCompiled`).
+//! `read_compiled` gives that image with the netlist and the program (`compiled`: `IsCompiledTo`).
+//! Each refusal comes only where it is the first that applies; where one text is written none
+//! applies, unless another image made for the task is too long (`refused`: `IsCompileFault`).
+//!
+//! Files:
+//!
+//! - `fault`: why nothing was compiled, and what the fault of a part is told as.
+//! - `compiler`: the parts in their order: the netlist with what is extracted from it, the program,
+//!   its places, the image, the text.
+//! - `specs/`: `Tasks` (what two texts say together), `Code`, `Read`, and `Compiled` but for two of
+//!   its definitions, are cited by public contracts; `Told` is for the proof.
+//! - `proofs/`: `TaskLemmas`: two texts say one task, and it is that of what was read;
+//!   `FittingLemmas`: the places fit an image's text.
 #![tactic(auto)]
 
 mod compiler;

@@ -1,4 +1,28 @@
 //! Netlist texts, elaborated: the netlist that the items of a text say.
+//!
+//! Promise: `elaborate` gives, for items that keep N1 to N4 and N11 (`IsElaborable`), exactly the
+//! netlist that they say, net by net, modules and parts included (`exact`: `netlist_of`), and that
+//! netlist keeps these rules said of a netlist alone (`formed`: `IsWellFormed`).
+//!
+//! Invariant: nets are numbered before any is made (`IsNumbered`), so that a name may stand for a
+//! net that comes later. What is emitted for an expression stands at the end of the list of nets,
+//! inner nets first, as many as were counted for it (`specs/Emissions`).
+//!
+//! Files:
+//!
+//! - `declared`: `Declared`, items that keep the rules, with the places of their names.
+//! - `count`: how many nets an expression and a part give.
+//! - `numbers`: the last net of each item, its storage, and the wires of its ports, for the whole
+//!   text.
+//! - `site`: what names stand for where an expression stands: among the items, or in a part.
+//! - `expression`, `part`, `item`: the nets of expressions, of the parts of modules, and of items.
+//! - `whole`: `elaborate`, item by item.
+//! - `specs/`: no public contract cites a file here, since the netlist of a text is defined in
+//!   `net_model/specs/Elaborated`; `Emissions`, `Found` and `Sites` mirror what is emitted and
+//!   found.
+//! - `proofs/`: `Emits`, `Parts` and `Drivers` for what the parts of an expression, a part and a
+//!   bus give together, `Scans` and `Standing` for numbers, `Formed`, `Kept` and `Sounds` for the
+//!   rules.
 #![tactic(auto)]
 
 mod count;

@@ -1,4 +1,23 @@
 //! What the instruction words of a netlist do: its patterns, and their text.
+//!
+//! Promise: `extract` gives the text of exactly the patterns of the one netlist that the bytes say
+//! (`text`: `IsExtracted`); the netlist is taken exactly where it keeps all rules, and otherwise
+//! refused with the first that it breaks, N10 and then N12 or N13 last (`refused`:
+//! `IsRoutedRefusal`). `extract_netlist` gives the patterns with all their words, and the words
+//! without a clash (`extracted`: `IsExtractedFrom`), of a netlist, and `read_extracted` of bytes.
+//!
+//! Invariant: an `Extracted` holds its book and its pool, since the ids of its patterns mean
+//! nothing without them.
+//!
+//! Files:
+//!
+//! - `routed`: control, routes and patterns, over a book and a pool that are lent.
+//! - `netlists`: `Extracted`, of a netlist and of bytes.
+//! - `texts`: from bytes to the text of the patterns.
+//! - `specs/`: `Extracts`, `Extraction` and `Sets` are all cited by public contracts.
+//! - `proofs/`: `Cleans` and `Extracting` for what is extracted, `PlainNames`: names of a text have
+//!   no marks, so the order of patterns leaves no choice; `RoutedLaws`: the answers exclude each
+//!   other.
 #![tactic(auto)]
 
 mod netlists;

@@ -1,4 +1,21 @@
-//! The front of each command on a netlist: its text is read, and its items are held against the rules.
+//! The front of each command on a netlist: its text is read, and its items are held against the
+//! rules.
+//!
+//! Promise: `read_net` takes bytes exactly where they are a netlist's text that keeps N1 to N9 and
+//! N11, with the one list of items that they say (`found`: `IsNetFile`) and its checked netlist
+//! (`netlist`: `IsCheckedOf`). Otherwise it tells the first token that shows a fault of the text,
+//! or the first rule that is broken, in the order N1, N2, N3, N4, N11, N5 to N9 (`refused`:
+//! `IsNetRefusal`). `flatten` promises this of items and of the rules up to N11 (`IsElaboratedOf`,
+//! `IsTextRefusal`).
+//!
+//! Files:
+//!
+//! - `flat`: `flatten`, from items to their netlist, by `net_names`, `net_rules` and `net_elab`.
+//! - `front`: `read_net`, from bytes to items and their checked netlist, by `net_parser`, `flatten`
+//!   and `net_check`.
+//! - `specs/`: `Fronts` is cited by public contracts, but for its three definitions on what a
+//!   part's refusal is told as.
+//! - `proofs/`: `FrontLaws`: the answers on a netlist's bytes exclude each other.
 #![tactic(auto)]
 
 mod flat;

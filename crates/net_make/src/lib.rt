@@ -1,4 +1,26 @@
-//! Made-up runs: a netlist and a program of a number, compiled and clocked, and what is told of that.
+//! Made-up runs: a netlist and a program of a number, compiled and clocked, and what is told of
+//! that.
+//!
+//! Promise: `make` gives the summary of a number (`told`: `IsSummary`): for some image that is
+//! right code for its two texts, the number of words, the clocks from zeros to the end mark, the
+//! checkpoints that the program passes, and what the memory holds then. Otherwise it tells what
+//! refuses the two texts (`refused`: `IsCompileFault`).
+//!
+//! Invariant: while the image is clocked, none of the clocks before the end mark clashes (`RunsOn`
+//! in `specs/Stops`).
+//!
+//! Files:
+//!
+//! - `marks`: the address at which the end is marked.
+//! - `ends`: from nothing but zeros to the end mark, or to the greatest number of clocks.
+//! - `counting`: how many checkpoints the evaluator passes from zeros.
+//! - `summary`: the text of a summary.
+//! - `telling`: from an image to what is told of it.
+//! - `making`: from a number to its summary: `make`.
+//! - `specs/`: `Summaries`, `Told`, `Summary`, `Zeros`, and of `Stops` where a run ends, are cited
+//!   by public contracts; `Marks` and the rest of `Stops` are for the loop; `Worked` is computed.
+//! - `proofs/`: `RightRuns` and `Shown`: right code doesn't clash before its end mark; `EndMarks`,
+//!   `Clocks` and `Blank`.
 #![tactic(auto)]
 
 mod counting;

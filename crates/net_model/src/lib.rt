@@ -1,4 +1,37 @@
-//! Netlists of registers, memories, buses and operators: their types, and in `specs/` what they mean.
+//! Netlists of registers, memories, buses and operators: their types, and in `specs/` what they
+//! mean.
+//!
+//! Promise: `law_of_values`: the value of a net is what its symbolic value means (`value_of`,
+//! `sym_of`, `mean`). `law_of_transfers`: under a word without clash the next state is what the
+//! word's transfers say (`Moved`). Whoever holds a `Checked` has a netlist that keeps N1 to N9 and
+//! N11, with an order of its nets (`kept`: `KeepsRules`, `sound`: `IsSound`). `flags_of`,
+//! `enables`, `selectors`, `control_places` and `named` tell of nets exactly what they are defined
+//! to be.
+//!
+//! Invariant: a `Checked` keeps `KeepsRules`: in its order each net stands behind those that its
+//! gate names. `flags_of` goes along such an order, so that one pass tells what a net has together
+//! with all that it depends on.
+//!
+//! Files:
+//!
+//! - `units`, `words`: the items of a netlist text as written, and the words of its tokens.
+//! - `hardware`, `states`: a `Netlist` of nets, storages and codes by their numbers, and a `State`.
+//! - `expression`: expressions and transfers, which are what a net or a storage gets under one
+//!   word.
+//! - `fault`: the broken rules, and why a netlist was not accepted.
+//! - `named`, `controls`: the nets that a gate names, and those in control places.
+//! - `flags`: what is told of each net by its gate and by what is told of the nets that it names.
+//! - `checked`: `Checked`, with its program counter, its memory and its static nets.
+//! - `laws`: the two laws above.
+//! - `specs/` of meaning, cited publicly: `Nets`, `Value`, `Clock`, `Symbolic`, `Terms`, `Meaning`,
+//!   `Transfers`, `Patterns`, `Texts`, `Fields`, `Occurs`, `Widths`, `Control`, `MemoryText`; of
+//!   rules and texts, likewise: `Written`, `Grammar`, `TextNames`, `Numbering`, `Elaborated`,
+//!   `Elaborable`, `NameRules`, `TextWidths`, `WidthRules`, `DriverRules`, `LimitRules`,
+//!   `TextRules`, `Depends`, `Order`, `CheckedRules`, `NetFaults`, `Flags`. `Nodes` serves
+//!   recursions; `Worked..` are computed.
+//! - `proofs/`: `Meanings` and `Syms` carry the law of values, `Effects` and `NextStates` that of
+//!   transfers, `KeptRules` and `KeptTexts` what follows from the rules, `TermLaws` what others
+//!   cite.
 #![tactic(auto)]
 
 mod checked;

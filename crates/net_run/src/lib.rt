@@ -1,4 +1,19 @@
-//! Running an image: from the texts of a netlist, an image and a memory to the text of the state after some clocks.
+//! Running an image: from the texts of a netlist, an image and a memory to the text of the state
+//! after some clocks.
+//!
+//! Promise: `run` gives the text of the state that so many clocks reach (`shows`: `ShowsState`), or
+//! the first refusal that applies, in the order netlist, image, memory, clash, with the first cycle
+//! that clashes and its first such bus (`refused`: `IsRunFault`). Nothing is asked for once the
+//! first clock has passed.
+//!
+//! Files:
+//!
+//! - `clocks`: so many clocks, or the first clash.
+//! - `machine`: from the three texts to the simulator, `run`, and why no state was reached.
+//! - `specs/`: of `Runs` public contracts cite what a run shows and when each refusal comes; its
+//!   definitions on what was read of a part serve the proof.
+//! - `proofs/`: `RunLaws`: the answers exclude each other; `FaultLaws`, `ImageLaws`, `StateLaws`: a
+//!   fault of a text is at one place; `ClockLemmas` and `LimitLaws`.
 #![tactic(auto)]
 
 mod clocks;

@@ -1,4 +1,26 @@
-//! Numbers of 1 to 64 bits with their operators, ranges, lists and names: what every crate of `record` stands on.
+//! Numbers of 1 to 64 bits with their operators, ranges, lists and names: what every crate of
+//! `record` stands on.
+//!
+//! Promise: `apply1`, `apply2`, `slice`, `cat` and `sext` give exactly the values that
+//! `specs/Operators` defines, for operands that fit their widths. `range_add`, `range_sub` and
+//! `range_mul` give the range of all sums, differences and products, or None where an end of it
+//! lies outside -2^64 to 2^64. `sooner` and `broken` give the least of offsets. Contracts see an
+//! `Items` as the list of its items; a refused `push` leaves it as it was.
+//!
+//! Files:
+//!
+//! - `fault`: `NoMemory`, which is want of memory alone, and `ParseFault`, which has an offset too.
+//! - `list`: `Items`, made from a `Vec` and given back as one, and `Name`, the bytes of a name.
+//! - `operator`: the operators of one and of two operands, and parts, joins and extensions of
+//!   values.
+//! - `ranges`: ranges of whole numbers.
+//! - `least`: the lesser of two offsets that may be absent, by which the first fault of a rule is
+//!   found.
+//! - `tests`: what lists, texts of faults and 64-bit operators give.
+//! - `specs/`: `Operators`, `Ranges`, `Faults` and `Counts` are cited by public contracts, here and
+//!   above; `Worked` has operators at small values, computed.
+//! - `proofs/`: laws of these that many crates use: ends of ranges, widths of results, masks, lists
+//!   that grow, and tests of two parts.
 #![tactic(auto)]
 
 mod fault;

@@ -1,4 +1,31 @@
 //! The call of the program: from the words of the command line to the text that is written.
+//!
+//! Promise: of `record_call`. `wrote`: on `Done` the sink took in this call the text of the command
+//! for its files, as of `compile` that of an image which is right code (`Wrote`). `gives`: what is
+//! answered is the first refusal that applies, with its line, or `Done`, or want of memory
+//! (`Gives`). `shelf_calm`, `sink_calm`: no fault of a file or of the output is swallowed.
+//! `exactly`, `complete`, `compiles`: where the files are told, nothing is answered but what
+//! applies, want of memory, or a fault of the sink (`IsExact`, `IsAccepted`, `CanCompile`).
+//! `Status::code` is the exit status.
+//!
+//! Invariant: no file is read as a text before all were fetched, and nothing is put before it is
+//! settled that the command is not refused; of one that is refused only the line is put.
+//!
+//! Files:
+//!
+//! - `status`, `stop`: how a call ends, and why a command has no text.
+//! - `words`: the command that the words ask for.
+//! - `fetch`: the files of a command.
+//! - `compile`, `extract`, `run`, `go`, `make`: one command each.
+//! - `commands`: the arm of each command, and its text put.
+//! - `line`: the lines of the faults.
+//! - `call`: `record_call`.
+//! - `specs/`: `Answers` (what is answered, and what is written), `Stages`, `Words`, `Watching`,
+//!   `Status`, `Lines`, `NetLines` and `SrcLines` are cited by public contracts; `Fetch`,
+//!   `Putting`, `Told`, `IsRefusal` of `Lines` and two definitions of `Words` are for the functions
+//!   here.
+//! - `proofs/`: `WroteLemmas`, `AnswerLemmas`, `UniqueLemmas` and `StageLemmas` for the call, one
+//!   file a command, `FetchLemmas`, `NameLemmas`.
 #![tactic(auto)]
 
 mod call;

@@ -62,6 +62,22 @@
 //!
 //! and for each job its number is printed, with the tree that is covered, what the cover costs and how many temporary cells it fills, or that
 //! there is no cover.
+//!
+//! It promises nothing but safety and an end, so a new row needs no proof. `stdin` beside `src/`
+//! has the rows and `stdout` what they print.
+//!
+//! Files:
+//!
+//! - `main`: line by line, up to a row's `run`.
+//! - `row`: rows by their kinds.
+//! - `call`: a call over `MemShelf` and `MemSink`.
+//! - `program`, `store`: a run of a program by `src_eval`, and the store that it begins with.
+//! - `netlist`, `words`: what is counted of a netlist, and its words held one by one against the
+//!   patterns.
+//! - `forms`, `form_text`: the forms of a netlist, and how they are printed.
+//! - `cover_row`, `cover_text`: the covers of a program's jobs, and how they are printed.
+//! - `specs/`: `Stores`: cells that hold what was given for them; no other crate cites it.
+//! - `proofs/`: `WordCounts`, and a folder for each file whose loops ask for it.
 #![tactic(auto)]
 
 mod call;

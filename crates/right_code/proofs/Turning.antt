@@ -7,18 +7,18 @@ use Rattle.net_model.specs.Fields.{fields}
 use Rattle.net_model.specs.CheckedRules.{KeepsRules}
 use Rattle.net_model.specs.Nets.{counter_of, counter_width, word_width}
 use Rattle.net_model.specs.Patterns.{Pattern}
-use Rattle.net_model.specs.Terms.{Term, reg, const, bin, select, write, next_of, swapped_next_of}
+use Rattle.net_model.specs.Terms.{Term, reg, const, bin, select, write, next_of, swapped_next_of, term_width}
 use Rattle.sym_expr.specs.Pools.{TermFits}
 use Rattle.transfer_set.specs.Stepping.{is_next, is_one, is_reg}
 use Rattle.transfer_set.specs.TextMarks.{IsMoveOf, IsTermOf}
 use Rattle.transfer_set.specs.declared.stepping.Counter.{Counter}
-use Rattle.form_model.specs.Rules.{BranchTarget, absolute}
+use Rattle.form_model.specs.Rules.{BranchTarget, absolute, relative}
 use Rattle.form_model.specs.Shapes.{is_shape, reach_of, shows}
 use Rattle.form_model.proofs.ShapeLaws.{exact_shape}
 use Rattle.form_set.specs.Linear.{are_apart, is_linear, move_linear}
 use Rattle.form_set.specs.Listing.{IsBranch, IsJump, branch_rule, counter_at, jump_rule, test_sides}
 use Rattle.form_set.specs.Swaps.{swapped}
-use Rattle.form_set.specs.Targets.{Branch, allowed_target, branch_if, first_of, is_absolute, term_branch}
+use Rattle.form_set.specs.Targets.{Branch, allowed_target, branch_if, distance_if, first_of, is_absolute, relative_target, term_branch}
 use Rattle.form_set.proofs.LinearLaws.{linear_is}
 use Rattle.form_set.proofs.ShapeBits.{shape_fits}
 use Rattle.form_set.proofs.SwapLaws.{swapped_alike}
@@ -124,15 +124,40 @@ module _ (netlist : Netlist) where
   below_shown : (t : Term) → is_shape t ≡ true → TermFits t → IsTermOf netlist t → (v : ℕ) → v < reach_of t → shows t v ≡ true
   below_shown t shape fits terms v lt = let x = exact_shape (word_width netlist) t shape (shape_fits netlist t shape terms fits) in (x.shown v).1 (x.reach.below v lt)
 
+  -- a target so many words on
+  distance_goes : (reach : ℕ) (t : Term) (way : BranchTarget) → TermFits t → relative_target (counter_at netlist) t ≡ Some way → IsTargetTerm netlist way t × TargetReaches reach way
+  distance_goes reach (bin Add a b) way fits e = by (is_reg (counter_at netlist) a && (is_shape b && shows b 2)) refl e
+    where
+      last : (p : Bool) → (is_reg (counter_at netlist) b && (is_shape a && shows a 2)) ≡ p → (if p then Some (relative a) else None) ≡ Some way
+          → IsTargetTerm netlist way (bin Add a b) × TargetReaches reach way
+      last true k h =
+          (let x = and_parts (is_reg (counter_at netlist) b) (is_shape a && shows a 2) k in
+          let y = and_parts (is_shape a) (shows a 2) x.1 in
+          let r = reg_is (counter_at netlist) b x.0 in
+          subst (λ w. IsTargetTerm netlist w (bin Add a b) × TargetReaches reach w) (some_same (relative a) way h)
+          ((y.0, sym fits.2 ∙ ap term_width r, inr (ap (λ n. bin Add a n) r)), y.1))
+      last false k h = absurd (cc)
+
+      by : (p : Bool) → (is_reg (counter_at netlist) a && (is_shape b && shows b 2)) ≡ p
+          → first_of (if p then Some (relative b) else None) (distance_if (is_reg (counter_at netlist) b) a) ≡ Some way → IsTargetTerm netlist way (bin Add a b) × TargetReaches reach way
+      by true k h =
+          (let x = and_parts (is_reg (counter_at netlist) a) (is_shape b && shows b 2) k in
+          let y = and_parts (is_shape b) (shows b 2) x.1 in
+          let r = reg_is (counter_at netlist) a x.0 in
+          subst (λ w. IsTargetTerm netlist w (bin Add a b) × TargetReaches reach w) (some_same (relative b) way h)
+          ((y.0, fits.2 ∙ ap term_width r, inl (ap (λ n. bin Add n b) r)), y.1))
+      by false k h = last (is_reg (counter_at netlist) b && (is_shape a && shows a 2)) refl h
+  distance_goes reach _ way fits e = absurd (cc)
+
   target_goes : (reach : ℕ) (t : Term) (way : BranchTarget) → TermFits t → IsTermOf netlist t → allowed_target (counter_at netlist) reach t ≡ Some way → IsTargetTerm netlist way t × TargetReaches reach way
   target_goes reach t way fits terms e = by (is_absolute reach t) refl e
     where
-      by : (b : Bool) → is_absolute reach t ≡ b → (if b then Some (absolute t) else None) ≡ Some way → IsTargetTerm netlist way t × TargetReaches reach way
+      by : (b : Bool) → is_absolute reach t ≡ b → first_of (if b then Some (absolute t) else None) (relative_target (counter_at netlist) t) ≡ Some way → IsTargetTerm netlist way t × TargetReaches reach way
       by true a h =
           (let k = and_parts (is_shape t) _ a in
           let le : reach ≤ reach_of t = leb-true reach (reach_of t) k.1 in
           subst (λ w. IsTargetTerm netlist w t × TargetReaches reach w) (some_same (absolute t) way h) (refl, λ v lt. below_shown t k.0 fits terms v (omega (arith, le, lt))))
-      by false a h = absurd (cc)
+      by false a h = distance_goes reach t way fits h
 
   module _ (some : 0 < word_width netlist) (patterns : List Pattern) (known : AreKnown netlist patterns) where
     -- ---- jump forms

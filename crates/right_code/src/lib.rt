@@ -1,4 +1,29 @@
 //! When an image is right code for a program on a netlist, and the laws of such code.
+//!
+//! Promise: `law_of_programs`: an image that is made for a checked task is right code, which traces
+//! the program (`IsMadeFor`, `IsRightImage`, `IsChecked`), where the code has room for its words
+//! and jumps reach them all (`reach`), as they do where they reach as far as the bound (`bound`).
+//! `law_of_block_words`, `law_of_test_words` and `law_of_jump_words`: each step and each jump of
+//! such code has a word. `law_of_chosen`: a chosen cover has a cell for each of its cuts.
+//! `law_of_lists`, `law_of_costs` and `law_of_bare`: what the definitions ask for is one: the
+//! forms, the costs, the bound, the first tree without a cover.
+//!
+//! There is no code to run here: this crate says what `net_code` has to make, over the netlist and
+//! the program alone, so that neither ids nor sets occur in the definition of right code.
+//!
+//! Files:
+//!
+//! - `laws`: what is one for a task, and that an image made for it is right code.
+//! - `words`: that each step and each jump of a task's code has a word.
+//! - `specs/`, cited by public contracts: `Tasks` (what two files say together), `Forms`,
+//!   `Covered`, `Bounded`, `Words`, `Images` (the definition of right code), of `Jobs` the steps of
+//!   jobs, of `Laid` `IsLayout`, of `Forks` `plan_rule`.
+//! - `specs/`, between the definition of an image and its trace: `Blocks`, `Code`, `Known`, and the
+//!   rest of `Jobs`, `Laid` and `Forks`.
+//! - `proofs/`: `Right` on top; `Chosen`, `Ordered`, `Coded` from the image to the trace; `Plain`,
+//!   `Listed`, `Turning`, `Turns`, `Swapping` for forms; `Standing`, `Layouts`, `Walked`, `Forked`,
+//!   `Branching`, `Ways` for words; `Worded` and `Jumping` for the laws of words; `OneForms`,
+//!   `OneBound`, `Bare` for what is one. docs/ARCHITECTURE.md goes through them in order.
 #![tactic(auto)]
 
 mod laws;

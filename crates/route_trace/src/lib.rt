@@ -1,4 +1,34 @@
 //! The symbolic values of each net, each with the instruction words that give it.
+//!
+//! Promise: the routes of each net that `trace` gives partition the words without a clash by the
+//! net's symbolic value (`routes`: `AreRoutes`); N12 and N13 are kept (`limits`: `KeepsLimits`), or
+//! the net is told that is named for one of them (`refusal`: `IsRefusal`). The laws `law_of_sets`,
+//! `law_of_words` and `law_of_meaning` say what follows for each route.
+//!
+//! Invariant: nets are gone over in the order of the checked netlist, and at each word at most one
+//! route of a net holds it: so routes are right for each word by itself, operators are maps over
+//! lists, a case is a choice, and no count or index is needed. A net that is skipped depends on one
+//! that broke a limit.
+//!
+//! Files:
+//!
+//! - `stop`: why the routes of a net are given up.
+//! - `heads`: operators that lack their last operand, or two, and one closed over an expression.
+//! - `merge`, `lookup`: a route is added or joined to one with its expression; the route that holds
+//!   a word.
+//! - `product`, `pairs`, `selects`: routes of operands taken together where they have a word in
+//!   common.
+//! - `decide`, `first`, `cases`: the tests of a case or a bus, and the first that a word passes.
+//! - `gates`, `whole`: the routes of a gate, and of a net.
+//! - `verdict`: what is found out of each net about the limits.
+//! - `all_nets`: `trace`, net by net.
+//! - `laws`: the three laws.
+//! - `lib`: `RouteFault`.
+//! - `specs/`: `Laws` and `Limits` are cited by public contracts, and routes are
+//!   `transfer_set/specs/Routes`; `Routing`, `Heads`, `Lookups`, `Selects`, `Gates`, `Tests`,
+//!   `Stops` and `Verdicts` mirror loops.
+//! - `proofs/`: `Exact` carries the promise and the laws, from `Turns` (one net more) over `Given`,
+//!   `Deciding`, `Products` and `Selecting` to it; `Judging` and `Stopping` carry the limits.
 #![tactic(auto)]
 
 mod all_nets;

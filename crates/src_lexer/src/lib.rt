@@ -1,4 +1,16 @@
 //! The tokens of programs.
+//!
+//! Promise: `tokens` gives the tokens of a program's text as `src_tokens` defines them (`exact`),
+//! and says the same of each by itself (`lawful`: `AreTokens`), up to the first place where none
+//! begins. The only refusal is want of memory.
+//!
+//! Files:
+//!
+//! - `lib`: the reserved words and the signs of programs, and `tokens`, which is that of `lexing`
+//!   for them.
+//! - `specs/`: `Programs`, cited by public contracts, has the same table once more, as a
+//!   definition; the proof of `language` holds the two against each other.
+//! - `proofs/`: empty but for its root; the laws are those of `lexing`.
 #![tactic(auto)]
 
 ghost use Rattle.std.specs.Prelude.{◌≡◌, ◌^◌, ◌<◌, length, IfOk};

@@ -1,4 +1,31 @@
-//! The trees and the flow of a program, and in `specs/` what they are and when code does what they say.
+//! The trees and the flow of a program, and in `specs/` what they are and when code does what they
+//! say.
+//!
+//! Promise: `lower` gives exactly the flow and the jobs of a checked program whose variables stand
+//! at the places of its layout (`flow`: `program_flow`, `jobs`: `program_works`). The laws: the
+//! tree of an expression has its value in the store that the memory holds (`law_of_trees`), the job
+//! of an assignment changes that store as the assignment does (`law_of_assignments`), each tree of
+//! a test decides it (`law_of_tests`), the temporary cells are the greatest count over the trees
+//! (`law_of_temps`), and words that do what the flow says trace the program (`law_of_flow`:
+//! `IsPlaced`).
+//!
+//! Invariant: a `DataMemory` has cells and addresses of 1 to 64 bits. The flow of a statement is
+//! made for the place at which it stands, so its targets are final once it is appended; jobs are
+//! numbered as they are pushed, in the order of the text.
+//!
+//! Files:
+//!
+//! - `memory`: the data memory as the trees see it.
+//! - `trees`: the trees of expressions, and the addresses of places.
+//! - `jobs`: the jobs of assignments, tests and of what a `for` does.
+//! - `flow`: the flow of statements, and `lower`.
+//! - `laws`: the laws above.
+//! - `specs/`, cited by public contracts: `Lowered` (trees over a memory map), `Jobs`, `Flows`,
+//!   `Blocks`, `Placed`, `Seen` (the store that memory holds), `Doing` and `Measures`. `Lowering`
+//!   and `Near` mirror the lowering; `Worked` is computed.
+//! - `proofs/`: `Standing` carries the law of flow, by induction over statements with a list of
+//!   pending assignments; `Meant`, `Done`, `Values` and `Behind` the laws of trees and jobs,
+//!   `Measured` and `Temps` that of temporary cells; `LowerLemmas` and `LowerCases` the lowering.
 #![tactic(auto)]
 
 mod flow;

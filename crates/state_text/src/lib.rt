@@ -1,4 +1,22 @@
 //! The texts of states: what a memory text sets, and what a state is written as.
+//!
+//! Promise: `read_state` gives the state that the lines of a memory text set, the program counter
+//! at 0 (`found`: `IsMemoryText`), or the offset of the first bad line (`refused`:
+//! `IsMemoryRefusal`). `write_state` adds exactly the text of a simulator's state (`text`:
+//! `state_text`), and takes no memory where there is room (`succeeds`); `text_room` takes room for
+//! every state of a netlist.
+//!
+//! Files:
+//!
+//! - `setting`: what a line sets.
+//! - `line`: from a line to what it sets, or None.
+//! - `reading`: `read_state`, line by line, from zeros.
+//! - `writing`: `write_state` and `text_room`.
+//! - `specs/`: `Shown`, and of `Settings` `IsStart`, are cited by public contracts, and memory
+//!   texts are defined in `net_model/specs/MemoryText`; the rest of `Settings` mirrors the reading
+//!   of a line.
+//! - `proofs/`: `Told` and `Progress` for lines, `Starts` for start states, `Shown` and `Rooms` for
+//!   writing.
 #![tactic(auto)]
 
 mod line;

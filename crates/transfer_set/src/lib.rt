@@ -1,4 +1,35 @@
-//! What instruction words do to storages: the routes of nets, and the patterns that are read off them.
+//! What instruction words do to storages: the routes of nets, and the patterns that are read off
+//! them.
+//!
+//! Promise: from the control bits and the routes of a netlist `collect_patterns` gives exactly its
+//! patterns, each with all its words, none twice, in their order; for each storage exactly the
+//! words that keep it; and exactly the words that step (`ready`: `IsReady`). `law_of_growth`: what
+//! the ids of a table mean they mean in each extension of the book and each growth of the pool
+//! (`StaysReady`). `print` writes the text of the patterns (`IsPatternsText`).
+//!
+//! Invariant: ids mean something only over a netlist, a book and a pool together, which is
+//! `IsReady`; the `Patterns` themselves keep only that there are fewer than 2^32. Entries are
+//! collected storage by storage so that no two of a storage have one transfer, and the set of each
+//! holds a word.
+//!
+//! Files:
+//!
+//! - `route`: the routes of nets; `route_trace` makes them.
+//! - `fields`: the instruction bits that occur in an expression.
+//! - `entries`: transfers with the words that give them, as they are collected.
+//! - `sources`: what feeds the storages, and the entries of all.
+//! - `keeping`, `stepping`: the words that keep a storage, and those that step.
+//! - `texts`: the texts of expressions and transfers.
+//! - `row`: a pattern with its text, and patterns in order.
+//! - `print`: the text of all patterns.
+//! - `patterns`, `patterns/told`: `Patterns`, with its calls, and the text of one.
+//! - `laws`: `law_of_growth`.
+//! - `specs/`: `Routes`, `Ready`, `Tables`, `Rows`, `Sets`, `TextMarks`, `PatternsText`, and parts
+//!   of `Stepping` and `Entries` are cited by public contracts, here and above; the rest of
+//!   `Entries`, and `Sources`, mirror the collecting.
+//! - `proofs/`: `Collecting`, `Feeding`, `Finding`, `Assembling` from routes to patterns,
+//!   `OnceEach`, `TextsDiffer`, `TransfersDiffer`, `InOrder` for their order, `ReadyLaws` for
+//!   growth.
 #![tactic(auto)]
 
 mod entries;
@@ -17,5 +48,5 @@ pub use fields::expr_fields;
 pub use laws::law_of_growth;
 pub use patterns::{Patterns, collect_patterns};
 pub use route::{Route, Routes};
-pub use stepping::{Counter, is_step};
+pub use stepping::{Counter, is_register, is_step};
 pub use texts::{word_of_one, word_of_two};

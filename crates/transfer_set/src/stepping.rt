@@ -36,8 +36,8 @@ impl Counter {
     }
 }
 
-// Whether an expression is the register as it stands.
-fn is_register(pool: &Pool, expr: ExprId, counter: Counter) -> bool
+/// Whether an expression is the program counter as it stands.
+pub fn is_register(pool: &Pool, expr: ExprId, counter: Counter) -> bool
     requires { expr < length pool.now }
     ensures { result ≡ is_reg counter (term_at pool.now expr) }
 {

@@ -1,4 +1,26 @@
 //! What a form takes of a tree.
+//!
+//! Promise: `match_at` gives what a form takes of a tree that goes to a destination, exactly, and
+//! None exactly where it doesn't match (`found`: `taken` of `form_model/specs/Matches`), with the
+//! number of each part's tree among the subtrees (`at`). `fits_field`, `shows_all` and `setting_of`
+//! tell of a field shape which numbers it shows and under which bits. Sizes and widths are exact,
+//! and past what can be counted want of memory is answered.
+//!
+//! Invariant: subtrees are numbered from 0, a tree before its operands and these from left to
+//! right; `past` gives the number behind a tree. A part carries the number of its tree, so that
+//! `cover` finds the row of each subtree without comparing trees.
+//!
+//! Files:
+//!
+//! - `parts`: matches, the parts that they leave open, and where trees go.
+//! - `sizes`: widths of trees and expressions, and how many nodes a tree has.
+//! - `shapes`: field shapes: which numbers they show, and under which bits of the word.
+//! - `terms`: what an expression of a form takes of a tree.
+//! - `forms`: what a form takes of a tree with its destination: `match_at`.
+//! - `specs/`: `Numbers`, and of `Parts` all but two definitions, are cited by public contracts;
+//!   `Settings` and `Unary` name parts of definitions for proofs.
+//! - `proofs/`: `NumberLemmas` for subtrees, `ShapeLemmas` and `ExtensionLemmas` for shapes,
+//!   `UnaryLemmas`.
 #![tactic(auto)]
 
 mod forms;
@@ -6,8 +28,6 @@ mod parts;
 mod shapes;
 mod sizes;
 mod terms;
-#[cfg(test)]
-mod tests;
 
 pub use forms::match_at;
 pub use parts::{Destination, Match, Part};

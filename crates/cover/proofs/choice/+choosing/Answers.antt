@@ -1,63 +1,137 @@
-use Rattle.std.proofs.Common.{◌≡◌, ◌<◌, ◌-◌, length, arith, rules, refl, sym, ap, ◌∙◌, subst, Some}
-use Rattle.std.specs.Prelude.{remove}
+use Rattle.std.proofs.Common.{◌≡◌, ◌<◌, ◌-◌, length, arith, rules, refl, sym, ap, ◌∙◌, subst, Some, vec_len}
+use Rattle.std.specs.Prelude.{remove, slice_get}
 use Rattle.std.proofs.lemmas.Option.{slice_get_read}
 use Rattle.std.proofs.lemmas.Result.{IfOk-weaker}
 use Rattle.form_model.specs.Trees.{tree_term}
-use Rattle.form_model.specs.Rules.{rule_of}
-use Rattle.std.proofs.lemmas.List.{length-map}
 use Rattle.form_model.specs.Plans.{operand_then, plan_of, operands_plan, cuts_plan}
 use Rattle.form_model.specs.Covers.{Operand}
-use Rattle.tree_grammar.specs.Parts.{destination_at}
 use Rattle.cover.specs.Asks.{operand_ask, with_reg}
 use Rattle.cover.specs.Least.{IsLeast, IsLeastOrder}
 use Rattle.cover.specs.Jobs.{stock_of, nodes_of, open_operand, open_operands, open_cuts, OperandsAt}
-use Rattle.cover.specs.Choice.{ask_of, Begins, Starts, StartsCut, IsFirstOrder, IsFirstCuts}
-use Rattle.cover.proofs.NodeLemmas.{input_get, inputs_remove, into_stands, cut_stands, nodes_hold}
-use Rattle.cover.proofs.InputLemmas.{inputs_at, inputs_without, length_inputs, no_stored, stored_split, stored_first}
-use Rattle.cover.proofs.ChoiceLemmas.{cover_exists, first_by_form, order_exists, first_by_operand, forms_later, operands_later, empty_cuts}
+use Rattle.cover.specs.declared.matches.FormMatch.{FormMatch}
+use Rattle.cover.specs.declared.matches.Matches.{Matches}
+use Rattle.cover.specs.Least.{IsLeastCut}
+use Rattle.cover.specs.Rows.{row_ask, IsSlot}
+use Rattle.cover.specs.Jobs.{CutsAt}
+use Rattle.cover.specs.Matched.{AreMatches}
+use Rattle.cover.specs.Choice.{matches_ask, NeverBegins, BeginsAt, Starts, StartsCut, IsFirst, IsFirstOrder, IsFirstCuts}
+use Rattle.cover.proofs.MatchLemmas.{never_before, some_match, matches_later}
+use Rattle.cover.proofs.NodeLemmas.{input_get, inputs_remove}
+use Rattle.cover.proofs.InputLemmas.{register_ask, register_slot, cut_slot, inputs_at, inputs_without, length_inputs, no_stored, stored_split, stored_first}
+use Rattle.cover.proofs.ChoiceLemmas.{first_by_form, order_exists, first_by_operand, operands_later, empty_cuts}
 use Rattle.cover.proofs.choice.+choosing.Goals as goal
 
-pub choose-returns-in-Some-clause-first : goal.choose-returns-in-Some-clause-first
-choose-returns-in-Some-clause-first t c =
-    let b : Begins (stock_of c.args.instance.now) c.args.avoid (ask_of c.args.want.now) c.args.n c.loop-k.k (Some c.in-Some.fit) =
-    subst (λ o. Begins (stock_of c.args.instance.now) c.args.avoid (ask_of c.args.want.now) c.args.n c.loop-k.k o) c.in-Some.is c.in_ok-fit.ensures.begins in
-    let a : IsFirstOrder (stock_of c.args.instance.now) c.args.avoid (open_operands c.in-Some.fit.operands.items) (operands_plan c.in_ok-operands.operands) =
-    subst (λ l. IsFirstOrder (stock_of c.args.instance.now) c.args.avoid (open_operands l) (operands_plan c.in_ok-operands.operands)) c.deref.ensures.value c.in_ok-operands.ensures.first in
-    let d : IsFirstCuts (stock_of c.args.instance.now) (open_cuts c.in-Some.fit.cuts.items) (cuts_plan c.in_ok-cuts.cuts) =
-    subst (λ l. IsFirstCuts (stock_of c.args.instance.now) (open_cuts l) (cuts_plan c.in_ok-cuts.cuts)) c.deref-in-Some.ensures.value c.in_ok-cuts.ensures.first in
-    first_by_form (stock_of c.args.instance.now) c.args.avoid (ask_of c.args.want.now) c.args.n c.requires.least c.loop-k.k _ _ _ _ _ _ c.loop-k.invariant.never b.0 b.1 a d
+pub choose_entry-choose_among-requires : goal.choose_entry-choose_among-requires
+choose_entry-choose_among-requires t c =
+    let e : c.deref.result.now ≡ c.in_ok-matches.matches.value = c.deref.ensures in
+    let et : tree_term c.deref.result.now.tree.now ≡ tree_term c.args.tree.now = ap (λ (ms : Matches). tree_term ms.tree.now) e ∙ c.in_ok-matches.ensures.tree in
+    let ew : c.deref.result.now.whole ≡ c.args.whole = ap (λ (ms : Matches). ms.whole) e ∙ c.in_ok-matches.ensures.whole in
+    let ask = ap (λ u. row_ask u c.deref.result.now.whole c.args.slot) et ∙ ap (λ w. row_ask (tree_term c.args.tree.now) w c.args.slot) ew in (
+      omega (arith, c.decreases),
+      (
+        subst (λ w. IsSlot w c.args.slot) (sym ew) c.requires.slot,
+        (
+          subst (λ x. IsLeast (stock_of c.args.instance.now) c.args.avoid x (Some c.args.n)) (sym ask) c.requires.least,
+          (subst (AreMatches c.args.instance.now) (sym e) c.in_ok-matches.ensures.matches, c.in_ok-matches.ensures.right),
+        ),
+      ),
+    )
 
-pub choose-loop-k-preserved : goal.choose-loop-k-preserved
-choose-loop-k-preserved t c = record {
-  never = forms_later (stock_of c.args.instance.now) c.args.avoid (ask_of c.args.want.now) c.args.n c.loop-k.k c.loop-k.invariant.never
-      (subst (λ o. Begins (stock_of c.args.instance.now) c.args.avoid (ask_of c.args.want.now) c.args.n c.loop-k.k o) c.in_default.is c.in_ok-fit.ensures.begins);
-  right = c.in_ok-fit.ensures.right;
+pub choose_entry-returns-clause-first : goal.choose_entry-returns-clause-first
+choose_entry-returns-clause-first t c =
+    let e : c.deref.result.now ≡ c.in_ok-matches.matches.value = c.deref.ensures in
+    let et : tree_term c.deref.result.now.tree.now ≡ tree_term c.args.tree.now = ap (λ (ms : Matches). tree_term ms.tree.now) e ∙ c.in_ok-matches.ensures.tree in
+    let ew : c.deref.result.now.whole ≡ c.args.whole = ap (λ (ms : Matches). ms.whole) e ∙ c.in_ok-matches.ensures.whole in
+    let ask = ap (λ u. row_ask u c.deref.result.now.whole c.args.slot) et ∙ ap (λ w. row_ask (tree_term c.args.tree.now) w c.args.slot) ew in
+    subst (λ x. IsFirst (stock_of c.args.instance.now) c.args.avoid x (plan_of c.in_ok-cover.cover)) ask c.in_ok-cover.ensures.first
+
+pub choose_among-choose_order-requires : goal.choose_among-choose_order-requires
+choose_among-choose_order-requires t c =
+    let m : FormMatch = c.index-found.result.now in
+    let lt : c.loop-i.i < length c.args.matches.now.list.items = search rules in
+    let got : slice_get c.args.matches.now.list.items c.loop-i.i ≡ Some m = slice_get_read _ _ _ _ refl lt c.index-found.ensures in
+    let b : BeginsAt (stock_of c.args.instance.now) c.args.avoid c.args.matches.now c.args.slot c.args.n c.loop-i.i (Some c.in-Some.costs) =
+    subst (λ o. BeginsAt (stock_of c.args.instance.now) c.args.avoid c.args.matches.now c.args.slot c.args.n c.loop-i.i o) c.in-Some.is c.in_ok-costs.ensures.begins in
+    let fits = b m got in (
+      (let sum = fits.1 in omega (arith, sum, c.decreases)),
+      (
+        subst (λ l. IsLeastOrder (stock_of c.args.instance.now) c.args.avoid (open_operands l) (Some c.in-Some.costs.operands)) (sym c.deref.ensures.value) fits.0.order,
+        (subst (OperandsAt (nodes_of c.args.instance.now)) (sym c.deref.ensures.value) (c.requires.matches.each c.loop-i.i m got).operands_at, c.in_ok-costs.ensures.right),
+      ),
+    )
+
+pub choose_among-choose_cuts-requires : goal.choose_among-choose_cuts-requires
+choose_among-choose_cuts-requires t c =
+    let m : FormMatch = c.index-found.result.now in
+    let lt : c.loop-i.i < length c.args.matches.now.list.items = search rules in
+    let got : slice_get c.args.matches.now.list.items c.loop-i.i ≡ Some m = slice_get_read _ _ _ _ refl lt c.index-found.ensures in
+    let b : BeginsAt (stock_of c.args.instance.now) c.args.avoid c.args.matches.now c.args.slot c.args.n c.loop-i.i (Some c.in-Some.costs) =
+    subst (λ o. BeginsAt (stock_of c.args.instance.now) c.args.avoid c.args.matches.now c.args.slot c.args.n c.loop-i.i o) c.in-Some.is c.in_ok-costs.ensures.begins in
+    let fits = b m got in (
+      (let sum = fits.1 in omega (arith, sum, c.decreases)),
+      (
+        subst (λ l. IsLeastCut (stock_of c.args.instance.now) (open_cuts l) (Some c.in-Some.costs.cuts)) (sym c.deref-in-Some.ensures.value) fits.0.cut,
+        (subst (CutsAt (nodes_of c.args.instance.now)) (sym c.deref-in-Some.ensures.value) (c.requires.matches.each c.loop-i.i m got).cuts_at, c.in_ok-operands.ensures.right),
+      ),
+    )
+
+pub choose_among-returns-in-Some-clause-first : goal.choose_among-returns-in-Some-clause-first
+choose_among-returns-in-Some-clause-first t c =
+    let m : FormMatch = c.index-found.result.now in
+    let lt : c.loop-i.i < length c.args.matches.now.list.items = search rules in
+    let got : slice_get c.args.matches.now.list.items c.loop-i.i ≡ Some m = slice_get_read _ _ _ _ refl lt c.index-found.ensures in
+    let b : BeginsAt (stock_of c.args.instance.now) c.args.avoid c.args.matches.now c.args.slot c.args.n c.loop-i.i (Some c.in-Some.costs) =
+    subst (λ o. BeginsAt (stock_of c.args.instance.now) c.args.avoid c.args.matches.now c.args.slot c.args.n c.loop-i.i o) c.in-Some.is c.in_ok-costs.ensures.begins in
+    let fits = b m got in
+    let a : IsFirstOrder (stock_of c.args.instance.now) c.args.avoid (open_operands m.operands.items) (operands_plan c.in_ok-operands.operands) =
+    subst (λ l. IsFirstOrder (stock_of c.args.instance.now) c.args.avoid (open_operands l) (operands_plan c.in_ok-operands.operands)) c.deref.ensures.value c.in_ok-operands.ensures.first in
+    let d : IsFirstCuts (stock_of c.args.instance.now) (open_cuts m.cuts.items) (cuts_plan c.in_ok-cuts.cuts) =
+    subst (λ l. IsFirstCuts (stock_of c.args.instance.now) (open_cuts l) (cuts_plan c.in_ok-cuts.cuts)) c.deref-in-Some.ensures.value c.in_ok-cuts.ensures.first in
+    first_by_form (stock_of c.args.instance.now) c.args.avoid (matches_ask c.args.matches.now c.args.slot) c.args.n c.requires.least m.form _ _ _ _ _ _
+    (never_before c.args.instance.now c.args.avoid (tree_term c.args.matches.now.tree.now) c.args.matches.now.whole c.args.slot c.args.n c.args.matches.now.list.items c.requires.slot c.requires.matches c.loop-i.i m got c.loop-i.invariant.never)
+    fits.0 fits.1 a d
+
+pub choose_among-loop-i-preserved : goal.choose_among-loop-i-preserved
+choose_among-loop-i-preserved t c = record {
+  never = matches_later (NeverBegins (stock_of c.args.instance.now) c.args.avoid (matches_ask c.args.matches.now c.args.slot) c.args.n) c.args.matches.now.list.items c.loop-i.i c.loop-i.invariant.never
+      (subst (λ o. BeginsAt (stock_of c.args.instance.now) c.args.avoid c.args.matches.now c.args.slot c.args.n c.loop-i.i o) c.in_default.is c.in_ok-costs.ensures.begins);
+  right = c.in_ok-costs.ensures.right;
 }
 
-pub choose-unreachable-requires : goal.choose-unreachable-requires
-choose-unreachable-requires t c =
-    cover_exists (stock_of c.args.instance.now) c.args.avoid (ask_of c.args.want.now) c.args.n c.requires.least
-    (λ j lt. c.loop-k.invariant.never j (let l = length-map c.args.instance.now.forms.now rule_of in omega (arith, lt, l, c.loop-k-test.false)))
+pub choose_among-unreachable-requires : goal.choose_among-unreachable-requires
+choose_among-unreachable-requires t c =
+    let v : vec_len c.args.matches.now.list ≡ length c.args.matches.now.list.items = search rules in
+    some_match c.args.instance.now c.args.avoid (tree_term c.args.matches.now.tree.now) c.args.matches.now.whole c.args.slot c.args.n c.args.matches.now.list.items c.requires.slot c.requires.matches c.requires.least
+    (λ l g lt. c.loop-i.invariant.never l g (omega (arith, lt, v, c.loop-i-test.false)))
 
 pub choose_cuts-returns-then-is_empty-clause-first : goal.choose_cuts-returns-then-is_empty-clause-first
 choose_cuts-returns-then-is_empty-clause-first t c = empty_cuts _ _ (let n : length c.args.cuts.now ≡ 0 = search rules in no_stored c.args.cuts.now n)
 
-pub choose_cuts-choose-requires : goal.choose_cuts-choose-requires
-choose_cuts-choose-requires t c =
+pub choose_cuts-choose_entry-requires : goal.choose_cuts-choose_entry-requires
+choose_cuts-choose_entry-requires t c =
     let some : 0 < length c.args.cuts.now = search rules in
     let got = slice_get_read _ _ _ _ refl some c.index-cuts-0.is in
     let e = stored_split c.args.cuts.now c.index-cuts-0.result got in
     let s = subst (λ l. StartsCut (stock_of c.args.instance.now) l c.args.n c.in_ok-m.m) e c.in_ok-m.ensures.starts in
-    (omega (arith, s.1, c.decreases), (s.2, (cut_stands _ _ _ (nodes_hold (destination_at c.args.instance.now.destination) (tree_term c.args.instance.now.tree.now) c.index-cuts-0.result.at (tree_term c.index-cuts-0.result.tree.now) (stored_first _ c.args.cuts.now _ c.requires.at got)), c.in_ok-m.ensures.right)))
+    (omega (arith, s.1, c.decreases), (cut_slot, (s.2, (stored_first _ c.args.cuts.now _ c.requires.at got, c.in_ok-m.ensures.right))))
 
-pub choose_order-choose-requires : goal.choose_order-choose-requires
-choose_order-choose-requires t c =
+pub choose_order-choose_entry-requires : goal.choose_order-choose_entry-requires
+choose_order-choose_entry-requires t c =
     let got = slice_get_read _ _ _ _ refl c.loop-i-test.true c.index-ops-i.is in
     let get = inputs_at c.args.ops.now c.loop-i.i c.index-ops-i.result got in
     let s : Starts (stock_of c.args.instance.now) c.args.avoid (open_operands c.args.ops.now) c.args.n c.loop-i.i (Some c.in-Some.m) =
     subst (λ o. Starts (stock_of c.args.instance.now) c.args.avoid (open_operands c.args.ops.now) c.args.n c.loop-i.i o) c.in-Some.is c.in_ok-m.ensures.starts in
     let same : s.0 ≡ open_operand c.index-ops-i.result = (let g = s.1 in cc) in
-    (omega (arith, s.3, c.decreases), (subst (λ x. IsLeast (stock_of c.args.instance.now) c.args.avoid (operand_ask x) (Some c.in-Some.m)) same s.4, (into_stands _ _ _ _ (nodes_hold (destination_at c.args.instance.now.destination) (tree_term c.args.instance.now.tree.now) c.index-ops-i.result.at (tree_term c.index-ops-i.result.tree.now) (input_get _ _ c.loop-i.i _ c.requires.at got)), c.in_ok-m.ensures.right)))
+    let ask = register_ask c.in_ok-slot.slot (tree_term c.index-ops-i.result.tree.now) c.index-ops-i.result.whole (open_operand c.index-ops-i.result) c.in_ok-slot.ensures refl refl in (
+      omega (arith, s.3, c.decreases),
+      (
+        register_slot _ _ _ c.in_ok-slot.ensures,
+        (
+          subst (λ x. IsLeast (stock_of c.args.instance.now) c.args.avoid x (Some c.in-Some.m)) (sym ask) (subst (λ x. IsLeast (stock_of c.args.instance.now) c.args.avoid (operand_ask x) (Some c.in-Some.m)) same s.4),
+          (input_get _ _ c.loop-i.i _ c.requires.at got, c.in_ok-m.ensures.right),
+        ),
+      ),
+    )
 
 pub choose_order-choose_order-requires : goal.choose_order-choose_order-requires
 choose_order-choose_order-requires t c =
@@ -94,7 +168,9 @@ choose_order-returns-in-Some-clause-first t c =
     let others : IsFirstOrder (stock_of c.args.instance.now) (with_reg c.args.avoid c.index-ops-i.result.id) (remove (open_operands c.args.ops.now) c.loop-i.i) (operands_plan c.in_ok-others.others) =
     subst (λ xs. IsFirstOrder (stock_of c.args.instance.now) (with_reg c.args.avoid c.index-ops-i.result.id) xs (operands_plan c.in_ok-others.others)) e
     (subst (λ r. IsFirstOrder (stock_of c.args.instance.now) r (open_operands c.deref.result.now) (operands_plan c.in_ok-others.others)) c.in_ok-later.ensures c.in_ok-others.ensures.first) in
-    let f = first_by_operand (stock_of c.args.instance.now) c.args.avoid (open_operands c.args.ops.now) c.args.n c.requires.least c.loop-i.i c.in-Some.m (open_operand c.index-ops-i.result) (plan_of c.in_ok-here.here) (operands_plan c.in_ok-others.others) c.loop-i.invariant.never get s.3 la lb c.in_ok-here.ensures.first others in
+    let ask = register_ask c.in_ok-slot.slot (tree_term c.index-ops-i.result.tree.now) c.index-ops-i.result.whole (open_operand c.index-ops-i.result) c.in_ok-slot.ensures refl refl in
+    let here = subst (λ x. IsFirst (stock_of c.args.instance.now) c.args.avoid x (plan_of c.in_ok-here.here)) ask c.in_ok-here.ensures.first in
+    let f = first_by_operand (stock_of c.args.instance.now) c.args.avoid (open_operands c.args.ops.now) c.args.n c.requires.least c.loop-i.i c.in-Some.m (open_operand c.index-ops-i.result) (plan_of c.in_ok-here.here) (operands_plan c.in_ok-others.others) c.loop-i.invariant.never get s.3 la lb here others in
     IfOk-weaker c.operand_first.result (λ x. operands_plan x ≡ operand_then c.loop-i.i (plan_of c.in_ok-here.here) (operands_plan c.in_ok-others.others)) (λ x. IsFirstOrder (stock_of c.args.instance.now) c.args.avoid (open_operands c.args.ops.now) (operands_plan x))
     (λ x is. subst (IsFirstOrder (stock_of c.args.instance.now) c.args.avoid (open_operands c.args.ops.now)) (sym is) f) c.operand_first.ensures
 

@@ -1,27 +1,33 @@
-use Rattle.std.proofs.Common.{◌≢◌, ℕ, ◌+◌, ◌*◌, ◌<◌}
+use Rattle.std.proofs.Common.{◌≡◌, ◌≢◌, ℕ, Some, ◌+◌, ◌*◌, ◌<◌}
 use Rattle.form_model.specs.Plans.{Plan, Operands, operand_then, cost, operands_cost}
 use Rattle.cover.specs.Asks.{AreSparing}
-use Rattle.cover.specs.Choice.{ask_of, NeverBegins}
-use Rattle.cover.specs.Jobs.{stock_of, open_operands, AreRight}
+use Rattle.std.specs.Prelude.{slice_get}
+use Rattle.cover.specs.declared.matches.FormMatch.{FormMatch}
+use Rattle.cover.specs.Choice.{matches_ask, NeverBegins}
+use Rattle.cover.specs.Jobs.{stock_of, open_operands}
+use Rattle.cover.specs.Tables.{AreRight}
 use Rattle.cover.proofs.choice.+choosing.Given as goal
 
-abbrev pub decreases-choose : goal.decreases-choose
-decreases-choose l = 2 * l.n
+abbrev pub decreases-choose_entry : goal.decreases-choose_entry
+decreases-choose_entry l = 3 * l.n + 1
+
+abbrev pub decreases-choose_among : goal.decreases-choose_among
+decreases-choose_among l = 3 * l.n
 
 abbrev pub decreases-choose_order : goal.decreases-choose_order
-decreases-choose_order l = 2 * l.n + 1
+decreases-choose_order l = 3 * l.n + 2
 
 abbrev pub decreases-choose_cuts : goal.decreases-choose_cuts
-decreases-choose_cuts l = 2 * l.n + 1
+decreases-choose_cuts l = 3 * l.n + 2
 
-abbrev pub invariant-choose-loop-k : goal.invariant-choose-loop-k
-invariant-choose-loop-k l = record {
-  never : (j : ℕ) → j < l.k → NeverBegins (stock_of l.instance) l.avoid (ask_of l.want) l.n j;
-  right : AreRight l.instance l.table.rows.entries;
+abbrev pub invariant-choose_among-loop-i : goal.invariant-choose_among-loop-i
+invariant-choose_among-loop-i l = record {
+  never : (j : ℕ) (m : FormMatch) → j < l.i → slice_get l.matches.list.items j ≡ Some m → NeverBegins (stock_of l.instance) l.avoid (matches_ask l.matches l.slot) l.n m.form;
+  right : AreRight l.instance l.table;
 }
 
 abbrev pub invariant-choose_order-loop-i : goal.invariant-choose_order-loop-i
 invariant-choose_order-loop-i l = record {
   never : (j : ℕ) (p : Plan) (ps : Operands) → j < l.i → AreSparing (stock_of l.instance) l.avoid (open_operands l.ops) (operand_then j p ps) → cost p + operands_cost ps ≢ l.n;
-  right : AreRight l.instance l.table.rows.entries;
+  right : AreRight l.instance l.table;
 }

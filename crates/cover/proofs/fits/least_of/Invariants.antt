@@ -1,11 +1,12 @@
 use Rattle.cover.specs.Least.{Reached, FormsBelow}
 use Rattle.cover.specs.Choice.{ask_of}
-use Rattle.cover.specs.Jobs.{stock_of, AreRight}
+use Rattle.cover.specs.Jobs.{stock_of}
+use Rattle.cover.specs.Tables.{AreRight}
 use Rattle.cover.proofs.fits.least_of.Given as goal
 
 abbrev pub invariant-loop-k : goal.invariant-loop-k
 invariant-loop-k l = record {
   reached : Reached (stock_of l.instance) 0 (ask_of l.want) l.best;
   below : FormsBelow (stock_of l.instance) 0 (ask_of l.want) l.k l.best;
-  right : AreRight l.instance l.table.rows.entries;
+  right : AreRight l.instance l.table;
 }

@@ -1,24 +1,23 @@
-use Rattle.std.proofs.Common.{◌≡◌, ◌<◌, length, drop, arith, rules, refl, sym, ap, ◌∙◌, subst, Some, get_or}
+use Rattle.std.proofs.Common.{◌≡◌, ◌<◌, length, drop, arith, rules, refl, sym, ap, ◌∙◌, subst, Some, None, vec_len}
 use Rattle.std.specs.Prelude.{slice_get, remove}
 use Rattle.std.proofs.lemmas.Option.{slice_get_read}
 use Rattle.std.proofs.lemmas.Result.{IfOk-weaker}
 use Rattle.form_model.specs.Trees.{tree_term}
 use Rattle.cover.specs.Asks.{operands_size, terms_size, with_reg}
-use Rattle.cover.specs.Least.{IsLeastOrder, IsLeastFrom, IsLeastCut, summed}
+use Rattle.cover.specs.Least.{IsLeast, IsLeastOrder, IsLeastFrom, IsLeastCut, summed}
 use Rattle.cover.specs.Jobs.{stock_of, nodes_of, open_operand, open_operands, open_cuts, OperandsAt, CutsAt}
 use Rattle.cover.proofs.SizeLemmas.{size_pos}
 use Rattle.cover.proofs.NodeLemmas.{input_get, inputs_remove}
 use Rattle.cover.proofs.InputLemmas.{inputs_at, inputs_without, length_inputs, no_inputs, size-remove, no_stored, stored_split, stored_first, stored_later, tail_is, register_slot, cut_slot, register_least, rank_le}
-use Rattle.std.proofs.lemmas.List.{length-map}
-use Rattle.form_model.specs.Rules.{rule_of}
-use Rattle.cover.specs.Rows.{IsTried, IsClosed}
+use Rattle.cover.specs.declared.rows.Offer.TheVariants.{Nothing, Chains}
+use Rattle.cover.specs.declared.matches.Matches.{Matches}
+use Rattle.cover.specs.Rows.{row_ask, IsTried, IsClosed, IsLeastRow, IsOffer}
+use Rattle.cover.specs.Matched.{AreMatches}
 use Rattle.cover.proofs.OfferLemmas.{look_within, tried_more, least_row_of}
-use Rattle.cover.proofs.LeastLemmas.{cut_none, cut_more, order_more, order_all, order_none, from_parts}
-use Rattle.form_model.specs.Covers.{operands_of, cuts_of}
-use Rattle.tree_grammar.specs.Parts.{parts_of, destination_at, AreAt}
-use Rattle.form_model.specs.declared.forms.Form.{Form}
-use Rattle.cover.proofs.RowLemmas.{listed}
-use Rattle.cover.proofs.StartLemmas.{start_of, start_sizes, start_at, start_rests, start_costs}
+use Rattle.cover.proofs.MatchLemmas.{at_index, at_place, matches_all, match_sizes, offer_clobbers, offer_start, offer_costs}
+use Rattle.net_model.specs.Terms.{size_of}
+use Rattle.cover.proofs.LeastLemmas.{cut_none, cut_more, order_more, order_all, order_none, from_parts, from_none, from_last}
+use Rattle.cover.specs.declared.matches.FormMatch.{FormMatch}
 use Rattle.cover.proofs.least.+covering.Goals as goal
 
 pub orders-returns-then-is_empty-clause-least : goal.orders-returns-then-is_empty-clause-least
@@ -51,6 +50,22 @@ orders_from-orders-requires t c =
     let e : open_operands c.deref.result.now ≡ remove (open_operands c.args.ops.now) c.args.i = ap open_operands d ∙ inputs_without c.args.ops.now c.args.i in
     (omega (arith, h, ap operands_size e, size_pos (tree_term c.index-ops-i.result.tree.now), c.decreases), (subst (OperandsAt (nodes_of c.args.instance.now)) (sym d) (inputs_remove (nodes_of c.args.instance.now) c.args.ops.now c.args.i c.requires.at), c.in_ok-m.ensures.right))
 
+pub orders_from-returns-in_default-clause-least : goal.orders_from-returns-in_default-clause-least
+orders_from-returns-in_default-clause-least t c =
+    let got = slice_get_read _ _ _ _ refl c.requires.place c.index-ops-i.is in
+    let get = inputs_at c.args.ops.now c.args.i c.index-ops-i.result got in
+    from_none (stock_of c.args.instance.now) c.args.avoid (open_operands c.args.ops.now) c.args.i (open_operand c.index-ops-i.result) get
+    (register_least (stock_of c.args.instance.now) c.args.avoid c.in_ok-slot.slot (open_operand c.index-ops-i.result) None c.in_ok-slot.ensures (subst (λ o. IsLeast (stock_of c.args.instance.now) c.args.avoid (row_ask (tree_term c.index-ops-i.result.tree.now) c.index-ops-i.result.whole c.in_ok-slot.slot) o) c.in_default.is c.in_ok-m.ensures.least))
+
+pub orders_from-returns-then-ops-eq1-clause-least : goal.orders_from-returns-then-ops-eq1-clause-least
+orders_from-returns-then-ops-eq1-clause-least t c =
+    let got = slice_get_read _ _ _ _ refl c.requires.place c.index-ops-i.is in
+    let get = inputs_at c.args.ops.now c.args.i c.index-ops-i.result got in
+    let one : length c.args.ops.now ≡ 1 = search rules in
+    let n = length_inputs c.args.ops.now in
+    from_last (stock_of c.args.instance.now) c.args.avoid (open_operands c.args.ops.now) c.args.i (open_operand c.index-ops-i.result) c.in-Some.m get (omega (arith, one, n))
+    (register_least (stock_of c.args.instance.now) c.args.avoid c.in_ok-slot.slot (open_operand c.index-ops-i.result) (Some c.in-Some.m) c.in_ok-slot.ensures (subst (λ o. IsLeast (stock_of c.args.instance.now) c.args.avoid (row_ask (tree_term c.index-ops-i.result.tree.now) c.index-ops-i.result.whole c.in_ok-slot.slot) o) c.in-Some.is c.in_ok-m.ensures.least))
+
 pub orders_from-returns-clause-least : goal.orders_from-returns-clause-least
 orders_from-returns-clause-least t c =
     let got = slice_get_read _ _ _ _ refl c.requires.place c.index-ops-i.is in
@@ -60,9 +75,9 @@ orders_from-returns-clause-least t c =
     let rest : IsLeastOrder (stock_of c.args.instance.now) (with_reg c.args.avoid c.index-ops-i.result.id) (remove (open_operands c.args.ops.now) c.args.i) c.in_ok-n.n =
     subst (λ xs. IsLeastOrder (stock_of c.args.instance.now) (with_reg c.args.avoid c.index-ops-i.result.id) xs c.in_ok-n.n) e
     (subst (λ s. IsLeastOrder (stock_of c.args.instance.now) s (open_operands c.deref.result.now) c.in_ok-n.n) c.in_ok-later.ensures c.in_ok-n.ensures.least) in
-    let first = register_least (stock_of c.args.instance.now) c.args.avoid c.in_ok-slot.slot (open_operand c.index-ops-i.result) c.in_ok-m.m c.in_ok-slot.ensures c.in_ok-m.ensures.least in
-    let parts = from_parts (stock_of c.args.instance.now) c.args.avoid (open_operands c.args.ops.now) c.args.i (open_operand c.index-ops-i.result) c.in_ok-m.m c.in_ok-n.n get first rest in
-    IfOk-weaker c.sum_of.result (λ x. x ≡ summed c.in_ok-m.m c.in_ok-n.n) (λ x. IsLeastFrom (stock_of c.args.instance.now) c.args.avoid (open_operands c.args.ops.now) c.args.i x) (λ o same. subst (λ x. IsLeastFrom (stock_of c.args.instance.now) c.args.avoid (open_operands c.args.ops.now) c.args.i x) (sym same) parts) c.sum_of.ensures
+    let first = register_least (stock_of c.args.instance.now) c.args.avoid c.in_ok-slot.slot (open_operand c.index-ops-i.result) (Some c.in-Some.m) c.in_ok-slot.ensures (subst (λ o. IsLeast (stock_of c.args.instance.now) c.args.avoid (row_ask (tree_term c.index-ops-i.result.tree.now) c.index-ops-i.result.whole c.in_ok-slot.slot) o) c.in-Some.is c.in_ok-m.ensures.least) in
+    let parts = from_parts (stock_of c.args.instance.now) c.args.avoid (open_operands c.args.ops.now) c.args.i (open_operand c.index-ops-i.result) (Some c.in-Some.m) c.in_ok-n.n get first rest in
+    IfOk-weaker c.sum_of.result (λ x. x ≡ summed (Some c.in-Some.m) c.in_ok-n.n) (λ x. IsLeastFrom (stock_of c.args.instance.now) c.args.avoid (open_operands c.args.ops.now) c.args.i x) (λ o same. subst (λ x. IsLeastFrom (stock_of c.args.instance.now) c.args.avoid (open_operands c.args.ops.now) c.args.i x) (sym same) parts) c.sum_of.ensures
 
 pub cuts_cost-returns-then-is_empty-clause-least : goal.cuts_cost-returns-then-is_empty-clause-least
 cuts_cost-returns-then-is_empty-clause-least t c = cut_none _ _ (let n : length c.args.cuts.now ≡ 0 = search rules in no_stored c.args.cuts.now n)
@@ -90,56 +105,76 @@ cuts_cost-returns-clause-least t c =
     IfOk-weaker c.sum_of.result (λ x. x ≡ summed c.in_ok-m.m c.in_ok-n.n) (λ x. IsLeastCut (stock_of c.args.instance.now) (open_cuts c.args.cuts.now) x)
     (λ o same. subst (λ x. IsLeastCut (stock_of c.args.instance.now) (open_cuts c.args.cuts.now) x) (sym same) (subst (λ xs. IsLeastCut (stock_of c.args.instance.now) xs (summed c.in_ok-m.m c.in_ok-n.n)) (sym e) parts)) c.sum_of.ensures
 
-pub least_row-note-requires : goal.least_row-note-requires
-least_row-note-requires t c = record { len = c.loop-k.invariant.len; within = look_within (stock_of c.args.instance.now) c.args.avoid (tree_term c.args.tree.now) c.args.whole c.loop-k.k c.in_ok-offer.offer c.in_ok-offer.ensures.offer }
-
-pub least_row-loop-k-preserved : goal.least_row-loop-k-preserved
-least_row-loop-k-preserved t c = record {
-  len = c.note.ensures.len;
-  tried = tried_more (stock_of c.args.instance.now) c.args.avoid (tree_term c.args.tree.now) c.args.whole c.loop-k.k c.in_ok-offer.offer _ _ _ _ c.loop-k.invariant.tried c.in_ok-offer.ensures.offer c.in_ok-note.ensures.noted;
-  right = c.in_ok-offer.ensures.right;
-}
+pub least_row-row_of-requires : goal.least_row-row_of-requires
+least_row-row_of-requires t c =
+    let e : c.deref.result.now ≡ c.in_ok-matches.matches.value = c.deref.ensures in
+    (omega (arith, ap (λ (ms : Matches). size_of (tree_term ms.tree.now)) e, ap size_of c.in_ok-matches.ensures.tree, c.decreases), (subst (AreMatches c.args.instance.now) (sym e) c.in_ok-matches.ensures.matches, c.in_ok-matches.ensures.right))
 
 pub least_row-returns-clause-least : goal.least_row-returns-clause-least
 least_row-returns-clause-least t c =
-    let n : c.loop-k.k ≡ length (stock_of c.args.instance.now).rules = (let l = length-map c.args.instance.now.forms.now rule_of in omega (arith, l, c.loop-k-test.false, c.loop-k.auto.k-end)) in
-    least_row_of _ _ _ _ _ _ _ (subst (λ j. IsTried (stock_of c.args.instance.now) c.args.avoid (tree_term c.args.tree.now) c.args.whole j c.loop-k.chains.items c.loop-k.row.items) n c.loop-k.invariant.tried)
-    (subst (λ ms. IsClosed ms c.loop-k.row.items c.close.new.row.items) c.deref.ensures c.in_ok-close.ensures.closed)
+    let e : c.deref.result.now ≡ c.in_ok-matches.matches.value = c.deref.ensures in
+    subst (λ u. IsLeastRow (stock_of c.args.instance.now) c.args.avoid u c.args.whole c.in_ok-row.row.items) (ap (λ (ms : Matches). tree_term ms.tree.now) e ∙ c.in_ok-matches.ensures.tree)
+    (subst (λ w. IsLeastRow (stock_of c.args.instance.now) c.args.avoid (tree_term c.deref.result.now.tree.now) w c.in_ok-row.row.items) (ap (λ (ms : Matches). ms.whole) e ∙ c.in_ok-matches.ensures.whole) c.in_ok-row.ensures.least)
+
+pub row_of-note-requires : goal.row_of-note-requires
+row_of-note-requires t c =
+    let lt : c.loop-i.i < length c.args.matches.now.list.items = search rules in
+    let (m, got) = at_index c.args.matches.now.list.items c.loop-i.i lt in
+    record { len = c.loop-i.invariant.len; within = look_within (stock_of c.args.instance.now) c.args.avoid (tree_term c.args.matches.now.tree.now) c.args.matches.now.whole m.form c.in_ok-offer.offer (c.in_ok-offer.ensures.offer m got) }
+
+pub row_of-loop-i-preserved : goal.row_of-loop-i-preserved
+row_of-loop-i-preserved t c =
+    let lt : c.loop-i.i < length c.args.matches.now.list.items = search rules in
+    let (m, got) = at_index c.args.matches.now.list.items c.loop-i.i lt in
+    record {
+      len = c.note.ensures.len;
+      tried = tried_more (stock_of c.args.instance.now) c.args.avoid (tree_term c.args.matches.now.tree.now) c.args.matches.now.whole c.args.matches.now.list.items c.loop-i.i m got c.in_ok-offer.offer _ _ _ _ c.loop-i.invariant.tried (c.in_ok-offer.ensures.offer m got) c.in_ok-note.ensures.noted;
+      right = c.in_ok-offer.ensures.right;
+    }
+
+pub row_of-returns-clause-least : goal.row_of-returns-clause-least
+row_of-returns-clause-least t c =
+    let v : vec_len c.args.matches.now.list ≡ length c.args.matches.now.list.items = search rules in
+    let n : c.loop-i.i ≡ length c.args.matches.now.list.items = omega (arith, v, c.loop-i-test.false, c.loop-i.auto.i-end) in
+    least_row_of _ _ _ _ c.args.matches.now.list.items (matches_all c.args.instance.now (tree_term c.args.matches.now.tree.now) c.args.matches.now.whole c.args.matches.now.list.items c.requires.matches) _ _ _
+    (subst (λ j. IsTried (stock_of c.args.instance.now) c.args.avoid (tree_term c.args.matches.now.tree.now) c.args.matches.now.whole c.args.matches.now.list.items j c.loop-i.chains.items c.loop-i.row.items) n c.loop-i.invariant.tried)
+    (subst (λ ms. IsClosed ms c.loop-i.row.items c.close.new.row.items) c.deref.ensures c.in_ok-close.ensures.closed)
+
+pub offer_at-returns-then-found-avoid-ne0-clause-offer : goal.offer_at-returns-then-found-avoid-ne0-clause-offer
+offer_at-returns-then-found-avoid-ne0-clause-offer t c =
+    let m : FormMatch = c.index-found.result.now in
+    let got : slice_get c.args.matches.now.list.items c.args.i ≡ Some m = slice_get_read _ _ _ _ refl c.requires.place c.index-found.ensures in
+    at_place (λ y. IsOffer (stock_of c.args.instance.now) c.args.avoid (tree_term c.args.matches.now.tree.now) c.args.matches.now.whole y.form Nothing) c.args.matches.now.list.items c.args.i m got
+    (offer_clobbers c.args.instance.now c.args.avoid (tree_term c.args.matches.now.tree.now) c.args.matches.now.whole m (c.requires.matches.each c.args.i m got) c.if-found-avoid-ne0.true)
+
+pub offer_at-returns-in-Some-clause-offer : goal.offer_at-returns-in-Some-clause-offer
+offer_at-returns-in-Some-clause-offer t c =
+    let m : FormMatch = c.index-found.result.now in
+    let got : slice_get c.args.matches.now.list.items c.args.i ≡ Some m = slice_get_read _ _ _ _ refl c.requires.place c.index-found.ensures in
+    at_place (λ y. IsOffer (stock_of c.args.instance.now) c.args.avoid (tree_term c.args.matches.now.tree.now) c.args.matches.now.whole y.form (Chains (record { start = c.in-Some.start; goal = m.goal }))) c.args.matches.now.list.items c.args.i m got
+    (offer_start c.args.instance.now c.args.avoid (tree_term c.args.matches.now.tree.now) c.args.matches.now.whole m (c.requires.matches.each c.args.i m got) c.start_of.result c.in-Some.start c.if-found-avoid-ne0.false c.start_of.ensures c.in-Some.is)
 
 pub offer_at-orders-requires : goal.offer_at-orders-requires
 offer_at-orders-requires t c =
-    let form : Form = get_or c.args.instance.now.forms.now c.args.k c.index-instance-k.result in
-    let got : slice_get c.args.instance.now.forms.now c.args.k ≡ Some form = listed _ _ _ c.requires.form in
-    let s = start_of c.args.instance.now form c.args.k c.in-Some.goal (tree_term c.args.tree.now) c.args.whole (destination_at c.destination_of_entry.result) c.in_ok-goal.field-0 c.in_ok-found.field-0 c.in-Some-2.found got c.in_ok-goal.ensures c.in-Some.is c.in_ok-found.ensures.found c.in-Some-2.is c.destination_of_entry.ensures in
-    let z = start_sizes _ _ _ _ _ _ c.args.avoid c.in_ok-tree_size.field-0 c.in-Some-2.found c.deref.result.now c.in_ok-start.field-0 s c.deref.ensures.value c.in_ok-tree_size.ensures c.in_ok-start.ensures.is c.in_default-3.is in
-    let at = start_at c.args.instance.now c.args.number c.in-Some.goal (tree_term c.args.tree.now) (destination_at c.destination_of_entry.result) c.in_ok-found.field-0 c.in-Some-2.found c.requires.number c.in_ok-found.ensures.at c.in-Some-2.is c.destination_of_entry.ensures in
-    let e : open_operands c.deref-4.result.now ≡ operands_of (parts_of c.in-Some-2.found.parts.items) = ap open_operands c.deref-4.ensures.value ∙ c.in_ok-operands.ensures.operands ∙ ap (λ l. operands_of (parts_of l)) c.deref-2.ensures.value in
-    (omega (arith, z.0, ap operands_size e, c.decreases), (subst (OperandsAt (nodes_of c.args.instance.now)) (sym c.deref-4.ensures.value) (c.in_ok-operands.ensures.at (nodes_of c.args.instance.now) (subst (AreAt (nodes_of c.args.instance.now)) (sym c.deref-2.ensures.value) at)), c.requires.right))
+    let m : FormMatch = c.index-found.result.now in
+    let got : slice_get c.args.matches.now.list.items c.args.i ≡ Some m = slice_get_read _ _ _ _ refl c.requires.place c.index-found.ensures in
+    let f = c.requires.matches.each c.args.i m got in
+    let z = match_sizes c.args.instance.now c.args.avoid (tree_term c.args.matches.now.tree.now) c.args.matches.now.whole m f c.start_of.result c.start_of.ensures c.in_default.is in
+    (omega (arith, z.0, ap (λ l. operands_size (open_operands l)) c.deref.ensures.value, c.decreases), (subst (OperandsAt (nodes_of c.args.instance.now)) (sym c.deref.ensures.value) f.operands_at, c.requires.right))
 
 pub offer_at-cuts_cost-requires : goal.offer_at-cuts_cost-requires
 offer_at-cuts_cost-requires t c =
-    let form : Form = get_or c.args.instance.now.forms.now c.args.k c.index-instance-k.result in
-    let got : slice_get c.args.instance.now.forms.now c.args.k ≡ Some form = listed _ _ _ c.requires.form in
-    let s = start_of c.args.instance.now form c.args.k c.in-Some.goal (tree_term c.args.tree.now) c.args.whole (destination_at c.destination_of_entry.result) c.in_ok-goal.field-0 c.in_ok-found.field-0 c.in-Some-2.found got c.in_ok-goal.ensures c.in-Some.is c.in_ok-found.ensures.found c.in-Some-2.is c.destination_of_entry.ensures in
-    let z = start_sizes _ _ _ _ _ _ c.args.avoid c.in_ok-tree_size.field-0 c.in-Some-2.found c.deref.result.now c.in_ok-start.field-0 s c.deref.ensures.value c.in_ok-tree_size.ensures c.in_ok-start.ensures.is c.in_default-3.is in
-    let at = start_at c.args.instance.now c.args.number c.in-Some.goal (tree_term c.args.tree.now) (destination_at c.destination_of_entry.result) c.in_ok-found.field-0 c.in-Some-2.found c.requires.number c.in_ok-found.ensures.at c.in-Some-2.is c.destination_of_entry.ensures in
-    let e : open_cuts c.deref-5.result.now ≡ cuts_of (parts_of c.in-Some-2.found.parts.items) = ap open_cuts c.deref-5.ensures.value ∙ c.in_ok-cuts.ensures.cuts ∙ ap (λ l. cuts_of (parts_of l)) c.deref-3.ensures.value in
-    (omega (arith, z.1, rank_le c.args.avoid, ap terms_size e, c.decreases), (subst (CutsAt (nodes_of c.args.instance.now)) (sym c.deref-5.ensures.value) (c.in_ok-cuts.ensures.at (nodes_of c.args.instance.now) (subst (AreAt (nodes_of c.args.instance.now)) (sym c.deref-3.ensures.value) at)), c.in_ok-a.ensures.right))
-
-pub offer_at-returns-in-Some-3-clause-offer : goal.offer_at-returns-in-Some-3-clause-offer
-offer_at-returns-in-Some-3-clause-offer t c =
-    let form : Form = get_or c.args.instance.now.forms.now c.args.k c.index-instance-k.result in
-    let got : slice_get c.args.instance.now.forms.now c.args.k ≡ Some form = listed _ _ _ c.requires.form in
-    let s = start_of c.args.instance.now form c.args.k c.in-Some.goal (tree_term c.args.tree.now) c.args.whole (destination_at c.destination_of_entry.result) c.in_ok-goal.field-0 c.in_ok-found.field-0 c.in-Some-2.found got c.in_ok-goal.ensures c.in-Some.is c.in_ok-found.ensures.found c.in-Some-2.is c.destination_of_entry.ensures in
-    start_rests c.args.instance.now form c.args.k c.in-Some.goal c.in-Some-3.start (tree_term c.args.tree.now) c.args.whole c.args.avoid c.in_ok-tree_size.field-0 c.in-Some-2.found c.deref.result.now c.in_ok-start.field-0 s c.if-form-avoid-ne0.false c.deref.ensures.value c.in_ok-tree_size.ensures c.in_ok-start.ensures.is c.in-Some-3.is c.in_ok-start.ensures.register
+    let m : FormMatch = c.index-found.result.now in
+    let got : slice_get c.args.matches.now.list.items c.args.i ≡ Some m = slice_get_read _ _ _ _ refl c.requires.place c.index-found.ensures in
+    let f = c.requires.matches.each c.args.i m got in
+    let z = match_sizes c.args.instance.now c.args.avoid (tree_term c.args.matches.now.tree.now) c.args.matches.now.whole m f c.start_of.result c.start_of.ensures c.in_default.is in
+    (omega (arith, z.1, rank_le c.args.avoid, ap (λ l. terms_size (open_cuts l)) c.deref-2.ensures.value, c.decreases), (subst (CutsAt (nodes_of c.args.instance.now)) (sym c.deref-2.ensures.value) f.cuts_at, c.in_ok-a.ensures.right))
 
 pub offer_at-returns-clause-offer : goal.offer_at-returns-clause-offer
 offer_at-returns-clause-offer t c =
-    let form : Form = get_or c.args.instance.now.forms.now c.args.k c.index-instance-k.result in
-    let got : slice_get c.args.instance.now.forms.now c.args.k ≡ Some form = listed _ _ _ c.requires.form in
-    let s = start_of c.args.instance.now form c.args.k c.in-Some.goal (tree_term c.args.tree.now) c.args.whole (destination_at c.destination_of_entry.result) c.in_ok-goal.field-0 c.in_ok-found.field-0 c.in-Some-2.found got c.in_ok-goal.ensures c.in-Some.is c.in_ok-found.ensures.found c.in-Some-2.is c.destination_of_entry.ensures in
-    let ei : open_operands c.deref-4.result.now ≡ operands_of (parts_of c.in-Some-2.found.parts.items) = ap open_operands c.deref-4.ensures.value ∙ c.in_ok-operands.ensures.operands ∙ ap (λ l. operands_of (parts_of l)) c.deref-2.ensures.value in
-    let es : open_cuts c.deref-5.result.now ≡ cuts_of (parts_of c.in-Some-2.found.parts.items) = ap open_cuts c.deref-5.ensures.value ∙ c.in_ok-cuts.ensures.cuts ∙ ap (λ l. cuts_of (parts_of l)) c.deref-3.ensures.value in
-    start_costs c.args.instance.now form c.args.k c.in-Some.goal (tree_term c.args.tree.now) c.args.whole c.args.avoid c.in-Some-2.found c.in_ok-a.a c.in_ok-b.b c.in_ok-sum_of.field-0 c.in_ok-sum_of-2.field-0 c.offer_of.result s c.if-form-avoid-ne0.false
-    (subst (λ l. IsLeastOrder (stock_of c.args.instance.now) c.args.avoid l c.in_ok-a.a) ei c.in_ok-a.ensures.least)
-    (subst (λ l. IsLeastCut (stock_of c.args.instance.now) l c.in_ok-b.b) es c.in_ok-b.ensures.least) c.in_ok-sum_of.ensures c.in_ok-sum_of-2.ensures c.offer_of.ensures
+    let m : FormMatch = c.index-found.result.now in
+    let got : slice_get c.args.matches.now.list.items c.args.i ≡ Some m = slice_get_read _ _ _ _ refl c.requires.place c.index-found.ensures in
+    at_place (λ y. IsOffer (stock_of c.args.instance.now) c.args.avoid (tree_term c.args.matches.now.tree.now) c.args.matches.now.whole y.form c.offer_of.result) c.args.matches.now.list.items c.args.i m got
+    (offer_costs c.args.instance.now c.args.avoid (tree_term c.args.matches.now.tree.now) c.args.matches.now.whole m (c.requires.matches.each c.args.i m got) c.in_ok-a.a c.in_ok-b.b c.in_ok-sum_of.field-0 c.in_ok-sum_of-2.field-0 c.offer_of.result c.if-found-avoid-ne0.false
+    (subst (λ l. IsLeastOrder (stock_of c.args.instance.now) c.args.avoid (open_operands l) c.in_ok-a.a) c.deref.ensures.value c.in_ok-a.ensures.least)
+    (subst (λ l. IsLeastCut (stock_of c.args.instance.now) (open_cuts l) c.in_ok-b.b) c.deref-2.ensures.value c.in_ok-b.ensures.least) c.in_ok-sum_of.ensures c.in_ok-sum_of-2.ensures c.offer_of.ensures)

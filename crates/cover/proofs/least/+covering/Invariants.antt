@@ -4,7 +4,8 @@ use Rattle.form_model.specs.Trees.{tree_term}
 use Rattle.cover.specs.Asks.{operands_size, terms_size, rank}
 use Rattle.cover.specs.Least.{OrderReached, FirstsBelow}
 use Rattle.cover.specs.Rows.{IsTried}
-use Rattle.cover.specs.Jobs.{stock_of, open_operands, open_cuts, AreRight}
+use Rattle.cover.specs.Jobs.{stock_of, open_operands, open_cuts}
+use Rattle.cover.specs.Tables.{AreRight}
 use Rattle.cover.proofs.least.+covering.Given as goal
 
 abbrev pub decreases-least : goal.decreases-least
@@ -13,8 +14,11 @@ decreases-least l = 32 * size_of (tree_term l.tree.now) + 16 * rank l.avoid + 4
 abbrev pub decreases-least_row : goal.decreases-least_row
 decreases-least_row l = 32 * size_of (tree_term l.tree.now) + 16 * rank l.avoid + 3
 
+abbrev pub decreases-row_of : goal.decreases-row_of
+decreases-row_of l = 32 * size_of (tree_term l.matches.now.tree.now) + 16 * rank l.avoid + 2
+
 abbrev pub decreases-offer_at : goal.decreases-offer_at
-decreases-offer_at l = 32 * size_of (tree_term l.tree.now) + 16 * rank l.avoid + 1
+decreases-offer_at l = 32 * size_of (tree_term l.matches.now.tree.now) + 16 * rank l.avoid + 1
 
 abbrev pub decreases-orders : goal.decreases-orders
 decreases-orders l = 32 * operands_size (open_operands l.ops.now) + 25
@@ -29,12 +33,12 @@ abbrev pub invariant-orders-loop-i : goal.invariant-orders-loop-i
 invariant-orders-loop-i l = record {
   reached : OrderReached (stock_of l.instance) l.avoid (open_operands l.ops) l.best;
   least : FirstsBelow (stock_of l.instance) l.avoid (open_operands l.ops) l.i l.best;
-  right : AreRight l.instance l.table.rows.entries;
+  right : AreRight l.instance l.table;
 }
 
-abbrev pub invariant-least_row-loop-k : goal.invariant-least_row-loop-k
-invariant-least_row-loop-k l = record {
+abbrev pub invariant-row_of-loop-i : goal.invariant-row_of-loop-i
+invariant-row_of-loop-i l = record {
   len : vec_len l.row ≡ 17;
-  tried : IsTried (stock_of l.instance) l.avoid (tree_term l.tree) l.whole l.k l.chains.items l.row.items;
-  right : AreRight l.instance l.table.rows.entries;
+  tried : IsTried (stock_of l.instance) l.avoid (tree_term l.matches.tree.now) l.matches.whole l.matches.list.items l.i l.chains.items l.row.items;
+  right : AreRight l.instance l.table;
 }

@@ -1,54 +1,62 @@
-use Rattle.std.proofs.Common.{◌≡◌, slice_index, length, ◌∙◌, sym, Some, None, refl, arith}
+use Rattle.std.proofs.Common.{◌≡◌, slice_index, length, ◌∙◌, Some, None, refl, arith}
 use Rattle.net_model.specs.Value.{value_of}
-use Rattle.net_model.specs.Clock.{clash_in, next_regs, word_at}
-use Rattle.cycle_sim.specs.Ports.{cells_by, cell_by}
-use Rattle.net_model.proofs.Memories.{few_cells}
-use Rattle.cycle_sim.proofs.Edges.{words_fit_at, clocks_clash, clocks_next, next_fits, cell_written}
+use Rattle.net_model.specs.Clock.{next_regs, next_cells, word_at}
+use Rattle.cycle_sim.specs.Clocks.{written_cell}
+use Rattle.cycle_sim.specs.Operations.{run_of}
+use Rattle.cycle_sim.specs.Ports.{cell_by, cells_by}
+use Rattle.cycle_sim.specs.Programs.{clash_by, regs_by, Follows}
+use Rattle.cycle_sim.proofs.Edges.{clocks_clash, clocks_next, next_fits}
+use Rattle.cycle_sim.proofs.Programs.{ran, still_running}
 use Rattle.cycle_sim.proofs.sim.Sim.clock.Goals as goal
 
-pub evaluate-requires-clause-word : goal.evaluate-requires-clause-word
-evaluate-requires-clause-word c =
-    rw (c.word_of-word.ensures, c.as_slice-words.ensures) (words_fit_at _ _ c.self.invariant.words_fit _)
+pub run-requires : goal.run-requires
+run-requires c = rw (c.as_slice-instructions.ensures, c.self.invariant.room.long) c.self.invariant.decoded.ready
 
 pub clock_cells-self-inside-requires : goal.clock_cells-self-inside-requires
-clock_cells-self-inside-requires c =
-    omega (arith, few_cells c.self.inside.checked.now.netlist c.self.inside.checked.now.order c.self.inside.state c.netlist-netlist.ensures.kept c.self.invariant.state)
+clock_cells-self-inside-requires c = omega (arith, c.self.invariant.few, c.self.invariant.state.cells)
+
+pub invariant_of-self : goal.invariant_of-self
+invariant_of-self c =
+    let e : c.run.new.values ≡ run_of c.self.inside.state (word_at c.self.inside.checked.now.netlist c.self.inside.words c.self.inside.state) c.self.inside.program.instructions c.self.inside.values = rw (c.word_of-word.ensures, c.as_slice-words.ensures, c.as_slice-instructions.ensures) at c.run.ensures in
+    let f : Follows c.self.inside.checked.now.netlist c.self.inside.state (word_at c.self.inside.checked.now.netlist c.self.inside.words c.self.inside.state) c.run.new.values c.self.inside.program = ran _ _ _ _ _ c.self.invariant _ e in
+    still_running _ _ _ _ _ c.self.invariant _ f.room _ c.self.invariant.state
 
 pub returns-in-Some-clause-clocks : goal.returns-in-Some-clause-clocks
 returns-in-Some-clause-clocks c =
-    let all : slice_index c.evaluate.new.values ≡ value_of c.self.inside.checked.now.netlist c.self.inside.state (word_at c.self.inside.checked.now.netlist c.self.inside.words c.self.inside.state) = rw (c.word_of-word.ensures, c.as_slice-words.ensures) at c.evaluate.ensures.values in
-    let found : Some c.in-Some.bus ≡ clash_in (slice_index c.as_slice-values.result.now) c.as_slice-nets.result.now = sym c.in-Some.is ∙ c.find_clash.ensures.first in
-    let clash : Some c.in-Some.bus ≡ clash_in (slice_index c.evaluate.new.values) c.self.inside.checked.now.netlist.nets = rw (c.as_slice-values.ensures, c.as_slice-nets.ensures, c.netlist-netlist.ensures.value) at found in
-    rw (← c.self.view_is) (clocks_clash _ _ _ _ all _ clash, refl, refl)
+    let e : c.run.new.values ≡ run_of c.self.inside.state (word_at c.self.inside.checked.now.netlist c.self.inside.words c.self.inside.state) c.self.inside.program.instructions c.self.inside.values = rw (c.word_of-word.ensures, c.as_slice-words.ensures, c.as_slice-instructions.ensures) at c.run.ensures in
+    let f : Follows c.self.inside.checked.now.netlist c.self.inside.state (word_at c.self.inside.checked.now.netlist c.self.inside.words c.self.inside.state) c.run.new.values c.self.inside.program = ran _ _ _ _ _ c.self.invariant _ e in
+    let found : Some c.in-Some.bus ≡ clash_by (slice_index c.run.new.values) c.self.inside.program.buses = rw (c.as_slice-values.ensures, c.as_slice-buses.ensures) at c.in-Some.ensures in
+    rw (← c.self.view_is) (clocks_clash c.self.inside.checked.now.netlist c.self.inside.words c.self.inside.state _ (found ∙ f.clash), refl, refl)
 
 pub invariant_of-self-in-None : goal.invariant_of-self-in-None
 invariant_of-self-in-None c =
-    let all : slice_index c.evaluate.new.values ≡ value_of c.self.inside.checked.now.netlist c.self.inside.state (word_at c.self.inside.checked.now.netlist c.self.inside.words c.self.inside.state) = rw (c.word_of-word.ensures, c.as_slice-words.ensures) at c.evaluate.ensures.values in
-    let regs : c.clock_registers.new.regs ≡ next_regs (slice_index c.evaluate.new.values) c.self.inside.checked.now.netlist.storages c.self.inside.state.regs = rw (c.as_slice-values.ensures, c.as_slice-storages.ensures, c.netlist-netlist.ensures.value) at c.clock_registers.ensures in
-    let cells : c.clock_cells-self-inside.new.cells ≡ cells_by (slice_index c.evaluate.new.values) c.self.inside.port c.self.inside.state.cells = rw c.as_slice-values.ensures at c.clock_cells-self-inside.ensures.cells in
-    record {
-      words_fit = c.self.invariant.words_fit;
-      state = next_fits _ _ _ _ all _ _ _ c.self.invariant.port_is regs cells c.netlist-netlist.ensures.sound.typed c.self.invariant.words_fit c.self.invariant.state;
-      port_is = c.self.invariant.port_is;
-      port_fits = c.self.invariant.port_fits;
-      long = c.evaluate.ensures.long;
-      fit = c.evaluate.ensures.fit;
-    }
+    let e : c.run.new.values ≡ run_of c.self.inside.state (word_at c.self.inside.checked.now.netlist c.self.inside.words c.self.inside.state) c.self.inside.program.instructions c.self.inside.values = rw (c.word_of-word.ensures, c.as_slice-words.ensures, c.as_slice-instructions.ensures) at c.run.ensures in
+    let f : Follows c.self.inside.checked.now.netlist c.self.inside.state (word_at c.self.inside.checked.now.netlist c.self.inside.words c.self.inside.state) c.run.new.values c.self.inside.program = ran _ _ _ _ _ c.self.invariant _ e in
+    let left : c.clock_registers.new.regs ≡ regs_by (slice_index c.run.new.values) c.self.inside.program.latches c.self.inside.state.regs = rw (c.as_slice-values.ensures, c.as_slice-storages.ensures) at c.clock_registers.ensures in
+    let regs : c.clock_registers.new.regs ≡ next_regs (value_of c.self.inside.checked.now.netlist c.self.inside.state (word_at c.self.inside.checked.now.netlist c.self.inside.words c.self.inside.state)) c.self.inside.checked.now.netlist.storages c.self.inside.state.regs = left ∙ f.regs _ in
+    let right : c.clock_cells-self-inside.new.cells ≡ cells_by (slice_index c.run.new.values) c.self.inside.program.port c.self.inside.state.cells = rw c.as_slice-values.ensures at c.clock_cells-self-inside.ensures.cells in
+    let cells : c.clock_cells-self-inside.new.cells ≡ next_cells (value_of c.self.inside.checked.now.netlist c.self.inside.state (word_at c.self.inside.checked.now.netlist c.self.inside.words c.self.inside.state)) c.self.inside.checked.now.netlist.storages c.self.inside.state.cells = right ∙ f.cells _ in
+    still_running _ _ _ _ _ c.self.invariant _ f.room _ (next_fits c.self.inside.checked.now.netlist c.self.inside.words c.self.inside.state _ _ regs cells c.self.invariant.typed c.self.invariant.words_fit c.self.invariant.state)
 
 pub returns-in-None-clause-clocks : goal.returns-in-None-clause-clocks
 returns-in-None-clause-clocks c =
-    let all : slice_index c.evaluate.new.values ≡ value_of c.self.inside.checked.now.netlist c.self.inside.state (word_at c.self.inside.checked.now.netlist c.self.inside.words c.self.inside.state) = rw (c.word_of-word.ensures, c.as_slice-words.ensures) at c.evaluate.ensures.values in
-    let found : None ≡ clash_in (slice_index c.as_slice-values.result.now) c.as_slice-nets.result.now = sym c.in-None.is ∙ c.find_clash.ensures.first in
-    let clash : None ≡ clash_in (slice_index c.evaluate.new.values) c.self.inside.checked.now.netlist.nets = rw (c.as_slice-values.ensures, c.as_slice-nets.ensures, c.netlist-netlist.ensures.value) at found in
-    let regs : c.clock_registers.new.regs ≡ next_regs (slice_index c.evaluate.new.values) c.self.inside.checked.now.netlist.storages c.self.inside.state.regs = rw (c.as_slice-values.ensures, c.as_slice-storages.ensures, c.netlist-netlist.ensures.value) at c.clock_registers.ensures in
-    let cells : c.clock_cells-self-inside.new.cells ≡ cells_by (slice_index c.evaluate.new.values) c.self.inside.port c.self.inside.state.cells = rw c.as_slice-values.ensures at c.clock_cells-self-inside.ensures.cells in
-    let written : c.clock_cells-self-inside.result ≡ cell_by (slice_index c.evaluate.new.values) c.self.inside.port (length c.self.inside.state.cells) = rw c.as_slice-values.ensures at c.clock_cells-self-inside.ensures.written in
-    rw (← c.self.view_is)
-    (clocks_next _ _ _ _ all _ _ _ c.self.invariant.port_is clash regs cells, cell_written _ _ _ _ all _ _ c.self.invariant.port_is written)
+    let e : c.run.new.values ≡ run_of c.self.inside.state (word_at c.self.inside.checked.now.netlist c.self.inside.words c.self.inside.state) c.self.inside.program.instructions c.self.inside.values = rw (c.word_of-word.ensures, c.as_slice-words.ensures, c.as_slice-instructions.ensures) at c.run.ensures in
+    let f : Follows c.self.inside.checked.now.netlist c.self.inside.state (word_at c.self.inside.checked.now.netlist c.self.inside.words c.self.inside.state) c.run.new.values c.self.inside.program = ran _ _ _ _ _ c.self.invariant _ e in
+    let left : c.clock_registers.new.regs ≡ regs_by (slice_index c.run.new.values) c.self.inside.program.latches c.self.inside.state.regs = rw (c.as_slice-values.ensures, c.as_slice-storages.ensures) at c.clock_registers.ensures in
+    let regs : c.clock_registers.new.regs ≡ next_regs (value_of c.self.inside.checked.now.netlist c.self.inside.state (word_at c.self.inside.checked.now.netlist c.self.inside.words c.self.inside.state)) c.self.inside.checked.now.netlist.storages c.self.inside.state.regs = left ∙ f.regs _ in
+    let right : c.clock_cells-self-inside.new.cells ≡ cells_by (slice_index c.run.new.values) c.self.inside.program.port c.self.inside.state.cells = rw c.as_slice-values.ensures at c.clock_cells-self-inside.ensures.cells in
+    let cells : c.clock_cells-self-inside.new.cells ≡ next_cells (value_of c.self.inside.checked.now.netlist c.self.inside.state (word_at c.self.inside.checked.now.netlist c.self.inside.words c.self.inside.state)) c.self.inside.checked.now.netlist.storages c.self.inside.state.cells = right ∙ f.cells _ in
+    let found : None ≡ clash_by (slice_index c.run.new.values) c.self.inside.program.buses = rw (c.as_slice-values.ensures, c.as_slice-buses.ensures) at c.in-None.ensures in
+    let cell : c.clock_cells-self-inside.result ≡ cell_by (slice_index c.run.new.values) c.self.inside.program.port (length c.self.inside.state.cells) = rw c.as_slice-values.ensures at c.clock_cells-self-inside.ensures.written in
+    let written : c.clock_cells-self-inside.result ≡ written_cell c.self.inside.checked.now.netlist c.self.inside.words c.self.inside.state = cell ∙ f.written _ in
+    rw (← c.self.view_is) (clocks_next c.self.inside.checked.now.netlist c.self.inside.words c.self.inside.state _ _ (found ∙ f.clash) regs cells, written)
 
 pub returns-in-None-clause-state : goal.returns-in-None-clause-state
 returns-in-None-clause-state c =
-    let all : slice_index c.evaluate.new.values ≡ value_of c.self.inside.checked.now.netlist c.self.inside.state (word_at c.self.inside.checked.now.netlist c.self.inside.words c.self.inside.state) = rw (c.word_of-word.ensures, c.as_slice-words.ensures) at c.evaluate.ensures.values in
-    let regs : c.clock_registers.new.regs ≡ next_regs (slice_index c.evaluate.new.values) c.self.inside.checked.now.netlist.storages c.self.inside.state.regs = rw (c.as_slice-values.ensures, c.as_slice-storages.ensures, c.netlist-netlist.ensures.value) at c.clock_registers.ensures in
-    let cells : c.clock_cells-self-inside.new.cells ≡ cells_by (slice_index c.evaluate.new.values) c.self.inside.port c.self.inside.state.cells = rw c.as_slice-values.ensures at c.clock_cells-self-inside.ensures.cells in
-    next_fits _ _ _ _ all _ _ _ c.self.invariant.port_is regs cells c.netlist-netlist.ensures.sound.typed c.self.invariant.words_fit c.self.invariant.state
+    let e : c.run.new.values ≡ run_of c.self.inside.state (word_at c.self.inside.checked.now.netlist c.self.inside.words c.self.inside.state) c.self.inside.program.instructions c.self.inside.values = rw (c.word_of-word.ensures, c.as_slice-words.ensures, c.as_slice-instructions.ensures) at c.run.ensures in
+    let f : Follows c.self.inside.checked.now.netlist c.self.inside.state (word_at c.self.inside.checked.now.netlist c.self.inside.words c.self.inside.state) c.run.new.values c.self.inside.program = ran _ _ _ _ _ c.self.invariant _ e in
+    let left : c.clock_registers.new.regs ≡ regs_by (slice_index c.run.new.values) c.self.inside.program.latches c.self.inside.state.regs = rw (c.as_slice-values.ensures, c.as_slice-storages.ensures) at c.clock_registers.ensures in
+    let regs : c.clock_registers.new.regs ≡ next_regs (value_of c.self.inside.checked.now.netlist c.self.inside.state (word_at c.self.inside.checked.now.netlist c.self.inside.words c.self.inside.state)) c.self.inside.checked.now.netlist.storages c.self.inside.state.regs = left ∙ f.regs _ in
+    let right : c.clock_cells-self-inside.new.cells ≡ cells_by (slice_index c.run.new.values) c.self.inside.program.port c.self.inside.state.cells = rw c.as_slice-values.ensures at c.clock_cells-self-inside.ensures.cells in
+    let cells : c.clock_cells-self-inside.new.cells ≡ next_cells (value_of c.self.inside.checked.now.netlist c.self.inside.state (word_at c.self.inside.checked.now.netlist c.self.inside.words c.self.inside.state)) c.self.inside.checked.now.netlist.storages c.self.inside.state.cells = right ∙ f.cells _ in
+    next_fits c.self.inside.checked.now.netlist c.self.inside.words c.self.inside.state _ _ regs cells c.self.invariant.typed c.self.invariant.words_fit c.self.invariant.state

@@ -1,19 +1,19 @@
-use Rattle.std.proofs.Common.{◌≡◌, ◌∙◌, ap, length, replicate}
-use Rattle.std.proofs.lemmas.List.{length-replicate}
-use Rattle.cycle_sim.specs.Ports.{port_of}
-use Rattle.net_model.proofs.Fits.{zeros_fit}
-use Rattle.cycle_sim.proofs.Edges.{has_port_width}
+use Rattle.std.proofs.Common.{◌≡◌, arith}
+use Rattle.net_model.proofs.Memories.{few_cells}
+use Rattle.cycle_sim.specs.Decoding.{constants_of}
+use Rattle.cycle_sim.proofs.Programs.{constants_room}
 use Rattle.cycle_sim.proofs.sim.Sim.new.Goals as goal
 
 pub invariant_of-result : goal.invariant_of-result
 invariant_of-result c =
-    let port : c.find_port-port.result ≡ port_of c.args.checked.now.netlist.storages = rw (c.as_slice.ensures, c.netlist-netlist.ensures.value) at c.find_port-port.ensures in
-    let room : c.in_ok-values.values ≡ replicate (length c.args.checked.now.netlist.nets) 0 = rw (c.len.ensures, c.netlist-netlist.ensures.value) at c.in_ok-values.ensures in
+    let room : c.in_ok-values.values ≡ constants_of c.args.checked.now.netlist.nets = rw (c.as_slice.ensures, c.netlist-netlist.ensures.value) at c.in_ok-values.ensures in
     record {
+      typed = c.netlist-netlist.ensures.sound.typed;
+      few = omega (arith, few_cells _ _ c.args.start c.netlist-netlist.ensures.kept c.requires.start, c.requires.start.cells);
       words_fit = c.requires.words;
       state = c.requires.start;
-      port_is = port;
-      port_fits = rw port (has_port_width c.args.checked.now.netlist _ c.netlist-netlist.ensures.kept.formed.storages);
-      long = ap length room ∙ length-replicate _ _;
-      fit = rw room (zeros_fit c.args.checked.now.netlist _);
+      decoded = c.in_ok-program.ensures.program;
+      cell_width = c.in_ok-program.ensures.width;
+      port_fits = c.in_ok-program.ensures.fits;
+      room = rw room (constants_room c.args.checked.now.netlist);
     }

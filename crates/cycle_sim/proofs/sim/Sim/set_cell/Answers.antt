@@ -6,29 +6,31 @@ use Rattle.cycle_sim.proofs.sim.Sim.set_cell.Goals as goal
 
 pub returns-then-not-is_cell_value-clause-told : goal.returns-then-not-is_cell_value-clause-told
 returns-then-not-is_cell_value-clause-told c =
-    let told : IsTrue c.is_cell_value.result ↔ (c.args.value < 2 ^ memory_width c.self.inside.checked.now.netlist.storages) = told_of c.self.inside.checked.now.netlist.storages _ _ _ c.self.invariant.port_is c.is_cell_value.ensures in
+    let told : IsTrue c.is_cell_value.result ↔ (c.args.value < 2 ^ memory_width c.self.inside.checked.now.netlist.storages) = told_of c.self.inside.checked.now.netlist.storages c.self.inside.program.port _ _ c.self.invariant.cell_width c.is_cell_value.ensures in
     rw (← c.self.view_is) (refused _ _ _ told c.if-not-is_cell_value.true)
 
 pub invariant_of-self : goal.invariant_of-self
 invariant_of-self c =
-    let told : IsTrue c.is_cell_value.result ↔ (c.args.value < 2 ^ memory_width c.self.inside.checked.now.netlist.storages) = told_of c.self.inside.checked.now.netlist.storages _ _ _ c.self.invariant.port_is c.is_cell_value.ensures in
+    let told : IsTrue c.is_cell_value.result ↔ (c.args.value < 2 ^ memory_width c.self.inside.checked.now.netlist.storages) = told_of c.self.inside.checked.now.netlist.storages c.self.inside.program.port _ _ c.self.invariant.cell_width c.is_cell_value.ensures in
     record {
+      typed = c.self.invariant.typed;
+      few = c.self.invariant.few;
       words_fit = c.self.invariant.words_fit;
       state = rw c.set.ensures (set_is_state _ _ _ _ c.self.invariant.state (told.0 c.if-not-is_cell_value.false));
-      port_is = c.self.invariant.port_is;
+      decoded = c.self.invariant.decoded;
+      cell_width = c.self.invariant.cell_width;
       port_fits = c.self.invariant.port_fits;
-      long = c.self.invariant.long;
-      fit = c.self.invariant.fit;
+      room = c.self.invariant.room;
     }
 
 pub returns-clause-told : goal.returns-clause-told
 returns-clause-told c =
-    let told : IsTrue c.is_cell_value.result ↔ (c.args.value < 2 ^ memory_width c.self.inside.checked.now.netlist.storages) = told_of c.self.inside.checked.now.netlist.storages _ _ _ c.self.invariant.port_is c.is_cell_value.ensures in
+    let told : IsTrue c.is_cell_value.result ↔ (c.args.value < 2 ^ memory_width c.self.inside.checked.now.netlist.storages) = told_of c.self.inside.checked.now.netlist.storages c.self.inside.program.port _ _ c.self.invariant.cell_width c.is_cell_value.ensures in
     let within : c.args.address < length c.self.inside.state.cells = omega arith in
     rw (← c.self.view_is) (taken _ _ _ within told c.if-not-is_cell_value.false)
 
 pub returns-clause-state : goal.returns-clause-state
 returns-clause-state c =
-    let told : IsTrue c.is_cell_value.result ↔ (c.args.value < 2 ^ memory_width c.self.inside.checked.now.netlist.storages) = told_of c.self.inside.checked.now.netlist.storages _ _ _ c.self.invariant.port_is c.is_cell_value.ensures in
+    let told : IsTrue c.is_cell_value.result ↔ (c.args.value < 2 ^ memory_width c.self.inside.checked.now.netlist.storages) = told_of c.self.inside.checked.now.netlist.storages c.self.inside.program.port _ _ c.self.invariant.cell_width c.is_cell_value.ensures in
     let state : IsState c.self.inside.checked.now.netlist (record c.self.inside.state { cells = slice_set c.self.inside.state.cells c.args.address c.args.value }) = set_is_state _ _ _ _ c.self.invariant.state (told.0 c.if-not-is_cell_value.false) in
     rw c.set.ensures state

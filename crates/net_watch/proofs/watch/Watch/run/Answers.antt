@@ -1,8 +1,9 @@
-use Rattle.std.proofs.Common.{◌++◌, ap, ◌∙◌}
+use Rattle.std.proofs.Common.{◌++◌, Bool, ap, sym, refl, ◌∙◌}
+use Rattle.rec_io.specs.declared.sink.WriteFault.{WriteFault}
 use Rattle.code_model.specs.Machine.{mtrace}
 use Rattle.checkpoint_text.specs.Texts.{last_line, zeros}
-use Rattle.net_watch.specs.Traces.{trace_lines}
-use Rattle.net_watch.proofs.Putting.{puts_then}
+use Rattle.net_watch.specs.Traces.{trace_ends, trace_lines}
+use Rattle.net_watch.proofs.Putting.{all_left, puts_failed, puts_then, stops_there}
 use Rattle.net_watch.proofs.watch.Watch.run.Goals as goal
 
 pub returns : goal.returns
@@ -17,3 +18,15 @@ returns g c =
     ∙ c.self.view_is)
     c.in_ok-ended.ensures.puts
     (record { cause = put.cause; calm = put.calm; all = put.all; part = put.part })
+
+pub returns-in_err-ended : goal.returns-in_err-ended
+returns-in_err-ended g c =
+    let inside = c.self.inside in
+    let trace = mtrace inside.sim.netlist inside.image.now inside.sim.state 0 inside.clocks in
+    let vars = inside.writer.vars.now in
+    let lines = trace_lines vars inside.writer.told trace in
+    let end = last_line (trace_ends trace) in
+    let whole = ap (λ told. trace_lines vars told trace ++ end) c.self.invariant.untold ∙ c.self.view_is in
+    let fault : WriteFault = c.in_err-ended.field-0.0 in
+    puts_failed {T = Bool} {E = WriteFault} _ _ c.args.self c.args.self fault c.from_residual.result c.from_residual.ensures.0 refl
+    (stops_there _ _ _ lines end c.args.self c.args.self fault fault (all_left _ c.args.self) (sym whole) c.in_err-ended.ensures.puts)

@@ -1,38 +1,17 @@
-use crate::{Destination, Part, fits_field, match_at};
-use form_model::{Form, Goal, Tree};
+//! Matches, and numbers that fit a field.
+
+use crate::accumulator::{cell, into_reg, low_byte, number, of_two, tree, variable};
+use form_model::Form;
 use net_model::Expr;
 use rec_bits::Op2;
 use std::alloc::{AllocError, Global};
 use std::test::Fail;
-
-// slice(I,7,0), in words of 12 bits
-fn low_byte(alloc: Global) -> Result<Expr, AllocError> {
-    Ok(Expr::Slice(Box::new(alloc, Expr::Word(12))?, 7, 0))
-}
+use tree_grammar::{Destination, Part, fits_field, match_at};
 
 // ACC := add(read(M,slice(I,7,0)),ACC)
 fn sum_form(alloc: Global) -> Result<Form, AllocError> {
-    let cell = Expr::Read(Box::new(alloc, low_byte(alloc)?)?, 16);
     let acc = Expr::Reg(1, 16);
-    Ok(Form {
-        pattern: 3,
-        goal: Goal::Reg(1),
-        addr: None,
-        value: Expr::Bin(Op2::Add, Box::new(alloc, cell)?, Box::new(alloc, acc)?),
-        fields: 255,
-        clobbers: 3,
-    })
-}
-
-// the cell at address 1 plus 5
-fn sum_tree(alloc: Global) -> Result<Tree, AllocError> {
-    let address = Tree::Lit { width: 8, value: 1 };
-    let cell = Tree::Read(Box::new(alloc, address)?, 16);
-    let five = Tree::Lit {
-        width: 16,
-        value: 5,
-    };
-    Ok(Tree::Bin(Op2::Add, Box::new(alloc, cell)?, Box::new(alloc, five)?))
+    Ok(into_reg(3, 1, of_two(alloc, Op2::Add, variable(alloc)?, acc)?, 3))
 }
 
 #[test]
@@ -49,8 +28,8 @@ fn numbers_that_fit_a_field(rt: HostRuntime) -> Result<(), Fail> {
 fn a_sum_with_a_number_in_the_register(rt: HostRuntime) -> Result<(), Fail> {
     let alloc = rt.alloc();
     let form = sum_form(alloc)?;
-    let tree = sum_tree(alloc)?;
-    let found = match_at(alloc, &form, Destination::Register(1), &tree, false, 1, 0).map_err(
+    let sum = tree(alloc, Op2::Add, cell(alloc, 1)?, number(5))?;
+    let found = match_at(alloc, &form, Destination::Register(1), &sum, false, 1, 0).map_err(
         |_| AllocError,
     )?;
     let Some(found) = found else {
@@ -70,7 +49,7 @@ fn a_sum_with_a_number_in_the_register(rt: HostRuntime) -> Result<(), Fail> {
             }
         )
     );
-    let other = match_at(alloc, &form, Destination::Test, &tree, true, 1, 0).map_err(
+    let other = match_at(alloc, &form, Destination::Test, &sum, true, 1, 0).map_err(
         |_| AllocError,
     )?;
     assert!(rt; other.is_none());

@@ -1,5 +1,7 @@
-use crate::cells;
+//! The temporary cells of cuts.
+
 use form_model::{Cover, CoverCuts, CoverOperands};
+use spill::cells;
 use std::alloc::{AllocError, Global};
 use std::test::Fail;
 

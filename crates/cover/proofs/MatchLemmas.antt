@@ -1,0 +1,262 @@
+-- The forms that match a tree, and what their matches give.
+use Rattle.std.proofs.Common.{◌≡◌, ◌≢◌, ℕ, zero, suc, ◌+◌, ◌<◌, List, [], ◌∷◌, length, Option, Some, None, Bool, true, false, refl, sym, ap, ◌∙◌, subst, arith, nat_lt, inl, inr}
+use Rattle.std.specs.Prelude.{slice_get, bit_and, IfSome, if◌then◌else◌, ◌==◌, ◌&&◌, ◌||◌}
+use Rattle.std.specs.Option.{option_map}
+use Rattle.std.proofs.lemmas.Bool.{cases_eq, cases_lt}
+use Rattle.std.proofs.lemmas.Bool.Decides.{nat_tests}
+use Rattle.std.proofs.lemmas.List.{length-map}
+use Rattle.std.proofs.lemmas.Option.{slice_get_within}
+use Rattle.std.specs.declared.vec.Vec.{Vec}
+use Rattle.std.specs.declared.alloc.Global.{Global}
+use Rattle.net_model.specs.Terms.{Term, size_of}
+use Rattle.form_model.specs.Rules.{Rule, rule_of, kind_of, Destination}
+use Rattle.form_model.specs.Matches.{Site, operand, cut, taken}
+use Rattle.form_model.specs.Plans.{use_form}
+use Rattle.form_model.specs.Covers.{operands_of, cuts_of}
+use Rattle.form_model.specs.declared.forms.Form.{Form}
+use Rattle.tree_grammar.specs.declared.parts.Match.{Match}
+use Rattle.tree_grammar.specs.declared.parts.Part.{Part}
+use Rattle.tree_grammar.specs.Parts.{found_of, parts_of, AreAt}
+use Rattle.cover.specs.declared.table.Instance.{Instance}
+use Rattle.cover.specs.declared.rows.Offer.{Offer}
+use Rattle.cover.specs.declared.rows.Offer.TheVariants.{Nothing, Chains}
+use Rattle.cover.specs.declared.choice.PartCosts.{PartCosts}
+use Rattle.cover.specs.declared.matches.FormMatch.{FormMatch}
+use Rattle.cover.specs.declared.parts.OpenOperand.{OpenOperand}
+use Rattle.cover.specs.declared.parts.OpenCut.{OpenCut}
+use Rattle.cover.specs.Asks.{takes, rest, start_under, operands_size, terms_size, rank, IsSparing}
+use Rattle.cover.specs.Least.{IsLeast, IsLeastOrder, IsLeastCut, summed}
+use Rattle.cover.specs.Rows.{entry_destination, row_ask, IsSlot, goal_slot, IsOffer, offer_is}
+use Rattle.cover.specs.Jobs.{stock_of, nodes_of, open_operands, open_cuts, OperandsAt, CutsAt}
+use Rattle.cover.specs.Matched.{Takes, IsFormMatch, MatchesForm, with_match, AreFirstMatches}
+use Rattle.cover.specs.Choice.{NeverBegins, CostsOf, BeginsOne}
+use Rattle.cover.proofs.SizeLemmas.{picked, rest_small}
+use Rattle.cover.proofs.SharingLemmas.{get_push}
+use Rattle.cover.proofs.LeastLemmas.{some_form}
+use Rattle.cover.proofs.OfferLemmas.{row_small, offer_no_spare, offer_chain, offer_form, get_old, get_new}
+use Rattle.cover.proofs.StartLemmas.{Start, rule_at}
+use Rattle.cover.proofs.ChoiceLemmas.{never_by, cover_exists}
+
+-- ---- the entry from which a match goes on
+
+low : (free : Bool) (q : ℕ) → q < 16 → (free || nat_lt q 16) ≡ true
+low true q lt = refl
+low false q lt = grind (arith, nat_tests)
+
+pub start_rest : (size : ℕ) (free : Bool) (sites : List Site) → IfSome (rest size true sites) (λ q. (u : Term) (w : Bool) → sites ≡ operand q u w ∷ [] → q < 16) → rest size free sites ≡ start_under (rest size true sites) free
+start_rest size free [] h = refl
+start_rest size free (operand id tree whole ∷ []) h = go (size_of tree == size) h
+  where
+    go : (b : Bool) → IfSome (if b then Some id else None) (λ q. (u : Term) (w : Bool) → ◌≡◌ {A = List Site} (operand id tree whole ∷ []) (operand q u w ∷ []) → q < 16) → (if b then Some id else None) ≡ start_under (if b then Some id else None) free
+    go true k = sym (ap (λ c. if c then Some id else None) (low free id (k tree whole refl)))
+    go false k = refl
+start_rest size free (operand id tree whole ∷ s ∷ sites) h = refl
+start_rest size free (cut shape tree ∷ []) h = go free (size_of tree == size)
+  where
+    go : (f b : Bool) → (if f && b then Some 16 else None) ≡ start_under (if b then Some 16 else None) f
+    go true true = refl
+    go true false = refl
+    go false true = refl
+    go false false = refl
+start_rest size free (cut shape tree ∷ s ∷ sites) h = refl
+
+start_some : (s : Option ℕ) (free : Bool) (q : ℕ) → start_under s free ≡ Some q → s ≡ Some q
+start_some None free q h = absurd (cc)
+start_some (Some p) free q h = (picked (free || nat_lt p 16) (Some p) q h).1
+
+-- ---- one form
+
+pub form_match : (instance : Instance) (form : Form) (k goal : ℕ) (t : Term) (whole : Bool) (size : ℕ) (m : Match) (first second third : List Part) (start : Option ℕ) (ops : Vec OpenOperand Global) (stored : Vec OpenCut Global) → Start instance form k goal t whole m → AreAt (nodes_of instance) m.parts.items → size ≡ size_of t → first ≡ m.parts.items → start ≡ rest size true (parts_of first) → IfSome start (λ q. (u : Term) (w : Bool) → parts_of first ≡ operand q u w ∷ [] → q < 16) → second ≡ m.parts.items → open_operands ops.items ≡ operands_of (parts_of second) → ((nodes : List Term) → AreAt nodes second → OperandsAt nodes ops.items) → third ≡ m.parts.items → open_cuts stored.items ≡ cuts_of (parts_of third) → ((nodes : List Term) → AreAt nodes third → CutsAt nodes stored.items) → IsFormMatch instance t whole (record { form = k; goal = goal; clobbers = form.clobbers; start = start; operands = ops; cuts = stored })
+form_match instance form k goal t whole size m first second third start ops stored s at is e1 st reg e2 eo ao e3 es cuts_at = record {
+  rule = rule_of form;
+  found = found_of m;
+  listed = s.listed;
+  clobbers = refl;
+  goes = s.goes;
+  slot = s.slot;
+  takes_it = s.takes_it;
+  start = st ∙ ap (λ n. rest n true (parts_of first)) is ∙ ap (λ l. rest (size_of t) true (parts_of l)) e1;
+  register = subst (λ l. IfSome start (λ q. (u : Term) (w : Bool) → parts_of l ≡ operand q u w ∷ [] → q < 16)) e1 reg;
+  operands = eo ∙ ap (λ l. operands_of (parts_of l)) e2;
+  cuts = es ∙ ap (λ l. cuts_of (parts_of l)) e3;
+  operands_at = ao (nodes_of instance) (subst (AreAt (nodes_of instance)) (sym e2) at);
+  cuts_at = cuts_at (nodes_of instance) (subst (AreAt (nodes_of instance)) (sym e3) at);
+}
+
+-- the entry to which a form goes that takes the tree
+takes_goal : (instance : Instance) (form : Form) (k : ℕ) (t : Term) (whole : Bool) → slice_get instance.forms.now k ≡ Some form → (x : Takes (stock_of instance) t whole k) → (x.rule ≡ rule_of form) × (goal_slot (rule_of form).goal whole ≡ Some x.entry)
+takes_goal instance form k t whole got x =
+    let l = rule_at instance k form got in
+    let y = x.listed in
+    let same : x.rule ≡ rule_of form = cc in
+    (same, subst (λ (r : Rule). goal_slot r.goal whole ≡ Some x.entry) same (row_small (stock_of instance) x.rule t whole x.entry x.found x.slot x.takes_it).0)
+
+pub never_goal : (instance : Instance) (form : Form) (k : ℕ) (t : Term) (whole : Bool) (g : Option ℕ) → slice_get instance.forms.now k ≡ Some form → g ≡ goal_slot (kind_of form.goal) whole → g ≡ None → Takes (stock_of instance) t whole k → ⊥
+never_goal instance form k t whole g got is none x =
+    let h = (takes_goal instance form k t whole got x).1 in
+    let e : ◌≡◌ {A = Option ℕ} None (Some x.entry) = sym none ∙ is ∙ h in cc
+
+pub never_match : (instance : Instance) (form : Form) (k goal : ℕ) (t : Term) (whole : Bool) (destination : Destination) (g : Option ℕ) (o : Option Match) → slice_get instance.forms.now k ≡ Some form → g ≡ goal_slot (kind_of form.goal) whole → g ≡ Some goal → destination ≡ entry_destination goal → option_map found_of o ≡ taken instance.temps (rule_of form) destination t whole → o ≡ None → Takes (stock_of instance) t whole k → ⊥
+never_match instance form k goal t whole destination g o got is some at found none x =
+    let h = takes_goal instance form k t whole got x in
+    let e : ◌≡◌ {A = Option ℕ} (Some goal) (Some x.entry) = sym some ∙ is ∙ h.1 in
+    let same : x.entry ≡ goal = cc in
+    let a : takes (stock_of instance) (rule_of form) (row_ask t whole goal) ≡ Some x.found = subst (λ j. takes (stock_of instance) (rule_of form) (row_ask t whole j) ≡ Some x.found) same (subst (λ r. takes (stock_of instance) r (row_ask t whole x.entry) ≡ Some x.found) h.0 x.takes_it) in
+    let b = sym (ap (option_map found_of) none) ∙ found ∙ ap (λ p. taken instance.temps (rule_of form) p t whole) at ∙ a in cc
+
+-- ---- the list of matches
+
+module _ (instance : Instance) (t : Term) (whole : Bool) where
+  pub matches_none : AreFirstMatches instance t whole 0 []
+  matches_none = record { each = λ i m get. absurd (cc); below = λ i m get. absurd (cc); all = λ k lt. absurd (omega arith); ordered = λ i j m l lt get. absurd (cc) }
+
+  pub matches_more : (n : ℕ) (list new : List FormMatch) (o : Option FormMatch) → AreFirstMatches instance t whole n list → MatchesForm instance t whole n o → new ≡ with_match list o → AreFirstMatches instance t whole (n + 1) new
+  matches_more n list new None h never e = subst (AreFirstMatches instance t whole (n + 1)) (sym e) (record {
+    each = h.each;
+    below = λ i m get. (let lt = h.below i m get in omega (arith, lt));
+    all = λ k lt x. elim (cases_eq k n) [
+      | inl at ↦ absurd (never (subst (Takes (stock_of instance) t whole) at x))
+      | inr other ↦ h.all k (omega arith) x
+    ];
+    ordered = h.ordered;
+  })
+  matches_more n list new (Some f) h (is, at) e = subst (AreFirstMatches instance t whole (n + 1)) (sym e) (record {
+    each = λ i m get. elim (get_push list f i m get) [
+      | inl old ↦ h.each i m old
+      | inr last ↦ subst (IsFormMatch instance t whole) (sym last.1) is
+    ];
+    below = λ i m get. elim (get_push list f i m get) [
+      | inl old ↦ (let lt = h.below i m old in omega (arith, lt))
+      | inr last ↦ (let x = ap (λ (y : FormMatch). y.form) last.1 in omega (arith, x, at))
+    ];
+    all = λ k lt x. elim (cases_eq k n) [
+      | inl same ↦ (length list, f, get_new list f, at ∙ sym same)
+      | inr other ↦ (let y = h.all k (omega arith) x in (y.0, y.1, get_old list f y.1 y.0 y.2, y.3))
+    ];
+    ordered = λ i j m l lt gi gj. elim (get_push list f i m gi) [
+      | inl oi ↦ elim (get_push list f j l gj) [
+        | inl oj ↦ h.ordered i j m l lt oi oj
+        | inr last ↦ (let b = h.below i m oi in let x = ap (λ (y : FormMatch). y.form) last.1 in omega (arith, b, x, at))
+      ]
+      | inr li ↦ elim (get_push list f j l gj) [
+        | inl oj ↦ absurd (let w = slice_get_within list j l oj in let x = li.0 in omega (arith, w, x, lt))
+        | inr lj ↦ absurd (let x = li.0 in let y = lj.0 in omega (arith, x, y, lt))
+      ]
+    ];
+  })
+
+  -- each form that takes the tree has a match
+  pub matches_all : (list : List FormMatch) → AreFirstMatches instance t whole (length instance.forms.now) list → (k : ℕ) → Takes (stock_of instance) t whole k → (i : ℕ) × (m : FormMatch) × (slice_get list i ≡ Some m) × (m.form ≡ k)
+  matches_all list h k x = h.all k (let w = slice_get_within (stock_of instance).rules k x.rule x.listed in let l = length-map instance.forms.now rule_of in omega (arith, w, l)) x
+
+pub at_index : {X : Type 0} (xs : List X) (i : ℕ) → i < length xs → (x : X) × (slice_get xs i ≡ Some x)
+at_index [] i lt = absurd (omega (arith, lt))
+at_index (x ∷ xs) zero lt = (x, refl)
+at_index (x ∷ xs) (suc i) lt = at_index xs i (omega (arith, lt))
+
+pub at_place : (P : FormMatch → Type 0) (list : List FormMatch) (i : ℕ) (m : FormMatch) → slice_get list i ≡ Some m → P m → (l : FormMatch) → slice_get list i ≡ Some l → P l
+at_place P list i m get p l get' = let same : m ≡ l = cc in subst P same p
+
+-- ---- what a match gives
+
+module _ (instance : Instance) (avoid : ℕ) (t : Term) (whole : Bool) (m : FormMatch) (f : IsFormMatch instance t whole m) where
+  spared_is : bit_and m.clobbers avoid ≡ 0 → bit_and f.rule.clobbers avoid ≡ 0
+  spared_is e = subst (λ c. bit_and c avoid ≡ 0) (sym f.clobbers) e
+
+  rest_is : (o : Option ℕ) → o ≡ start_under m.start (avoid == 0) → rest (size_of t) (avoid == 0) f.found.sites ≡ o
+  rest_is o is =
+      let r : IfSome (rest (size_of t) true f.found.sites) (λ q. (u : Term) (w : Bool) → f.found.sites ≡ operand q u w ∷ [] → q < 16) = subst (λ s. IfSome s (λ q. (u : Term) (w : Bool) → f.found.sites ≡ operand q u w ∷ [] → q < 16)) f.start f.register in
+      start_rest (size_of t) (avoid == 0) f.found.sites r ∙ ap (λ s. start_under s (avoid == 0)) (sym f.start) ∙ sym is
+
+  pub offer_clobbers : bit_and m.clobbers avoid ≢ 0 → IsOffer (stock_of instance) avoid t whole m.form Nothing
+  offer_clobbers never = offer_no_spare (stock_of instance) avoid t whole m.form f.rule f.listed (λ e. never (subst (λ c. bit_and c avoid ≡ 0) f.clobbers e))
+
+  pub offer_start : (o : Option ℕ) (q : ℕ) → bit_and m.clobbers avoid ≡ 0 → o ≡ start_under m.start (avoid == 0) → o ≡ Some q → IsOffer (stock_of instance) avoid t whole m.form (Chains (record { start = q; goal = m.goal }))
+  offer_start o q spared is some =
+      let there : m.start ≡ Some q = start_some m.start (avoid == 0) q (sym is ∙ some) in
+      let r : (u : Term) (w : Bool) → f.found.sites ≡ operand q u w ∷ [] → q < 16 = subst (λ s. IfSome s (λ q. (u : Term) (w : Bool) → f.found.sites ≡ operand q u w ∷ [] → q < 16)) there f.register in
+      offer_chain (stock_of instance) avoid t whole m.form f.rule m.goal q f.found f.listed (spared_is spared) f.goes f.slot f.takes_it (rest_is o is ∙ some) (r t whole)
+
+  pub match_sizes : (o : Option ℕ) → o ≡ start_under m.start (avoid == 0) → o ≡ None → (operands_size (open_operands m.operands.items) < size_of t) × (terms_size (open_cuts m.cuts.items) < size_of t + rank avoid)
+  match_sizes o is none =
+      let small = (row_small (stock_of instance) f.rule t whole m.goal f.found f.slot f.takes_it).1 in
+      let z = rest_small whole t avoid f.found.sites small (rest_is o is ∙ none) in
+      (subst (λ l. operands_size l < size_of t) (sym f.operands) z.0, subst (λ l. terms_size l < size_of t + rank avoid) (sym f.cuts) z.1)
+
+  pub offer_costs : (a b c d : Option ℕ) (offer : Offer) → bit_and m.clobbers avoid ≡ 0 → IsLeastOrder (stock_of instance) avoid (open_operands m.operands.items) a → IsLeastCut (stock_of instance) (open_cuts m.cuts.items) b → c ≡ summed (Some 1) a → d ≡ summed c b → offer ≡ offer_is m.goal d → IsOffer (stock_of instance) avoid t whole m.form offer
+  offer_costs a b c d offer spared la lb ec ed el =
+      let form_least = some_form (stock_of instance) avoid (row_ask t whole m.goal) m.form f.rule f.found a b f.listed (spared_is spared) f.takes_it (subst (λ l. IsLeastOrder (stock_of instance) avoid l a) f.operands la) (subst (λ l. IsLeastCut (stock_of instance) l b) f.cuts lb) in
+      let e : d ≡ summed (summed (Some 1) a) b = ed ∙ ap (λ x. summed x b) ec in
+      subst (IsOffer (stock_of instance) avoid t whole m.form) (sym (el ∙ ap (offer_is m.goal) e)) (offer_form (stock_of instance) avoid t whole m.form f.rule m.goal (summed (summed (Some 1) a) b) f.listed f.goes f.slot form_least)
+
+  -- ---- covers of one cost
+
+  module _ (slot n : ℕ) (is_slot : IsSlot whole slot) (least : IsLeast (stock_of instance) avoid (row_ask t whole slot) (Some n)) where
+    pub other_goal : m.goal ≢ slot → NeverBegins (stock_of instance) avoid (row_ask t whole slot) n m.form
+    other_goal differ ps cs (rule, get, spared, found, is, orders, stored) e =
+        let l = f.listed in
+        let same : rule ≡ f.rule = cc in
+        let g : goal_slot f.rule.goal whole ≡ Some slot = subst (λ (r : Rule). goal_slot r.goal whole ≡ Some slot) same (row_small (stock_of instance) rule t whole slot found is_slot is).0 in
+        let h = f.goes in
+        differ (cc)
+
+    pub other_clobbers : bit_and m.clobbers avoid ≢ 0 → NeverBegins (stock_of instance) avoid (row_ask t whole slot) n m.form
+    other_clobbers never ps cs (rule, get, spared, found, is, orders, stored) e =
+        let l = f.listed in
+        let same : rule ≡ f.rule = cc in
+        never (subst (λ c. bit_and c avoid ≡ 0) (ap (λ (r : Rule). r.clobbers) same ∙ f.clobbers) spared)
+
+    two_of : (a b : Option ℕ) (x : ℕ) → summed (summed (Some 1) a) b ≡ Some x → (j : ℕ) × (k : ℕ) × (a ≡ Some j) × (b ≡ Some k) × (x ≡ 1 + j + k)
+    two_of None b x h = absurd (cc)
+    two_of (Some j) None x h = absurd (cc)
+    two_of (Some j) (Some k) x h = let e : 1 + j + k ≡ x = cc in (j, k, refl, refl, sym e)
+
+    pub costs_begin : (a b : Option ℕ) (o : Option PartCosts) → m.goal ≡ slot → bit_and m.clobbers avoid ≡ 0 → IsLeastOrder (stock_of instance) avoid (open_operands m.operands.items) a → IsLeastCut (stock_of instance) (open_cuts m.cuts.items) b → CostsOf n a b o → BeginsOne (stock_of instance) avoid (row_ask t whole slot) n m o
+    costs_begin a b None at spared la lb differ =
+        let takes' : takes (stock_of instance) f.rule (row_ask t whole slot) ≡ Some f.found = subst (λ j. takes (stock_of instance) f.rule (row_ask t whole j) ≡ Some f.found) at f.takes_it in
+        never_by (stock_of instance) avoid (row_ask t whole slot) n m.form (summed (summed (Some 1) a) b) least
+        (some_form (stock_of instance) avoid (row_ask t whole slot) m.form f.rule f.found a b f.listed (spared_is spared) takes' (subst (λ l. IsLeastOrder (stock_of instance) avoid l a) f.operands la) (subst (λ l. IsLeastCut (stock_of instance) l b) f.cuts lb))
+        (λ x e same. (let p = two_of a b x e in differ p.0 p.1 p.2 p.3 (sym p.4 ∙ same)))
+    costs_begin a b (Some c) at spared la lb (ea, eb, sum) = (
+      record {
+        rule = f.rule;
+        found = f.found;
+        listed = f.listed;
+        spared = spared_is spared;
+        takes_it = subst (λ j. takes (stock_of instance) f.rule (row_ask t whole j) ≡ Some f.found) at f.takes_it;
+        operands_are = f.operands;
+        cuts_are = f.cuts;
+        order = subst (IsLeastOrder (stock_of instance) avoid (open_operands m.operands.items)) ea la;
+        cut = subst (IsLeastCut (stock_of instance) (open_cuts m.cuts.items)) eb lb;
+      },
+      sum,
+    )
+
+-- ---- the first match that begins a cover of one cost
+
+module _ (instance : Instance) (avoid : ℕ) (t : Term) (whole : Bool) (slot n : ℕ) (list : List FormMatch) (is_slot : IsSlot whole slot) (h : AreFirstMatches instance t whole (length instance.forms.now) list) where
+  pub never_before : (i : ℕ) (m : FormMatch) → slice_get list i ≡ Some m → ((l : ℕ) (g : FormMatch) → l < i → slice_get list l ≡ Some g → NeverBegins (stock_of instance) avoid (row_ask t whole slot) n g.form) → (j : ℕ) → j < m.form → NeverBegins (stock_of instance) avoid (row_ask t whole slot) n j
+  never_before i m here never j lt ps cs (rule, get, spared, found, is, orders, stored) e =
+      let (l, g, got, same) = matches_all instance t whole list h j (record { entry = slot; slot = is_slot; rule = rule; found = found; listed = get; takes_it = is }) in
+      elim (cases_lt l i) [
+        | inl less ↦ never l g less got ps cs (subst (λ x. IsSparing (stock_of instance) avoid (row_ask t whole slot) (use_form x ps cs)) (sym same) (rule, get, spared, found, is, orders, stored)) e
+        | inr ge ↦ elim (cases_eq i l) [
+          | inl at ↦ (let got' : slice_get list i ≡ Some g = subst (λ x. slice_get list x ≡ Some g) (sym at) got in let equal : g ≡ m = cc in let x = ap (λ (y : FormMatch). y.form) equal in absurd (omega (arith, x, same, lt)))
+          | inr other ↦ (let x = h.ordered i l m g (omega arith) here got in absurd (omega (arith, x, same, lt)))
+        ]
+      ]
+
+  pub some_match : IsLeast (stock_of instance) avoid (row_ask t whole slot) (Some n) → ((l : ℕ) (g : FormMatch) → l < length list → slice_get list l ≡ Some g → NeverBegins (stock_of instance) avoid (row_ask t whole slot) n g.form) → ⊥
+  some_match least never = cover_exists (stock_of instance) avoid (row_ask t whole slot) n least go
+    where
+      go : (j : ℕ) → j < length (stock_of instance).rules → NeverBegins (stock_of instance) avoid (row_ask t whole slot) n j
+      go j lt ps cs (rule, get, spared, found, is, orders, stored) e =
+          let (l, g, got, same) = matches_all instance t whole list h j (record { entry = slot; slot = is_slot; rule = rule; found = found; listed = get; takes_it = is }) in
+          never l g (slice_get_within list l g got) got ps cs (subst (λ x. IsSparing (stock_of instance) avoid (row_ask t whole slot) (use_form x ps cs)) (sym same) (rule, get, spared, found, is, orders, stored)) e
+
+-- what holds of the matches before i, and of that at i, holds of those before i + 1
+pub matches_later : (P : ℕ → Type 0) (list : List FormMatch) (i : ℕ) → ((l : ℕ) (g : FormMatch) → l < i → slice_get list l ≡ Some g → P g.form) → ((g : FormMatch) → slice_get list i ≡ Some g → P g.form) → (l : ℕ) (g : FormMatch) → l < i + 1 → slice_get list l ≡ Some g → P g.form
+matches_later P list i earlier here l g lt got = elim (cases_eq l i) [
+  | inl same ↦ here g (subst (λ x. slice_get list x ≡ Some g) same got)
+  | inr other ↦ earlier l g (omega arith) got
+]

@@ -1,0 +1,11 @@
+use Rattle.std.proofs.Common.{ℕ, ◌<◌}
+use Rattle.cover.specs.Choice.{ask_of, NeverBegins}
+use Rattle.cover.specs.Jobs.{stock_of}
+use Rattle.cover.specs.Tables.{AreRight}
+use Rattle.cover.proofs.choice.choose.Given as goal
+
+abbrev pub invariant-loop-k : goal.invariant-loop-k
+invariant-loop-k l = record {
+  never : (j : ℕ) → j < l.k → NeverBegins (stock_of l.instance) l.avoid (ask_of l.want) l.n j;
+  right : AreRight l.instance l.table;
+}

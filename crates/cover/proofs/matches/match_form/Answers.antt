@@ -1,0 +1,31 @@
+use Rattle.std.proofs.Common.{◌≡◌, Some, refl, get_or}
+use Rattle.std.specs.Prelude.{slice_get}
+use Rattle.form_model.specs.Trees.{tree_term}
+use Rattle.form_model.specs.declared.forms.Form.{Form}
+use Rattle.tree_grammar.specs.Parts.{destination_at}
+use Rattle.cover.proofs.RowLemmas.{listed}
+use Rattle.cover.proofs.StartLemmas.{start_of, start_at}
+use Rattle.cover.proofs.MatchLemmas.{form_match, never_goal, never_match}
+use Rattle.cover.proofs.matches.match_form.Goals as goal
+
+pub returns : goal.returns
+returns c =
+    let form : Form = get_or c.args.instance.now.forms.now c.args.k c.index-instance-k.result in
+    let got : slice_get c.args.instance.now.forms.now c.args.k ≡ Some form = listed _ _ _ c.requires.form in
+    let s = start_of c.args.instance.now form c.args.k c.in-Some.goal (tree_term c.args.tree.now) c.args.whole (destination_at c.destination_of_entry.result) c.in_ok-goal.field-0 c.in_ok-found.field-0 c.in-Some-2.found got c.in_ok-goal.ensures c.in-Some.is c.in_ok-found.ensures.found c.in-Some-2.is c.destination_of_entry.ensures in
+    let at = start_at c.args.instance.now c.args.number c.in-Some.goal (tree_term c.args.tree.now) (destination_at c.destination_of_entry.result) c.in_ok-found.field-0 c.in-Some-2.found c.requires.number c.in_ok-found.ensures.at c.in-Some-2.is c.destination_of_entry.ensures in (
+      form_match c.args.instance.now form c.args.k c.in-Some.goal (tree_term c.args.tree.now) c.args.whole c.in_ok-tree_size.field-0 c.in-Some-2.found c.deref.result.now c.deref-2.result.now c.deref-3.result.now c.in_ok-start.start c.in_ok-operands.operands c.in_ok-cuts.cuts s at c.in_ok-tree_size.ensures c.deref.ensures.value c.in_ok-start.ensures.is c.in_ok-start.ensures.register c.deref-2.ensures.value c.in_ok-operands.ensures.operands c.in_ok-operands.ensures.at c.deref-3.ensures.value c.in_ok-cuts.ensures.cuts c.in_ok-cuts.ensures.at,
+      refl,
+    )
+
+pub returns-in_default : goal.returns-in_default
+returns-in_default c =
+    let form : Form = get_or c.args.instance.now.forms.now c.args.k c.index-instance-k.result in
+    let got : slice_get c.args.instance.now.forms.now c.args.k ≡ Some form = listed _ _ _ c.requires.form in
+    never_goal c.args.instance.now form c.args.k (tree_term c.args.tree.now) c.args.whole c.in_ok-goal.field-0 got c.in_ok-goal.ensures.0 c.in_default.is
+
+pub returns-in_default-2 : goal.returns-in_default-2
+returns-in_default-2 c =
+    let form : Form = get_or c.args.instance.now.forms.now c.args.k c.index-instance-k.result in
+    let got : slice_get c.args.instance.now.forms.now c.args.k ≡ Some form = listed _ _ _ c.requires.form in
+    never_match c.args.instance.now form c.args.k c.in-Some.goal (tree_term c.args.tree.now) c.args.whole (destination_at c.destination_of_entry.result) c.in_ok-goal.field-0 c.in_ok-found.field-0 got c.in_ok-goal.ensures.0 c.in-Some.is c.destination_of_entry.ensures c.in_ok-found.ensures.found c.in_default-2.is

@@ -1,0 +1,6 @@
+-- What holds of each entry of a map.
+use Rattle.std.specs.Prelude.{List, [], ◌∷◌}
+
+abbrev pub EachEntry : {K V : Type 0} → (K → V → Type 0) → List (K × V) → Type 0
+EachEntry P [] = Unit {0}
+EachEntry P (e ∷ es) = P e.0 e.1 × EachEntry P es

@@ -1,0 +1,128 @@
+//! The forms that match a subtree, which are found once for all sets of registers to avoid.
+
+ghost use Rattle.std.specs.Prelude.{◌≡◌, ◌<◌, ◌==◌, true, Some, IfOk, OnOk, length, slice_get};
+ghost use Rattle.net_model.specs.Terms.{size_of};
+ghost use Rattle.form_model.specs.Trees.{tree_term};
+ghost use Rattle.cover.specs.Asks.{start_under};
+ghost use Rattle.cover.specs.Jobs.{nodes_of};
+ghost use Rattle.cover.specs.Matched.{AreMatches, MatchesForm, with_match};
+
+use crate::parts::{OpenCut, OpenOperand, cuts_in, operands_in, rest_of};
+use crate::rows::{destination_of_entry, goal_of};
+use crate::table::Instance;
+use form_model::{RegSet, Tree};
+use rec_bits::NoMemory;
+use std::alloc::Global;
+use tree_grammar::{match_at, tree_size};
+
+/// A form that matches a tree for an entry of the tree's row, with what its match leaves open.
+#[derive(Drop)]
+pub struct FormMatch<'a> {
+    /// The form's place in the list.
+    pub form: usize,
+    /// The entry to which it goes.
+    pub goal: u8,
+    pub clobbers: RegSet,
+    /// The entry from which it goes on where nothing is to be avoided, if the one part of the match is the whole tree.
+    pub start: Option<u8>,
+    pub operands: Vec<OpenOperand<'a>>,
+    pub cuts: Vec<OpenCut<'a>>,
+}
+
+/// The forms that match a tree for an entry of its row, in their order.
+#[derive(Drop)]
+pub struct Matches<'a> {
+    pub tree: &'a Tree,
+    pub whole: bool,
+    pub list: Vec<FormMatch<'a>>,
+}
+
+// The entry from which a match goes on with these registers to avoid, if its one part is the whole tree. A cut goes on from the entry of a
+// temporary cell only where there is nothing to avoid.
+pub(crate) fn start_of(found: &FormMatch, avoid: RegSet) -> Option<u8>
+    ensures { result ≡ start_under found.now.start (avoid == 0) }
+{
+    let start = found.start?;
+    if avoid == 0 || start < 16 {
+        Some(start)
+    } else {
+        None
+    }
+}
+
+// The match of the form at `k`, if it matches the tree for an entry of the tree's row.
+fn match_form<'a>(
+    alloc: Global,
+    instance: &Instance<'a>,
+    tree: &'a Tree,
+    number: u64,
+    whole: bool,
+    k: usize,
+) -> Result<Option<FormMatch<'a>>, NoMemory>
+    requires form { k < length instance.now.forms.now }
+    requires number { slice_get (nodes_of instance.now) number ≡ Some (tree_term tree.now) }
+    ensures { IfOk result (λ o. MatchesForm instance.now (tree_term tree.now) whole k o) }
+{
+    let form = &instance.forms[k];
+    let Some(goal) = goal_of(form, whole)? else {
+        return Ok(None);
+    };
+    let Some(found) = match_at(
+        alloc,
+        form,
+        destination_of_entry(goal),
+        tree,
+        whole,
+        instance.temps,
+        number,
+    )?
+    else {
+        return Ok(None);
+    };
+    let start = rest_of(&found.parts, tree_size(tree)?, true)?;
+    let operands = operands_in(alloc, &found.parts)?;
+    let cuts = cuts_in(alloc, &found.parts)?;
+    Ok(Some(FormMatch {
+        form: k,
+        goal,
+        clobbers: form.clobbers,
+        start,
+        operands,
+        cuts,
+    }))
+}
+
+// Adds a match, if there is one.
+fn put_match<'a>(
+    list: &mut Vec<FormMatch<'a>>,
+    found: Option<FormMatch<'a>>,
+) -> Result<(), NoMemory>
+    ensures { OnOk result (list.new.items ≡ with_match list.old.items found.entry) }
+{
+    let Some(found) = found else {
+        return Ok(());
+    };
+    list.push(found)?;
+    Ok(())
+}
+
+// The forms that match the tree of this number.
+pub(crate) fn matches_of<'a>(
+    alloc: Global,
+    instance: &Instance<'a>,
+    tree: &'a Tree,
+    number: u64,
+    whole: bool,
+) -> Result<Matches<'a>, NoMemory>
+    requires number { slice_get (nodes_of instance.now) number ≡ Some (tree_term tree.now) }
+    ensures matches { IfOk result (λ ms. AreMatches instance.now ms) }
+    ensures tree { IfOk result (λ ms. tree_term ms.tree.now ≡ tree_term tree.now) }
+    ensures whole { IfOk result (λ ms. ms.whole ≡ whole) }
+{
+    let mut list = Vec::new(alloc);
+    for k in 0..instance.forms.len() {
+        let found = match_form(alloc, instance, tree, number, whole, k)?;
+        put_match(&mut list, found)?;
+    }
+    Ok(Matches { tree, whole, list })
+}

@@ -1,0 +1,202 @@
+//! Which of the numbered subtrees are equal.
+
+ghost use Rattle.std.specs.Prelude.{◌≡◌, ◌+◌, ℕ, IfOk, OnOk, List, Some, slice_get};
+ghost use Rattle.net_model.specs.Terms.{Term, size_of};
+ghost use Rattle.form_model.specs.Trees.{tree_term};
+ghost use Rattle.cover.specs.Jobs.{nodes_of};
+ghost use Rattle.tree_grammar.specs.Parts.{AddressStands, destination_at, value_at};
+ghost use Rattle.cover.specs.Sharing.{AreFirsts, AreOwn, HaveNumbers, OperandShared, Rooted, Shared, Shares, first_of, operand_size, operand_term, root_term, second_of};
+
+use crate::costs::plus;
+use crate::table::Instance;
+use form_model::Tree;
+use indexmap::IndexMap;
+use rec_bits::{NoMemory, Op1, Op2};
+use std::alloc::Global;
+use tree_grammar::{Destination, tree_size};
+
+/// The root of a subtree, with the number of the first subtree that equals each operand. Equal subtrees have one root.
+#[derive(Clone, Copy, PartialEq, Eq, Hash)]
+pub enum Root {
+    Lit { width: u8, value: u64 },
+    Read(u64, u8),
+    Un(Op1, u64),
+    Bin(Op2, u64, u64),
+    Slice(u64, u8, u8),
+    Zext(u64, u8),
+    Sext(u64, u8),
+}
+
+/// What is known of equal subtrees.
+#[derive(Drop)]
+pub struct Sharing {
+    /// For each number that of the first equal subtree.
+    pub firsts: Vec<u64>,
+    /// The number of the first subtree with a root.
+    pub roots: IndexMap<Root, u64>,
+}
+
+// A subtree's number, or that of an equal one before it, and the number behind the subtree.
+#[derive(Clone, Copy)]
+struct Numbered {
+    first: u64,
+    next: u64,
+}
+
+// Each number below `count` as that of its own subtree.
+fn own_numbers(alloc: Global, count: u64) -> Result<Vec<u64>, NoMemory>
+    ensures { IfOk result (λ v. AreOwn v.items) }
+{
+    let mut numbers = Vec::new(alloc);
+    for n in 0..count {
+        numbers.push(n)?;
+    }
+    Ok(numbers)
+}
+
+// Notes that the subtree of number `at` equals that of number `first`.
+fn set_first(firsts: &mut Vec<u64>, at: u64, first: u64)
+    ensures { (nodes : List Term) → slice_get nodes first ≡ slice_get nodes at → AreFirsts nodes firsts.old.items → AreFirsts nodes firsts.new.items }
+{
+    let i = at as usize;
+    if i < firsts.len() {
+        firsts[i] = first;
+    }
+}
+
+// The number of the first subtree with the root of the subtree of number `at`.
+fn first_with(sharing: &mut Sharing, root: Root, at: u64) -> Result<u64, NoMemory>
+    ensures { IfOk result (λ first. Rooted sharing.old sharing.new at root first) }
+{
+    if let Some(known) = sharing.roots.get(&root) {
+        let first = *known;
+        set_first(&mut sharing.firsts, at, first);
+        return Ok(first);
+    }
+    sharing.roots.insert(root, at)?;
+    Ok(at)
+}
+
+// The root of a tree whose operands equal the subtrees of these numbers; the second is for an operator of two operands alone.
+fn root_of(tree: &Tree, first: u64, second: u64) -> Root
+    ensures { (nodes : List Term) → HaveNumbers nodes (tree_term tree.now) first second → root_term nodes result ≡ Some (tree_term tree.now) }
+{
+    match tree {
+        Tree::Lit { width, value } => Root::Lit {
+            width: *width,
+            value: *value,
+        },
+        Tree::Read(_, w) => Root::Read(first, *w),
+        Tree::Un(op, _) => Root::Un(*op, first),
+        Tree::Bin(op, _, _) => Root::Bin(*op, first, second),
+        Tree::Slice(_, hi, lo) => Root::Slice(first, *hi, *lo),
+        Tree::Zext(_, w) => Root::Zext(first, *w),
+        Tree::Sext(_, w) => Root::Sext(first, *w),
+    }
+}
+
+fn first_operand(tree: &Tree) -> Option<&Tree>
+    ensures { operand_term result ≡ first_of (tree_term tree.now) }
+{
+    match tree {
+        Tree::Lit { .. } => None,
+        Tree::Read(a, _) => Some(a),
+        Tree::Un(_, a) => Some(a),
+        Tree::Bin(_, a, _) => Some(a),
+        Tree::Slice(a, _, _) => Some(a),
+        Tree::Zext(a, _) => Some(a),
+        Tree::Sext(a, _) => Some(a),
+    }
+}
+
+fn second_operand(tree: &Tree) -> Option<&Tree>
+    ensures { operand_term result ≡ second_of (tree_term tree.now) }
+{
+    match tree {
+        Tree::Bin(_, _, b) => Some(b),
+        _ => None,
+    }
+}
+
+// Finds the equal ones among a tree's subtrees, which have their numbers from `at` on, and those before them.
+#[cycle(sharing)]
+fn share(sharing: &mut Sharing, tree: &Tree, at: u64) -> Result<Numbered, NoMemory>
+    ensures next { IfOk result (λ n. n.next ≡ at + size_of (tree_term tree.now)) }
+    ensures shared { IfOk result (λ n. Shared sharing.old sharing.new at (tree_term tree.now) n.first) }
+{
+    let inner = plus(at, 1)?;
+    let x = share_operand(sharing, first_operand(tree), inner)?;
+    let y = share_operand(sharing, second_operand(tree), x.next)?;
+    let first = first_with(sharing, root_of(tree, x.first, y.first), at)?;
+    Ok(Numbered {
+        first,
+        next: y.next,
+    })
+}
+
+// The same of an operand, where there is one.
+#[cycle(sharing)]
+fn share_operand(
+    sharing: &mut Sharing,
+    operand: Option<&Tree>,
+    at: u64,
+) -> Result<Numbered, NoMemory>
+    ensures next { IfOk result (λ n. n.next ≡ at + operand_size (operand_term operand.entry)) }
+    ensures shared { IfOk result (λ n. OperandShared sharing.old sharing.new at (operand_term operand.entry) n.first) }
+{
+    match operand {
+        Some(tree) => share(sharing, tree, at),
+        None => Ok(Numbered {
+            first: at,
+            next: at,
+        }),
+    }
+}
+
+// How many nodes the address of a store has.
+fn address_size(destination: Destination) -> Result<u64, NoMemory>
+    ensures { IfOk result (λ n. n ≡ value_at (destination_at destination.entry) 0) }
+{
+    match destination {
+        Destination::Store(address) => tree_size(address),
+        _ => Ok(0),
+    }
+}
+
+// Finds the equal ones among the subtrees of a store's address.
+fn share_address(sharing: &mut Sharing, destination: Destination) -> Result<(), NoMemory>
+    ensures { OnOk result ((nodes : List Term) → AddressStands nodes 0 (destination_at destination.entry) → Shares nodes sharing.old → Shares nodes sharing.new) }
+{
+    match destination {
+        Destination::Store(address) => {
+            share(sharing, address, 0)?;
+            Ok(())
+        }
+        _ => Ok(()),
+    }
+}
+
+/// For the number of each subtree that of an equal one, which equal subtrees have in common.
+pub(crate) fn first_numbers(alloc: Global, instance: &Instance) -> Result<Vec<u64>, NoMemory>
+    ensures { IfOk result (λ firsts. AreFirsts (nodes_of instance.now) firsts.items) }
+{
+    let at = address_size(instance.destination)?;
+    let count = plus(at, tree_size(instance.tree)?)?;
+    let mut sharing = Sharing {
+        firsts: own_numbers(alloc, count)?,
+        roots: IndexMap::new(alloc),
+    };
+    share_address(&mut sharing, instance.destination)?;
+    share(&mut sharing, instance.tree, at)?;
+    Ok(sharing.firsts)
+}
+
+/// The number of the first subtree that equals the one of this number.
+pub(crate) fn first_equal(firsts: &[u64], number: u64) -> u64
+    ensures { (nodes : List Term) (t : Term) → AreFirsts nodes firsts.now → slice_get nodes number ≡ Some t → slice_get nodes result ≡ Some t }
+{
+    match firsts.get(number as usize) {
+        Some(first) => *first,
+        None => number,
+    }
+}

@@ -1,0 +1,96 @@
+// A checked netlist decoded: what a simulator does at each clock.
+
+ghost use Rattle.std.specs.Prelude.{◌≡◌, IfOk, OnOk};
+ghost use Rattle.net_model.specs.Nets.{memory_width};
+ghost use Rattle.cycle_sim.specs.Ports.{HasPortWidth, port_width};
+ghost use Rattle.cycle_sim.specs.Programs.{added, AreSources, IsProgram, Runs};
+
+use crate::decode::{buses, decode, latches, routed, source_of};
+use crate::edge::{BusDrivers, Latch, Port, find_port};
+use crate::operation::{Instruction, Operation};
+use net_model::Checked;
+use rec_bits::{Items, NoMemory};
+use std::alloc::Global;
+
+/// The nets as instructions, and where storages, buses and the data memory's port take their values.
+#[derive(Drop)]
+pub(crate) struct Program {
+    pub instructions: Items<Instruction>,
+    pub latches: Items<Latch>,
+    pub buses: Items<BusDrivers>,
+    pub port: Option<Port>,
+}
+
+/// The program of a netlist.
+pub(crate) fn program_of(alloc: Global, checked: &Checked) -> Result<Program, NoMemory>
+    ensures program { IfOk result (λ program. IsProgram checked.now.netlist program) }
+    ensures width { IfOk result (λ program. port_width program.port ≡ memory_width checked.now.netlist.storages) }
+    ensures fits { IfOk result (λ program. HasPortWidth program.port) }
+{
+    let netlist = checked.netlist();
+    let found = sources(alloc, checked)?;
+    let sources = found.as_slice();
+    let instructions = instructions(alloc, checked, sources)?;
+    let storages = netlist.storages.as_slice();
+    let latches = latches(alloc, sources, storages)?;
+    let buses = buses(alloc, sources, netlist.nets.as_slice())?;
+    let port = routed(sources, find_port(storages));
+    Ok(Program {
+        instructions,
+        latches,
+        buses,
+        port,
+    })
+}
+
+// The place of the value of each net: a wire has none of its own.
+fn sources(alloc: Global, checked: &Checked) -> Result<Items<u32>, NoMemory>
+    ensures { IfOk result (λ sources. AreSources checked.now.netlist checked.now.order sources) }
+{
+    let netlist = checked.netlist();
+    let nets = netlist.nets.as_slice();
+    let order = checked.order().as_slice();
+    let mut sources = Items::from_vec(vec![in alloc; 0u32; nets.len()]?);
+    for id in order {
+        let at = *id as usize;
+        let current = sources.as_slice();
+        let source = source_of(current, *id, &nets[at].gate);
+        sources.set(at, source);
+    }
+    Ok(sources)
+}
+
+// The instructions of all nets, in their order.
+fn instructions(
+    alloc: Global,
+    checked: &Checked,
+    sources: &[u32],
+) -> Result<Items<Instruction>, NoMemory>
+    requires { AreSources checked.now.netlist checked.now.order sources.now }
+    ensures { IfOk result (λ instructions. Runs checked.now.netlist instructions) }
+{
+    let netlist = checked.netlist();
+    let nets = netlist.nets.as_slice();
+    let order = checked.order().as_slice();
+    let mut instructions = Items::new(alloc);
+    for id in order {
+        let at = *id as usize;
+        let operation = decode(alloc, netlist, sources, &nets[at])?;
+        add(&mut instructions, *id, operation)?;
+    }
+    Ok(instructions)
+}
+
+// Adds the instruction of a net, where it has one.
+fn add(
+    instructions: &mut Items<Instruction>,
+    place: u32,
+    operation: Option<Operation>,
+) -> Result<(), NoMemory>
+    ensures { OnOk result (instructions.new ≡ added place operation instructions.old) }
+{
+    match operation {
+        Some(operation) => instructions.push(Instruction { place, operation }),
+        None => Ok(()),
+    }
+}

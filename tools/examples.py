@@ -1,0 +1,199 @@
+#!/usr/bin/env python3
+"""Runs the programs of examples/ on its processors, and holds what they leave against results that are computed here.
+
+Usage: examples.py BINARY [--table]
+
+Each program is compiled for each processor and run by `record go` from its memory text. What the variables hold at the end has to be what the
+algorithm gives, as it is written below in Python; where the processor lacks something that the program needs, the answer has to be the expected
+`error no cover`. The images examples/PROGRAM.PROCESSOR.hand.img are code for the same cells that was written by hand; they are run by `record run`
+and held against the same results. A line is printed for each:
+
+    dot xy: 18 words, 23 unpacked, 104 cycles
+    dot xy by hand: 6 words, 19 cycles
+    dot a16: error no cover 3
+
+`words` is the length of the image, `cycles` the clocks until the program counter stands at the end mark. `unpacked` is how many words it were with
+one step in each: the costs of the image's lines `tree`, and its jump and branch words, which are those whose list has a pattern of the program
+counter. What is wrong is told behind the line. The last line counts it, and the exit status is 1 where there is any. With --table the words and
+cycles are printed as the table of examples/README.md, and no other lines but wrong ones.
+"""
+import binascii
+import pathlib
+import re
+import subprocess
+import sys
+
+FOLDER = pathlib.Path(__file__).resolve().parent.parent / 'examples'
+LONGEST = 1_000_000
+PROCESSORS = ['a16', 'f16', 'xy', 'dsp', 'r16']
+
+
+def signed(word):
+    return word - 0x10000 if word >= 0x8000 else word
+
+
+def product(a, b):
+    """That of two fractions with 15 bits behind the point."""
+    return signed(a) * signed(b) >> 15
+
+
+def dot(v):
+    return {'s': [sum(a * b for a, b in zip(v['x'], v['y']))]}
+
+
+def fir(v):
+    return {'y': [sum(product(v['h'][k], v['x'][n + 7 - k]) for k in range(8)) for n in range(8)]}
+
+
+def crc(v):
+    """Python's own CRC-16/CCITT, which takes the message as bytes."""
+    return {'crc': [binascii.crc_hqx(b''.join(word.to_bytes(2, 'big') for word in v['m']), v['crc'][0])]}
+
+
+def sort(v):
+    return {'x': sorted(v['x'], key=signed)}
+
+
+def fly(v):
+    result = {name: [] for name in ('cr', 'ci', 'dr', 'di')}
+    for ar, ai, br, bi, wr, wi in zip(*(v[name] for name in ('ar', 'ai', 'br', 'bi', 'wr', 'wi'))):
+        real, imaginary = product(wr, br) - product(wi, bi), product(wr, bi) + product(wi, br)
+        for name, value in (('cr', ar + real), ('ci', ai + imaginary), ('dr', ar - real), ('di', ai - imaginary)):
+            result[name].append(value)
+    return result
+
+
+def wht(v):
+    a, b, c, d = v['x']
+    return {'x': [a + b + c + d, a - b + c - d, a + b - c - d, a - b - c + d]}
+
+
+# Each program, what it has to leave, and the first tree that the forms of a processor don't cover, for the processors that can't run it.
+PROGRAMS = {
+    'dot': (dot, {'a16': 3, 'f16': 3, 'r16': 3}),
+    'fir': (fir, {'a16': 5, 'dsp': 5, 'r16': 5}),
+    'crc': (crc, {'a16': 2, 'f16': 2}),
+    'sort': (sort, {'a16': 5, 'f16': 5, 'dsp': 5}),
+    'fly': (fly, {'a16': 2, 'dsp': 2, 'r16': 2}),
+    'wht': (wht, {}),
+}
+
+
+def answer(binary, *words):
+    return subprocess.run([binary, *map(str, words)], capture_output=True, text=True).stdout
+
+
+def places_of(image):
+    """The variables of an image text, with their first cells and lengths."""
+    return {name: (int(at), int(length)) for name, at, length in re.findall(r'^place (\w+) (\d+) (\d+)$', image, re.M)}
+
+
+def variables(places, cells):
+    return {name: [cells.get(at + k, 0) for k in range(length)] for name, (at, length) in places.items()}
+
+
+def cells_of(text):
+    """The cells of a memory text or of a state."""
+    return {int(at): int(value) for at, value in re.findall(r'^M (\d+) (\d+)$', text, re.M)}
+
+
+def compiled(binary, netlist, source, memory):
+    """What `go` leaves in the variables, and the cycle of its end mark."""
+    text = answer(binary, 'go', netlist, source, memory, LONGEST)
+    left, cycle = {}, None
+    for line in text.splitlines():
+        if line.startswith('at '):
+            _, cycle, label, *changes = line.split()
+            for change in changes:
+                name, index, value = re.fullmatch(r'(\w+)(?:\[(\d+)\])?=(\d+)', change).groups()
+                left[name, int(index or 0)] = int(value)
+    return left, int(cycle) if text.endswith('\nend\n') else None
+
+
+def by_hand(binary, netlist, image, memory):
+    """What an image leaves in the memory, and the first cycle at its end mark, where it stays."""
+    counter = re.search(r'^code .* at (\w+);', netlist.read_text(), re.M)[1]
+    end = re.search(r'^mark (\d+) end$', image.read_text(), re.M)[1]
+
+    def state(cycles):
+        return answer(binary, 'run', netlist, image, memory, cycles)
+
+    def ended(cycles):
+        return f'\n{counter} {end}\n' in state(cycles)
+
+    late = 1
+    while not ended(late):
+        if late == LONGEST:
+            return {}, None
+        late = min(2 * late, LONGEST)
+    early = late // 2
+    while early + 1 < late:
+        middle = (early + late) // 2
+        early, late = (early, middle) if ended(middle) else (middle, late)
+    return (cells_of(state(late)), late) if ended(late + 1) else ({}, None)
+
+
+def unpacked(image, patterns):
+    """How many words an image were with one step in each."""
+    counter = re.search(r'^0 (\w+) := ', patterns, re.M)[1]
+    jumps = {number for number, name in re.findall(r'^(\d+) (\w+) := ', patterns, re.M) if name == counter}
+    lists = re.findall(r'^word \d+ \w+ (\S+)$', image, re.M)
+    costs = re.findall(r'^tree \d+ (\d+)$', image, re.M)
+    return sum(map(int, costs)) + sum(1 for one in lists if jumps & set(one.split(',')))
+
+
+def wrong(expected, left, cycles):
+    """What differs, as a text; the empty one where nothing does."""
+    if cycles is None:
+        return ', but the end mark never comes'
+    return ''.join(f', but {name} is {left.get(name)} in place of {values}' for name, values in expected.items() if left.get(name) != values)
+
+
+def examples(binary):
+    """Of each pair: its names, its line, what is wrong with it, and its row of the table."""
+    patterns = {name: answer(binary, 'extract', FOLDER / f'{name}.rtn') for name in PROCESSORS}
+    for program, (result, refused) in PROGRAMS.items():
+        source, memory = FOLDER / f'{program}.src', FOLDER / f'{program}.mem'
+        for name in PROCESSORS:
+            netlist = FOLDER / f'{name}.rtn'
+            image = answer(binary, 'compile', netlist, source)
+            first = image.split('\n')[0]
+            if name in refused or not first.startswith('image '):
+                due = f'error no cover {refused[name]}' if name in refused else 'an image'
+                yield f'{program} {name}: {first}', '' if first == due else f', but {due} is due', None
+                continue
+            places, start = places_of(image), cells_of(memory.read_text())
+            expected = {key: [value & 0xffff for value in values] for key, values in result(variables(places, start)).items()}
+            cells, cycles = compiled(binary, netlist, source, memory)
+            left = {key: [cells.get((key, k), 0) for k in range(length)] for key, (_, length) in places.items()}
+            row = [program, name, first.split()[2], unpacked(image, patterns[name]), cycles]
+            yield f'{program} {name}: {row[2]} words, {row[3]} unpacked, {cycles} cycles', wrong(expected, left, cycles), row
+            hand = FOLDER / f'{program}.{name}.hand.img'
+            if hand.exists():
+                text = hand.read_text()
+                cells, cycles = by_hand(binary, netlist, hand, memory)
+                row += [text.split()[2], cycles]
+                fault = ', but its variables have other places' if places_of(text) != places else wrong(expected, variables(places, cells), cycles)
+                yield f'{program} {name} by hand: {row[5]} words, {cycles} cycles', fault, None
+
+
+def main():
+    if len(sys.argv) not in (2, 3) or sys.argv[2:] not in ([], ['--table']):
+        sys.exit(__doc__)
+    binary, table = str(pathlib.Path(sys.argv[1]).resolve()), len(sys.argv) == 3
+    rows, faults = [], 0
+    for line, fault, row in examples(binary):
+        faults += fault != ''
+        if fault or not table:
+            print(line + fault, flush=True)
+        rows += [row] if row else []
+    if table:
+        print('| program | processor | words | unpacked | cycles | by hand: words | cycles |\n|---|---|---|---|---|---|---|')
+        for row in rows:
+            print('| ' + ' | '.join(map(str, row + [''] * (7 - len(row)))) + ' |')
+    else:
+        print(f'{faults} wrong')
+    sys.exit(1 if faults else 0)
+
+
+main()
