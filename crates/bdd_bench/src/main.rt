@@ -119,8 +119,8 @@ fn equal_nodes(alloc: Global, count: u8) -> Result<u64, NoMemory> {
     Ok(book.size())
 }
 
-// What a book of three bits answers of `a`, the words of bit 2 that have bit 1 or bit 0 too. Of each set its words
-// below 8 stand as the bits of a number.
+// What a book of three bits answers of `a`, the words of bit 2 that have bit 1 or bit 0 too. Of
+// each set its words below 8 stand as the bits of a number.
 #[derive(Clone, Copy)]
 struct Answers {
     a: u8,

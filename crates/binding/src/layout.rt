@@ -6,7 +6,7 @@ ghost use Rattle.src_model.specs.Sizes.{longest};
 ghost use Rattle.src_model.specs.Meaning.{cells_in, cell_count};
 ghost use Rattle.code_model.specs.Places.{places_from, Apart};
 ghost use Rattle.code_model.specs.Layout.{variables_of, layout_of, need_of};
-ghost use Rattle.binding.specs.Refusals.{IsRefusal};
+ghost use Rattle.binding.specs.Refusals.{IsBindFault};
 
 use crate::BindFault;
 use code_model::{Place, Places};
@@ -59,15 +59,15 @@ fn places(alloc: Global, first: u32, vars: &[Var]) -> Result<Items<Place>, NoMem
     Ok(places)
 }
 
-/// The places of a program's variables in a memory of so many words: behind the temporary cells, which stand from address 0 on, in the order
-/// of their declarations, arrays whole. The program has fewer than 2^32 variables. It is refused exactly where it needs more cells than there
-/// are.
+/// The places of a program's variables in a memory of so many words: behind the temporary cells,
+/// which stand from address 0 on, in the order of their declarations, arrays whole. The program has
+/// fewer than 2^32 variables. It is refused exactly where it needs more cells than there are.
 pub fn bind(alloc: Global, typed: &Typed, words: u32) -> Result<Places, BindFault>
     requires few { length typed.now.program.vars < 2 ^ 32 }
     ensures places { IfOk result (λ places. places ≡ layout_of typed.now.width (listing_of typed.now.program)) }
     ensures apart { IfOk result (λ places. Apart places.temps places.list words) }
     ensures enough { IfOk result (λ places. need_of typed.now.width (listing_of typed.now.program) ≤ words) }
-    ensures refused { IfErr result (IsRefusal (need_of typed.now.width (listing_of typed.now.program)) words) }
+    ensures refused { IfErr result (IsBindFault (need_of typed.now.width (listing_of typed.now.program)) words) }
 {
     let vars = typed.program().vars.as_slice();
     let temps = typed.temps();

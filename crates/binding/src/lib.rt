@@ -3,7 +3,7 @@
 //! Promise: `bind` gives the temporary cells and then the variables in the order of their
 //! declarations, arrays whole (`places`: `layout_of`), disjoint and within the memory (`apart`:
 //! `Apart`), or `DataFull` exactly where the program needs more cells than there are, with both
-//! numbers (`refused`: `IsRefusal`).
+//! numbers (`refused`: `IsBindFault`).
 //!
 //! Files:
 //!

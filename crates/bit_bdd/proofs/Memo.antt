@@ -1,14 +1,16 @@
 -- Remembered results stay right, and are found and added.
-use Rattle.std.proofs.Common.{◌≡◌, ℕ, Bool, true, false, cond, List, [], ◌∷◌, ◌++◌, Option, None, Some, if◌then◌else◌, IfSome, refl, sym, ap, subst, ◌∙◌, length-append, arith}
-use Rattle.std.specs.Map.{lookup}
-use Rattle.indexmap.specs.IndexMap.{insert_entry}
+use Rattle.std.proofs.Common.{◌≡◌, ℕ, ◌<◌, Bool, true, false, if◌then◌else◌, List, ◌++◌, length, replicate, refl, sym, subst, ◌∙◌, length-append, arith}
+use Rattle.std.proofs.lemmas.List.Elements.{All-weaker, All-same, All-append, All-replicate}
+use Rattle.std.proofs.lemmas.Option.{slice_get_within}
 use Rattle.bit_bdd.specs.declared.Node.{Node}
+use Rattle.bit_bdd.specs.declared.Node.TheVariants.{Never, Always}
+use Rattle.bit_bdd.specs.declared.Finished.{Finished}
 use Rattle.bit_bdd.specs.declared.Operation.{Operation}
 use Rattle.bit_bdd.specs.declared.Operation.TheVariants.{Choose, Exists}
-use Rattle.bit_bdd.specs.Diagrams.{PointSet}
-use Rattle.bit_bdd.specs.Shape.{choice, IsProjection}
-use Rattle.bit_bdd.specs.Memo.{IsChosen, IsProjected, IsResult, AllRight}
-use Rattle.bit_bdd.proofs.Sets.{set_of-append, level-append}
+use Rattle.bit_bdd.specs.Diagrams.{PointSet, Diagrams, set_of}
+use Rattle.bit_bdd.specs.Shape.{choice, IsProjection, IsReducedBook}
+use Rattle.bit_bdd.specs.Memo.{IsChosen, IsProjected, IsResult, AllRight, unused}
+use Rattle.bit_bdd.proofs.Sets.{set_of-append, set_of-never, set_of-always, level-append}
 
 module _ (nodes more : List Node) where
   -- a remembered choice stays right while the nodes grow
@@ -53,32 +55,45 @@ module _ (nodes more : List Node) where
   result_later (Exists set mask) id h = projected_later set mask id h
 
   -- and so does the whole table
-  pub right_later : (entries : List (Operation × ℕ)) → AllRight nodes entries → AllRight (nodes ++ more) entries
-  right_later [] h = tt
-  right_later (e ∷ es) h = (result_later e.0 e.1 h.0, right_later es h.1)
+  pub right_later : (done : List Finished) → AllRight nodes done → AllRight (nodes ++ more) done
+  right_later done h = All-weaker (λ (f : Finished). IsResult nodes f.operation f.id) (λ f. IsResult (nodes ++ more) f.operation f.id) (λ f r. result_later f.operation f.id r) done h
 
-module _ (nodes : List Node) (eq : Operation → Operation → Bool) (exact : (a b : Operation) → eq a b ≡ true → a ≡ b) where
-  pub right_found : (entries : List (Operation × ℕ)) (operation : Operation) (id : ℕ) → AllRight nodes entries → lookup (eq operation) entries ≡ Some id → IsResult nodes operation id
-  right_found [] operation id h found = absurd (cc)
-  right_found (e ∷ es) operation id h found = by (eq operation e.0) refl (λ f. right_found es operation id h.1 f)
-    where
-      by : (b : Bool) → eq operation e.0 ≡ b → (lookup (eq operation) es ≡ Some id → IsResult nodes operation id) → IsResult nodes operation id
-      by true same rest =
-          let here : Some e.1 ≡ Some id = sym (ap (λ b. cond b (Some e.1) (lookup (eq operation) es)) same) ∙ found in
-          let is : e.1 ≡ id = cc in
-          subst (IsResult nodes operation) is (subst (λ o. IsResult nodes o e.1) (sym (exact operation e.0 same)) h.0)
-      by false other rest = rest (sym (ap (λ b. cond b (Some e.1) (lookup (eq operation) es)) other) ∙ found)
+module _ (bits : ℕ) (nodes : List Node) (book : IsReducedBook bits nodes) where
+  -- what stands where nothing was remembered is right
+  pub unused_right : IsResult nodes (Choose 0 0 0) 0
+  unused_right =
+      let within = slice_get_within nodes 0 Never book.never in
+      let set = set_of-never nodes 0 book.never in
+      record {
+        test_within = within;
+        on_within = within;
+        off_within = within;
+        within = within;
+        lower = omega arith;
+        set = set ∙ sym (λ j. choice (set j) (set_of nodes 0) (set j));
+      }
 
-  -- a table with one more right result
-  pub right_added : (entries : List (Operation × ℕ)) (operation : Operation) (id : ℕ) → AllRight nodes entries → IsResult nodes operation id → AllRight nodes (insert_entry eq entries operation id)
-  right_added [] operation id h new = (new, tt)
-  right_added (e ∷ es) operation id h new = by (eq operation e.0) refl (right_added es operation id h.1 new)
-    where
-      by : (b : Bool) → eq operation e.0 ≡ b → AllRight nodes (insert_entry eq es operation id) → AllRight nodes (if b then (e.0, id) ∷ es else e ∷ insert_entry eq es operation id)
-      by true same rest = (subst (λ o. IsResult nodes o id) (exact operation e.0 same) new, h.1)
-      by false other rest = (h.0, rest)
+  -- so is a table that was widened
+  pub widened_right : (done : List Finished) → AllRight nodes done → (new : List Finished) → ((n : ℕ) × (new ≡ done ++ replicate n unused)) → AllRight nodes new
+  widened_right done h new more =
+      let right = λ (f : Finished). IsResult nodes f.operation f.id in
+      All-same right new (done ++ replicate more.0 unused) more.1 (All-append right done (replicate more.0 unused) h (All-replicate right more.0 unused unused_right))
 
-  -- what a look-up answers is right
-  pub right_some : (entries : List (Operation × ℕ)) (operation : Operation) → AllRight nodes entries → (found : Option ℕ) → found ≡ lookup (eq operation) entries → IfSome found (λ id. IsResult nodes operation id)
-  right_some entries operation h None e = tt
-  right_some entries operation h (Some id) e = right_found entries operation id h (sym e)
+itself : (b : Bool) → b ≡ (if b then true else false)
+itself true = refl
+itself false = refl
+
+-- a choice between all points and none is the test
+pub settled_right : (d : Diagrams) → IsReducedBook d.bits d.nodes → (test on off : ℕ) → test < length d.nodes → on ≡ 1 → off ≡ 0 → IsChosen d.nodes test on off test
+settled_right d book test on off within one none =
+    let full : set_of d.nodes 1 ≡ (λ _. true) = set_of-always d.nodes 1 book.always in
+    let empty : set_of d.nodes 0 ≡ (λ _. false) = set_of-never d.nodes 0 book.never in
+    rw (one, none)
+    record {
+      test_within = within;
+      on_within = slice_get_within d.nodes 1 Always book.always;
+      off_within = slice_get_within d.nodes 0 Never book.never;
+      within = within;
+      lower = omega arith;
+      set = (λ j point. itself (set_of d.nodes test point) j) ∙ (λ j. choice (set_of d.nodes test) (sym full j) (sym empty j));
+    }

@@ -1,8 +1,9 @@
 -- The finished operations that a book remembers.
-use Rattle.std.specs.Prelude.{◌≡◌, ℕ, ◌<◌, ◌≤◌, List, [], ◌∷◌, length}
+use Rattle.std.specs.Prelude.{◌≡◌, ℕ, ◌<◌, ◌≤◌, List, length, All}
 use Rattle.bit_bdd.specs.declared.Node.{Node}
 use Rattle.bit_bdd.specs.declared.Operation.{Operation}
 use Rattle.bit_bdd.specs.declared.Operation.TheVariants.{Choose, Exists}
+use Rattle.bit_bdd.specs.declared.Finished.{Finished}
 use Rattle.bit_bdd.specs.Diagrams.{set_of}
 use Rattle.bit_bdd.specs.Shape.{level, choice, top_level, IsProjection, IsReducedBook}
 
@@ -28,11 +29,14 @@ IsResult nodes (Choose test on off) id = IsChosen nodes test on off id
 IsResult nodes (Exists set mask) id = IsProjected nodes set mask id
 
 -- each remembered result is right
-abbrev pub AllRight : List Node → List (Operation × ℕ) → Type 0
-AllRight nodes [] = Unit {0}
-AllRight nodes (entry ∷ entries) = IsResult nodes entry.0 entry.1 × AllRight nodes entries
+abbrev pub AllRight : List Node → List Finished → Type 0
+AllRight nodes done = All (λ f. IsResult nodes f.operation f.id) done
+
+-- what stands where nothing was remembered
+abbrev pub unused : Finished
+unused = record { operation = Choose 0 0 0; id = 0 }
 
 -- what holds of a book's fields
-pub record IsBook (bits : ℕ) (nodes : List Node) (done : List (Operation × ℕ)) : Type 0 where
+pub record IsBook (bits : ℕ) (nodes : List Node) (done : List Finished) : Type 0 where
   pub reduced : IsReducedBook bits nodes
   pub right : AllRight nodes done

@@ -27,7 +27,8 @@ pub record AsksBelow (book : Diagrams) (id bit : ℕ) : Type 0 where
   pub within : id < length book.nodes
   pub lower : level book.nodes id ≤ bit
 
--- a node that asks, at its place: its children come before it and ask lower bits, and they are not equal
+-- a node that asks, at its place: its children come before it and ask lower bits, and they are not
+-- equal
 pub record IsReduced (bits : ℕ) (nodes : List Node) (place bit low high : ℕ) : Type 0 where
   pub bit_within : bit < bits
   pub low_before : low < place

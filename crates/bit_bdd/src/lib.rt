@@ -10,13 +10,15 @@
 //! Invariant: `IsBook` in `specs/Memo`. The two constants come first, each other node stands behind
 //! its two children, asks a higher bit than they, and has two different ones, and no two nodes are
 //! equal (`IsReducedBook` in `specs/Shape`); each result that is remembered is right. `make` is the
-//! one place that adds nodes.
+//! one place that adds nodes. A result takes the place of an older one where both have the same
+//! place in the table: what is forgotten is found again, with the same id, since its nodes are all
+//! there.
 //!
 //! Files:
 //!
 //! - `lib`: `Book` with its public calls, then `choose` (and, or, not and if-then-else are cases of
 //!   it) and `project` (which forgets bits), each by recursion over levels with its remembered
-//!   results, and last `make`, `node`, `level`, `split`, `finished` and `remember`.
+//!   results, and last `settled`, `make`, `node`, `level`, `split`, `finished` and `remember`.
 //! - `specs/`: `Diagrams` is cited by public contracts; `Shape` and `Memo` say what a book keeps,
 //!   and stand in no public clause but through the invariant.
 //! - `proofs/`: `Canonical` and `Reduced` for equal sets, `Choice` and `Projection` for the
@@ -24,15 +26,17 @@
 //!   cite.
 #![tactic(auto)]
 
-ghost use Rattle.std.specs.Prelude.{◌≡◌, ℕ, ◌+◌, ◌<◌, ◌≤◌, [], ◌∷◌, length, IfOk, IfSome, IfNone, IsTrue, ◌&&◌, ◌||◌, ◌==◌, ◌^◌, ◌↔◌, true, false, not, if◌then◌else◌};
+ghost use Rattle.std.specs.Prelude.{◌≡◌, ℕ, ◌+◌, ◌<◌, ◌≤◌, [], ◌∷◌, ◌++◌, length, replicate, IfOk, OnOk, IfSome, IfNone, IsTrue, ◌&&◌, ◌||◌, ◌==◌, ◌^◌, ◌↔◌, true, false, not, if◌then◌else◌};
 ghost use Rattle.std.specs.Int.{bit_at};
+ghost use Rattle.bit_bdd.specs.Memo.{unused};
 
-use indexmap::{IndexMap, IndexSet};
+use indexmap::IndexSet;
 use rec_bits::NoMemory;
 use std::alloc::Global;
 use std::marker::Model;
 
-/// A set of words, by the place of its node in a book. Id 0 is the empty set, and id 1 the set of all words.
+/// A set of words, by the place of its node in a book. Id 0 is the empty set, and id 1 the set of
+/// all words.
 pub type SetId = u64;
 
 /// A node of a book: one of the two constants, or a question about one bit.
@@ -47,22 +51,82 @@ pub enum Node {
 }
 
 // An operation whose result a book remembers.
-#[derive(Clone, Copy, Debug, PartialEq, Eq, Hash)]
+#[derive(Clone, Copy, Debug, PartialEq, Eq)]
 enum Operation {
     Choose { test: SetId, on: SetId, off: SetId },
     Exists { set: SetId, bits: u64 },
 }
 
+// A finished operation and its result.
+#[derive(Clone, Copy)]
+struct Finished {
+    operation: Operation,
+    id: SetId,
+}
+
+impl Finished {
+    // What stands where nothing was remembered yet. It is right in every book.
+    fn unused() -> Finished
+        ensures { result ≡ unused }
+    {
+        Finished {
+            operation: Operation::Choose {
+                test: 0,
+                on: 0,
+                off: 0,
+            },
+            id: 0,
+        }
+    }
+}
+
+// How many nodes of a book there are for each place of its table of finished operations, at most.
+const NODES_PER_PLACE: usize = 4;
+
+// How many places the table has at first. Their number is a power of two.
+const FIRST_PLACES: usize = 256;
+
+// The place of an operation in a table of so many places.
+fn place_of(operation: Operation, places: usize) -> usize
+    requires { 0 < places }
+    ensures { result < places }
+{
+    let (a, b, c) = match operation {
+        Operation::Choose { test, on, off } => (test, on, off),
+        Operation::Exists { set, bits } => (set, bits, 1),
+    };
+    let mixed = a
+        .wrapping_mul(0x9e37_79b9_7f4a_7c15)
+        .wrapping_add(b.wrapping_mul(0xc2b2_ae3d_27d4_eb4f))
+        .wrapping_add(c.wrapping_mul(0x1656_67b1_9e37_79f9));
+    (mixed >> 32) as usize & (places - 1)
+}
+
+// Makes room for more finished operations in a table that is small beside so many nodes.
+fn widen(done: &mut Vec<Finished>, nodes: usize) -> Result<(), NoMemory>
+    requires { nodes < 2 ^ 63 }
+    ensures some { OnOk result (0 < length done.new.items) }
+    ensures more { (n : ℕ) × (done.new.items ≡ done.old.items ++ replicate n unused) }
+{
+    if nodes / NODES_PER_PLACE < done.len() {
+        return Ok(());
+    }
+    let places = (2 * done.len()).max(FIRST_PLACES);
+    done.resize(places, Finished::unused())?;
+    Ok(())
+}
+
 /// Sets of words of some number of bits, with one id for each set. The highest bit is asked first.
 ///
-/// A book only grows: an id means the same set for as long as the book lives. Want of memory is the only refusal, and
-/// after it too every id that the book held means what it meant. Bits of a word at or above the book's number are
-/// not looked at. `bits`, `holds`, `least`, `is_empty` and `size` take no memory.
+/// A book only grows: an id means the same set for as long as the book lives. Want of memory is the
+/// only refusal, and after it too every id that the book held means what it meant. Bits of a word
+/// at or above the book's number are not looked at. `bits`, `holds`, `least`, `is_empty` and `size`
+/// take no memory.
 #[derive(Drop)]
 pub struct Book {
     bits: u8,
     nodes: IndexSet<Node>,
-    done: IndexMap<Operation, SetId>,
+    done: Vec<Finished>,
 }
 
 impl Model for Book {
@@ -73,13 +137,13 @@ impl Model for Book {
 
     ghost view = { λ b. record { bits = b.bits; nodes = b.nodes.keys } };
 
-    ghost invariant = { λ b. IsBook b.bits b.nodes.keys b.done.entries };
+    ghost invariant = { λ b. IsBook b.bits b.nodes.keys b.done.items };
 }
 
 impl Book {
     ghost use Rattle.bit_bdd.specs.Diagrams.{branch, has_word, set_of, node_set, Extends, KeepsWords, IsCanonical, CanReach, with_bit, Diagrams};
     ghost use Rattle.bit_bdd.specs.Shape.{AsksBelow, ChildrenSeeBelow, IsNodeAt, IsProjection, choice, level, level_of, projected_branch, top_level};
-    ghost use Rattle.bit_bdd.specs.Memo.{IsResult};
+    ghost use Rattle.bit_bdd.specs.Memo.{IsChosen, IsResult};
 
     /// A book of words of `bits` bits, 1 to 64, with the two constants alone.
     pub fn new(alloc: Global, bits: u8) -> Result<Book, NoMemory>
@@ -94,7 +158,7 @@ impl Book {
         Ok(Book {
             bits,
             nodes,
-            done: IndexMap::new(alloc),
+            done: Vec::new(alloc),
         })
     }
 
@@ -346,7 +410,8 @@ impl Book {
         }
     }
 
-    // The id of the points that are in `on` where they are in `test`, and in `off` where they are not.
+    // The id of the points that are in `on` where they are in `test`, and in `off` where they are
+    // not.
     fn choose(&mut self, test: SetId, on: SetId, off: SetId) -> Result<SetId, NoMemory>
         requires test { test < length self.old.nodes }
         requires on { on < length self.old.nodes }
@@ -366,6 +431,9 @@ impl Book {
         if on == off {
             return Ok(on);
         }
+        if let Some(id) = self.settled(test, on, off) {
+            return Ok(id);
+        }
         let operation = Operation::Choose { test, on, off };
         if let Some(id) = self.finished(operation) {
             return Ok(id);
@@ -381,7 +449,22 @@ impl Book {
         Ok(id)
     }
 
-    // The id of the set that has the points of `low` where the bit is 0, and of `high` where it is 1.
+    // The result of a choice between all words and none, which is the test itself: to go down it
+    // again would cost a call for each of its nodes.
+    fn settled(&self, test: SetId, on: SetId, off: SetId) -> Option<SetId>
+        requires { test < length self.now.nodes }
+        ensures { IfSome result (λ id. IsChosen self.now.nodes test on off id) }
+    {
+        let _ = &self.bits;
+        if on == 1 && off == 0 {
+            Some(test)
+        } else {
+            None
+        }
+    }
+
+    // The id of the set that has the points of `low` where the bit is 0, and of `high` where it is
+    // 1.
     fn make(&mut self, bit: u8, low: SetId, high: SetId) -> Result<SetId, NoMemory>
         requires bit { bit < self.old.bits }
         requires low { AsksBelow self.old low bit }
@@ -446,7 +529,15 @@ impl Book {
     fn finished(&self, operation: Operation) -> Option<SetId>
         ensures { IfSome result (λ id. IsResult self.now.nodes operation id) }
     {
-        self.done.get(&operation).copied()
+        if self.done.is_empty() {
+            return None;
+        }
+        let found = self.done[place_of(operation, self.done.len())];
+        if found.operation == operation {
+            Some(found.id)
+        } else {
+            None
+        }
     }
 
     // Remembers the result of an operation.
@@ -455,7 +546,9 @@ impl Book {
         ensures same { self.new ≡ self.old }
         ensures right { IsResult self.new.nodes operation id }
     {
-        self.done.insert(operation, id)?;
+        widen(&mut self.done, self.nodes.len())?;
+        let place = place_of(operation, self.done.len());
+        self.done[place] = Finished { operation, id };
         Ok(())
     }
 }

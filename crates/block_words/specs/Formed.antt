@@ -15,7 +15,8 @@ pub record IsOfPattern (netlist : Netlist) (patterns : List Pattern) (step : Ste
   pub is : IsPattern netlist pattern
   pub setting : IsSetting (move_fields pattern.move) step.setting
 
--- and for each setting some word does the pattern's transfer, steps, and changes nothing that code sees but these clobbers
+-- and for each setting some word does the pattern's transfer, steps, and changes nothing that code
+-- sees but these clobbers
 pub record IsWorded (netlist : Netlist) (patterns : List Pattern) (step : Step) (clobbers : Regs) : Type 0 where
   pub of : IsOfPattern netlist patterns step
   pub mask : ℕ

@@ -9,7 +9,8 @@ use Rattle.word_fit.specs.Fits.{FitsJump, fits_over}
 use Rattle.word_fit.specs.Groups.{AllHaveWords}
 use Rattle.block_words.specs.Formed.{AreWorded, IsJumpWorded}
 
--- steps that have words for every setting and spare what is still needed have words that fit, one step in each group
+-- steps that have words for every setting and spare what is still needed have words that fit, one
+-- step in each group
 abbrev pub StepsHaveWords : Type 0
 StepsHaveWords =
     (netlist : Netlist) (patterns : List Pattern) (clobbers : Step → Regs) (steps : List Step) (after : Regs) →

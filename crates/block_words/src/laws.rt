@@ -2,7 +2,8 @@
 
 ghost use Rattle.block_words.specs.Laws.{JumpsHaveWords, StepsHaveWords};
 
-/// Steps of plain forms whose clobbers spare what is still needed have words that fit, where each group has one step.
+/// Steps of plain forms whose clobbers spare what is still needed have words that fit, where each
+/// group has one step.
 pub fn law_of_forms()
     ensures { StepsHaveWords }
 {}

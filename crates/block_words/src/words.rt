@@ -33,7 +33,8 @@ fn least_word(
     requires word { (w : ℕ) × FitsGroup checked.now.netlist (step_operation pool.now patterns.now) w group.now (regs_of live) }
     ensures grows { Extends book.old book.new }
     ensures ready { IsReady checked.now.netlist book.new pool.now patterns.now }
-    ensures least { IfOk result (λ word. IsLeastFit (λ word. FitsGroup checked.now.netlist (step_operation pool.now patterns.now) word group.now (regs_of live)) word) }
+    ensures least { IfOk result (λ word. IsLeastFit (λ word.
+        FitsGroup checked.now.netlist (step_operation pool.now patterns.now) word group.now (regs_of live)) word) }
 {
     match word_for(alloc, checked, book, pool, patterns, group, live)? {
         Some(word) => Ok(word),
@@ -42,8 +43,9 @@ fn least_word(
     }
 }
 
-/// For each group of steps the least word that fits it with the registers that are live after it, where `after` are live after the last group.
-/// Each group has to have a word that fits it. The book grows, and what it held means what it meant. Want of memory is the only refusal.
+/// For each group of steps the least word that fits it with the registers that are live after it,
+/// where `after` are live after the last group. Each group has to have a word that fits it. The
+/// book grows, and what it held means what it meant. Want of memory is the only refusal.
 pub fn words_of(
     alloc: Global,
     checked: &Checked,

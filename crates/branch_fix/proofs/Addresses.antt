@@ -9,7 +9,7 @@ use Rattle.form_model.specs.declared.flow.Flow.TheVariants.{Assign, Test as Test
 use Rattle.form_model.specs.Rules.{Rule}
 use Rattle.branch_fix.specs.declared.part.Part.{Part}
 use Rattle.branch_fix.specs.declared.part.Part.TheVariants.{Block, Inner, Test, Jump, End}
-use Rattle.branch_fix.specs.Parts.{branch_words, room, starts, address, marks_from, Fits, AllFit}
+use Rattle.branch_fix.specs.Parts.{branch_words, room, starts, address, marks_from, FitsPart, PartsFit}
 
 -- ---- addresses
 
@@ -119,17 +119,17 @@ inner_mark at (q ∷ parts) (suc k) p a e low high = skip at q parts a (omega ar
 -- ---- parts of a flow
 
 pub part_at : (rules : List Rule) (flow : List Flow) (at : ℕ) (rest : List Flow) (parts : List Part) (k N : ℕ) (f : Flow)
-    → AllFit rules flow at rest parts → slice_get rest k ≡ Some f → N ≡ at + k → (p : Part) × (slice_get parts k ≡ Some p) × Fits rules flow N f p
+    → PartsFit rules flow at rest parts → slice_get rest k ≡ Some f → N ≡ at + k → (p : Part) × (slice_get parts k ≡ Some p) × FitsPart rules flow N f p
 part_at rules flow at [] [] k N f h e n = absurd (cc e)
 part_at rules flow at [] (p ∷ parts) k N f h e n = absurd h
 part_at rules flow at (g ∷ rest) [] k N f h e n = absurd h
 part_at rules flow at (g ∷ rest) (p ∷ parts) zero N f h e n =
     let s : g ≡ f = cc in
     let m : at ≡ N = omega arith in
-    (p, refl, subst (λ x. Fits rules flow x f p) m (subst (λ x. Fits rules flow at x p) s h.0))
+    (p, refl, subst (λ x. FitsPart rules flow x f p) m (subst (λ x. FitsPart rules flow at x p) s h.0))
 part_at rules flow at (g ∷ rest) (p ∷ parts) (suc k) N f h e n = part_at rules flow (at + 1) rest parts k N f h.1 e (omega arith)
 
-pub fit_length : (rules : List Rule) (flow : List Flow) (at : ℕ) (rest : List Flow) (parts : List Part) → AllFit rules flow at rest parts
+pub fit_length : (rules : List Rule) (flow : List Flow) (at : ℕ) (rest : List Flow) (parts : List Part) → PartsFit rules flow at rest parts
     → length parts ≡ length rest
 fit_length rules flow at [] [] h = refl
 fit_length rules flow at [] (p ∷ parts) h = absurd h
@@ -163,14 +163,14 @@ end_mark at (End ∷ parts) a e = by (at_or_later (at == a) (Some TheEnd) (label
     by (inl (p, q)) more = let s : at ≡ a = eqb-true at a p in (0, refl, omega arith)
     by (inr l) more = let h = more l in (suc h.0, h.1, omega (arith, h.2))
 
-pub flow_end : (rules : List Rule) (flow : List Flow) (at : ℕ) (rest : List Flow) (parts : List Part) (k : ℕ) → AllFit rules flow at rest parts
+pub flow_end : (rules : List Rule) (flow : List Flow) (at : ℕ) (rest : List Flow) (parts : List Part) (k : ℕ) → PartsFit rules flow at rest parts
     → slice_get parts k ≡ Some End → slice_get rest k ≡ Some Ended
 flow_end rules flow at [] [] k h e = absurd (cc e)
 flow_end rules flow at [] (p ∷ parts) k h e = absurd h
 flow_end rules flow at (g ∷ rest) [] k h e = absurd h
-flow_end rules flow at (g ∷ rest) (p ∷ parts) zero h e = let s : p ≡ End = cc in by g (subst (λ x. Fits rules flow at g x) s h.0)
+flow_end rules flow at (g ∷ rest) (p ∷ parts) zero h e = let s : p ≡ End = cc in by g (subst (λ x. FitsPart rules flow at g x) s h.0)
   where
-    by : (g : Flow) → Fits rules flow at g End → Some g ≡ Some Ended
+    by : (g : Flow) → FitsPart rules flow at g End → Some g ≡ Some Ended
     by (Assign tree) h = absurd h
     by (Tested tree one none) h = absurd h
     by (Jumped to) h = absurd h

@@ -10,7 +10,7 @@ use Rattle.src_trees.specs.Lowered.{holds_at_one}
 use Rattle.src_trees.specs.Flows.{places_for, places_in, else_entry, asked, flow_of, flow_in, flow_else, program_flow}
 use Rattle.src_trees.specs.Blocks.{continues}
 use Rattle.branch_fix.specs.Bounds.{control_of, control_in, control_else, program_bound, sum_of, control_words, bound_of}
-use Rattle.branch_fix.specs.Costs.{joined, block_costs, AreWithin}
+use Rattle.branch_fix.specs.Costs.{joined, block_costs, SizesWithin}
 
 -- the costs of all trees of a flow
 abbrev flow_cost : List ℕ → List Flow → ℕ
@@ -150,14 +150,14 @@ program_costs l costs e =
     let a = span_all [] costs 0 refl in
     omega (arith, b, p, t, s, a)
 
-within_sum : (sizes costs : List ℕ) → AreWithin sizes costs → sum_of sizes ≤ sum_of costs
+within_sum : (sizes costs : List ℕ) → SizesWithin sizes costs → sum_of sizes ≤ sum_of costs
 within_sum [] costs h = omega arith
 within_sum (s ∷ sizes) [] h = absurd h
 within_sum (s ∷ sizes) (c ∷ costs) h = let r = within_sum sizes costs h.1 in omega (arith, h.0, r)
 
 -- what `lay_out` asks of the bound
 pub bound_is : (l : Listing) (costs sizes : List ℕ) → length costs ≡ statements_in (acts_of l.body)
-    → AreWithin sizes (block_costs (program_flow l) costs (program_flow l) 0)
+    → SizesWithin sizes (block_costs (program_flow l) costs (program_flow l) 0)
     → sum_of sizes + control_words (program_flow l) ≤ bound_of (program_flow l) costs
 bound_is l costs sizes e w =
     let c = program_costs l costs e in

@@ -14,12 +14,12 @@ use Rattle.code_model.specs.Layout.{variables_of}
 use Rattle.code_model.specs.Right.{TracesRight}
 use Rattle.form_model.specs.Rules.{Rule}
 use Rattle.src_trees.specs.Flows.{places_in, program_flow, program_works}
-use Rattle.src_trees.specs.Seen.{memory_of, InReach}
+use Rattle.src_trees.specs.Seen.{memory_map, InReach}
 use Rattle.src_trees.proofs.Standing.{placed_right}
 use Rattle.branch_fix.specs.declared.part.Part.{Part}
 use Rattle.branch_fix.specs.Parts.{address, total}
 use Rattle.branch_fix.specs.Made.{IsMade}
-use Rattle.branch_fix.specs.Flowing.{IsFlow}
+use Rattle.branch_fix.specs.Inner.Flowing.{IsFlow}
 use Rattle.branch_fix.proofs.Addresses.{fit_length}
 use Rattle.branch_fix.proofs.Laying.{address_total}
 use Rattle.branch_fix.proofs.Shapes.{program_is_flow}
@@ -29,7 +29,7 @@ pub laid_right : (netlist : Netlist) (image : Image) (bits addr temps : ℕ) (l 
     → first_fault bits l ≡ None → memory_width netlist.storages ≡ bits
     → InReach bits addr temps l.vars → temps + cell_count l.vars ≤ memory_size netlist.storages
     → image.places ≡ places_from temps (variables_of l.vars)
-    → IsMade netlist image temps rules (program_flow l) (program_works (memory_of bits addr temps l.vars) l) parts
+    → IsMade netlist image temps rules (program_flow l) (program_works (memory_map bits addr temps l.vars) l) parts
     → length (words_of image) ≡ total parts → ((a : ℕ) → WordFits netlist (slice_index (words_of image) a))
     → TracesRight netlist image (strace bits l)
 laid_right netlist image bits addr temps l rules parts sound kept wide inreach room places made long fits =
@@ -37,5 +37,5 @@ laid_right netlist image bits addr temps l rules parts sound kept wide inreach r
     let n = fit_length rules (program_flow l) 0 (program_flow l) parts made.fit in
     let m = f.long in
     placed_right netlist image bits addr temps l (address parts) sound kept wide inreach room places
-    (made_placed netlist image sound temps rules (program_flow l) (program_works (memory_of bits addr temps l.vars) l) parts (places_in (acts_of l.body)) f made
+    (made_placed netlist image sound temps rules (program_flow l) (program_works (memory_map bits addr temps l.vars) l) parts (places_in (acts_of l.body)) f made
     (long ∙ sym (address_total parts (places_in (acts_of l.body) + 1) (omega (arith, n, m)))) fits)

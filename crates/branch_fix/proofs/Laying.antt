@@ -1,4 +1,5 @@
--- The parts that a flow is laid out in: they fit it, also when branches are widened, and their words are at most the bound.
+-- The parts that a flow is laid out in: they fit it, also when branches are widened, and their
+-- words are at most the bound.
 use Rattle.std.proofs.Common.{ℕ, zero, suc, ◌≡◌, ◌≤◌, ◌+◌, Bool, true, false, if◌then◌else◌, List, [], ◌∷◌, ◌++◌, length, refl, sym, ◌∙◌, ap, subst, arith, slice_get, slice_index, drop, append_assoc}
 use Rattle.form_model.specs.declared.flow.Flow.{Flow}
 use Rattle.form_model.specs.declared.flow.Flow.TheVariants.{Assign, Test as Tested, Jump as Jumped, End as Ended}
@@ -7,65 +8,65 @@ use Rattle.src_trees.specs.Blocks.{continues}
 use Rattle.branch_fix.specs.declared.part.Fork.{Fork}
 use Rattle.branch_fix.specs.declared.part.Part.{Part}
 use Rattle.branch_fix.specs.declared.part.Part.TheVariants.{Block, Inner, Test, Jump, End}
-use Rattle.branch_fix.specs.Parts.{rule_at_one, given, fork_to, fork_of, part_for, blocks_in, tests_in, parts_from, parts_of, branch_words, room, starts, address, Fits, AllFit, total}
-use Rattle.branch_fix.specs.Rounds.{widened, widened_part, widened_from, round, rounds, IsSettled}
+use Rattle.branch_fix.specs.Parts.{rule_at_one, branch_or_zero, fork_to, fork_of, part_for, blocks_in, tests_in, parts_from, parts_of, branch_words, room, starts, address, FitsPart, PartsFit, total}
+use Rattle.branch_fix.specs.Rounds.{widened, widened_part, widened_from, round, rounds, IsFixpoint}
 use Rattle.branch_fix.specs.Bounds.{control_words, sum_of}
 
 -- ---- the parts fit the flow
 
 fork_fits : (rules : List Rule) (flow : List Flow) (tree block words : ℕ) (branch : ℕ × ℕ) (at one none : ℕ)
-    → Fits rules flow at (Tested tree one none) (fork_of rules tree block words branch at one none)
+    → FitsPart rules flow at (Tested tree one none) (fork_of rules tree block words branch at one none)
 fork_fits rules flow tree block words branch at one none = by (rule_at_one (slice_get rules branch.0)) refl
   where
     by : (w : Bool) → rule_at_one (slice_get rules branch.0) ≡ w
-        → Fits rules flow at (Tested tree one none) (if w then fork_to tree block words branch.0 branch.1 at one none else fork_to tree block words branch.0 branch.1 at none one)
+        → FitsPart rules flow at (Tested tree one none) (if w then fork_to tree block words branch.0 branch.1 at one none else fork_to tree block words branch.0 branch.1 at none one)
     by true e = (refl, refl, sym (ap (λ b. if b then one else none) e), sym (ap (λ b. if b then none else one) e))
     by false e = (refl, refl, sym (ap (λ b. if b then one else none) e), sym (ap (λ b. if b then none else one) e))
 
 pub parts_fit : (rules : List Rule) (flow : List Flow) (sizes : List ℕ) (forks : List (ℕ × ℕ)) (rest : List Flow) (at block test : ℕ)
-    → AllFit rules flow at rest (parts_from rules flow sizes forks rest at block test)
+    → PartsFit rules flow at rest (parts_from rules flow sizes forks rest at block test)
 parts_fit rules flow sizes forks [] at block test = tt
 parts_fit rules flow sizes forks (Assign tree ∷ rest) at block test = by (continues flow at) refl (parts_fit rules flow sizes forks rest (at + 1) block test) (parts_fit rules flow sizes forks rest (at + 1) (block + 1) test)
   where
-    by : (c : Bool) → continues flow at ≡ c → AllFit rules flow (at + 1) rest (parts_from rules flow sizes forks rest (at + 1) block test)
-        → AllFit rules flow (at + 1) rest (parts_from rules flow sizes forks rest (at + 1) (block + 1) test)
-        → AllFit rules flow at (Assign tree ∷ rest) (if c then Inner ∷ parts_from rules flow sizes forks rest (at + 1) block test else Block block (slice_index sizes block) ∷ parts_from rules flow sizes forks rest (at + 1) (block + 1) test)
+    by : (c : Bool) → continues flow at ≡ c → PartsFit rules flow (at + 1) rest (parts_from rules flow sizes forks rest (at + 1) block test)
+        → PartsFit rules flow (at + 1) rest (parts_from rules flow sizes forks rest (at + 1) (block + 1) test)
+        → PartsFit rules flow at (Assign tree ∷ rest) (if c then Inner ∷ parts_from rules flow sizes forks rest (at + 1) block test else Block block (slice_index sizes block) ∷ parts_from rules flow sizes forks rest (at + 1) (block + 1) test)
     by true e x y = (e, x)
     by false e x y = (e, y)
 parts_fit rules flow sizes forks (Tested tree one none ∷ rest) at block test =
-    (fork_fits rules flow tree block (slice_index sizes block) (given (slice_get forks test)) at one none, parts_fit rules flow sizes forks rest (at + 1) (block + 1) (test + 1))
+    (fork_fits rules flow tree block (slice_index sizes block) (branch_or_zero (slice_get forks test)) at one none, parts_fit rules flow sizes forks rest (at + 1) (block + 1) (test + 1))
 parts_fit rules flow sizes forks (Jumped to ∷ rest) at block test = (refl, parts_fit rules flow sizes forks rest (at + 1) block test)
 parts_fit rules flow sizes forks (Ended ∷ rest) at block test = (tt, parts_fit rules flow sizes forks rest (at + 1) block test)
 
 widened_fit : (rules : List Rule) (flow : List Flow) (addresses : List ℕ) (at : ℕ) (rest : List Flow) (parts : List Part) (a : ℕ)
-    → AllFit rules flow at rest parts → AllFit rules flow at rest (widened_from rules addresses a parts)
+    → PartsFit rules flow at rest parts → PartsFit rules flow at rest (widened_from rules addresses a parts)
 widened_fit rules flow addresses at [] [] a h = tt
 widened_fit rules flow addresses at [] (p ∷ parts) a h = absurd h
 widened_fit rules flow addresses at (f ∷ rest) [] a h = absurd h
 widened_fit rules flow addresses at (f ∷ rest) (p ∷ parts) a h = (by f p h.0, widened_fit rules flow addresses (at + 1) rest parts (a + room p) h.1)
   where
-    forked : (f : Flow) (k : Fork) → Fits rules flow at f (Test k) → Fits rules flow at f (Test (widened rules addresses a k))
+    forked : (f : Flow) (k : Fork) → FitsPart rules flow at f (Test k) → FitsPart rules flow at f (Test (widened rules addresses a k))
     forked (Assign tree) k g = absurd g
     forked (Tested tree one none) k g = g
     forked (Jumped to) k g = absurd g
     forked Ended k g = absurd g
 
-    by : (f : Flow) (p : Part) → Fits rules flow at f p → Fits rules flow at f (widened_part rules addresses a p)
+    by : (f : Flow) (p : Part) → FitsPart rules flow at f p → FitsPart rules flow at f (widened_part rules addresses a p)
     by f (Block block words) g = g
     by f Inner g = g
     by f (Test k) g = forked f k g
     by f (Jump to) g = g
     by f End g = g
 
-pub rounds_fit : (rules : List Rule) (flow : List Flow) (n : ℕ) (parts : List Part) → AllFit rules flow 0 flow parts
-    → AllFit rules flow 0 flow (rounds rules n parts)
+pub rounds_fit : (rules : List Rule) (flow : List Flow) (n : ℕ) (parts : List Part) → PartsFit rules flow 0 flow parts
+    → PartsFit rules flow 0 flow (rounds rules n parts)
 rounds_fit rules flow zero parts h = h
 rounds_fit rules flow (suc n) parts h = rounds_fit rules flow n (round rules parts) (widened_fit rules flow (starts 0 parts) 0 flow parts 0 h)
 
 -- the parts that rounds settle on fit the flow
 pub settled_fit : (rules : List Rule) (flow : List Flow) (sizes : List ℕ) (forks : List (ℕ × ℕ)) (parts : List Part)
-    → IsSettled rules (parts_of rules flow sizes forks) parts → AllFit rules flow 0 flow parts
-settled_fit rules flow sizes forks parts s = subst (AllFit rules flow 0 flow) (sym s.made) (rounds_fit rules flow s.count (parts_of rules flow sizes forks) (parts_fit rules flow sizes forks flow 0 0 0))
+    → IsFixpoint rules (parts_of rules flow sizes forks) parts → PartsFit rules flow 0 flow parts
+settled_fit rules flow sizes forks parts s = subst (PartsFit rules flow 0 flow) (sym s.made) (rounds_fit rules flow s.count (parts_of rules flow sizes forks) (parts_fit rules flow sizes forks flow 0 0 0))
 
 -- ---- how many words there are
 
@@ -89,7 +90,7 @@ few_words false true = omega arith
 few_words true false = omega arith
 few_words false false = omega arith
 
-pub total_le : (rules : List Rule) (flow : List Flow) (at : ℕ) (rest : List Flow) (parts : List Part) → AllFit rules flow at rest parts
+pub total_le : (rules : List Rule) (flow : List Flow) (at : ℕ) (rest : List Flow) (parts : List Part) → PartsFit rules flow at rest parts
     → total parts ≤ block_words parts + control_words rest
 total_le rules flow at [] [] h = omega arith
 total_le rules flow at [] (p ∷ parts) h = absurd h
@@ -147,7 +148,7 @@ blocks_le rules flow sizes forks (Assign tree ∷ rest) at block test = by (cont
 blocks_le rules flow sizes forks (Tested tree one none ∷ rest) at block test =
     let y = blocks_le rules flow sizes forks rest (at + 1) (block + 1) (test + 1) in
     let d = sum_drop sizes block in
-    let w = fork_words rules tree block (slice_index sizes block) (given (slice_get forks test)) at one none (parts_from rules flow sizes forks rest (at + 1) (block + 1) (test + 1)) in
+    let w = fork_words rules tree block (slice_index sizes block) (branch_or_zero (slice_get forks test)) at one none (parts_from rules flow sizes forks rest (at + 1) (block + 1) (test + 1)) in
     omega (arith, y, d, w)
 blocks_le rules flow sizes forks (Jumped to ∷ rest) at block test = blocks_le rules flow sizes forks rest (at + 1) block test
 blocks_le rules flow sizes forks (Ended ∷ rest) at block test = blocks_le rules flow sizes forks rest (at + 1) block test
@@ -188,18 +189,18 @@ parts_step rules flow sizes forks (Assign tree) rest at block test = by (continu
         ∷ parts_from rules flow sizes forks rest (at + 1) (block + blocks_in (if c then Inner else Block block (slice_index sizes block))) (test + tests_in (if c then Inner else Block block (slice_index sizes block)))
     by true = let b : block ≡ block + 0 = omega arith in let t : test ≡ test + 0 = omega arith in (λ j. Inner ∷ parts_from rules flow sizes forks rest (at + 1) (b j) (t j))
     by false = let t : test ≡ test + 0 = omega arith in (λ j. Block block (slice_index sizes block) ∷ parts_from rules flow sizes forks rest (at + 1) (block + 1) (t j))
-parts_step rules flow sizes forks (Tested tree one none) rest at block test = by (rule_at_one (slice_get rules (given (slice_get forks test)).0))
+parts_step rules flow sizes forks (Tested tree one none) rest at block test = by (rule_at_one (slice_get rules (branch_or_zero (slice_get forks test)).0))
   where
     branch : ℕ × ℕ
-    branch = given (slice_get forks test)
+    branch = branch_or_zero (slice_get forks test)
 
     by : (w : Bool)
-        → (if w then fork_to tree block (slice_index sizes block) (given (slice_get forks test)).0 (given (slice_get forks test)).1 at one none else fork_to tree block (slice_index sizes block) (given (slice_get forks test)).0 (given (slice_get forks test)).1 at none one)
+        → (if w then fork_to tree block (slice_index sizes block) (branch_or_zero (slice_get forks test)).0 (branch_or_zero (slice_get forks test)).1 at one none else fork_to tree block (slice_index sizes block) (branch_or_zero (slice_get forks test)).0 (branch_or_zero (slice_get forks test)).1 at none one)
         ∷ parts_from rules flow sizes forks rest (at + 1) (block + 1) (test + 1)
-        ≡ (if w then fork_to tree block (slice_index sizes block) (given (slice_get forks test)).0 (given (slice_get forks test)).1 at one none else fork_to tree block (slice_index sizes block) (given (slice_get forks test)).0 (given (slice_get forks test)).1 at none one)
+        ≡ (if w then fork_to tree block (slice_index sizes block) (branch_or_zero (slice_get forks test)).0 (branch_or_zero (slice_get forks test)).1 at one none else fork_to tree block (slice_index sizes block) (branch_or_zero (slice_get forks test)).0 (branch_or_zero (slice_get forks test)).1 at none one)
         ∷ parts_from rules flow sizes forks rest (at + 1)
-        (block + blocks_in (if w then fork_to tree block (slice_index sizes block) (given (slice_get forks test)).0 (given (slice_get forks test)).1 at one none else fork_to tree block (slice_index sizes block) (given (slice_get forks test)).0 (given (slice_get forks test)).1 at none one))
-        (test + tests_in (if w then fork_to tree block (slice_index sizes block) (given (slice_get forks test)).0 (given (slice_get forks test)).1 at one none else fork_to tree block (slice_index sizes block) (given (slice_get forks test)).0 (given (slice_get forks test)).1 at none one))
+        (block + blocks_in (if w then fork_to tree block (slice_index sizes block) (branch_or_zero (slice_get forks test)).0 (branch_or_zero (slice_get forks test)).1 at one none else fork_to tree block (slice_index sizes block) (branch_or_zero (slice_get forks test)).0 (branch_or_zero (slice_get forks test)).1 at none one))
+        (test + tests_in (if w then fork_to tree block (slice_index sizes block) (branch_or_zero (slice_get forks test)).0 (branch_or_zero (slice_get forks test)).1 at one none else fork_to tree block (slice_index sizes block) (branch_or_zero (slice_get forks test)).0 (branch_or_zero (slice_get forks test)).1 at none one))
     by true = refl
     by false = refl
 parts_step rules flow sizes forks (Jumped to) rest at block test =

@@ -6,10 +6,10 @@ use Rattle.form_model.specs.Rules.{Rule, rule_of, rules_of}
 use Rattle.branch_fix.specs.declared.part.Part.{Part}
 use Rattle.branch_fix.specs.declared.laid.Laid.{Laid}
 use Rattle.branch_fix.specs.Items.{jump_form, rule_in, items_from}
-use Rattle.branch_fix.specs.Laid.{Outline, ArePartsOf, IsLaid, IsFull}
+use Rattle.branch_fix.specs.Laid.{Outline, ArePartsOf, IsLaid, IsImageFull}
 use Rattle.branch_fix.specs.Marked.{AreMarked}
 use Rattle.branch_fix.specs.Parts.{parts_of, starts, marks_from, total}
-use Rattle.branch_fix.specs.Rounds.{IsSettled}
+use Rattle.branch_fix.specs.Rounds.{IsFixpoint}
 use Rattle.branch_fix.specs.Bounds.{sum_of, control_words}
 use Rattle.branch_fix.proofs.Laying.{laid_le, settled_fit}
 use Rattle.branch_fix.proofs.Marking.{are_marked}
@@ -22,17 +22,17 @@ found_is (Some form) j h = sym h
 
 -- after the rounds there are at most as many words as the bound says
 pub settled_le : (rules : List Rule) (flow : List Flow) (sizes : List ℕ) (forks : List (ℕ × ℕ)) (parts : List Part)
-    → IsSettled rules (parts_of rules flow sizes forks) parts → total parts ≤ sum_of sizes + control_words flow
+    → IsFixpoint rules (parts_of rules flow sizes forks) parts → total parts ≤ sum_of sizes + control_words flow
 settled_le rules flow sizes forks parts s = subst (λ p. total p ≤ sum_of sizes + control_words flow) (sym s.made) (laid_le rules flow sizes forks s.count)
 
 -- parts of the code's list of forms are those of the outline's
 same_rules : (o : Outline) (forms list : List Form) (parts : List Part) → o.rules ≡ rules_of forms → list ≡ forms
-    → IsSettled (rules_of list) (parts_of (rules_of list) o.flow o.sizes o.branches) parts → ArePartsOf o parts
-same_rules o forms list parts r l s = subst (λ x. IsSettled x (parts_of x o.flow o.sizes o.branches) parts) (ap rules_of l ∙ sym r) s
+    → IsFixpoint (rules_of list) (parts_of (rules_of list) o.flow o.sizes o.branches) parts → ArePartsOf o parts
+same_rules o forms list parts r l s = subst (λ x. IsFixpoint x (parts_of x o.flow o.sizes o.branches) parts) (ap rules_of l ∙ sym r) s
 
 pub full : (o : Outline) (forms list : List Form) (parts slice : List Part) (len : ℕ) → o.rules ≡ rules_of forms → list ≡ forms
-    → IsSettled (rules_of list) (parts_of (rules_of list) o.flow o.sizes o.branches) parts → slice ≡ parts → len ≡ total slice
-    → sum_of o.sizes + control_words o.flow ≤ o.bound → o.words < len → IsFull o len
+    → IsFixpoint (rules_of list) (parts_of (rules_of list) o.flow o.sizes o.branches) parts → slice ≡ parts → len ≡ total slice
+    → sum_of o.sizes + control_words o.flow ≤ o.bound → o.words < len → IsImageFull o len
 full o forms list parts slice len r l s e t b lt =
     let q : ArePartsOf o parts = same_rules o forms list parts r l s in
     let m = settled_le o.rules o.flow o.sizes o.branches parts q in
@@ -40,7 +40,7 @@ full o forms list parts slice len r l s e t b lt =
     record { parts = parts; settled = q; long = n; above = lt; most = omega (arith, m, n, b) }
 
 pub laid_by : (o : Outline) (laid : Laid) (forms list : List Form) (parts slice other : List Part) (len : ℕ) → o.rules ≡ rules_of forms → list ≡ forms
-    → IsSettled (rules_of list) (parts_of (rules_of list) o.flow o.sizes o.branches) parts
+    → IsFixpoint (rules_of list) (parts_of (rules_of list) o.flow o.sizes o.branches) parts
     → slice ≡ parts → len ≡ total slice → other ≡ parts → sum_of o.sizes + control_words o.flow ≤ o.bound → o.bound ≤ o.reach → len ≤ o.words
     → laid.items ≡ items_from (rules_of list) (jump_form (rules_of list) o.reach) (starts 0 other) 0 other → laid.marks ≡ marks_from 0 other
     → IsLaid o laid

@@ -15,14 +15,14 @@ use Rattle.form_model.specs.declared.flow.Flow.TheVariants.{Assign, Test as Test
 use Rattle.form_model.specs.Rules.{Rule}
 use Rattle.src_trees.specs.Lowered.{Work}
 use Rattle.src_trees.specs.Doing.{Lies}
-use Rattle.src_trees.specs.Blocks.{is_assign, continues, IsBlock, jobs_at}
-use Rattle.src_trees.specs.Placed.{Comes, DoesJobs, Decides, DoesTest, DoesJump, IsPlaced}
+use Rattle.src_trees.specs.Blocks.{is_assign, continues, IsAssignBlock, jobs_at}
+use Rattle.src_trees.specs.Placed.{Comes, DoesJobs, Decides, DoesTest, JumpComes, IsPlaced}
 use Rattle.branch_fix.specs.declared.part.Fork.{Fork}
 use Rattle.branch_fix.specs.declared.part.Part.{Part}
 use Rattle.branch_fix.specs.declared.part.Part.TheVariants.{Block, Inner, Test, Jump, End}
-use Rattle.branch_fix.specs.Parts.{rule_at_one, branch_words, room, address, marks_from, Fits}
-use Rattle.branch_fix.specs.Made.{DoesBlock, DoesFork, Behind, word_in, IsMade}
-use Rattle.branch_fix.specs.Flowing.{IsFlow}
+use Rattle.branch_fix.specs.Parts.{rule_at_one, branch_words, room, address, marks_from, FitsPart}
+use Rattle.branch_fix.specs.Made.{DoesBlock, DoesFork, TailGoes, image_word, IsMade}
+use Rattle.branch_fix.specs.Inner.Flowing.{IsFlow}
 use Rattle.branch_fix.proofs.Addresses.{address_next, address_rises, address_first, own_label, first_mark, inner_mark, part_at, end_mark, flow_end}
 use Rattle.branch_fix.proofs.Walking.{walks_reaches, walks_end, split, Split, goes, Goes, branches}
 
@@ -48,19 +48,19 @@ module _ (netlist : Netlist) (image : Image) (sound : IsSound netlist) where
   stay_tail : (s : State) (to bound : ℕ) → IsAt netlist to s → Tail s to bound
   stay_tail s to bound here = record { taken = 0; last = s; within = omega arith; reaches = refl; here = here; same = refl }
 
-  jump_tail : (s : State) (at to : ℕ) → DoesGoto netlist (word_in image at) to → label_at image.marks at ≡ None → IsAt netlist at s → Tail s to 1
+  jump_tail : (s : State) (at to : ℕ) → DoesGoto netlist (image_word image at) to → label_at image.marks at ≡ None → IsAt netlist at s → Tail s to 1
   jump_tail s at to does free here =
       let g : Goes netlist image sound s to = goes netlist image sound at to s does here in
       record { taken = 1; last = g.next; within = omega arith; reaches = reaches_one netlist image s g.next (ap (label_at image.marks) here.counter ∙ free) g.clocked; here = g.here; same = g.same }
 
-  tail_to : (next long : Bool) (p to other : ℕ) (s : State) → Behind netlist image next long p to other
+  tail_to : (next long : Bool) (p to other : ℕ) (s : State) → TailGoes netlist image next long p to other
       → ((a : ℕ) → p < a → a < p + branch_words next long → label_at image.marks a ≡ None)
       → IsAt netlist (if long then p + 2 else to) s → Tail s to (tail_words next long)
   tail_to next true p to other s b free here = jump_tail s (p + 2) to b.1 (free (p + 2) (omega arith) (omega arith)) here
   tail_to true false p to other s b free here = stay_tail s to 0 here
   tail_to false false p to other s b free here = stay_tail s to 1 here
 
-  tail_other : (next long : Bool) (p to other : ℕ) (s : State) → Behind netlist image next long p to other
+  tail_other : (next long : Bool) (p to other : ℕ) (s : State) → TailGoes netlist image next long p to other
       → ((a : ℕ) → p < a → a < p + branch_words next long → label_at image.marks a ≡ None)
       → (next ≡ true → long ≡ false → p + 1 ≡ other) → IsAt netlist (p + 1) s → Tail s other (tail_words next long)
   tail_other next true p to other s b free comes here = jump_tail s (p + 1) other b.0 (free (p + 1) (omega arith) (omega arith)) here
@@ -78,7 +78,7 @@ module _ (netlist : Netlist) (image : Image) (sound : IsSound netlist) where
     own : (k : ℕ) (p : Part) → slice_get parts k ≡ Some p → 1 ≤ room p → label_at image.marks (address parts k) ≡ own_label p
     own k p e some = label_is (address parts k) ∙ ap (label_at (marks_from 0 parts)) (let z : address parts k ≡ 0 + address parts k = omega arith in z) ∙ first_mark 0 parts k p e some
 
-    part_of : (k : ℕ) (f : Flow) → slice_get flow k ≡ Some f → (p : Part) × (slice_get parts k ≡ Some p) × Fits rules flow k f p
+    part_of : (k : ℕ) (f : Flow) → slice_get flow k ≡ Some f → (p : Part) × (slice_get parts k ≡ Some p) × FitsPart rules flow k f p
     part_of k f e = part_at rules flow 0 flow parts k k f made.fit e (omega arith)
 
     -- ---- jumps
@@ -86,14 +86,14 @@ module _ (netlist : Netlist) (image : Image) (sound : IsSound netlist) where
     jump_part : (k to : ℕ) → slice_get flow k ≡ Some (Jumped to) → slice_get parts k ≡ Some (Jump to)
     jump_part k to e = by (part_of k (Jumped to) e)
       where
-        by : (p : Part) × (slice_get parts k ≡ Some p) × Fits rules flow k (Jumped to) p → slice_get parts k ≡ Some (Jump to)
+        by : (p : Part) × (slice_get parts k ≡ Some p) × FitsPart rules flow k (Jumped to) p → slice_get parts k ≡ Some (Jump to)
         by (Block block words, g, h) = absurd h
         by (Inner, g, h) = absurd h
         by (Test f, g, h) = absurd h
         by (Jump place, g, h) = g ∙ ap (λ x. Some (Jump x)) h
         by (End, g, h) = absurd h
 
-    jump_does : (k to : ℕ) → slice_get flow k ≡ Some (Jumped to) → DoesJump netlist image temps (address parts k) (address parts to)
+    jump_does : (k to : ℕ) → slice_get flow k ≡ Some (Jumped to) → JumpComes netlist image temps (address parts k) (address parts to)
     jump_does k to e = record {
       goes = λ s here.
           let p = jump_part k to e in
@@ -116,7 +116,7 @@ module _ (netlist : Netlist) (image : Image) (sound : IsSound netlist) where
     inner_part : (k tree : ℕ) → slice_get flow k ≡ Some (Assign tree) → continues flow k ≡ true → slice_get parts k ≡ Some Inner
     inner_part k tree e c = by (part_of k (Assign tree) e)
       where
-        by : (p : Part) × (slice_get parts k ≡ Some p) × Fits rules flow k (Assign tree) p → slice_get parts k ≡ Some Inner
+        by : (p : Part) × (slice_get parts k ≡ Some p) × FitsPart rules flow k (Assign tree) p → slice_get parts k ≡ Some Inner
         by (Block block words, g, h) = absurd (cc (c, h))
         by (Inner, g, h) = g
         by (Test f, g, h) = absurd h
@@ -127,7 +127,7 @@ module _ (netlist : Netlist) (image : Image) (sound : IsSound netlist) where
         → (block : ℕ) × (words : ℕ) × (slice_get parts k ≡ Some (Block block words))
     block_part k tree e c = by (part_of k (Assign tree) e)
       where
-        by : (p : Part) × (slice_get parts k ≡ Some p) × Fits rules flow k (Assign tree) p
+        by : (p : Part) × (slice_get parts k ≡ Some p) × FitsPart rules flow k (Assign tree) p
             → (block : ℕ) × (words : ℕ) × (slice_get parts k ≡ Some (Block block words))
         by (Block block words, g, h) = (block, words, g)
         by (Inner, g, h) = absurd (cc (c, h))
@@ -135,7 +135,7 @@ module _ (netlist : Netlist) (image : Image) (sound : IsSound netlist) where
         by (Jump place, g, h) = absurd h
         by (End, g, h) = absurd h
 
-    block_end : (at n words : ℕ) (p : Part) → slice_get parts at ≡ Some p → room p ≡ words → IsBlock flow at n → (j N : ℕ) → j < n → N ≡ at + j + 1
+    block_end : (at n words : ℕ) (p : Part) → slice_get parts at ≡ Some p → room p ≡ words → IsAssignBlock flow at n → (j N : ℕ) → j < n → N ≡ at + j + 1
         → address parts N ≡ address parts at + words
     block_end at n words p e r b zero N lt is =
         let a = address_next parts at p e in
@@ -147,7 +147,7 @@ module _ (netlist : Netlist) (image : Image) (sound : IsSound netlist) where
         let a = address_next parts (at + suc j) Inner i in
         subst (λ x. address parts x ≡ address parts at + words) (let f : at + suc j + 1 ≡ N = omega arith in f) (omega (arith, a, h))
 
-    block_does : (at n : ℕ) → IsBlock flow at n → DoesJobs netlist image temps (jobs_at flow jobs at n) (address parts at) (address parts (at + n))
+    block_does : (at n : ℕ) → IsAssignBlock flow at n → DoesJobs netlist image temps (jobs_at flow jobs at n) (address parts at) (address parts (at + n))
     block_does at n b =
         let t = assign_at (at + 0) (b.assigns 0 (b.some)) in
         let here : slice_get flow at ≡ Some (Assign t.0) = ap (slice_get flow) (let z : at ≡ at + 0 = omega arith in z) ∙ t.1 in
@@ -240,7 +240,7 @@ module _ (netlist : Netlist) (image : Image) (sound : IsSound netlist) where
         → DoesTest netlist image temps tree job (address parts at) (address parts when_one) (address parts when_zero)
     test_does at tree when_one when_zero e job at_jobs = by (part_of at (Tested tree when_one when_zero) e)
       where
-        by : (p : Part) × (slice_get parts at ≡ Some p) × Fits rules flow at (Tested tree when_one when_zero) p
+        by : (p : Part) × (slice_get parts at ≡ Some p) × FitsPart rules flow at (Tested tree when_one when_zero) p
             → DoesTest netlist image temps tree job (address parts at) (address parts when_one) (address parts when_zero)
         by (Block block words, g, h) = absurd h
         by (Inner, g, h) = absurd h
@@ -293,7 +293,7 @@ module _ (netlist : Netlist) (image : Image) (sound : IsSound netlist) where
     end_part : (k : ℕ) → slice_get flow k ≡ Some Ended → slice_get parts k ≡ Some End
     end_part k e = by (part_of k Ended e)
       where
-        by : (p : Part) × (slice_get parts k ≡ Some p) × Fits rules flow k Ended p → slice_get parts k ≡ Some End
+        by : (p : Part) × (slice_get parts k ≡ Some p) × FitsPart rules flow k Ended p → slice_get parts k ≡ Some End
         by (Block block words, g, h) = absurd h
         by (Inner, g, h) = absurd h
         by (Test f, g, h) = absurd h

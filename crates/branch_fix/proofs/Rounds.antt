@@ -6,7 +6,7 @@ use Rattle.branch_fix.specs.declared.part.Fork.{Fork}
 use Rattle.branch_fix.specs.declared.part.Part.{Part}
 use Rattle.branch_fix.specs.declared.part.Part.TheVariants.{Block, Inner, Test, Jump, End}
 use Rattle.branch_fix.specs.Parts.{room, starts, address}
-use Rattle.branch_fix.specs.Rounds.{rule_shows, widened_part, widened_from, round, rounds, IsRound, IsSettled, is_long, long_tests}
+use Rattle.branch_fix.specs.Rounds.{rule_shows, widened_part, widened_from, round, rounds, IsRound, IsFixpoint, is_long, long_tests}
 
 -- a test is more than it was, or the same
 abbrev bit : Bool → ℕ
@@ -85,7 +85,7 @@ pub next_round : (rules : List Rule) (first parts next : List Part) → IsRound 
 next_round rules first parts next r e = record { count = suc r.count; made = e ∙ ap (round rules) r.made ∙ round_last rules r.count first }
 
 pub last_round : (rules : List Rule) (first parts next : List Part) (m n : ℕ) → IsRound rules first parts → next ≡ round rules parts
-    → m ≡ long_tests next → n ≡ long_tests parts → m ≡ n → IsSettled rules first parts
+    → m ≡ long_tests next → n ≡ long_tests parts → m ≡ n → IsFixpoint rules first parts
 last_round rules first parts next m n r e p q same = record {
   count = r.count;
   made = r.made;
@@ -133,7 +133,7 @@ still_shows rules addresses parts k f e still short =
     by false false e s = absurd (cc e)
 
 -- a test that is not three words shows its distance
-pub settled_shows : (rules : List Rule) (first parts : List Part) (k : ℕ) (f : Fork) → IsSettled rules first parts → slice_get parts k ≡ Some (Test f)
+pub settled_shows : (rules : List Rule) (first parts : List Part) (k : ℕ) (f : Fork) → IsFixpoint rules first parts → slice_get parts k ≡ Some (Test f)
     → f.long ≡ false
     → rule_shows (slice_get rules f.form) (address parts k + f.words) (slice_index (starts 0 parts) f.to) ≡ true
 settled_shows rules first parts k f s e short = still_shows rules (starts 0 parts) parts k f e s.still short
@@ -149,13 +149,13 @@ rounds_plus rules zero k N parts e = let f : N ≡ k = omega arith in ap (λ n. 
 rounds_plus rules (suc m) k zero parts e = absurd (omega arith)
 rounds_plus rules (suc m) k (suc N) parts e = rounds_plus rules m k N (round rules parts) (omega arith)
 
-settled_first : (rules : List Rule) (first a b : List Part) (s : IsSettled rules first a) (t : IsSettled rules first b) → s.count ≤ t.count → a ≡ b
+settled_first : (rules : List Rule) (first a b : List Part) (s : IsFixpoint rules first a) (t : IsFixpoint rules first b) → s.count ≤ t.count → a ≡ b
 settled_first rules first a b s t le =
     let k : ℕ = t.count - s.count in
     let p : rounds rules t.count first ≡ rounds rules (t.count - s.count) (rounds rules s.count first) = rounds_plus rules s.count (t.count - s.count) t.count first (omega arith) in
     sym (t.made ∙ p ∙ ap (rounds rules (t.count - s.count)) (sym s.made) ∙ still_rounds rules (t.count - s.count) a s.still)
 
-pub settled_once : (rules : List Rule) (first a b : List Part) → IsSettled rules first a → IsSettled rules first b → a ≡ b
+pub settled_once : (rules : List Rule) (first a b : List Part) → IsFixpoint rules first a → IsFixpoint rules first b → a ≡ b
 settled_once rules first a b s t = by (nat_le s.count t.count) refl
   where
     by : (x : Bool) → nat_le s.count t.count ≡ x → a ≡ b

@@ -10,7 +10,7 @@ use Rattle.form_model.specs.declared.flow.Flow.TheVariants.{Assign, Test, Jump, 
 use Rattle.src_trees.specs.Lowered.{holds_at_one}
 use Rattle.src_trees.specs.Flows.{places_for, places_in, else_entry, asked, flow_of, flow_in, flow_else, program_flow}
 use Rattle.src_trees.proofs.Parts.{flow_length, in_length, stand_all, stand_right}
-use Rattle.branch_fix.specs.Flowing.{IsFlow}
+use Rattle.branch_fix.specs.Inner.Flowing.{IsFlow}
 
 -- from a place on there is no end, and tests go on behind themselves
 abbrev Goes : ℕ → List Flow → Type 0

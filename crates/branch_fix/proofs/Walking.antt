@@ -16,7 +16,7 @@ use Rattle.code_model.specs.Flow.{Reaches}
 use Rattle.code_model.specs.Words.{DoesGoto}
 use Rattle.code_model.proofs.Fixed.{fixed_is}
 use Rattle.code_model.proofs.Flowing.{reaches_on, reaches_one}
-use Rattle.branch_fix.specs.Made.{Walks, DoesBranch, word_in}
+use Rattle.branch_fix.specs.Made.{Walks, DoesBranch, image_word}
 
 module _ (netlist : Netlist) (image : Image) where
   -- the addresses from one to another have no mark
@@ -63,10 +63,10 @@ module _ (netlist : Netlist) (image : Image) where
       pub here : IsAt netlist to next
       pub same : next.cells ≡ s.cells
 
-    pub goes : (at to : ℕ) (s : State) → DoesGoto netlist (word_in image at) to → IsAt netlist at s → Goes s to
+    pub goes : (at to : ℕ) (s : State) → DoesGoto netlist (image_word image at) to → IsAt netlist at s → Goes s to
     goes at to s does here =
-        let i : ℕ = word_in image at in
-        let m : Moved netlist (words_of image) (word_in image at) s = moved netlist (words_of image) (word_in image at) s sound here.state does.clean (ap (slice_index (words_of image)) here.counter) in
+        let i : ℕ = image_word image at in
+        let m : Moved netlist (words_of image) (image_word image at) s = moved netlist (words_of image) (image_word image at) s sound here.state does.clean (ap (slice_index (words_of image)) here.counter) in
         record {
           next = m.next;
           clocked = m.clocked;
@@ -89,12 +89,12 @@ module _ (netlist : Netlist) (image : Image) where
     not_chosen : (v x y : ℕ) → v ≡ 0 → (if v == 1 then x else y) ≡ y
     not_chosen v x y e = rw e refl
 
-    pub branches : (condition : Term) (when_one : Bool) (at to : ℕ) (s : State) → DoesBranch netlist (word_in image at) condition when_one at to
+    pub branches : (condition : Term) (when_one : Bool) (at to : ℕ) (s : State) → DoesBranch netlist (image_word image at) condition when_one at to
         → IsAt netlist at s
-        → Branches s (word_in image at) condition (if when_one then to else at + 1) (if when_one then at + 1 else to)
+        → Branches s (image_word image at) condition (if when_one then to else at + 1) (if when_one then at + 1 else to)
     branches condition when_one at to s does here =
-        let i : ℕ = word_in image at in
-        let m : Moved netlist (words_of image) (word_in image at) s = moved netlist (words_of image) (word_in image at) s sound here.state does.clean (ap (slice_index (words_of image)) here.counter) in
+        let i : ℕ = image_word image at in
+        let m : Moved netlist (words_of image) (image_word image at) s = moved netlist (words_of image) (image_word image at) s sound here.state does.clean (ap (slice_index (words_of image)) here.counter) in
         let counter : counter_in netlist m.next ≡ (if mean condition s i == 1 then mean does.first s i else mean does.second s i) = m.regs (counter_of netlist.codes) sound.counter ∙ rw does.move refl in
         record {
           next = m.next;

@@ -8,7 +8,8 @@ abbrev pub sum_of : List ℕ → ℕ
 sum_of [] = 0
 sum_of (n ∷ rest) = n + sum_of rest
 
--- the words beside those of the blocks, at most: three for each test, and one for each jump and for the end
+-- the words beside those of the blocks, at most: three for each test, and one for each jump and for
+-- the end
 abbrev pub control_words : List Flow → ℕ
 control_words [] = 0
 control_words (Assign tree ∷ rest) = control_words rest

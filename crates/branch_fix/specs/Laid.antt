@@ -8,12 +8,13 @@ use Rattle.branch_fix.specs.declared.fault.LayFault.{LayFault}
 use Rattle.branch_fix.specs.declared.fault.LayFault.TheVariants.{NoReach, ImageFull, Memory}
 use Rattle.branch_fix.specs.declared.part.Part.{Part}
 use Rattle.branch_fix.specs.Parts.{parts_of, starts, marks_from, total}
-use Rattle.branch_fix.specs.Rounds.{IsSettled}
+use Rattle.branch_fix.specs.Rounds.{IsFixpoint}
 use Rattle.branch_fix.specs.Items.{jump_form, items_from}
 use Rattle.branch_fix.specs.Marked.{AreMarked}
 
--- what is laid out: a flow, the words of its blocks, the branch form and the setting of each test, the forms and the greatest reach of the
--- jump forms among them, how many words there are, and how many the code has at most
+-- what is laid out: a flow, the words of its blocks, the branch form and the setting of each test,
+-- the forms and the greatest reach of the jump forms among them, how many words there are, and how
+-- many the code has at most
 pub record Outline : Type 0 where
   pub flow : List Flow
   pub sizes : List ℕ
@@ -29,9 +30,10 @@ outline flow sizes branches forms words bound =
 
 -- its parts when rounds have changed the branches
 abbrev pub ArePartsOf : Outline → List Part → Type 0
-ArePartsOf o parts = IsSettled o.rules (parts_of o.rules o.flow o.sizes o.branches) parts
+ArePartsOf o parts = IsFixpoint o.rules (parts_of o.rules o.flow o.sizes o.branches) parts
 
--- the words and the marks of the parts; no jump has to reach further than jumps do, and there are as many words as the code has
+-- the words and the marks of the parts; no jump has to reach further than jumps do, and there are
+-- as many words as the code has
 pub record IsLaid (o : Outline) (laid : Laid) : Type 0 where
   pub parts : List Part
   pub settled : ArePartsOf o parts
@@ -44,14 +46,14 @@ pub record IsLaid (o : Outline) (laid : Laid) : Type 0 where
   pub most : length laid.items ≤ o.bound
 
 -- the code of so many words is longer than there are words
-pub record IsFull (o : Outline) (len : ℕ) : Type 0 where
+pub record IsImageFull (o : Outline) (len : ℕ) : Type 0 where
   pub parts : List Part
   pub settled : ArePartsOf o parts
   pub long : len ≡ total parts
   pub above : o.words < len
   pub most : len ≤ o.bound
 
-abbrev pub IsRefusal : Outline → LayFault → Type 0
-IsRefusal o (NoReach bound reach) = (o.reach < o.bound) × (bound ≡ o.bound) × (reach ≡ o.reach)
-IsRefusal o (ImageFull len size bound) = (o.bound ≤ o.reach) × IsFull o len × (size ≡ o.words) × (bound ≡ o.bound)
-IsRefusal o Memory = Unit {0}
+abbrev pub IsLayFault : Outline → LayFault → Type 0
+IsLayFault o (NoReach bound reach) = (o.reach < o.bound) × (bound ≡ o.bound) × (reach ≡ o.reach)
+IsLayFault o (ImageFull len size bound) = (o.bound ≤ o.reach) × IsImageFull o len × (size ≡ o.words) × (bound ≡ o.bound)
+IsLayFault o Memory = Unit {0}

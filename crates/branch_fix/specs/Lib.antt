@@ -6,6 +6,6 @@ pub mod Entered
 pub mod Items
 pub mod Marked
 pub mod Laid
-pub mod Flowing
 pub mod Made
 pub mod Worked
+pub mod Inner

@@ -1,4 +1,5 @@
--- The parts of a flow: what stands at each of its places, how many words that is, and where these stand.
+-- The parts of a flow: what stands at each of its places, how many words that is, and where these
+-- stand.
 use Rattle.std.specs.Prelude.{ℕ, zero, suc, ◌+◌, ◌==◌, ◌≡◌, Bool, true, false, if◌then◌else◌, List, [], ◌∷◌, ◌++◌, Option, Some, None, slice_get, slice_index}
 use Rattle.code_model.specs.declared.image.Mark.{Mark}
 use Rattle.form_model.specs.declared.flow.Flow.{Flow}
@@ -19,15 +20,16 @@ abbrev pub rule_at_one : Option Rule → Bool
 rule_at_one None = true
 rule_at_one (Some rule) = kind_at_one rule.goal
 
--- a test at a place, with its branch form and setting, where the form tells which of the two targets is the branch's
+-- a test at a place, with its branch form and setting, where the form tells which of the two
+-- targets is the branch's
 abbrev pub fork_to : ℕ → ℕ → ℕ → ℕ → ℕ → ℕ → ℕ → ℕ → Part
 fork_to tree block words form setting at to other =
     Test (record { tree = tree; block = block; words = words; form = form; setting = setting; to = to; other = other; next = other == at + 1; long = false })
 
 -- the branch form and the setting that are given for a test
-abbrev pub given : Option (ℕ × ℕ) → ℕ × ℕ
-given None = (0, 0)
-given (Some branch) = branch
+abbrev pub branch_or_zero : Option (ℕ × ℕ) → ℕ × ℕ
+branch_or_zero None = (0, 0)
+branch_or_zero (Some branch) = branch
 
 abbrev pub fork_of : List Rule → ℕ → ℕ → ℕ → ℕ × ℕ → ℕ → ℕ → ℕ → Part
 fork_of rules tree block words branch at when_one when_zero =
@@ -41,7 +43,7 @@ parts_from rules flow sizes forks (Assign tree ∷ rest) at block test =
     if continues flow at then Inner ∷ parts_from rules flow sizes forks rest (at + 1) block test
     else Block block (slice_index sizes block) ∷ parts_from rules flow sizes forks rest (at + 1) (block + 1) test
 parts_from rules flow sizes forks (Tested tree when_one when_zero ∷ rest) at block test =
-    fork_of rules tree block (slice_index sizes block) (given (slice_get forks test)) at when_one when_zero ∷ parts_from rules flow sizes forks rest (at + 1) (block + 1) (test + 1)
+    fork_of rules tree block (slice_index sizes block) (branch_or_zero (slice_get forks test)) at when_one when_zero ∷ parts_from rules flow sizes forks rest (at + 1) (block + 1) (test + 1)
 parts_from rules flow sizes forks (Jumped to ∷ rest) at block test = Jump to ∷ parts_from rules flow sizes forks rest (at + 1) block test
 parts_from rules flow sizes forks (Ended ∷ rest) at block test = End ∷ parts_from rules flow sizes forks rest (at + 1) block test
 
@@ -51,7 +53,7 @@ parts_of rules flow sizes forks = parts_from rules flow sizes forks flow 0 0 0
 -- the same, part by part
 abbrev pub part_for : List Rule → List Flow → List ℕ → List (ℕ × ℕ) → Flow → ℕ → ℕ → ℕ → Part
 part_for rules flow sizes forks (Assign tree) at block test = if continues flow at then Inner else Block block (slice_index sizes block)
-part_for rules flow sizes forks (Tested tree when_one when_zero) at block test = fork_of rules tree block (slice_index sizes block) (given (slice_get forks test)) at when_one when_zero
+part_for rules flow sizes forks (Tested tree when_one when_zero) at block test = fork_of rules tree block (slice_index sizes block) (branch_or_zero (slice_get forks test)) at when_one when_zero
 part_for rules flow sizes forks (Jumped to) at block test = Jump to
 part_for rules flow sizes forks Ended at block test = End
 
@@ -71,7 +73,8 @@ tests_in End = 0
 
 -- ---- words and addresses
 
--- a branch is one word, followed by a jump to the other target unless that comes next; or it is three words
+-- a branch is one word, followed by a jump to the other target unless that comes next; or it is
+-- three words
 abbrev pub branch_words : Bool → Bool → ℕ
 branch_words next long = if long then 3 else if next then 1 else 2
 
@@ -114,17 +117,17 @@ marks_from at (p ∷ parts) = own_marks at p ++ marks_from (at + room p) parts
 -- ---- the parts of a flow, each by what it is
 
 -- a part stands for a place of the flow
-abbrev pub Fits : List Rule → List Flow → ℕ → Flow → Part → Type 0
-Fits rules flow at (Assign tree) (Block block words) = continues flow at ≡ false
-Fits rules flow at (Assign tree) Inner = continues flow at ≡ true
-Fits rules flow at (Tested tree when_one when_zero) (Test f) =
+abbrev pub FitsPart : List Rule → List Flow → ℕ → Flow → Part → Type 0
+FitsPart rules flow at (Assign tree) (Block block words) = continues flow at ≡ false
+FitsPart rules flow at (Assign tree) Inner = continues flow at ≡ true
+FitsPart rules flow at (Tested tree when_one when_zero) (Test f) =
     (f.tree ≡ tree) × (f.next ≡ (f.other == at + 1))
     × (f.to ≡ (if rule_at_one (slice_get rules f.form) then when_one else when_zero)) × (f.other ≡ (if rule_at_one (slice_get rules f.form) then when_zero else when_one))
-Fits rules flow at (Jumped to) (Jump place) = place ≡ to
-Fits rules flow at Ended End = Unit {0}
-Fits rules flow at _ _ = ⊥
+FitsPart rules flow at (Jumped to) (Jump place) = place ≡ to
+FitsPart rules flow at Ended End = Unit {0}
+FitsPart rules flow at _ _ = ⊥
 
-abbrev pub AllFit : List Rule → List Flow → ℕ → List Flow → List Part → Type 0
-AllFit rules flow at [] [] = Unit {0}
-AllFit rules flow at (f ∷ rest) (p ∷ parts) = Fits rules flow at f p × AllFit rules flow (at + 1) rest parts
-AllFit rules flow at _ _ = ⊥
+abbrev pub PartsFit : List Rule → List Flow → ℕ → List Flow → List Part → Type 0
+PartsFit rules flow at [] [] = Unit {0}
+PartsFit rules flow at (f ∷ rest) (p ∷ parts) = FitsPart rules flow at f p × PartsFit rules flow (at + 1) rest parts
+PartsFit rules flow at _ _ = ⊥

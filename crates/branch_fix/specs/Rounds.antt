@@ -8,7 +8,8 @@ use Rattle.branch_fix.specs.declared.part.Part.{Part}
 use Rattle.branch_fix.specs.declared.part.Part.TheVariants.{Block, Inner, Test, Jump, End}
 use Rattle.branch_fix.specs.Parts.{room, starts}
 
--- how far one address lies behind another: of their difference, which wraps round in 64 bits, so many low bits
+-- how far one address lies behind another: of their difference, which wraps round in 64 bits, so
+-- many low bits
 abbrev pub distance : ℕ → ℕ → ℕ → ℕ
 distance width from to = ((to + (2 ^ 64 - from)) % 2 ^ 64) % 2 ^ width
 
@@ -54,7 +55,7 @@ pub record IsRound (rules : List Rule) (first parts : List Part) : Type 0 where
   pub made : parts ≡ rounds rules count first
 
 -- rounds are repeated until one changes nothing
-pub record IsSettled (rules : List Rule) (first last : List Part) : Type 0 where
+pub record IsFixpoint (rules : List Rule) (first last : List Part) : Type 0 where
   pub count : ℕ
   pub made : last ≡ rounds rules count first
   pub still : round rules last ≡ last

@@ -1,4 +1,5 @@
--- Worked layouts: a loop with an absolute branch, and with relative ones that show their distance or don't.
+-- Worked layouts: a loop with an absolute branch, and with relative ones that show their distance
+-- or don't.
 use Rattle.std.specs.Prelude.{ℕ, ◌≡◌, refl, true, false, List, [], ◌∷◌, Some, None}
 use Rattle.net_model.specs.Terms.{Term, word, reg, const, slice, zext, bin}
 use Rattle.rec_bits.specs.declared.operator.Op2.TheVariants.{Eq as Equal}
@@ -15,7 +16,8 @@ use Rattle.branch_fix.specs.Rounds.{distance, rounds}
 use Rattle.branch_fix.specs.Bounds.{bound_of}
 use Rattle.branch_fix.specs.Items.{jump_form, items_from}
 
--- while a != 0 { a = a - 1; }: the branch goes out where the condition is 1; the code of the test's operand is a word, and so on
+-- while a != 0 { a = a - 1; }: the branch goes out where the condition is 1; the code of the test's
+-- operand is a word, and so on
 abbrev flow : List Flow
 flow = Test 0 3 1 ∷ Assign 1 ∷ Jumped 0 ∷ Ended ∷ []
 
@@ -79,7 +81,8 @@ most_words = refl
 far_total : total (rounds (branch_rule (relative narrow) ∷ jump_rule ∷ []) 1 (parts_of (branch_rule (relative narrow) ∷ jump_rule ∷ []) flow (1 ∷ 5 ∷ []) ((0, 0) ∷ []))) ≡ 11
 far_total = refl
 
--- if a == 1 { a = 2; } else { }: the branch goes to the next place, and behind it a jump over the first part; behind that one over nothing
+-- if a == 1 { a = 2; } else { }: the branch goes to the next place, and behind it a jump over the
+-- first part; behind that one over nothing
 abbrev forked : List Flow
 forked = Test 0 1 3 ∷ Assign 1 ∷ Jumped 3 ∷ Ended ∷ []
 

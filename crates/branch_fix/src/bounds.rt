@@ -34,7 +34,8 @@ fn control_words(flow: &[Flow]) -> u64
     words
 }
 
-/// The number of words that a program has at most: the costs of its trees, 3 for each test of its flow, 1 for each jump, and 1 for the end.
+/// The number of words that a program has at most: the costs of its trees, 3 for each test of its
+/// flow, 1 for each jump, and 1 for the end.
 pub fn bound(flow: &[Flow], costs: &[u32]) -> u64
     requires places { length flow.now ≤ 2 ^ 32 }
     requires trees { length costs.now ≤ 2 ^ 31 }

@@ -4,7 +4,7 @@ ghost use Rattle.std.specs.Prelude.{◌≡◌, ◌+◌, ◌<◌, ◌≤◌, ◌=
 ghost use Rattle.std.proofs.Common.{replicate};
 ghost use Rattle.form_model.specs.Rules.{rule_of, rules_of};
 ghost use Rattle.branch_fix.specs.Entered.{marked};
-ghost use Rattle.branch_fix.specs.Parts.{rule_at_one, given, fork_of, part_for, parts_of, blocks_in, tests_in};
+ghost use Rattle.branch_fix.specs.Parts.{rule_at_one, branch_or_zero, fork_of, part_for, parts_of, blocks_in, tests_in};
 
 use crate::begun::{continues, entered};
 use crate::part::{Fork, Part};
@@ -14,7 +14,8 @@ use std::alloc::Global;
 
 /// The form of this number.
 pub fn form_at(forms: &[Form], form: u64) -> Option<&Form>
-    ensures { MatchOption result (slice_get (rules_of forms.now) form ≡ None) (λ found. slice_get (rules_of forms.now) form ≡ Some (rule_of found.now)) }
+    ensures { MatchOption result (slice_get (rules_of forms.now) form ≡ None) (λ found.
+        slice_get (rules_of forms.now) form ≡ Some (rule_of found.now)) }
 {
     forms.get(form as usize)
 }
@@ -42,7 +43,7 @@ fn size_at(sizes: &[u32], block: u32) -> u32
 }
 
 fn given(branches: &[(u64, u64)], test: usize) -> (u64, u64)
-    ensures { result ≡ given (slice_get branches.now test) }
+    ensures { result ≡ branch_or_zero (slice_get branches.now test) }
 {
     match branches.get(test) {
         Some(branch) => *branch,
@@ -148,7 +149,8 @@ fn tests_in(part: Part) -> usize
     }
 }
 
-// How many blocks there are up to a part, with so many before it. Want of memory where they are more than can be numbered.
+// How many blocks there are up to a part, with so many before it. Want of memory where they are
+// more than can be numbered.
 fn blocks_up_to(block: u32, part: Part) -> Result<u32, NoMemory>
     ensures { IfOk result (λ n. n ≡ block + blocks_in part) }
 {
@@ -158,7 +160,8 @@ fn blocks_up_to(block: u32, part: Part) -> Result<u32, NoMemory>
     }
 }
 
-/// The parts of a flow: `sizes` has the words of each block, and `branches` the branch form and the setting of each test.
+/// The parts of a flow: `sizes` has the words of each block, and `branches` the branch form and the
+/// setting of each test.
 pub fn parts(
     alloc: Global,
     forms: &[Form],

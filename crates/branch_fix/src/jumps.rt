@@ -25,7 +25,8 @@ fn reaches(form: &Form, reach: u64) -> bool
 
 /// The first jump form of this reach.
 pub fn jump_form(forms: &[Form], reach: u64) -> Option<&Form>
-    ensures { MatchOption result (jump_form (rules_of forms.now) reach ≡ None) (λ form. jump_form (rules_of forms.now) reach ≡ Some (rule_of form.now)) }
+    ensures { MatchOption result (jump_form (rules_of forms.now) reach ≡ None) (λ form.
+        jump_form (rules_of forms.now) reach ≡ Some (rule_of form.now)) }
 {
     for form in forms {
         if reaches(form, reach) {

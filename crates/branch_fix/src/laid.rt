@@ -7,8 +7,8 @@ use rec_bits::Items;
 /// A word of the code.
 #[derive(Clone, Copy, Debug, PartialEq, Eq)]
 pub enum Item {
-    /// The word of a block's group. The blocks are numbered in the order of the flow, the code of each test's operands among them, and the
-    /// groups of a block in their order, both from 0.
+    /// The word of a block's group. The blocks are numbered in the order of the flow, the code of
+    /// each test's operands among them, and the groups of a block in their order, both from 0.
     Group { block: u32, at: u32 },
     /// A jump or branch word.
     Jump(Step),

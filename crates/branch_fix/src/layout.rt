@@ -3,10 +3,10 @@
 ghost use Rattle.std.specs.Prelude.{◌≡◌, ◌+◌, ◌<◌, ◌≤◌, ◌^◌, IfOk, IfErr};
 ghost use Rattle.form_model.specs.Rules.{rules_of};
 ghost use Rattle.branch_fix.specs.Parts.{parts_of, starts, marks_from, total};
-ghost use Rattle.branch_fix.specs.Rounds.{IsSettled};
+ghost use Rattle.branch_fix.specs.Rounds.{IsFixpoint};
 ghost use Rattle.branch_fix.specs.Bounds.{control_words, sum_of};
 ghost use Rattle.branch_fix.specs.Items.{jump_form, items_from};
-ghost use Rattle.branch_fix.specs.Laid.{IsLaid, IsRefusal, outline};
+ghost use Rattle.branch_fix.specs.Laid.{IsLaid, IsLayFault, outline};
 
 use crate::cut::parts;
 use crate::fault::LayFault;
@@ -24,7 +24,8 @@ use std::alloc::Global;
 // The words and the marks of parts.
 fn lay(alloc: Global, forms: &[Form], reach: u64, parts: &[Part]) -> Result<Laid, NoMemory>
     requires { total parts.now < 2 ^ 64 }
-    ensures items { IfOk result (λ laid. laid.items ≡ items_from (rules_of forms.now) (jump_form (rules_of forms.now) reach) (starts 0 parts.now) 0 parts.now) }
+    ensures items { IfOk result (λ laid.
+        laid.items ≡ items_from (rules_of forms.now) (jump_form (rules_of forms.now) reach) (starts 0 parts.now) 0 parts.now) }
     ensures marks { IfOk result (λ laid. laid.marks ≡ marks_from 0 parts.now) }
 {
     let jump = jump_form(forms, reach);
@@ -43,7 +44,7 @@ fn settled_parts(
     branches: &[(u64, u64)],
 ) -> Result<Items<Part>, NoMemory>
     requires { sum_of sizes.now + control_words flow.now < 2 ^ 64 }
-    ensures { IfOk result (λ last. IsSettled (rules_of forms.now) (parts_of (rules_of forms.now) flow.now sizes.now branches.now) last) }
+    ensures { IfOk result (λ last. IsFixpoint (rules_of forms.now) (parts_of (rules_of forms.now) flow.now sizes.now branches.now) last) }
 {
     let first = parts(alloc, forms, flow, sizes, branches)?;
     settled(alloc, forms, first)
@@ -51,11 +52,14 @@ fn settled_parts(
 
 /// Lays out code: where the words of its blocks stand, its jump and branch words, and its marks.
 ///
-/// `sizes` has the number of words of each block of the flow, that of a test's operands among them, which is 0 where there are none.
-/// `branches` has for each test, in the order of the flow, its branch form, by its place in the list of forms, and the setting of its
-/// condition's bits. There is room for `words` words, and the code has at most `bound`, which the blocks' sizes have to keep.
+/// `sizes` has the number of words of each block of the flow, that of a test's operands among them,
+/// which is 0 where there are none. `branches` has for each test, in the order of the flow, its
+/// branch form, by its place in the list of forms, and the setting of its condition's bits. There
+/// is room for `words` words, and the code has at most `bound`, which the blocks' sizes have to
+/// keep.
 ///
-/// Refused are a code that may be longer than a jump reaches, and then one that is longer than there is room for.
+/// Refused are a code that may be longer than a jump reaches, and then one that is longer than
+/// there is room for.
 pub fn lay_out(
     alloc: Global,
     flow: &[Flow],
@@ -67,7 +71,7 @@ pub fn lay_out(
 ) -> Result<Laid, LayFault>
     requires bound { sum_of sizes.now + control_words flow.now ≤ bound }
     ensures laid { IfOk result (IsLaid (outline flow.now sizes.now branches.now forms.now words bound)) }
-    ensures refused { IfErr result (IsRefusal (outline flow.now sizes.now branches.now forms.now words bound)) }
+    ensures refused { IfErr result (IsLayFault (outline flow.now sizes.now branches.now forms.now words bound)) }
 {
     let reach = forms.reach;
     if bound > reach {

@@ -3,8 +3,8 @@
 //!
 //! Promise: `lay_out` gives the words and marks of a flow, whose blocks have so many words each,
 //! exactly (`laid`: `IsLaid`), or tells that the bound is beyond the reach of jumps, and then that
-//! the words are more than there is room for (`refused`: `IsRefusal`). `bound` gives the bound of a
-//! flow (`bound_of`). The laws: an image whose words stand for a flow's parts traces the program
+//! the words are more than there is room for (`refused`: `IsLayFault`). `bound` gives the bound of
+//! a flow (`bound_of`). The laws: an image whose words stand for a flow's parts traces the program
 //! (`law_of_layouts`: `IsMade`), the rounds settle on one list of parts (`law_of_parts`), the bound
 //! is the program's own (`law_of_bounds`), and target bits lead to their targets
 //! (`law_of_targets`).
@@ -25,9 +25,8 @@
 //! - `bounds`: the most words that a program has.
 //! - `fault`, `layout`: why code was not laid out, and `lay_out`.
 //! - `laws`: the laws above.
-//! - `specs/`: `Parts`, `Rounds`, `Items`, `Laid`, `Marked`, `Made`, `Bounds`, `Costs` and
-//!   `Entered`, but for six definitions in them, are cited by public contracts, here and in
-//!   `right_code`; `Flowing` is for proofs; `Worked` is computed.
+//! - `specs/`: what is cited by public contracts, here and in `right_code`; `Worked` is computed.
+//!   `specs/Inner/`: `Flowing`, for proofs.
 //! - `proofs/`: `Placing` carries the law of layouts, `Layouts` and `Laying` the call, `Rounds`,
 //!   `Costs`, `Settings` the other laws.
 #![tactic(auto)]

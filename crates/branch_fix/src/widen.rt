@@ -4,7 +4,7 @@ ghost use Rattle.std.specs.Prelude.{◌≡◌, ◌+◌, ◌<◌, ◌≤◌, ◌^
 ghost use Rattle.net_model.specs.Terms.{term_of, term_width};
 ghost use Rattle.form_model.specs.Rules.{kind_of, rules_of};
 ghost use Rattle.branch_fix.specs.Parts.{room, total};
-ghost use Rattle.branch_fix.specs.Rounds.{distance, is_long, kind_shows, long_tests, round, rounds, rule_shows, widened, widened_from, widened_part, IsSettled};
+ghost use Rattle.branch_fix.specs.Rounds.{distance, is_long, kind_shows, long_tests, round, rounds, rule_shows, widened, widened_from, widened_part, IsFixpoint};
 
 use crate::cut::form_at;
 use crate::part::{Fork, Part};
@@ -131,7 +131,7 @@ fn long_tests(parts: &[Part]) -> usize
 /// The parts when rounds are repeated until one changes nothing.
 pub fn settled(alloc: Global, forms: &[Form], first: Items<Part>) -> Result<Items<Part>, NoMemory>
     requires { (n : ℕ) → total (rounds (rules_of forms.now) n first) < 2 ^ 64 }
-    ensures { IfOk result (λ last. IsSettled (rules_of forms.now) first last) }
+    ensures { IfOk result (λ last. IsFixpoint (rules_of forms.now) first last) }
 {
     let mut parts = first;
     'rounds: loop {

@@ -6,9 +6,9 @@ use Rattle.src_model.specs.declared.checkpoint.Checkpoint.{Checkpoint}
 use Rattle.src_model.specs.declared.checkpoint.Checkpoint.TheVariants.{At, End}
 use Rattle.src_model.specs.declared.program.Var.{Var as Declared}
 use Rattle.src_model.specs.Meaning.{cells_in}
-use Rattle.code_model.specs.Machine.{Entry}
-use Rattle.checkpoint_text.specs.Texts.{cell_name, change, changes_from, changes, label_text, checkpoint_line}
-use Rattle.checkpoint_text.specs.Rooms.{LabelFits, EntryFits, changes_room, line_room}
+use Rattle.code_model.specs.Machine.{TraceEntry}
+use Rattle.checkpoint_text.specs.Texts.{cell_name, change, changes_from, changes, checkpoint_label, checkpoint_line}
+use Rattle.checkpoint_text.specs.Rooms.{CheckpointFits, EntryFits, changes_room, line_room}
 
 digits_32 : (n : ℕ) → n < 2 ^ 32 → length (decimal n) ≤ 10
 digits_32 n h = length-decimal-le 10 n (omega arith) (omega (arith, h)) (omega (arith, h))
@@ -74,18 +74,18 @@ changes_short (var ∷ vars) olds news few h =
     let rest = changes_short vars (drop n olds) (drop n news) (omega (arith, few, length_left n news)) (λ cell. left_fits n cell news h) in
     omega (arith, length-append (changes_from var 0 (take n olds) (take n news)) (changes vars (drop n olds) (drop n news)), own, rest, times_less (length (take n news)) n (length var.name + 34) (length_taken n news))
 
-label_short : (label : Checkpoint) → LabelFits label → length (label_text label) ≤ 10
+label_short : (label : Checkpoint) → CheckpointFits label → length (checkpoint_label label) ≤ 10
 label_short (At tree) h = digits_32 tree h
 label_short End h = omega arith
 
-pub line_short : (vars : List Declared) (before : List ℕ) (entry : Entry) → EntryFits entry → length (checkpoint_line vars before entry) ≤ line_room vars
+pub line_short : (vars : List Declared) (before : List ℕ) (entry : TraceEntry) → EntryFits entry → length (checkpoint_line vars before entry) ≤ line_room vars
 line_short vars before entry fits =
     let told = changes vars before entry.passed.cells in
     let back = told ++ (10 ∷ []) in
     omega (
       arith,
-      length-append (decimal entry.cycle) (32 ∷ (label_text entry.passed.label ++ back)),
-      length-append (label_text entry.passed.label) back,
+      length-append (decimal entry.cycle) (32 ∷ (checkpoint_label entry.passed.label ++ back)),
+      length-append (checkpoint_label entry.passed.label) back,
       length-append told (10 ∷ []),
       digits_32 entry.cycle fits.cycle,
       label_short entry.passed.label fits.label,

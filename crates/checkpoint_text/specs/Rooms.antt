@@ -4,16 +4,16 @@ use Rattle.src_model.specs.declared.checkpoint.Checkpoint.{Checkpoint}
 use Rattle.src_model.specs.declared.checkpoint.Checkpoint.TheVariants.{At, End}
 use Rattle.src_model.specs.declared.program.Var.{Var as Declared}
 use Rattle.src_model.specs.Meaning.{cells_in}
-use Rattle.code_model.specs.Machine.{Entry}
+use Rattle.code_model.specs.Machine.{TraceEntry}
 
-abbrev pub LabelFits : Checkpoint → Type 0
-LabelFits (At tree) = tree < 2 ^ 32
-LabelFits End = Unit {0}
+abbrev pub CheckpointFits : Checkpoint → Type 0
+CheckpointFits (At tree) = tree < 2 ^ 32
+CheckpointFits End = Unit {0}
 
 -- a cycle and a label of 32 bits each, fewer than 2 ^ 32 cells, and values of 64 bits
-pub record EntryFits (entry : Entry) : Type 0 where
+pub record EntryFits (entry : TraceEntry) : Type 0 where
   pub cycle : entry.cycle < 2 ^ 32
-  pub label : LabelFits entry.passed.label
+  pub label : CheckpointFits entry.passed.label
   pub few : length entry.passed.cells < 2 ^ 32
   pub values : (cell : ℕ) → slice_index entry.passed.cells cell < 2 ^ 64
 

@@ -1,5 +1,6 @@
--- The text of checkpoints: a line for each, with the cells that changed since the line before, and a last line that tells whether the end was
--- seen. A store is the list of the cells of all variables, in order of place.
+-- The text of checkpoints: a line for each, with the cells that changed since the line before, and
+-- a last line that tells whether the end was seen. A store is the list of the cells of all
+-- variables, in order of place.
 use Rattle.std.specs.Prelude.{ℕ, ◌+◌, ◌==◌, ◌||◌, if◌then◌else◌, Bool, true, false, List, [], ◌∷◌, ◌++◌, codes, drop, replicate, take, Option, Some, None}
 use Rattle.std.specs.List.{concat}
 use Rattle.std.specs.Fmt.{decimal}
@@ -7,17 +8,14 @@ use Rattle.src_model.specs.declared.checkpoint.Checkpoint.{Checkpoint}
 use Rattle.src_model.specs.declared.checkpoint.Checkpoint.TheVariants.{At, End}
 use Rattle.src_model.specs.declared.program.Var.{Var as Declared}
 use Rattle.src_model.specs.Meaning.{cells_in, cell_count}
-use Rattle.code_model.specs.Machine.{Entry}
+use Rattle.code_model.specs.Machine.{TraceEntry}
+use Rattle.src_model.specs.Meaning.{zeros}
 
 -- ---- stores
 
 -- the cells of these variables, the first of which has this address in the memory
 abbrev pub store_from : List Declared → ℕ → List ℕ → List ℕ
 store_from vars address cells = take (cell_count vars) (drop address cells)
-
--- nothing but zeros
-abbrev pub zeros : List Declared → List ℕ
-zeros vars = replicate (cell_count vars) 0
 
 -- ---- cells that changed
 
@@ -46,21 +44,22 @@ changes (var ∷ vars) olds news =
 -- ---- lines
 
 -- the tree's number, or end
-abbrev pub label_text : Checkpoint → List ℕ
-label_text (At tree) = decimal tree
-label_text End = codes "end"
+abbrev pub checkpoint_label : Checkpoint → List ℕ
+checkpoint_label (At tree) = decimal tree
+checkpoint_label End = codes "end"
 
 -- at CYCLE LABEL, and what changed since this store
-abbrev pub checkpoint_line : List Declared → List ℕ → Entry → List ℕ
+abbrev pub checkpoint_line : List Declared → List ℕ → TraceEntry → List ℕ
 checkpoint_line vars before entry =
-    concat (codes "at " ∷ decimal entry.cycle ∷ codes " " ∷ label_text entry.passed.label ∷ changes vars before entry.passed.cells ∷ codes "\n" ∷ [])
+    concat (codes "at " ∷ decimal entry.cycle ∷ codes " " ∷ checkpoint_label entry.passed.label ∷ changes vars before entry.passed.cells ∷ codes "\n" ∷ [])
 
 -- a checkpoint that is seen
-abbrev pub entry_of : ℕ → Checkpoint → List ℕ → Entry
-entry_of cycle label cells = record { cycle = cycle; passed = record { label = label; cells = cells } }
+abbrev pub trace_entry : ℕ → Checkpoint → List ℕ → TraceEntry
+trace_entry cycle label cells = record { cycle = cycle; passed = record { label = label; cells = cells } }
 
--- a line for each checkpoint, the first relative to this store, and each later one to the store of the line before
-abbrev pub checkpoint_lines : List Declared → List ℕ → List Entry → List ℕ
+-- a line for each checkpoint, the first relative to this store, and each later one to the store of
+-- the line before
+abbrev pub checkpoint_lines : List Declared → List ℕ → List TraceEntry → List ℕ
 checkpoint_lines vars before [] = []
 checkpoint_lines vars before (entry ∷ entries) = checkpoint_line vars before entry ++ checkpoint_lines vars entry.passed.cells entries
 
@@ -71,7 +70,7 @@ is_end (At tree) = false
 is_end End = true
 
 -- whether the end was seen
-abbrev pub has_end : List Entry → Bool
+abbrev pub has_end : List TraceEntry → Bool
 has_end [] = false
 has_end (entry ∷ entries) = is_end entry.passed.label || has_end entries
 
@@ -80,5 +79,5 @@ abbrev pub last_line : Bool → List ℕ
 last_line ended = if ended then codes "end\n" else codes "budget\n"
 
 -- the lines, of which the first has all cells that aren't 0, and the last line
-abbrev pub checkpoint_text : List Declared → List Entry → List ℕ
+abbrev pub checkpoint_text : List Declared → List TraceEntry → List ℕ
 checkpoint_text vars entries = checkpoint_lines vars (zeros vars) entries ++ last_line (has_end entries)

@@ -7,14 +7,14 @@ use Rattle.src_model.specs.declared.checkpoint.Checkpoint.TheVariants.{At}
 use Rattle.src_model.specs.declared.program.Var.{Var as Declared}
 use Rattle.code_model.specs.declared.image.Image.{Image}
 use Rattle.code_model.specs.declared.image.Word.{Word}
-use Rattle.code_model.specs.Machine.{Entry, Traced, Shows, Clashes, mtrace}
+use Rattle.code_model.specs.Machine.{TraceEntry, Traced, Shows, Clashes, mtrace}
 use Rattle.checkpoint_text.specs.Texts.{checkpoint_text}
 
 abbrev word : ℕ → Word
 word bits = record { word = bits; patterns = [] }
 
--- var a; while a != 0 { a = a - 1; }
---   0103 0708 0501 0400 0103 0300 0403 0600 0608, where a stands at 3, the test at 0 and the end at 8
+-- var a; while a != 0 { a = a - 1; } 0103 0708 0501 0400 0103 0300 0403 0600 0608, where a stands
+-- at 3, the test at 0 and the end at 8
 abbrev counting_down : Image
 counting_down = record {
   bits = 12;
@@ -46,11 +46,12 @@ pub from_greatest : text_of (mtrace a16 counting_down (start 65535) 0 10) ≡ co
 unfolding digits
 from_greatest = refl
 
--- an array of one cell has an index, a plain variable has none; a cell that becomes 0 is told, and one that stays isn't
+-- an array of one cell has an index, a plain variable has none; a cell that becomes 0 is told, and
+-- one that stays isn't
 abbrev one_each : List Declared
 one_each = record { name = codes "x"; at = 4; len = Some 1 } ∷ record { name = codes "y"; at = 10; len = None } ∷ []
 
-abbrev seen : ℕ → List ℕ → Entry
+abbrev seen : ℕ → List ℕ → TraceEntry
 seen cycle cells = record { cycle = cycle; passed = record { label = At 7; cells = cells } }
 
 pub since_the_last : checkpoint_text one_each (seen 3 (1 ∷ 2 ∷ []) ∷ seen 5 (0 ∷ 2 ∷ []) ∷ []) ≡ codes "at 3 7 x[0]=1 y=2\nat 5 7 x[0]=0\nbudget\n"

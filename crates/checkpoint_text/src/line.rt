@@ -3,7 +3,7 @@
 ghost use Rattle.std.specs.Prelude.{◌≡◌, ◌+◌, ◌++◌, ◌<◌, ◌≤◌, ◌^◌, length, drop, take, slice_index, vec_capacity, IsOk, OnOk};
 ghost use Rattle.std.specs.Fmt.{decimal};
 ghost use Rattle.src_model.specs.Meaning.{cells_in, cell_count};
-ghost use Rattle.checkpoint_text.specs.Texts.{cell_name, change, changes, changes_from, checkpoint_line, entry_of, label_text, store_from};
+ghost use Rattle.checkpoint_text.specs.Texts.{cell_name, change, changes, changes_from, checkpoint_line, trace_entry, checkpoint_label, store_from};
 
 use cycle_sim::Sim;
 use itoa::Buffer;
@@ -111,9 +111,9 @@ fn put_changes(
 }
 
 fn put_label(line: &mut Vec<u8>, label: Checkpoint) -> Result<(), NoMemory>
-    ensures text { OnOk result (line.new.items ≡ line.old.items ++ label_text label) }
+    ensures text { OnOk result (line.new.items ≡ line.old.items ++ checkpoint_label label) }
     ensures room { vec_capacity line.old ≤ vec_capacity line.new }
-    ensures succeeds { length line.old.items + length (label_text label) ≤ vec_capacity line.old → IsOk result }
+    ensures succeeds { length line.old.items + length (checkpoint_label label) ≤ vec_capacity line.old → IsOk result }
 {
     match label {
         Checkpoint::At(tree) => put_number(line, u64::from(tree)),
@@ -124,8 +124,9 @@ fn put_label(line: &mut Vec<u8>, label: Checkpoint) -> Result<(), NoMemory>
     }
 }
 
-/// Puts the line of the checkpoint with this label, seen in this cycle, behind what `line` holds: what changed since the store `before`, where
-/// the first of the variables' cells stands at `address`. It fails only where `line` has no room for all of it and gets no more.
+/// Puts the line of the checkpoint with this label, seen in this cycle, behind what `line` holds:
+/// what changed since the store `before`, where the first of the variables' cells stands at
+/// `address`. It fails only where `line` has no room for all of it and gets no more.
 pub fn write_line(
     line: &mut Vec<u8>,
     vars: &[Var],
@@ -138,9 +139,9 @@ pub fn write_line(
     requires whole { length before.now ≡ cell_count vars.now }
     requires within { address + cell_count vars.now ≤ length sim.now.state.cells }
     requires few { length sim.now.state.cells < 2 ^ 32 }
-    ensures text { OnOk result (line.new.items ≡ line.old.items ++ checkpoint_line vars.now before.now (entry_of cycle label (store_from vars.now address sim.now.state.cells))) }
+    ensures text { OnOk result (line.new.items ≡ line.old.items ++ checkpoint_line vars.now before.now (trace_entry cycle label (store_from vars.now address sim.now.state.cells))) }
     ensures room { vec_capacity line.old ≤ vec_capacity line.new }
-    ensures succeeds { length line.old.items + length (checkpoint_line vars.now before.now (entry_of cycle label (store_from vars.now address sim.now.state.cells))) ≤ vec_capacity line.old → IsOk result }
+    ensures succeeds { length line.old.items + length (checkpoint_line vars.now before.now (trace_entry cycle label (store_from vars.now address sim.now.state.cells))) ≤ vec_capacity line.old → IsOk result }
 {
     line.extend_from_slice(b"at ")?;
     put_number(line, u64::from(cycle))?;

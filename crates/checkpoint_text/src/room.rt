@@ -1,7 +1,7 @@
 //! The room of a line.
 
 ghost use Rattle.std.specs.Prelude.{◌≡◌, ◌≤◌, [], ℕ, List, length, vec_capacity, IfOk, IfSome};
-ghost use Rattle.code_model.specs.Machine.{Entry};
+ghost use Rattle.code_model.specs.Machine.{TraceEntry};
 ghost use Rattle.checkpoint_text.specs.Rooms.{changes_room, line_room, EntryFits};
 ghost use Rattle.checkpoint_text.specs.Texts.{checkpoint_line};
 
@@ -27,8 +27,8 @@ fn changes_room(vars: &[Var]) -> Option<usize>
     Some(room)
 }
 
-/// Room for the line of any checkpoint of a program with these variables, with all their cells in it and every number at its greatest width, so
-/// that `write_line` into it can't fail.
+/// Room for the line of any checkpoint of a program with these variables, with all their cells in
+/// it and every number at its greatest width, so that `write_line` into it can't fail.
 pub fn line_room(alloc: Global, vars: &[Var]) -> Result<Vec<u8>, NoMemory>
     ensures empty { IfOk result (λ line. line.items ≡ []) }
     ensures room { IfOk result (λ line. line_room vars.now ≤ vec_capacity line) }

@@ -3,7 +3,7 @@ use Rattle.std.proofs.Common.{ℕ, ◌≡◌, ◌&&◌, true, refl, ◌∙◌}
 use Rattle.rec_bits.proofs.Booleans.{both}
 use Rattle.net_model.specs.declared.states.State.{State}
 use Rattle.net_model.specs.Terms.{Term, word, reg, const, read, un, bin, slice, cat, zext, sext, select}
-use Rattle.net_model.specs.Symbolic.{blank}
+use Rattle.net_model.specs.Symbolic.{no_state}
 use Rattle.net_model.specs.Meaning.{mean}
 use Rattle.code_model.specs.Words.{is_fixed, IsFixedAt}
 
@@ -24,4 +24,4 @@ fixed_mean (select c a b) s r i f =
     rw (fixed_mean c s r i p.0, fixed_mean a s r i q.0, fixed_mean b s r i q.1) refl
 
 pub fixed_is : (e : Term) (i value : ℕ) (s : State) → IsFixedAt i e value → mean e s i ≡ value
-fixed_is e i value s f = fixed_mean e s blank i f.fixed ∙ f.is
+fixed_is e i value s f = fixed_mean e s no_state i f.fixed ∙ f.is

@@ -9,7 +9,8 @@ use Rattle.net_model.specs.Clock.{clock, Next}
 use Rattle.src_model.specs.Ways.{Passed, Onward, pass, choose, loop, finish}
 use Rattle.code_model.specs.Places.{words_of}
 use Rattle.code_model.specs.Machine.{label_in, store_in}
-use Rattle.code_model.specs.Flow.{Reaches, Follows, Stands, Leads, Tests}
+use Rattle.code_model.specs.Flow.{Reaches}
+use Rattle.code_model.specs.Inner.Flow.{Follows, Stands, Leads, Tests}
 
 module _ (netlist : Netlist) (image : Image) where
   pub reaches_on : (n : ℕ) (s t u : State) (k N : ℕ) → N ≡ n + k → Reaches netlist image s n t → Reaches netlist image t k u → Reaches netlist image s N u

@@ -7,15 +7,15 @@ use Rattle.code_model.proofs.Tracing.{Enough, Told, told, first_agree, paced_agr
 use Rattle.src_model.proofs.WayLemmas.{IsWhole, Whole, Steady, front}
 use Rattle.src_model.specs.Ways.{Passed, Onward}
 use Rattle.code_model.specs.Places.{words_of}
-use Rattle.code_model.specs.Machine.{store_in, Entry}
+use Rattle.code_model.specs.Machine.{store_in, TraceEntry}
 use Rattle.code_model.specs.Right.{IsPaced, ShowsSource}
-use Rattle.code_model.specs.Flow.{Follows}
+use Rattle.code_model.specs.Inner.Flow.{Follows}
 
 enough_of : (n m : ℕ) (ps : List Passed) → n < m → IsWhole m ps → Enough n ps
 enough_of n m ps lt (inl e) = inl (omega arith)
 enough_of n m ps lt (inr e) = inr e
 
-paced_more : (clocks a b : ℕ) (es : List Entry) → a ≤ b → IsPaced clocks a es → IsPaced clocks b es
+paced_more : (clocks a b : ℕ) (es : List TraceEntry) → a ≤ b → IsPaced clocks a es → IsPaced clocks b es
 paced_more clocks a b [] le p = tt
 paced_more clocks a b (e ∷ es) le p = (let q : e.cycle ≤ a = p.0 in omega arith, p.1)
 

@@ -9,20 +9,22 @@ use Rattle.code_model.specs.declared.image.Image.{Image}
 use Rattle.net_model.specs.Clock.{clock, Next}
 use Rattle.src_model.specs.Ways.{Passed}
 use Rattle.code_model.specs.Places.{words_of}
-use Rattle.code_model.specs.Machine.{label_in, store_in, Entry, Shows, mtrace}
+use Rattle.code_model.specs.Machine.{label_in, store_in, TraceEntry, Shows, mtrace}
 use Rattle.code_model.specs.Right.{passed_of, IsPaced}
 use Rattle.src_model.proofs.WayLemmas.{has_end}
-use Rattle.code_model.specs.Flow.{Reaches, Then, Follows}
+use Rattle.code_model.specs.Flow.{Reaches}
+use Rattle.code_model.specs.Inner.Flow.{Then, Follows}
 
 -- ---- what a trace over some clocks has to do with the checkpoints that follow
 
 -- what holds of what comes after a checkpoint and after its entry
-abbrev pub AgreesThen : Checkpoint → List Passed → List Entry → Type 0 → Type 0
+abbrev pub AgreesThen : Checkpoint → List Passed → List TraceEntry → Type 0 → Type 0
 AgreesThen (At tree) ps es Later = Later
 AgreesThen End ps es Later = (ps ≡ []) × (es ≡ [])
 
--- these entries are the first of these checkpoints, each in time, and the trace stops before the next deadline
-abbrev pub Agrees : ℕ → ℕ → ℕ → List Passed → List Entry → Type 0
+-- these entries are the first of these checkpoints, each in time, and the trace stops before the
+-- next deadline
+abbrev pub Agrees : ℕ → ℕ → ℕ → List Passed → List TraceEntry → Type 0
 Agrees l deadline stop [] [] = stop < deadline
 Agrees l deadline stop (p ∷ ps) [] = stop < deadline
 Agrees l deadline stop [] (e ∷ es) = ⊥
@@ -34,7 +36,7 @@ abbrev pub Enough : ℕ → List Passed → Type 0
 Enough n ps = (n < length ps) ⊎ (has_end ps ≡ true)
 
 pub record Told (netlist : Netlist) (image : Image) (l d : ℕ) (s : State) (c n : ℕ) (ps : List Passed) : Type 0 where
-  pub entries : List Entry
+  pub entries : List TraceEntry
   pub traced : mtrace netlist image s c n ≡ Shows entries
   pub agrees : Agrees l (c + d) (c + n) ps entries
 
@@ -65,7 +67,7 @@ module _ (netlist : Netlist) (image : Image) where
   last_trace : (t : State) (c tree : ℕ) (cells : List ℕ) → label_in netlist image t ≡ Some (At tree) → store_in image t ≡ cells → mtrace netlist image t c 0 ≡ Shows (record { cycle = c; passed = record { label = At tree; cells = cells } } ∷ [])
   last_trace t c tree cells e s = rw (e, s) refl
 
-  test_trace : (t u : State) (c tree k : ℕ) (cells : List ℕ) (es : List Entry) → label_in netlist image t ≡ Some (At tree) → store_in image t ≡ cells → clock netlist (words_of image) t ≡ Next u →
+  test_trace : (t u : State) (c tree k : ℕ) (cells : List ℕ) (es : List TraceEntry) → label_in netlist image t ≡ Some (At tree) → store_in image t ≡ cells → clock netlist (words_of image) t ≡ Next u →
       mtrace netlist image u (c + 1) k ≡ Shows es → mtrace netlist image t c (suc k) ≡ Shows (record { cycle = c; passed = record { label = At tree; cells = cells } } ∷ es)
   test_trace t u c tree k cells es e s clk later = rw (e, s, clk, later) refl
 
@@ -77,13 +79,13 @@ module _ (netlist : Netlist) (image : Image) where
   enough_less n k ps le (inl lt) = inl (omega arith)
   enough_less n k ps le (inr e) = inr e
 
-  agrees_at : (l d e stop stop' : ℕ) (ps : List Passed) (es : List Entry) → d ≡ e → stop ≡ stop' → Agrees l d stop ps es → Agrees l e stop' ps es
+  agrees_at : (l d e stop stop' : ℕ) (ps : List Passed) (es : List TraceEntry) → d ≡ e → stop ≡ stop' → Agrees l d stop ps es → Agrees l e stop' ps es
   agrees_at l d e stop stop' ps es p q a = subst (λ (x : ℕ). Agrees l x stop' ps es) p (subst (λ (x : ℕ). Agrees l d x ps es) q a)
 
   module _ (l : ℕ) where
     -- the trace from a mark on
     pub record ToldAt (t : State) (c k deadline : ℕ) (ps : List Passed) : Type 0 where
-      pub entries : List Entry
+      pub entries : List TraceEntry
       pub traced : mtrace netlist image t c k ≡ Shows entries
       pub agrees : Agrees l deadline (c + k) ps entries
 
@@ -147,12 +149,12 @@ paced_on cycle deadline stop m l p q = grind arith
 no_time : (deadline stop m l : ℕ) → stop < deadline → deadline + suc m * (l + 1) ≤ stop + (l + 1) → ⊥
 no_time deadline stop m l p q = grind arith
 
-first_later : (m : ℕ) (label : Checkpoint) (ps : List Passed) (es : List Entry) (Later : Type 0) → (Later → take m (passed_of es) ≡ take m ps) → AgreesThen label ps es Later → take m (passed_of es) ≡ take m ps
+first_later : (m : ℕ) (label : Checkpoint) (ps : List Passed) (es : List TraceEntry) (Later : Type 0) → (Later → take m (passed_of es) ≡ take m ps) → AgreesThen label ps es Later → take m (passed_of es) ≡ take m ps
 first_later m (At tree) ps es Later ih h = ih h
 first_later m End ps es Later ih h = rw (h.0, h.1) refl
 
 -- as many entries as whole deadlines lie before the trace's stop are the first checkpoints
-pub first_agree : (l m : ℕ) (deadline stop : ℕ) (ps : List Passed) (es : List Entry) → deadline + m * (l + 1) ≤ stop + (l + 1) → Agrees l deadline stop ps es → take m (passed_of es) ≡ take m ps
+pub first_agree : (l m : ℕ) (deadline stop : ℕ) (ps : List Passed) (es : List TraceEntry) → deadline + m * (l + 1) ≤ stop + (l + 1) → Agrees l deadline stop ps es → take m (passed_of es) ≡ take m ps
 first_agree l zero deadline stop ps es le a = refl
 first_agree l (suc m) deadline stop [] [] le a = refl
 first_agree l (suc m) deadline stop (p ∷ ps) [] le a = absurd (no_time deadline stop m l a le)
@@ -160,12 +162,12 @@ first_agree l (suc m) deadline stop [] (e ∷ es) le a = absurd a
 first_agree l (suc m) deadline stop (p ∷ ps) (e ∷ es) le a =
     cons_same (a.0) (first_later m p.label ps es _ (λ h. first_agree l m (e.cycle + (l + 1)) stop ps es (paced_on e.cycle deadline stop m l a.1 le) h) a.2)
 
-paced_later : (l deadline : ℕ) (label : Checkpoint) (ps : List Passed) (es : List Entry) (Later : Type 0) → (Later → IsPaced (l + 1) deadline es) → AgreesThen label ps es Later → IsPaced (l + 1) deadline es
+paced_later : (l deadline : ℕ) (label : Checkpoint) (ps : List Passed) (es : List TraceEntry) (Later : Type 0) → (Later → IsPaced (l + 1) deadline es) → AgreesThen label ps es Later → IsPaced (l + 1) deadline es
 paced_later l deadline (At tree) ps es Later ih h = ih h
-paced_later l deadline End ps es Later ih h = subst (λ (xs : List Entry). IsPaced (l + 1) deadline xs) (sym h.1) tt
+paced_later l deadline End ps es Later ih h = subst (λ (xs : List TraceEntry). IsPaced (l + 1) deadline xs) (sym h.1) tt
 
 -- entries that agree come in time
-pub paced_agree : (l : ℕ) (deadline stop : ℕ) (ps : List Passed) (es : List Entry) → Agrees l deadline stop ps es → IsPaced (l + 1) deadline es
+pub paced_agree : (l : ℕ) (deadline stop : ℕ) (ps : List Passed) (es : List TraceEntry) → Agrees l deadline stop ps es → IsPaced (l + 1) deadline es
 paced_agree l deadline stop ps [] a = tt
 paced_agree l deadline stop [] (e ∷ es) a = absurd a
 paced_agree l deadline stop (p ∷ ps) (e ∷ es) a =

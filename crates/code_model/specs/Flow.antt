@@ -1,52 +1,14 @@
 -- How clocks lead from state to state, and from checkpoint to checkpoint.
-use Rattle.std.specs.Prelude.{ℕ, zero, suc, Bool, true, false, List, [], ◌∷◌, ◌≡◌, ◌≤◌, Some, None}
+use Rattle.std.specs.Prelude.{ℕ, zero, suc, ◌≡◌, None}
 use Rattle.net_model.specs.declared.hardware.Netlist.{Netlist}
 use Rattle.net_model.specs.declared.states.State.{State}
-use Rattle.src_model.specs.declared.checkpoint.Checkpoint.{Checkpoint}
-use Rattle.src_model.specs.declared.checkpoint.Checkpoint.TheVariants.{At, End}
 use Rattle.code_model.specs.declared.image.Image.{Image}
 use Rattle.net_model.specs.Clock.{clock, Next}
-use Rattle.src_model.specs.Ways.{Passed, Onward}
 use Rattle.code_model.specs.Places.{words_of}
-use Rattle.code_model.specs.Machine.{label_in, store_in}
+use Rattle.code_model.specs.Machine.{label_in}
 
 -- n clocks lead from s to t, and none of the states before t stands at a mark
 abbrev pub Reaches : Netlist → Image → State → ℕ → State → Type 0
 Reaches netlist image s zero t = s ≡ t
 Reaches netlist image s (suc n) t =
     (u : State) × (label_in netlist image s ≡ None) × (clock netlist (words_of image) s ≡ Next u) × Reaches netlist image u n t
-
--- what holds after a checkpoint: nothing comes after the end, and something after a test
-abbrev pub Then : Checkpoint → List Passed → Type 0 → Type 0
-Then (At tree) ps Later = Later
-Then End ps Later = ps ≡ []
-
--- from s the machine shows these checkpoints: the first within d clocks, each later one within l clocks of the clock that leaves the one before
-abbrev pub Follows : Netlist → Image → ℕ → ℕ → State → List Passed → Type 0
-Follows netlist image l d s [] = Unit {0}
-Follows netlist image l d s (p ∷ ps) =
-    (n : ℕ) × (t : State) × (n ≤ d) × Reaches netlist image s n t
-    × (label_in netlist image t ≡ Some p.label) × (store_in image t ≡ p.cells)
-    × Then p.label ps ((u : State) × (clock netlist (words_of image) t ≡ Next u) × Follows netlist image l l u ps)
-
--- from each of these states the machine shows the checkpoints of a way on, up to m of them, the first within d clocks
-abbrev pub Stands : Netlist → Image → ℕ → ℕ → (State → Type 0) → Onward → ℕ → Type 0
-Stands netlist image l d P way m =
-    (j : ℕ) → j ≤ m → (s : State) → P s → Follows netlist image l d s (way j (store_in image s))
-
--- within so many clocks, and without a mark before the last state, s leads to such a state with this store
-pub record Leads (netlist : Netlist) (image : Image) (Q : State → Type 0) (cells : List ℕ) (clocks : ℕ) (s : State) : Type 0 where
-  pub taken : ℕ
-  pub last : State
-  pub within : taken ≤ clocks
-  pub reaches : Reaches netlist image s taken last
-  pub holds : Q last
-  pub store : store_in image last ≡ cells
-
--- s stands at the mark of a test, and the test decides where it leads, which leaves the store
-pub record Tests (netlist : Netlist) (image : Image) (tree : ℕ) (test : List ℕ → Bool) (Q R : State → Type 0) (clocks : ℕ) (s : State) : Type 0 where
-  pub label : label_in netlist image s ≡ Some (At tree)
-  pub next : State
-  pub clocked : clock netlist (words_of image) s ≡ Next next
-  pub on_true : test (store_in image s) ≡ true → Leads netlist image Q (store_in image s) clocks next
-  pub on_false : test (store_in image s) ≡ false → Leads netlist image R (store_in image s) clocks next

@@ -70,7 +70,8 @@ pub record CodeFits (bits : ℕ) (code : Word) : Type 0 where
 
 -- ---- images
 
--- names are names, numbers are below 2^32, marks ascend with the end as the last, and the words are those of a code
+-- names are names, numbers are below 2^32, marks ascend with the end as the last, and the words are
+-- those of a code
 pub record IsFitting (limits : Limits) (image : Image) : Type 0 where
   pub bits : image.bits ≡ limits.bits
   pub few : length image.words ≤ limits.words

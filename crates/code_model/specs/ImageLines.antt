@@ -18,9 +18,10 @@ pub record IsImageText (limits : Limits) (bytes : List ℕ) (image : Image) : Ty
 abbrev pub Begin : Limits → List (List ℕ) → Type 0
 Begin limits lines = (more : List (List ℕ)) × (image : Image) × ((lines ++ more) ≡ lines_of (image_text image)) × IsFitting limits image
 
--- The bytes aren't such a text, and the fault is at this byte: the first of the first line such that the lines before it begin a text
--- and with it they don't, or the end where all lines begin one.
-pub record IsFault (limits : Limits) (bytes : List ℕ) (at : ℕ) : Type 0 where
+-- The bytes aren't such a text, and the fault is at this byte: the first of the first line such
+-- that the lines before it begin a text and with it they don't, or the end where all lines begin
+-- one.
+pub record IsLineFault (limits : Limits) (bytes : List ℕ) (at : ℕ) : Type 0 where
   pub front : List (List ℕ)
   pub rest : List (List ℕ)
   pub lines : lines_of bytes ≡ front ++ rest
@@ -29,6 +30,6 @@ pub record IsFault (limits : Limits) (bytes : List ℕ) (at : ℕ) : Type 0 wher
   pub next : (line : List ℕ) → slice_get rest 0 ≡ Some line → Begin limits (front ++ (line ∷ [])) → ⊥
   pub whole : (image : Image) → IsImageText limits bytes image → ⊥
 
-abbrev pub IsRefusal : Limits → List ℕ → ParseFault → Type 0
-IsRefusal limits bytes (fault.Text at) = IsFault limits bytes at
-IsRefusal limits bytes fault.Memory = Unit {0}
+abbrev pub IsImageRefusal : Limits → List ℕ → ParseFault → Type 0
+IsImageRefusal limits bytes (fault.Text at) = IsLineFault limits bytes at
+IsImageRefusal limits bytes fault.Memory = Unit {0}

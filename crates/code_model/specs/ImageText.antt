@@ -10,8 +10,8 @@ use Rattle.code_model.specs.declared.image.Place.{Place}
 use Rattle.code_model.specs.declared.image.Word.{Word}
 
 -- image BITS COUNT, and temps T
-abbrev pub head_text : Image → List ℕ
-head_text image =
+abbrev pub image_head : Image → List ℕ
+image_head image =
     concat (codes "image " ∷ decimal image.bits ∷ codes " " ∷ decimal (length image.words)
     ∷ codes "\ntemps " ∷ decimal image.temps ∷ codes "\n" ∷ [])
 
@@ -59,5 +59,5 @@ word_lines bytes address (word ∷ words) = word_line bytes address word ++ word
 
 abbrev pub image_text : Image → List ℕ
 image_text image =
-    concat (head_text image ∷ flat_map place_line image.places ∷ flat_map cost_line image.costs ∷ flat_map mark_line image.marks
+    concat (image_head image ∷ flat_map place_line image.places ∷ flat_map cost_line image.costs ∷ flat_map mark_line image.marks
     ∷ word_lines (bytes_of image.bits) 0 image.words ∷ codes "done\n" ∷ [])

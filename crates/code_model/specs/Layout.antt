@@ -1,4 +1,5 @@
--- The layout of a program's memory: the temporary cells from address 0 on, then the variables in the order of their declarations, arrays whole.
+-- The layout of a program's memory: the temporary cells from address 0 on, then the variables in
+-- the order of their declarations, arrays whole.
 use Rattle.std.specs.Prelude.{ℕ, ◌+◌, List, map}
 use Rattle.src_model.specs.declared.program.Var.{Var as Declared}
 use Rattle.src_model.specs.Written.{Listing}

@@ -7,3 +7,4 @@ pub mod Flow
 pub mod ImageText
 pub mod ImageFits
 pub mod ImageLines
+pub mod Inner

@@ -18,38 +18,39 @@ label_in netlist image s = label_at image.marks (counter_in netlist s)
 abbrev pub store_in : Image → State → List ℕ
 store_in image s = cells_at image.places s.cells
 
--- a state that fits the netlist, with the program counter at this address; a start state has it at 0
+-- a state that fits the netlist, with the program counter at this address; a start state has it at
+-- 0
 pub record IsAt (netlist : Netlist) (address : ℕ) (s : State) : Type 0 where
   pub state : IsState netlist s
   pub counter : counter_in netlist s ≡ address
 
 -- a checkpoint with the cycle at which it is seen
-pub record Entry : Type 0 where
+pub record TraceEntry : Type 0 where
   pub cycle : ℕ
   pub passed : Passed
 
 -- a trace: what is seen, or that a clock before the end mark clashes
 pub data Traced : Type 0 where
-  Shows : List Entry → Traced
+  Shows : List TraceEntry → Traced
   Clashes : Traced
 
-abbrev pub before : Entry → Traced → Traced
+abbrev pub before : TraceEntry → Traced → Traced
 before entry (Shows entries) = Shows (entry ∷ entries)
 before entry Clashes = Clashes
 
 -- what is seen at a state with this label and this store, and then later: nothing past the end mark
-abbrev pub seen : Option Checkpoint → ℕ → List ℕ → Traced → Traced
-seen None cycle cells later = later
-seen (Some (At tree)) cycle cells later = before (record { cycle = cycle; passed = record { label = At tree; cells = cells } }) later
-seen (Some End) cycle cells later = Shows (record { cycle = cycle; passed = record { label = End; cells = cells } } ∷ [])
+abbrev pub with_checkpoint : Option Checkpoint → ℕ → List ℕ → Traced → Traced
+with_checkpoint None cycle cells later = later
+with_checkpoint (Some (At tree)) cycle cells later = before (record { cycle = cycle; passed = record { label = At tree; cells = cells } }) later
+with_checkpoint (Some End) cycle cells later = Shows (record { cycle = cycle; passed = record { label = End; cells = cells } } ∷ [])
 
-abbrev pub after : (State → Traced) → Outcome → Traced
-after later (Next t) = later t
-after later (Clash bus) = Clashes
+abbrev pub after_clock : (State → Traced) → Outcome → Traced
+after_clock later (Next t) = later t
+after_clock later (Clash bus) = Clashes
 
 -- what is seen at this state, of this cycle, and at the states after so many clocks
 abbrev pub mtrace : Netlist → Image → State → ℕ → ℕ → Traced
-mtrace netlist image s cycle zero = seen (label_in netlist image s) cycle (store_in image s) (Shows [])
+mtrace netlist image s cycle zero = with_checkpoint (label_in netlist image s) cycle (store_in image s) (Shows [])
 mtrace netlist image s cycle (suc n) =
-    seen (label_in netlist image s) cycle (store_in image s)
-    (after (λ (t : State). mtrace netlist image t (cycle + 1) n) (clock netlist (words_of image) s))
+    with_checkpoint (label_in netlist image s) cycle (store_in image s)
+    (after_clock (λ (t : State). mtrace netlist image t (cycle + 1) n) (clock netlist (words_of image) s))

@@ -8,11 +8,12 @@ use Rattle.src_model.specs.declared.checkpoint.Checkpoint.TheVariants.{End}
 use Rattle.src_model.specs.Ways.{Passed}
 use Rattle.code_model.specs.declared.image.Image.{Image}
 use Rattle.code_model.specs.Places.{words_of, places_from, Apart}
-use Rattle.code_model.specs.Machine.{Entry, Shows, mtrace, label_in, store_in, IsAt}
+use Rattle.code_model.specs.Machine.{TraceEntry, Shows, mtrace, label_in, store_in, IsAt}
 
 -- ---- layout
 
--- the temporary cells from address 0, then the variables in order of declaration; all lie in the memory, and none in another
+-- the temporary cells from address 0, then the variables in order of declaration; all lie in the
+-- memory, and none in another
 pub record IsLaidOut (netlist : Netlist) (cells : ℕ) (vars : List (List ℕ × ℕ)) (image : Image) : Type 0 where
   pub temps : image.temps ≡ cells
   pub places : image.places ≡ places_from image.temps vars
@@ -21,18 +22,20 @@ pub record IsLaidOut (netlist : Netlist) (cells : ℕ) (vars : List (List ℕ ×
 -- ---- trace
 
 -- the checkpoints without their cycles
-abbrev pub passed_of : List Entry → List Passed
+abbrev pub passed_of : List TraceEntry → List Passed
 passed_of [] = []
 passed_of (entry ∷ entries) = entry.passed ∷ passed_of entries
 
--- the first entry comes by the deadline, and each later one at most so many cycles after the one before
-abbrev pub IsPaced : ℕ → ℕ → List Entry → Type 0
+-- the first entry comes by the deadline, and each later one at most so many cycles after the one
+-- before
+abbrev pub IsPaced : ℕ → ℕ → List TraceEntry → Type 0
 IsPaced clocks deadline [] = Unit {0}
 IsPaced clocks deadline (entry ∷ entries) = (entry.cycle ≤ deadline) × IsPaced clocks (entry.cycle + clocks) entries
 
--- from this state the machine shows the source's first m checkpoints, each within one image length of the last, and nothing clashes
+-- from this state the machine shows the source's first m checkpoints, each within one image length
+-- of the last, and nothing clashes
 pub record ShowsSource (netlist : Netlist) (image : Image) (trace : List ℕ → ℕ → List Passed) (s : State) (m : ℕ) : Type 0 where
-  pub entries : List Entry
+  pub entries : List TraceEntry
   pub traced : mtrace netlist image s 0 (m * length (words_of image)) ≡ Shows entries
   pub passed : take m (passed_of entries) ≡ trace (store_in image s) m
   pub paced : IsPaced (length (words_of image)) (length (words_of image)) entries
@@ -43,8 +46,8 @@ pub record Stays (netlist : Netlist) (image : Image) (s : State) (n : ℕ) : Typ
   pub runs : run netlist (words_of image) s n ≡ Reached last
   pub same : store_in image last ≡ store_in image s
 
--- the image's trace is that of a source, whose first m checkpoints from a store are given: from every start state, for every m, and
--- from each state at the end mark on nothing changes
+-- the image's trace is that of a source, whose first m checkpoints from a store are given: from
+-- every start state, for every m, and from each state at the end mark on nothing changes
 pub record TracesRight (netlist : Netlist) (image : Image) (trace : List ℕ → ℕ → List Passed) : Type 0 where
   pub shows : (s : State) → IsAt netlist 0 s → (m : ℕ) → ShowsSource netlist image trace s m
   pub stays : (s t : State) → IsAt netlist 0 s → (k : ℕ) → run netlist (words_of image) s k ≡ Reached t →

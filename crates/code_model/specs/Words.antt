@@ -2,7 +2,7 @@
 use Rattle.std.specs.Prelude.{ℕ, Bool, true, false, ◌≡◌, ◌&&◌}
 use Rattle.net_model.specs.declared.hardware.Netlist.{Netlist}
 use Rattle.net_model.specs.Terms.{Term, word, reg, const, read, un, bin, slice, cat, zext, sext, select, keep, write}
-use Rattle.net_model.specs.Symbolic.{blank}
+use Rattle.net_model.specs.Symbolic.{no_state}
 use Rattle.net_model.specs.Meaning.{mean}
 use Rattle.net_model.specs.Transfers.{IsClean, counter_move, memory_move}
 
@@ -23,7 +23,7 @@ is_fixed (select c a b) = is_fixed c && (is_fixed a && is_fixed b)
 -- an expression that has this value under a word, whatever the state
 pub record IsFixedAt (i : ℕ) (e : Term) (value : ℕ) : Type 0 where
   pub fixed : is_fixed e ≡ true
-  pub is : mean e blank i ≡ value
+  pub is : mean e no_state i ≡ value
 
 -- the word makes the program counter this address
 pub record DoesJump (netlist : Netlist) (i address : ℕ) : Type 0 where

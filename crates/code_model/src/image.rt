@@ -13,7 +13,8 @@ pub struct Place {
     pub len: u32,
 }
 
-/// Where the variables of a program stand: behind so many temporary cells, which have the addresses from 0 on.
+/// Where the variables of a program stand: behind so many temporary cells, which have the addresses
+/// from 0 on.
 #[derive(Debug, Drop)]
 pub struct Places {
     pub temps: u32,
@@ -21,7 +22,8 @@ pub struct Places {
     pub list: Items<Place>,
 }
 
-/// A marked address: the first word of the code of the test with this tree's number, or of the end, where there is no number.
+/// A marked address: the first word of the code of the test with this tree's number, or of the end,
+/// where there is no number.
 #[derive(Clone, Copy, Debug, PartialEq, Eq)]
 pub struct Mark {
     pub address: u32,
@@ -42,8 +44,9 @@ pub fn bytes_of(bits: u8) -> usize
     (usize::from(bits) + 7) / 8
 }
 
-/// An image: the bits of a word, the number of temporary cells, the variables' places in order of declaration, the cost of each tree
-/// with its number, the marks by address, and the words from address 0 on.
+/// An image: the bits of a word, the number of temporary cells, the variables' places in order of
+/// declaration, the cost of each tree with its number, the marks by address, and the words from
+/// address 0 on.
 #[derive(Debug, Drop)]
 pub struct Image {
     pub bits: u8,

@@ -14,8 +14,9 @@
 //! - `specs/`, cited by public contracts in the crates above: `Places` and `Layout` (words, labels,
 //!   and where variables stand), `Machine` (what is seen at marks), `Right` (right code),
 //!   `ImageText`, `ImageFits` and `ImageLines` (the text of an image, and which bytes are one),
-//!   `Words` (words that jump). The source is a parameter of `Right`: the trace of the language
-//!   stands in `src_model`.
+//!   `Words` (words that jump), `Flow`. The source is a parameter of `Right`: the trace of the
+//!   language stands in `src_model`. `specs/Inner/`: `Flow`, what carries a trace from place to
+//!   place, for proofs.
 //! - `Flow` among these has `Reaches`, which the definition of placed words needs; the rest of it,
 //!   `Follows` above all, is what carries a proof from state to state.
 //! - `proofs/`: `Tracing`, `Heads` and `Flowing` from `Follows` to traces; `Ending`, `Fixed`,

@@ -5,7 +5,7 @@ use Rattle.std.proofs.lemmas.List.{get_or-set_other}
 use Rattle.rec_bits.specs.Operators.{apply1_of, slice_of, sext_of}
 use Rattle.net_model.specs.declared.states.State.{State}
 use Rattle.net_model.specs.Terms.{Term, word, reg, const, read, un, bin, slice, cat, zext, sext, select, term_width, Move, keep, write, write_at}
-use Rattle.net_model.specs.Symbolic.{blank}
+use Rattle.net_model.specs.Symbolic.{no_state}
 use Rattle.net_model.specs.Meaning.{mean}
 use Rattle.form_model.specs.Shapes.{is_shape}
 use Rattle.form_model.specs.Effects.{register, cell_at, some_cell, may_see, location_at, move_location, term_reads, apply_move}
@@ -15,7 +15,7 @@ use Rattle.form_set.proofs.ShapeBits.{shape_blank}
 record AreApart (i : ℕ) (a : Term) (j : ℕ) (b : Term) : Type 0 where
   pub first : is_shape a ≡ true
   pub second : is_shape b ≡ true
-  pub differ : mean a blank i ≡ mean b blank j → ⊥
+  pub differ : mean a no_state i ≡ mean b no_state j → ⊥
 
 parts : (b c : Bool) (v w : ℕ) → may_see (if b then cell_at v else some_cell) (if c then cell_at w else some_cell) ≡ false → (b ≡ true) × (c ≡ true) × (v ≡ w → ⊥)
 parts true true v w e = (refl, refl, eqb-false v w e)
@@ -26,7 +26,7 @@ parts false false v w e = absurd (true≢false e)
 -- a read and a write that can't meet have different addresses, in every state
 addresses_differ : (i : ℕ) (a : Term) (s : State) (j : ℕ) (b : Term) (o : State) → may_see (location_at i a) (location_at j b) ≡ false → mean a s i ≡ mean b o j → ⊥
 addresses_differ i a s j b o e same =
-    let p : (is_shape a ≡ true) × (is_shape b ≡ true) × (mean a blank i ≡ mean b blank j → ⊥) = parts (is_shape a) (is_shape b) (mean a blank i) (mean b blank j) e in
+    let p : (is_shape a ≡ true) × (is_shape b ≡ true) × (mean a no_state i ≡ mean b no_state j → ⊥) = parts (is_shape a) (is_shape b) (mean a no_state i) (mean b no_state j) e in
     p.2 (cc (shape_blank a p.0 s i, shape_blank b p.1 o j))
 
 pub mean_apart : (t : Term) (i storage setting : ℕ) (move : Move) (o n : State) → term_reads i t (move_location storage setting move) ≡ false → mean t (apply_move storage move setting o n) i ≡ mean t n i

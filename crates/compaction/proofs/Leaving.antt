@@ -8,7 +8,7 @@ use Rattle.form_model.specs.declared.forms.Step.{Step}
 use Rattle.form_model.specs.Effects.{Operation}
 use Rattle.form_model.specs.Live.{Regs}
 use Rattle.compaction.specs.Packing.{Movable}
-use Rattle.compaction.specs.Turns.{IsMovedAt}
+use Rattle.compaction.specs.Inner.Turns.{IsMovedAt}
 use Rattle.compaction.specs.declared.change.Pair.{Pair}
 
 some_same : {X : Type 0} (x y : X) → Some x ≡ Some y → x ≡ y

@@ -7,7 +7,7 @@ use Rattle.form_model.specs.Live.{Regs, group_reads, group_writes, live_before}
 use Rattle.std.specs.List.Sorted.{IsPermutation}
 use Rattle.std.proofs.lemmas.List.Sorted.{IsPermutation-refl, IsPermutation-sym, IsPermutation-trans, IsPermutation-append_left, IsPermutation-append_right, IsPermutation-middle}
 use Rattle.compaction.specs.Packing.{all_steps, is_read_by, reads_across, reads_from, shares_destination}
-use Rattle.compaction.specs.Turns.{IsSame}
+use Rattle.compaction.specs.Inner.Turns.{IsSame}
 use Rattle.compaction.proofs.Effects.{effect-merge, effect-append, apply_all-pull}
 
 pub or-assoc : (a b c : Bool) → (a || (b || c)) ≡ ((a || b) || c)

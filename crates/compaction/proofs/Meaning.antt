@@ -8,7 +8,7 @@ use Rattle.form_model.specs.Live.{Regs, singles}
 use Rattle.word_fit.specs.Runs.{RunsTo}
 use Rattle.word_fit.proofs.Runs.{runs_to}
 use Rattle.compaction.specs.Meant.{MeansSteps}
-use Rattle.compaction.specs.Turns.{IsSame}
+use Rattle.compaction.specs.Inner.Turns.{IsSame}
 
 effect-singles : {A : Type 0} (m : A → Operation) (xs : List A) (s : State) → groups_effect m (singles xs) s ≡ steps_effect m xs s
 effect-singles m [] s = refl

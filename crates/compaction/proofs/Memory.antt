@@ -2,15 +2,15 @@
 use Rattle.std.proofs.Common.{◌≡◌, ℕ, ◌||◌, Bool, true, false, if◌then◌else◌, refl, sym}
 use Rattle.std.proofs.lemmas.Bool.{true≢false, or_from, or_parts}
 use Rattle.net_model.specs.Terms.{Term, word, reg, const, read, un, bin, slice, cat, zext, sext, select, Move, keep, write, write_at}
-use Rattle.net_model.specs.Symbolic.{blank}
+use Rattle.net_model.specs.Symbolic.{no_state}
 use Rattle.net_model.specs.Meaning.{mean}
 use Rattle.net_model.specs.Occurs.{has_read, move_has_read}
 use Rattle.form_model.specs.Shapes.{is_shape}
-use Rattle.form_model.specs.Effects.{Location, Operation, cell_at, some_cell, is_register, is_store, location_of, move_location, move_reads, reads, term_reads}
+use Rattle.form_model.specs.Effects.{Location, Operation, cell_at, some_cell, names_register, is_store, location_of, move_location, move_reads, reads, term_reads}
 
 -- the location is no register
 abbrev IsCell : Location → Type 0
-IsCell p = (r : ℕ) → is_register p r ≡ false
+IsCell p = (r : ℕ) → names_register p r ≡ false
 
 term_unread : (t : Term) (i : ℕ) (p : Location) → IsCell p → has_read t ≡ false → term_reads i t p ≡ false
 term_unread (word w) i p h e = refl
@@ -45,7 +45,7 @@ stored_cell storage setting keep e = absurd (true≢false (sym e))
 stored_cell storage setting (write t) e = absurd (true≢false (sym e))
 stored_cell storage setting (write_at a t) e = λ r. by (is_shape a) r
   where
-    by : (b : Bool) (r : ℕ) → is_register (if b then cell_at (mean a blank setting) else some_cell) r ≡ false
+    by : (b : Bool) (r : ℕ) → names_register (if b then cell_at (mean a no_state setting) else some_cell) r ≡ false
     by true r = refl
     by false r = refl
 

@@ -7,7 +7,7 @@ use Rattle.form_model.specs.Live.{Regs, live_before, singles}
 use Rattle.word_fit.specs.Groups.{AllHaveWords}
 use Rattle.compaction.specs.Packing.{EachDiffers, IsPacked, IsSettled, Mergeable, Movable, all_steps}
 use Rattle.compaction.specs.Chosen.{Packs, merges, moves}
-use Rattle.compaction.specs.Turns.{AllSettled, FirstSettled, IsPackedTo, IsSame, IsTurn, SettledTo, size, weight}
+use Rattle.compaction.specs.Inner.Turns.{AllSettled, FirstSettled, IsPackedTo, IsSame, IsTurn, SettledTo, size, weight}
 use Rattle.compaction.proofs.Differing.{differ_at, differ_less, differ_more}
 use Rattle.compaction.proofs.Lives.{live-append, same_before, same_behind, same_merged, same_moved, same_refl, same_trans}
 

@@ -8,7 +8,7 @@ use Rattle.form_model.specs.Effects.{Operation}
 use Rattle.form_model.specs.Live.{Regs, live_before}
 use Rattle.compaction.specs.Packing.{EachDiffers, IsSettled, Mergeable, Movable, all_differ}
 use Rattle.compaction.specs.Chosen.{stays}
-use Rattle.compaction.specs.Turns.{IsMoved, IsMovedAt, IsPackedTo, IsTurn}
+use Rattle.compaction.specs.Inner.Turns.{IsMoved, IsMovedAt, IsPackedTo, IsTurn}
 use Rattle.compaction.proofs.Packed.{turn_merged, turn_moved, turn_on, differ_tail}
 use Rattle.compaction.proofs.Lives.{same_merged, same_moved, same_behind}
 use Rattle.compaction.proofs.Differing.{differ_at}

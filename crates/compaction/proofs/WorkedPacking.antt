@@ -1,4 +1,5 @@
--- Worked groups that may be merged, steps that may move, and lists that are packed, where a word does at most two steps.
+-- Worked groups that may be merged, steps that may move, and lists that are packed, where a word
+-- does at most two steps.
 use Rattle.std.proofs.Common.{◌≡◌, ℕ, ◌≤◌, lit<, lit≤, zero, suc, arith, List, [], ◌∷◌, length, slice_get, Some, refl}
 use Rattle.std.proofs.lemmas.Bool.{true≢false}
 use Rattle.std.specs.List.{remove}
@@ -14,7 +15,8 @@ use Rattle.compaction.specs.Worked.{as_is, fetches, loads, stores}
 abbrev fits_two : ℕ → List Operation → Regs → Type 0
 fits_two w g live = length g ≤ 2
 
--- a read may stand beside a store at another address, and not beside one at its own, where it would find the old value
+-- a read may stand beside a store at another address, and not beside one at its own, where it would
+-- find the old value
 merged : Mergeable as_is fits_two (stores 2 ∷ []) (fetches 3 ∷ []) no_regs
 merged = record { differ = refl; apart = refl; word = (0, lit≤ tt) }
 

@@ -4,8 +4,9 @@ use Rattle.form_model.specs.Effects.{Operation}
 use Rattle.form_model.specs.Live.{Regs, live_before}
 use Rattle.compaction.specs.Packing.{IsSettled, Mergeable, Movable}
 
--- from a pair of neighbours on, by its number, these groups become the result: two neighbours are merged where they may be, or else the first
--- movable step of the second moves up; after a change it goes on one group back, and where nothing changes one group on
+-- from a pair of neighbours on, by its number, these groups become the result: two neighbours are
+-- merged where they may be, or else the first movable step of the second moves up; after a change
+-- it goes on one group back, and where nothing changes one group on
 pub data Packs {A : Type 0} (m : A → Operation) (fits : ℕ → List A → Regs → Type 0) (after : Regs) : ℕ → List (List A) → List (List A) → Type 0 where
   ends : (pair : ℕ) (gs result : List (List A)) → length gs ≤ pair + 1 → result ≡ gs → Packs m fits after pair gs result
   merges : (pair : ℕ) (gs result front : List (List A)) (g h : List A) (back : List (List A)) → gs ≡ front ++ g ∷ h ∷ back → length front ≡ pair

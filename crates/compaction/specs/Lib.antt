@@ -2,6 +2,6 @@ pub mod Packing
 pub mod Meant
 pub mod Chosen
 pub mod Lists
-pub mod Turns
 pub mod Machines
 pub mod Worked
+pub mod Inner

@@ -42,15 +42,17 @@ EachDiffers m gs = AllByRecursion (λ g. all_differ m g ≡ true) gs
 
 -- ---- neighbours
 
--- two neighbours may be merged, where `live` is live behind the second: their destinations all differ, no step of the second reads a destination
--- of the first, and some word fits the steps of both
+-- two neighbours may be merged, where `live` is live behind the second: their destinations all
+-- differ, no step of the second reads a destination of the first, and some word fits the steps of
+-- both
 pub record Mergeable {A : Type 0} (m : A → Operation) (fits : ℕ → List A → Regs → Type 0) (g h : List A) (live : Regs) : Type 0 where
   pub differ : all_differ m (g ++ h) ≡ true
   pub apart : reads_across m g h ≡ false
   pub word : (w : ℕ) × fits w (g ++ h) live
 
--- a step may move from a group to the group g before it, where it leaves `rest` behind, which isn't empty: its destination is none of g's, it reads
--- none of them, no step of the rest reads its own, and some word fits g with it and some the rest, with the registers that are live then
+-- a step may move from a group to the group g before it, where it leaves `rest` behind, which isn't
+-- empty: its destination is none of g's, it reads none of them, no step of the rest reads its own,
+-- and some word fits g with it and some the rest, with the registers that are live then
 pub record Movable {A : Type 0} (m : A → Operation) (fits : ℕ → List A → Regs → Type 0) (g : List A) (x : A) (rest : List A) (live : Regs) : Type 0 where
   pub other : 1 ≤ length rest
   pub free : shares_destination m (m x) g ≡ false

@@ -4,8 +4,8 @@ ghost use Rattle.std.specs.Prelude.{◌≡◌, ℕ, ◌<◌, [], ◌∷◌, ◌+
 ghost use Rattle.bit_bdd.specs.Diagrams.{Extends};
 ghost use Rattle.form_model.specs.declared.forms.Step.{Step as TheStep};
 ghost use Rattle.form_model.specs.Live.{regs_of};
-ghost use Rattle.compaction.specs.Machines.{CanMerge, CanMove, Changes, HasWord, IsReadyFor, IsTold, Moves, MovesAt, operation_in};
-ghost use Rattle.compaction.specs.Turns.{IsFree};
+ghost use Rattle.compaction.specs.Inner.Machines.{CanMerge, CanMove, Changes, HasWord, IsReadyFor, HasTables, Moves, MovesAt, operation_in};
+ghost use Rattle.compaction.specs.Inner.Turns.{IsFree};
 
 use crate::copies::{added, joined};
 use crate::depends::{all_differ, is_read_by_either, reads_across, reads_from, shares_destination};
@@ -44,7 +44,8 @@ fn has_word(
     requires ready { IsReadyFor machine.now book.old }
     ensures grows { Extends book.old book.new }
     ensures ready { IsReadyFor machine.now book.new }
-    ensures word { IfOk result (λ found. MatchBool found (HasWord machine.now group.now (regs_of live)) (HasWord machine.now group.now (regs_of live) → ⊥)) }
+    ensures word { IfOk result (λ found.
+        MatchBool found (HasWord machine.now group.now (regs_of live)) (HasWord machine.now group.now (regs_of live) → ⊥)) }
 {
     let found = word_for(
         alloc,
@@ -61,7 +62,8 @@ fn has_word(
     }
 }
 
-// The two groups in one, if they may be merged where `live` is live behind the second. A word is sought only where nothing else forbids it.
+// The two groups in one, if they may be merged where `live` is live behind the second. A word is
+// sought only where nothing else forbids it.
 fn merged(
     alloc: Global,
     machine: &Machine<'_>,
@@ -71,7 +73,7 @@ fn merged(
     live: RegSet,
 ) -> Result<Option<Group>, NoMemory>
     requires ready { IsReadyFor machine.now book.old }
-    requires told { IsTold machine.now }
+    requires told { HasTables machine.now }
     ensures grows { Extends book.old book.new }
     ensures ready { IsReadyFor machine.now book.new }
     ensures merged { IfOk result (λ found. MatchOption found (CanMerge machine.now first.now second.now (regs_of live) → ⊥)
@@ -90,7 +92,8 @@ fn merged(
     Ok(Some(both))
 }
 
-// Whether a step may leave its group for the group before it, but for their words: `front` and `back` stand before it and behind it in its own.
+// Whether a step may leave its group for the group before it, but for their words: `front` and
+// `back` stand before it and behind it in its own.
 fn is_free(
     alloc: Global,
     machine: &Machine<'_>,
@@ -99,7 +102,7 @@ fn is_free(
     front: &[Step],
     back: &[Step],
 ) -> Result<bool, NoMemory>
-    requires { IsTold machine.now }
+    requires { HasTables machine.now }
     ensures { IfOk result (λ free. MatchBool free (IsFree (operation_in machine.now) first.now step (front.now ++ back.now))
         (IsFree (operation_in machine.now) first.now step (front.now ++ back.now) → ⊥)) }
 {
@@ -118,7 +121,8 @@ fn is_free(
     Ok(true)
 }
 
-// The group with the step, and what the step leaves behind, if it may move: `front` and `back` stand before it and behind it in its own group.
+// The group with the step, and what the step leaves behind, if it may move: `front` and `back`
+// stand before it and behind it in its own group.
 fn moved_out(
     alloc: Global,
     machine: &Machine<'_>,
@@ -130,7 +134,7 @@ fn moved_out(
     live: RegSet,
 ) -> Result<Option<Pair>, NoMemory>
     requires ready { IsReadyFor machine.now book.old }
-    requires told { IsTold machine.now }
+    requires told { HasTables machine.now }
     ensures grows { Extends book.old book.new }
     ensures ready { IsReadyFor machine.now book.new }
     ensures moved { IfOk result (λ found. MatchOption found (CanMove machine.now first.now step (front.now ++ back.now) (regs_of live) → ⊥)
@@ -172,7 +176,7 @@ fn moved_at(
     live: RegSet,
 ) -> Result<Option<Pair>, NoMemory>
     requires ready { IsReadyFor machine.now book.old }
-    requires told { IsTold machine.now }
+    requires told { HasTables machine.now }
     requires within { index < length second.now }
     ensures grows { Extends book.old book.new }
     ensures ready { IsReadyFor machine.now book.new }
@@ -197,7 +201,7 @@ fn moved(
     live: RegSet,
 ) -> Result<Option<Pair>, NoMemory>
     requires ready { IsReadyFor machine.now book.old }
-    requires told { IsTold machine.now }
+    requires told { HasTables machine.now }
     ensures grows { Extends book.old book.new }
     ensures ready { IsReadyFor machine.now book.new }
     ensures moved { IfOk result (λ found. MatchOption found
@@ -223,7 +227,7 @@ pub(crate) fn change_of(
     live: RegSet,
 ) -> Result<Change, NoMemory>
     requires ready { IsReadyFor machine.now book.old }
-    requires told { IsTold machine.now }
+    requires told { HasTables machine.now }
     ensures grows { Extends book.old book.new }
     ensures ready { IsReadyFor machine.now book.new }
     ensures change { IfOk result (Changes machine.now first.now second.now (regs_of live)) }

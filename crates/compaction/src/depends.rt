@@ -3,7 +3,7 @@
 ghost use Rattle.std.specs.Prelude.{◌≡◌, ◌++◌, IfOk};
 ghost use Rattle.form_model.specs.Effects.{location_of, reads};
 ghost use Rattle.compaction.specs.Packing.{all_differ, is_read_by, reads_across, reads_from, shares_destination};
-ghost use Rattle.compaction.specs.Machines.{IsTold, operation_in};
+ghost use Rattle.compaction.specs.Inner.Machines.{HasTables, operation_in};
 
 use crate::machine::{Machine, reads_memory};
 use form_model::Step;
@@ -11,15 +11,15 @@ use rec_bits::NoMemory;
 use std::alloc::Global;
 use word_fit::stores_memory;
 
-// Whether the first step may read what the second one writes. Only where the one reads the memory and the other writes it are their addresses
-// looked at.
+// Whether the first step may read what the second one writes. Only where the one reads the memory
+// and the other writes it are their addresses looked at.
 fn touches(
     alloc: Global,
     machine: &Machine<'_>,
     reader: Step,
     writer: Step,
 ) -> Result<bool, NoMemory>
-    requires { IsTold machine.now }
+    requires { HasTables machine.now }
     ensures { IfOk result (λ read. read ≡ reads (operation_in machine.now reader) (location_of (operation_in machine.now writer))) }
 {
     if stores_memory(machine.patterns, writer) && !reads_memory(machine, reader) {
@@ -43,7 +43,7 @@ pub(crate) fn reads_from(
     step: Step,
     group: &[Step],
 ) -> Result<bool, NoMemory>
-    requires { IsTold machine.now }
+    requires { HasTables machine.now }
     ensures { IfOk result (λ read. read ≡ reads_from (operation_in machine.now) (operation_in machine.now step) group.now) }
 {
     match group {
@@ -65,7 +65,7 @@ pub(crate) fn reads_across(
     group: &[Step],
     readers: &[Step],
 ) -> Result<bool, NoMemory>
-    requires { IsTold machine.now }
+    requires { HasTables machine.now }
     ensures { IfOk result (λ read. read ≡ reads_across (operation_in machine.now) group.now readers.now) }
 {
     match readers {
@@ -87,7 +87,7 @@ fn is_read_by(
     step: Step,
     group: &[Step],
 ) -> Result<bool, NoMemory>
-    requires { IsTold machine.now }
+    requires { HasTables machine.now }
     ensures { IfOk result (λ read. read ≡ is_read_by (operation_in machine.now) (operation_in machine.now step) group.now) }
 {
     match group {
@@ -110,7 +110,7 @@ pub(crate) fn is_read_by_either(
     first: &[Step],
     second: &[Step],
 ) -> Result<bool, NoMemory>
-    requires { IsTold machine.now }
+    requires { HasTables machine.now }
     ensures { IfOk result (λ read. read ≡ is_read_by (operation_in machine.now) (operation_in machine.now step) (first.now ++ second.now)) }
 {
     let in_first = is_read_by(alloc, machine, step, first)?;

@@ -8,10 +8,10 @@
 //! group's patterns, ascending.
 //!
 //! Invariant: before each turn of `settle` the pairs before the current one are settled (`PackedTo`
-//! in `specs/Machines`), and `lives` has the registers that are live behind each group. A turn
-//! keeps what the groups do in every state and what is live before them (`IsSame` in
-//! `specs/Turns`), so what was settled to the left stays so; after a change the packer goes on one
-//! pair back. A turn makes the list lighter or goes on by one pair, so it ends.
+//! in `specs/Inner/Machines`), and `lives` has the registers that are live behind each group. A
+//! turn keeps what the groups do in every state and what is live before them (`IsSame` in
+//! `specs/Inner/Turns`), so what was settled to the left stays so; after a change the packer goes
+//! on one pair back. A turn makes the list lighter or goes on by one pair, so it ends.
 //!
 //! Files:
 //!
@@ -23,9 +23,9 @@
 //! - `packer`: from pair to pair, and `pack`.
 //! - `list`: the list of a word's patterns.
 //! - `laws`: `law_of_choice`.
-//! - `specs/`: `Packing` (what may be merged or moved), `Meant`, `Chosen`, `Lists`, and of
-//!   `Machines` `ArePacked` and `IsWritten`, are cited by public contracts; the rest of `Machines`,
-//!   and `Turns`, mirror the packer; `Worked` is computed.
+//! - `specs/`, cited by public contracts: `Packing` (what may be merged or moved), `Meant`,
+//!   `Chosen`, `Lists`, `Machines`; `Worked` is computed. `specs/Inner/`: `Machines` and `Turns`,
+//!   which go with the packer.
 //! - `proofs/`: `Effects`, `Leaving`, `Lives` for one change, `Turns` and `Packed` for the loop,
 //!   `Meaning`, `Choice`, `Ascending`, `Patterns`.
 #![tactic(auto)]

@@ -19,8 +19,8 @@ fn numbers(alloc: Global, steps: &[Step]) -> Result<Vec<u32>, NoMemory>
     Ok(numbers)
 }
 
-/// The numbers of the patterns of a group's steps, ascending: what its word lists. No two of the steps may have one pattern, as `pack` says of its
-/// groups. Want of memory is the only refusal.
+/// The numbers of the patterns of a group's steps, ascending: what its word lists. No two of the
+/// steps may have one pattern, as `pack` says of its groups. Want of memory is the only refusal.
 pub fn pattern_list(alloc: Global, group: &[Step]) -> Result<Items<u32>, NoMemory>
     requires { HasPatternsOnce group.now }
     ensures { IfOk result (IsPatternList group.now) }

@@ -4,7 +4,7 @@ ghost use Rattle.std.specs.Prelude.{◌≡◌, ◌<◌, false, length, IfOk};
 ghost use Rattle.std.specs.List.{slice_index_or};
 ghost use Rattle.net_model.specs.Occurs.{has_read, move_has_read};
 ghost use Rattle.sym_expr.specs.Pools.{term_at};
-ghost use Rattle.compaction.specs.Machines.{AreReaders, IsTold, operation_in};
+ghost use Rattle.compaction.specs.Inner.Machines.{AreReaders, HasTables, operation_in};
 
 use form_model::{RegSet, Step};
 use net_model::Checked;
@@ -68,7 +68,7 @@ pub(crate) fn memory_table(alloc: Global, pool: &Pool) -> Result<Items<bool>, No
 
 /// Whether a step reads the memory.
 pub(crate) fn reads_memory(machine: &Machine<'_>, step: Step) -> bool
-    requires { IsTold machine.now }
+    requires { HasTables machine.now }
     ensures { result ≡ move_has_read (operation_in machine.now step).move }
 {
     match machine.patterns.expr_of(step.pattern) {

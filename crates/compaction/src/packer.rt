@@ -8,7 +8,8 @@ ghost use Rattle.word_fit.specs.Groups.{lives_of};
 ghost use Rattle.word_fit.specs.Steps.{step_operation};
 ghost use Rattle.block_words.specs.Words.{HaveWords};
 ghost use Rattle.compaction.specs.Lists.{EachHasPatternsOnce};
-ghost use Rattle.compaction.specs.Machines.{ArePacked, IsReadyFor, IsTold, IsWritten, PackedTo, Packing, Turns, operation_in};
+ghost use Rattle.compaction.specs.Machines.{ArePacked, IsWritten};
+ghost use Rattle.compaction.specs.Inner.Machines.{IsReadyFor, HasTables, PackedTo, Packing, Turns, operation_in};
 ghost use Rattle.compaction.specs.Meant.{MeansSteps};
 ghost use Rattle.compaction.specs.Packing.{EachDiffers, all_steps};
 
@@ -25,8 +26,8 @@ use sym_expr::Pool;
 use transfer_set::Patterns;
 use word_fit::Group;
 
-// One turn at the pair of neighbours of this number: the pair to go on with. `lives` has the registers that are live behind each group, of which a
-// change of two groups changes one entry.
+// One turn at the pair of neighbours of this number: the pair to go on with. `lives` has the
+// registers that are live behind each group, of which a change of two groups changes one entry.
 fn turn(
     alloc: Global,
     machine: &Machine<'_>,
@@ -37,7 +38,7 @@ fn turn(
     _after: RegSet,
 ) -> Result<usize, NoMemory>
     requires ready { IsReadyFor machine.now book.old }
-    requires told { IsTold machine.now }
+    requires told { HasTables machine.now }
     requires within { pair + 1 < length groups.old.items }
     requires as_long { length lives.old.items ≡ length groups.old.items }
     requires lives { map regs_of lives.old.items ≡ lives_of (operation_in machine.now) groups.old.items (regs_of _after) }
@@ -45,7 +46,8 @@ fn turn(
     ensures grows { Extends book.old book.new }
     ensures ready { IsReadyFor machine.now book.new }
     ensures turn { IfOk result (λ next. Turns machine.now (regs_of _after) groups.old.items groups.new.items pair next) }
-    ensures lives { IfOk result (λ next. map regs_of lives.new.items ≡ lives_of (operation_in machine.now) groups.new.items (regs_of _after)) }
+    ensures lives { IfOk result (λ next.
+        map regs_of lives.new.items ≡ lives_of (operation_in machine.now) groups.new.items (regs_of _after)) }
 {
     let all = groups.as_slice();
     let live = lives.as_slice()[pair + 1];
@@ -89,7 +91,7 @@ fn settle(
     after: RegSet,
 ) -> Result<(), NoMemory>
     requires ready { IsReadyFor machine.now book.old }
-    requires told { IsTold machine.now }
+    requires told { HasTables machine.now }
     requires lives { map regs_of lives.old.items ≡ lives_of (operation_in machine.now) groups.old.items (regs_of after) }
     requires start { PackedTo machine.now (regs_of after) 0 groups.old.items }
     ensures grows { Extends book.old book.new }
@@ -110,7 +112,7 @@ fn live_behind(
     groups: &[Group],
     after: RegSet,
 ) -> Result<Vec<RegSet>, NoMemory>
-    requires { IsTold machine.now }
+    requires { HasTables machine.now }
     ensures { IfOk result (λ lives. map regs_of lives.items ≡ lives_of (operation_in machine.now) groups.now (regs_of after)) }
 {
     let lives = live_with(
@@ -125,10 +127,12 @@ fn live_behind(
     Ok(lives.into_vec())
 }
 
-/// Packs the steps of a block into groups, each of which a word does at one clock edge, where `after` are live behind the block: bit `r` stands for
-/// the register of number `r`. From the front two neighbours are merged where they may be, or else the first movable step of the second moves to
-/// the first; after a change it goes on one group back. Each step has to have a word of its own that fits it, as `law_of_forms` of `block_words`
-/// says of the steps of forms. The book grows, and what it held means what it meant. Want of memory is the only refusal.
+/// Packs the steps of a block into groups, each of which a word does at one clock edge, where
+/// `after` are live behind the block: bit `r` stands for the register of number `r`. From the front
+/// two neighbours are merged where they may be, or else the first movable step of the second moves
+/// to the first; after a change it goes on one group back. Each step has to have a word of its own
+/// that fits it, as `law_of_forms` of `block_words` says of the steps of forms. The book grows, and
+/// what it held means what it meant. Want of memory is the only refusal.
 pub fn pack(
     alloc: Global,
     checked: &Checked,
@@ -143,7 +147,8 @@ pub fn pack(
     ensures grows { Extends book.old book.new }
     ensures ready { IsReady checked.now.netlist book.new pool.now patterns.now }
 
-    // the groups hold the same steps, each as often, and each group has a word and differing destinations, and so differing patterns
+    // the groups hold the same steps, each as often, and each group has a word and differing
+    // destinations, and so differing patterns
     ensures steps { IfOk result (λ groups. IsPermutation steps.now (all_steps groups)) }
     ensures differ { IfOk result (EachDiffers (step_operation pool.now patterns.now)) }
     ensures once { IfOk result EachHasPatternsOnce }

@@ -14,11 +14,12 @@ use Rattle.form_model.specs.Plans.{Plan, use_form, cost, plan_of}
 use Rattle.form_model.specs.Covers.{Stock, Choice, IsChosen, HasNoCover, parts_cost, written, IsBefore}
 use Rattle.cover.specs.declared.covers.JobCover.{JobCover}
 use Rattle.cover.specs.declared.covers.TreeCover.{TreeCover}
-use Rattle.cover.specs.Asks.{Ask, IsSparing}
-use Rattle.cover.specs.Least.{IsLeast}
+use Rattle.cover.specs.Inner.Asks.{Ask, IsSparing}
+use Rattle.cover.specs.Inner.Least.{IsLeast}
 use Rattle.cover.specs.Jobs.{trees_of}
-use Rattle.cover.specs.Choice.{IsFirst}
-use Rattle.cover.specs.Best.{root_ask, choice_of, IsTreeCover, better_of, Beats, IsBestOne, IsBest}
+use Rattle.cover.specs.Inner.Choice.{IsFirst}
+use Rattle.cover.specs.Best.{choice_of}
+use Rattle.cover.specs.Inner.Best.{root_ask, IsTreeCover, better_of, Beats, IsBestOne, IsBest}
 use Rattle.cover.proofs.OrderlyLemmas.{to_orderly, from_orderly, and_zero}
 
 pub first_cost : (stock : Stock) (avoid : ℕ) (ask : Ask) (n : ℕ) (p : Plan) → IsLeast stock avoid ask (Some n) → IsFirst stock avoid ask p → n ≡ cost p

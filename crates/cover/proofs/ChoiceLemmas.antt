@@ -7,9 +7,9 @@ use Rattle.net_model.specs.Terms.{Term}
 use Rattle.form_model.specs.Matches.{Found}
 use Rattle.form_model.specs.Plans.{Plan, use_form, Operands, no_operands, operand_then, Cuts, no_cuts, cut_then, cost, operands_cost, cuts_cost}
 use Rattle.form_model.specs.Covers.{Stock, Operand, operands_of, cuts_of, IsBefore, CutsBefore, SamePlaces}
-use Rattle.cover.specs.Asks.{Ask, operand_ask, cut_ask, with_reg, takes, IsSparing, AreSparing, AreStored}
-use Rattle.cover.specs.Least.{IsLeast, IsLeastForm, IsLeastOrder, IsLeastCut}
-use Rattle.cover.specs.Choice.{Fits, NeverBegins, Starts, StartsCut, IsFirst, OrderBefore, IsFirstOrder, IsFirstCuts}
+use Rattle.cover.specs.Inner.Asks.{Ask, operand_ask, cut_ask, with_reg, takes, IsSparing, AreSparing, AreStored}
+use Rattle.cover.specs.Inner.Least.{IsLeast, IsLeastForm, IsLeastOrder, IsLeastCut}
+use Rattle.cover.specs.Inner.Choice.{Fits, NeverBegins, Starts, StartsCut, IsFirst, OrderBefore, IsFirstOrder, IsFirstCuts}
 use Rattle.cover.proofs.LeastLemmas.{some_of, some_form}
 
 pub cost_pos : (p : Plan) → 0 < cost p

@@ -15,10 +15,10 @@ use Rattle.cover.specs.declared.fits.Want.{Want}
 use Rattle.cover.specs.declared.fits.Fit.{Fit}
 use Rattle.cover.specs.declared.parts.OpenOperand.{OpenOperand}
 use Rattle.cover.specs.declared.parts.OpenCut.{OpenCut}
-use Rattle.cover.specs.Asks.{Ask, takes}
-use Rattle.cover.specs.Least.{IsLeast, IsLeastForm, IsLeastOrder, IsLeastCut, summed}
-use Rattle.cover.specs.Jobs.{stock_of, nodes_of, open_operands, open_cuts}
-use Rattle.cover.specs.Choice.{ask_of, StandsWant, IsFit, Fits, FitOf, NeverBegins}
+use Rattle.cover.specs.Inner.Asks.{Ask, takes}
+use Rattle.cover.specs.Inner.Least.{IsLeast, IsLeastForm, IsLeastOrder, IsLeastCut, summed}
+use Rattle.cover.specs.Inner.Jobs.{stock_of, nodes_of, open_operands, open_cuts}
+use Rattle.cover.specs.Inner.Choice.{ask_of, StandsWant, IsFit, Fits, FitOf, NeverBegins}
 use Rattle.cover.proofs.LeastLemmas.{some_form}
 use Rattle.cover.proofs.ChoiceLemmas.{never_by, fits_least}
 

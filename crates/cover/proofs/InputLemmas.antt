@@ -10,10 +10,10 @@ use Rattle.form_model.specs.Covers.{Stock, Operand}
 use Rattle.form_model.specs.Rules.{Destination}
 use Rattle.cover.specs.declared.parts.OpenOperand.{OpenOperand}
 use Rattle.cover.specs.declared.parts.OpenCut.{OpenCut}
-use Rattle.cover.specs.Asks.{operand_ask, operands_size, rank}
-use Rattle.cover.specs.Least.{IsLeast}
-use Rattle.cover.specs.Rows.{row_ask, IsSlot}
-use Rattle.cover.specs.Jobs.{open_operand, open_operands, open_cuts, CutsAt}
+use Rattle.cover.specs.Inner.Asks.{operand_ask, operands_size, rank}
+use Rattle.cover.specs.Inner.Least.{IsLeast}
+use Rattle.cover.specs.Inner.Rows.{row_ask, IsSlot}
+use Rattle.cover.specs.Inner.Jobs.{open_operand, open_operands, open_cuts, OperandsAt, CutsAt}
 use Rattle.cover.proofs.OfferLemmas.{slot_reg}
 
 pub inputs_at : (is : List OpenOperand) (i : ℕ) (x : OpenOperand) → slice_get is i ≡ Some x → slice_get (open_operands is) i ≡ Some (open_operand x)
@@ -37,6 +37,14 @@ pub size-remove : (ops : List Operand) (i : ℕ) (o : Operand) → slice_get ops
 size-remove [] i o h = absurd (cc)
 size-remove (x ∷ xs) zero o h = let e : x ≡ o = cc in let n = ap (λ (y : Operand). size_of y.tree) e in omega (arith, n)
 size-remove (x ∷ xs) (suc i) o h = let ih = size-remove xs i o h in omega (arith, ih)
+
+pub inputs_split : (is : List OpenOperand) (x : OpenOperand) → slice_get is 0 ≡ Some x → open_operands is ≡ open_operand x ∷ open_operands (drop 1 is)
+inputs_split [] x h = absurd (cc)
+inputs_split (y ∷ is) x h = let e : y ≡ x = cc in ap (λ (z : OpenOperand). open_operand z ∷ open_operands is) e
+
+pub inputs_later : (nodes : List Term) (is : List OpenOperand) → OperandsAt nodes is → OperandsAt nodes (drop 1 is)
+inputs_later nodes [] h = tt
+inputs_later nodes (x ∷ is) h = h.1
 
 pub no_stored : (ts : List OpenCut) → length ts ≡ 0 → open_cuts ts ≡ []
 no_stored [] h = refl

@@ -10,7 +10,9 @@ mod EntryLemmas
 mod SharingLemmas
 mod StartLemmas
 mod ChoiceLemmas
+mod ValueLemmas
 mod MatchLemmas
+mod FloorLemmas
 mod FitLemmas
 mod OrderlyLemmas
 mod BestLemmas

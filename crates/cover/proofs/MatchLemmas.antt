@@ -10,13 +10,13 @@ use Rattle.std.specs.declared.vec.Vec.{Vec}
 use Rattle.std.specs.declared.alloc.Global.{Global}
 use Rattle.net_model.specs.Terms.{Term, size_of}
 use Rattle.form_model.specs.Rules.{Rule, rule_of, kind_of, Destination}
-use Rattle.form_model.specs.Matches.{Site, operand, cut, taken}
-use Rattle.form_model.specs.Plans.{use_form}
+use Rattle.form_model.specs.Matches.{Site, operand, cut, Found, matched, taken}
+use Rattle.form_model.specs.Plans.{use_form, Operands, Cuts, operands_cost, cuts_cost}
 use Rattle.form_model.specs.Covers.{operands_of, cuts_of}
 use Rattle.form_model.specs.declared.forms.Form.{Form}
 use Rattle.tree_grammar.specs.declared.parts.Match.{Match}
 use Rattle.tree_grammar.specs.declared.parts.Part.{Part}
-use Rattle.tree_grammar.specs.Parts.{found_of, parts_of, AreAt}
+use Rattle.tree_grammar.specs.Parts.{found_of, sites_of, AreAt}
 use Rattle.cover.specs.declared.table.Instance.{Instance}
 use Rattle.cover.specs.declared.rows.Offer.{Offer}
 use Rattle.cover.specs.declared.rows.Offer.TheVariants.{Nothing, Chains}
@@ -24,17 +24,18 @@ use Rattle.cover.specs.declared.choice.PartCosts.{PartCosts}
 use Rattle.cover.specs.declared.matches.FormMatch.{FormMatch}
 use Rattle.cover.specs.declared.parts.OpenOperand.{OpenOperand}
 use Rattle.cover.specs.declared.parts.OpenCut.{OpenCut}
-use Rattle.cover.specs.Asks.{takes, rest, start_under, operands_size, terms_size, rank, IsSparing}
-use Rattle.cover.specs.Least.{IsLeast, IsLeastOrder, IsLeastCut, summed}
-use Rattle.cover.specs.Rows.{entry_destination, row_ask, IsSlot, goal_slot, IsOffer, offer_is}
-use Rattle.cover.specs.Jobs.{stock_of, nodes_of, open_operands, open_cuts, OperandsAt, CutsAt}
-use Rattle.cover.specs.Matched.{Takes, IsFormMatch, MatchesForm, with_match, AreFirstMatches}
-use Rattle.cover.specs.Choice.{NeverBegins, CostsOf, BeginsOne}
+use Rattle.cover.specs.Inner.Asks.{takes, rest, start_under, operands_size, terms_size, rank, IsSparing, AreSparing, AreStored}
+use Rattle.cover.specs.Inner.Least.{AtMost, IsLeast, IsLeastOrder, IsLeastCut, IsFloor, summed}
+use Rattle.cover.specs.Inner.Rows.{Row, entry, entry_destination, row_ask, IsSlot, goal_slot, IsOffer, offer_is}
+use Rattle.cover.specs.Inner.Jobs.{stock_of, nodes_of, open_operands, open_cuts, OperandsAt, CutsAt}
+use Rattle.cover.specs.Inner.Matched.{Takes, IsFormMatch, MatchesForm, with_match, AreFirstMatches}
+use Rattle.cover.specs.Inner.Choice.{NeverBegins, CostsOf, BeginsOne}
 use Rattle.cover.proofs.SizeLemmas.{picked, rest_small}
 use Rattle.cover.proofs.SharingLemmas.{get_push}
-use Rattle.cover.proofs.LeastLemmas.{some_form}
+use Rattle.cover.proofs.LeastLemmas.{some_form, both_at_most}
 use Rattle.cover.proofs.OfferLemmas.{row_small, offer_no_spare, offer_chain, offer_form, get_old, get_new}
 use Rattle.cover.proofs.StartLemmas.{Start, rule_at}
+use Rattle.cover.proofs.ValueLemmas.{no_value}
 use Rattle.cover.proofs.ChoiceLemmas.{never_by, cover_exists}
 
 -- ---- the entry from which a match goes on
@@ -66,7 +67,7 @@ start_some (Some p) free q h = (picked (free || nat_lt p 16) (Some p) q h).1
 
 -- ---- one form
 
-pub form_match : (instance : Instance) (form : Form) (k goal : ℕ) (t : Term) (whole : Bool) (size : ℕ) (m : Match) (first second third : List Part) (start : Option ℕ) (ops : Vec OpenOperand Global) (stored : Vec OpenCut Global) → Start instance form k goal t whole m → AreAt (nodes_of instance) m.parts.items → size ≡ size_of t → first ≡ m.parts.items → start ≡ rest size true (parts_of first) → IfSome start (λ q. (u : Term) (w : Bool) → parts_of first ≡ operand q u w ∷ [] → q < 16) → second ≡ m.parts.items → open_operands ops.items ≡ operands_of (parts_of second) → ((nodes : List Term) → AreAt nodes second → OperandsAt nodes ops.items) → third ≡ m.parts.items → open_cuts stored.items ≡ cuts_of (parts_of third) → ((nodes : List Term) → AreAt nodes third → CutsAt nodes stored.items) → IsFormMatch instance t whole (record { form = k; goal = goal; clobbers = form.clobbers; start = start; operands = ops; cuts = stored })
+pub form_match : (instance : Instance) (form : Form) (k goal : ℕ) (t : Term) (whole : Bool) (size : ℕ) (m : Match) (first second third : List Part) (start : Option ℕ) (ops : Vec OpenOperand Global) (stored : Vec OpenCut Global) → Start instance form k goal t whole m → AreAt (nodes_of instance) m.parts.items → size ≡ size_of t → first ≡ m.parts.items → start ≡ rest size true (sites_of first) → IfSome start (λ q. (u : Term) (w : Bool) → sites_of first ≡ operand q u w ∷ [] → q < 16) → second ≡ m.parts.items → open_operands ops.items ≡ operands_of (sites_of second) → ((nodes : List Term) → AreAt nodes second → OperandsAt nodes ops.items) → third ≡ m.parts.items → open_cuts stored.items ≡ cuts_of (sites_of third) → ((nodes : List Term) → AreAt nodes third → CutsAt nodes stored.items) → IsFormMatch instance t whole (record { form = k; goal = goal; clobbers = form.clobbers; start = start; operands = ops; cuts = stored })
 form_match instance form k goal t whole size m first second third start ops stored s at is e1 st reg e2 eo ao e3 es cuts_at = record {
   rule = rule_of form;
   found = found_of m;
@@ -75,10 +76,10 @@ form_match instance form k goal t whole size m first second third start ops stor
   goes = s.goes;
   slot = s.slot;
   takes_it = s.takes_it;
-  start = st ∙ ap (λ n. rest n true (parts_of first)) is ∙ ap (λ l. rest (size_of t) true (parts_of l)) e1;
-  register = subst (λ l. IfSome start (λ q. (u : Term) (w : Bool) → parts_of l ≡ operand q u w ∷ [] → q < 16)) e1 reg;
-  operands = eo ∙ ap (λ l. operands_of (parts_of l)) e2;
-  cuts = es ∙ ap (λ l. cuts_of (parts_of l)) e3;
+  start = st ∙ ap (λ n. rest n true (sites_of first)) is ∙ ap (λ l. rest (size_of t) true (sites_of l)) e1;
+  register = subst (λ l. IfSome start (λ q. (u : Term) (w : Bool) → sites_of l ≡ operand q u w ∷ [] → q < 16)) e1 reg;
+  operands = eo ∙ ap (λ l. operands_of (sites_of l)) e2;
+  cuts = es ∙ ap (λ l. cuts_of (sites_of l)) e3;
   operands_at = ao (nodes_of instance) (subst (AreAt (nodes_of instance)) (sym e2) at);
   cuts_at = cuts_at (nodes_of instance) (subst (AreAt (nodes_of instance)) (sym e3) at);
 }
@@ -103,6 +104,13 @@ never_match instance form k goal t whole destination g o got is some at found no
     let same : x.entry ≡ goal = cc in
     let a : takes (stock_of instance) (rule_of form) (row_ask t whole goal) ≡ Some x.found = subst (λ j. takes (stock_of instance) (rule_of form) (row_ask t whole j) ≡ Some x.found) same (subst (λ r. takes (stock_of instance) r (row_ask t whole x.entry) ≡ Some x.found) h.0 x.takes_it) in
     let b = sym (ap (option_map found_of) none) ∙ found ∙ ap (λ p. taken instance.temps (rule_of form) p t whole) at ∙ a in cc
+
+pub never_value : (instance : Instance) (form : Form) (k : ℕ) (t : Term) (whole : Bool) → slice_get instance.forms.now k ≡ Some form → ((temps : ℕ) (w : Bool) → matched temps (rule_of form).value t w ≡ None) → Takes (stock_of instance) t whole k → ⊥
+never_value instance form k t whole got never x =
+    let h = takes_goal instance form k t whole got x in
+    let is : takes (stock_of instance) (rule_of form) (row_ask t whole x.entry) ≡ Some x.found = subst (λ r. takes (stock_of instance) r (row_ask t whole x.entry) ≡ Some x.found) h.0 x.takes_it in
+    let none = no_value instance.temps (rule_of form) (rule_of form).goal (entry_destination x.entry) t whole (never instance.temps) in
+    let e : ◌≡◌ {A = Option Found} None (Some x.found) = sym none ∙ is in cc
 
 -- ---- the list of matches
 
@@ -168,14 +176,14 @@ module _ (instance : Instance) (avoid : ℕ) (t : Term) (whole : Bool) (m : Form
       let r : IfSome (rest (size_of t) true f.found.sites) (λ q. (u : Term) (w : Bool) → f.found.sites ≡ operand q u w ∷ [] → q < 16) = subst (λ s. IfSome s (λ q. (u : Term) (w : Bool) → f.found.sites ≡ operand q u w ∷ [] → q < 16)) f.start f.register in
       start_rest (size_of t) (avoid == 0) f.found.sites r ∙ ap (λ s. start_under s (avoid == 0)) (sym f.start) ∙ sym is
 
-  pub offer_clobbers : bit_and m.clobbers avoid ≢ 0 → IsOffer (stock_of instance) avoid t whole m.form Nothing
-  offer_clobbers never = offer_no_spare (stock_of instance) avoid t whole m.form f.rule f.listed (λ e. never (subst (λ c. bit_and c avoid ≡ 0) f.clobbers e))
+  pub offer_clobbers : (row : Row) → bit_and m.clobbers avoid ≢ 0 → IsOffer (stock_of instance) avoid t whole row m.form Nothing
+  offer_clobbers row never = offer_no_spare (stock_of instance) avoid t whole row m.form f.rule f.listed (λ e. never (subst (λ c. bit_and c avoid ≡ 0) f.clobbers e))
 
-  pub offer_start : (o : Option ℕ) (q : ℕ) → bit_and m.clobbers avoid ≡ 0 → o ≡ start_under m.start (avoid == 0) → o ≡ Some q → IsOffer (stock_of instance) avoid t whole m.form (Chains (record { start = q; goal = m.goal }))
-  offer_start o q spared is some =
+  pub offer_start : (row : Row) (o : Option ℕ) (q : ℕ) → bit_and m.clobbers avoid ≡ 0 → o ≡ start_under m.start (avoid == 0) → o ≡ Some q → IsOffer (stock_of instance) avoid t whole row m.form (Chains (record { start = q; goal = m.goal }))
+  offer_start row o q spared is some =
       let there : m.start ≡ Some q = start_some m.start (avoid == 0) q (sym is ∙ some) in
       let r : (u : Term) (w : Bool) → f.found.sites ≡ operand q u w ∷ [] → q < 16 = subst (λ s. IfSome s (λ q. (u : Term) (w : Bool) → f.found.sites ≡ operand q u w ∷ [] → q < 16)) there f.register in
-      offer_chain (stock_of instance) avoid t whole m.form f.rule m.goal q f.found f.listed (spared_is spared) f.goes f.slot f.takes_it (rest_is o is ∙ some) (r t whole)
+      offer_chain (stock_of instance) avoid t whole row m.form f.rule m.goal q f.found f.listed (spared_is spared) f.goes f.slot f.takes_it (rest_is o is ∙ some) (r t whole)
 
   pub match_sizes : (o : Option ℕ) → o ≡ start_under m.start (avoid == 0) → o ≡ None → (operands_size (open_operands m.operands.items) < size_of t) × (terms_size (open_cuts m.cuts.items) < size_of t + rank avoid)
   match_sizes o is none =
@@ -183,11 +191,34 @@ module _ (instance : Instance) (avoid : ℕ) (t : Term) (whole : Bool) (m : Form
       let z = rest_small whole t avoid f.found.sites small (rest_is o is ∙ none) in
       (subst (λ l. operands_size l < size_of t) (sym f.operands) z.0, subst (λ l. terms_size l < size_of t + rank avoid) (sym f.cuts) z.1)
 
-  pub offer_costs : (a b c d : Option ℕ) (offer : Offer) → bit_and m.clobbers avoid ≡ 0 → IsLeastOrder (stock_of instance) avoid (open_operands m.operands.items) a → IsLeastCut (stock_of instance) (open_cuts m.cuts.items) b → c ≡ summed (Some 1) a → d ≡ summed c b → offer ≡ offer_is m.goal d → IsOffer (stock_of instance) avoid t whole m.form offer
-  offer_costs a b c d offer spared la lb ec ed el =
+  pub offer_costs : (row : Row) (a b d : Option ℕ) (offer : Offer) → bit_and m.clobbers avoid ≡ 0 → IsLeastOrder (stock_of instance) avoid (open_operands m.operands.items) a → IsLeastCut (stock_of instance) (open_cuts m.cuts.items) b → d ≡ summed (summed (Some 1) a) b → offer ≡ offer_is m.goal d → IsOffer (stock_of instance) avoid t whole row m.form offer
+  offer_costs row a b d offer spared la lb e el =
       let form_least = some_form (stock_of instance) avoid (row_ask t whole m.goal) m.form f.rule f.found a b f.listed (spared_is spared) f.takes_it (subst (λ l. IsLeastOrder (stock_of instance) avoid l a) f.operands la) (subst (λ l. IsLeastCut (stock_of instance) l b) f.cuts lb) in
-      let e : d ≡ summed (summed (Some 1) a) b = ed ∙ ap (λ x. summed x b) ec in
-      subst (IsOffer (stock_of instance) avoid t whole m.form) (sym (el ∙ ap (offer_is m.goal) e)) (offer_form (stock_of instance) avoid t whole m.form f.rule m.goal (summed (summed (Some 1) a) b) f.listed f.goes f.slot form_least)
+      subst (IsOffer (stock_of instance) avoid t whole row m.form) (sym (el ∙ ap (offer_is m.goal) e)) (offer_form (stock_of instance) avoid t whole row m.form f.rule m.goal (summed (summed (Some 1) a) b) f.listed f.goes f.slot form_least)
+
+  -- the parts of a cover that begins with the match's form
+  parts_at : (ps : Operands) (cs : Cuts) (r : ℕ) → IsSlot whole r → IsSparing (stock_of instance) avoid (row_ask t whole r) (use_form m.form ps cs) → (m.goal ≡ r) × AreSparing (stock_of instance) avoid (open_operands m.operands.items) ps × AreStored (stock_of instance) (open_cuts m.cuts.items) cs
+  parts_at ps cs r slot (rule, get, spared, found, is, orders, stored) =
+      let l = f.listed in
+      let same : rule ≡ f.rule = cc in
+      let g : goal_slot f.rule.goal whole ≡ Some r = subst (λ (x : Rule). goal_slot x.goal whole ≡ Some r) same (row_small (stock_of instance) rule t whole r found slot is).0 in
+      let h = f.goes in
+      let at : m.goal ≡ r = cc in
+      let is' : takes (stock_of instance) f.rule (row_ask t whole m.goal) ≡ Some found = subst (λ j. takes (stock_of instance) f.rule (row_ask t whole j) ≡ Some found) (sym at) (subst (λ x. takes (stock_of instance) x (row_ask t whole r) ≡ Some found) same is) in
+      let k = f.takes_it in
+      let equal : found ≡ f.found = cc in
+      (at, subst (λ l. AreSparing (stock_of instance) avoid l ps) (ap (λ (x : Found). operands_of x.sites) equal ∙ sym f.operands) orders, subst (λ l. AreStored (stock_of instance) l cs) (ap (λ (x : Found). cuts_of x.sites) equal ∙ sym f.cuts) stored)
+
+  -- no cover that begins with the match's form costs less than its parts' floor
+  floor_below : (a b : Option ℕ) (ps : Operands) (cs : Cuts) (r : ℕ) → IsFloor (stock_of instance) avoid (open_operands m.operands.items) a → IsLeastCut (stock_of instance) (open_cuts m.cuts.items) b → IsSlot whole r → IsSparing (stock_of instance) avoid (row_ask t whole r) (use_form m.form ps cs) → (m.goal ≡ r) × AtMost (summed (summed (Some 1) a) b) (1 + operands_cost ps + cuts_cost cs)
+  floor_below a b ps cs r floor lb slot sparing =
+      let p = parts_at ps cs r slot sparing in
+      (p.0, both_at_most (summed (Some 1) a) b (1 + operands_cost ps) (cuts_cost cs) (both_at_most (Some 1) a 1 (operands_cost ps) (omega arith) (floor ps p.1)) (lb.least cs p.2))
+
+  pub offer_dear : (row : Row) (a b d : Option ℕ) → IsFloor (stock_of instance) avoid (open_operands m.operands.items) a → IsLeastCut (stock_of instance) (open_cuts m.cuts.items) b → d ≡ summed (summed (Some 1) a) b → ((n : ℕ) → AtMost d n → AtMost (entry row m.goal) n) → IsOffer (stock_of instance) avoid t whole row m.form Nothing
+  offer_dear row a b d floor lb e dear = λ ps cs r slot sparing.
+      let h = floor_below a b ps cs r floor lb slot sparing in
+      subst (λ j. AtMost (entry row j) (1 + operands_cost ps + cuts_cost cs)) h.0 (dear (1 + operands_cost ps + cuts_cost cs) (subst (λ o. AtMost o (1 + operands_cost ps + cuts_cost cs)) (sym e) h.1))
 
   -- ---- covers of one cost
 
@@ -205,6 +236,12 @@ module _ (instance : Instance) (avoid : ℕ) (t : Term) (whole : Bool) (m : Form
         let l = f.listed in
         let same : rule ≡ f.rule = cc in
         never (subst (λ c. bit_and c avoid ≡ 0) (ap (λ (r : Rule). r.clobbers) same ∙ f.clobbers) spared)
+
+    -- a cover by a form whose floor is above n doesn't cost n
+    pub never_above : (a b d : Option ℕ) → IsFloor (stock_of instance) avoid (open_operands m.operands.items) a → IsLeastCut (stock_of instance) (open_cuts m.cuts.items) b → d ≡ summed (summed (Some 1) a) b → (AtMost d n → ⊥) → NeverBegins (stock_of instance) avoid (row_ask t whole slot) n m.form
+    never_above a b d floor lb e above ps cs sparing at =
+        let h = floor_below a b ps cs slot floor lb is_slot sparing in
+        above (subst (λ o. AtMost o n) (sym e) (subst (AtMost (summed (summed (Some 1) a) b)) at h.1))
 
     two_of : (a b : Option ℕ) (x : ℕ) → summed (summed (Some 1) a) b ≡ Some x → (j : ℕ) × (k : ℕ) × (a ≡ Some j) × (b ≡ Some k) × (x ≡ 1 + j + k)
     two_of None b x h = absurd (cc)

@@ -3,13 +3,13 @@ use Rattle.std.proofs.Common.{◌≡◌, ℕ, zero, suc, ◌+◌, List, [], ◌�
 use Rattle.std.specs.Prelude.{slice_get, remove, if◌then◌else◌}
 use Rattle.net_model.specs.Terms.{Term, word, reg, const, read, un, bin, slice, cat, zext, sext, select, size_of}
 use Rattle.form_model.specs.Rules.{Destination, into, cell, stored, temporary, tested}
-use Rattle.tree_grammar.specs.Numbers.{subtrees, Holds}
+use Rattle.tree_grammar.specs.Numbers.{subtrees, HoldsSubtrees}
 use Rattle.tree_grammar.specs.Parts.{Stands}
 use Rattle.tree_grammar.proofs.NumberLemmas.{size_length}
 use Rattle.cover.specs.declared.parts.OpenOperand.{OpenOperand}
 use Rattle.form_model.specs.Trees.{tree_term}
-use Rattle.cover.specs.Rows.{entry_destination}
-use Rattle.cover.specs.Jobs.{job_nodes, OperandsAt}
+use Rattle.cover.specs.Inner.Rows.{entry_destination}
+use Rattle.cover.specs.Inner.Jobs.{job_nodes, OperandsAt}
 
 -- behind each tree of the list stand its subtrees
 abbrev Whole : List Term → Type 0
@@ -69,7 +69,7 @@ whole_job (cell a) t = whole_tree t
 whole_job temporary t = whole_tree t
 whole_job tested t = whole_tree t
 
-pub nodes_hold : (destination : Destination) (u : Term) (n : ℕ) (t : Term) → slice_get (job_nodes destination u) n ≡ Some t → Holds (job_nodes destination u) n t
+pub nodes_hold : (destination : Destination) (u : Term) (n : ℕ) (t : Term) → slice_get (job_nodes destination u) n ≡ Some t → HoldsSubtrees (job_nodes destination u) n t
 nodes_hold destination u n t h k s get = whole_job destination u n t k s h get
 
 from_start : (xs : List Term) (k : ℕ) (s : Term) → slice_get xs k ≡ Some s → slice_get xs (0 + k) ≡ Some s
@@ -86,7 +86,7 @@ root_stands (cell a) t = record { address = tt; value = from_start (subtrees t) 
 root_stands temporary t = record { address = tt; value = from_start (subtrees t) }
 root_stands tested t = record { address = tt; value = from_start (subtrees t) }
 
-pub slot_stands : (nodes : List Term) (n r : ℕ) (t : Term) → Holds nodes n t → Stands nodes n (entry_destination r) t
+pub slot_stands : (nodes : List Term) (n r : ℕ) (t : Term) → HoldsSubtrees nodes n t → Stands nodes n (entry_destination r) t
 slot_stands nodes n r t h = go (nat_lt r 16)
   where
     go : (b : Bool) → Stands nodes n (if b then into r else temporary) t

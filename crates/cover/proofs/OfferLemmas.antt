@@ -12,11 +12,11 @@ use Rattle.form_model.specs.Covers.{Stock, Operand, operands_of, cuts_of}
 use Rattle.cover.specs.declared.rows.ChainRule.{ChainRule}
 use Rattle.cover.specs.declared.rows.Offer.{Offer}
 use Rattle.cover.specs.declared.matches.FormMatch.{FormMatch}
-use Rattle.cover.specs.Matched.{Takes}
+use Rattle.cover.specs.Inner.Matched.{Takes}
 use Rattle.cover.specs.declared.rows.Offer.TheVariants.{Nothing, Chains, Reaches}
-use Rattle.cover.specs.Asks.{operand_ask, cut_ask, takes, IsSparing, AreSparing, AreStored, rest}
-use Rattle.cover.specs.Least.{AtMost, Reached, IsLeastForm}
-use Rattle.cover.specs.Rows.{Row, entry, entry_destination, row_ask, IsSlot, goal_slot, IsLeastRow, IsLift, AreLifts, AreWithin, IsWithin, IsMet, IsTried, IsOffer, offer_is, Noted, IsClosed}
+use Rattle.cover.specs.Inner.Asks.{operand_ask, cut_ask, takes, IsSparing, AreSparing, AreStored, rest}
+use Rattle.cover.specs.Inner.Least.{AtMost, Reached, IsLeastForm}
+use Rattle.cover.specs.Inner.Rows.{Row, entry, entry_destination, row_ask, IsSlot, goal_slot, IsLeastRow, IsLift, AreLifts, AreWithin, IsWithin, IsMet, IsTried, IsOffer, offer_is, Noted, IsClosed}
 use Rattle.cover.proofs.SizeLemmas.{Small, into_small, temp_small, rest_some}
 use Rattle.cover.proofs.LeastLemmas.{at_most_more, some_of}
 
@@ -44,19 +44,19 @@ row_small stock rule t whole r found slot h = go (nat_lt r 16) refl h
 
 -- ---- offers
 
-module _ (stock : Stock) (avoid : ℕ) (t : Term) (whole : Bool) (k : ℕ) where
+module _ (stock : Stock) (avoid : ℕ) (t : Term) (whole : Bool) (row : Row) (k : ℕ) where
   -- a form that goes to no entry of the row
-  pub offer_no_goal : (rule : Rule) → slice_get stock.rules k ≡ Some rule → goal_slot rule.goal whole ≡ None → IsOffer stock avoid t whole k Nothing
+  pub offer_no_goal : (rule : Rule) → slice_get stock.rules k ≡ Some rule → goal_slot rule.goal whole ≡ None → IsOffer stock avoid t whole row k Nothing
   offer_no_goal rule get none = λ ps cs r slot (rule', get', spared, found, is, orders, stored).
       let same : rule' ≡ rule = cc in
       let g = (row_small stock rule' t whole r found slot is).0 in
       let g' : goal_slot rule.goal whole ≡ Some r = subst (λ (x : Rule). goal_slot x.goal whole ≡ Some r) same g in
-      cc
+      absurd (cc)
 
-  pub offer_no_spare : (rule : Rule) → slice_get stock.rules k ≡ Some rule → bit_and rule.clobbers avoid ≢ 0 → IsOffer stock avoid t whole k Nothing
+  pub offer_no_spare : (rule : Rule) → slice_get stock.rules k ≡ Some rule → bit_and rule.clobbers avoid ≢ 0 → IsOffer stock avoid t whole row k Nothing
   offer_no_spare rule get never = λ ps cs r slot (rule', get', spared, found, is, orders, stored).
       let same : rule' ≡ rule = cc in
-      never (subst (λ (x : Rule). bit_and x.clobbers avoid ≡ 0) same spared)
+      absurd (never (subst (λ (x : Rule). bit_and x.clobbers avoid ≡ 0) same spared))
 
   -- the entry to which the form goes
   at_goal : (rule : Rule) (d : ℕ) → slice_get stock.rules k ≡ Some rule → goal_slot rule.goal whole ≡ Some d → (ps : Operands) (cs : Cuts) (r : ℕ) → IsSlot whole r → IsSparing stock avoid (row_ask t whole r) (use_form k ps cs) → d ≡ r
@@ -66,10 +66,10 @@ module _ (stock : Stock) (avoid : ℕ) (t : Term) (whole : Bool) (k : ℕ) where
       let g' : goal_slot rule.goal whole ≡ Some r = subst (λ (x : Rule). goal_slot x.goal whole ≡ Some r) same g in
       cc
 
-  pub offer_form : (rule : Rule) (d : ℕ) (o : Option ℕ) → slice_get stock.rules k ≡ Some rule → goal_slot rule.goal whole ≡ Some d → IsSlot whole d → IsLeastForm stock avoid (row_ask t whole d) k o → IsOffer stock avoid t whole k (offer_is d o)
+  pub offer_form : (rule : Rule) (d : ℕ) (o : Option ℕ) → slice_get stock.rules k ≡ Some rule → goal_slot rule.goal whole ≡ Some d → IsSlot whole d → IsLeastForm stock avoid (row_ask t whole d) k o → IsOffer stock avoid t whole row k (offer_is d o)
   offer_form rule d None get goal slot is = λ ps cs r slot' sparing.
       let e = at_goal rule d get goal ps cs r slot' sparing in
-      is.least ps cs (subst (λ j. IsSparing stock avoid (row_ask t whole j) (use_form k ps cs)) (sym e) sparing)
+      absurd (is.least ps cs (subst (λ j. IsSparing stock avoid (row_ask t whole j) (use_form k ps cs)) (sym e) sparing))
   offer_form rule d (Some n) get goal slot is = (
     slot,
     (let (ps, cs, sparing, e) = is.reached in (use_form k ps cs, sparing, e)),
@@ -94,7 +94,7 @@ module _ (stock : Stock) (avoid : ℕ) (t : Term) (whole : Bool) (k : ℕ) where
   avoid_zero : (avoid == 0) ≡ true → avoid ≡ 0
   avoid_zero e = grind (arith, nat_tests)
 
-  pub offer_chain : (rule : Rule) (d q : ℕ) (found : Found) → slice_get stock.rules k ≡ Some rule → bit_and rule.clobbers avoid ≡ 0 → goal_slot rule.goal whole ≡ Some d → IsSlot whole d → takes stock rule (row_ask t whole d) ≡ Some found → rest (size_of t) (avoid == 0) found.sites ≡ Some q → (found.sites ≡ operand q t whole ∷ [] → q < 16) → IsOffer stock avoid t whole k (Chains (record { start = q; goal = d }))
+  pub offer_chain : (rule : Rule) (d q : ℕ) (found : Found) → slice_get stock.rules k ≡ Some rule → bit_and rule.clobbers avoid ≡ 0 → goal_slot rule.goal whole ≡ Some d → IsSlot whole d → takes stock rule (row_ask t whole d) ≡ Some found → rest (size_of t) (avoid == 0) found.sites ≡ Some q → (found.sites ≡ operand q t whole ∷ [] → q < 16) → IsOffer stock avoid t whole row k (Chains (record { start = q; goal = d }))
   offer_chain rule d q found get spared goal slot is rests within = go (rest_some whole t (avoid == 0) found.sites q (row_small stock rule t whole d found slot is).1 rests)
     where
       -- the parts of a cover by this form
@@ -106,7 +106,7 @@ module _ (stock : Stock) (avoid : ℕ) (t : Term) (whole : Bool) (k : ℕ) where
           let same' : found' ≡ found = cc in
           (e, subst (λ (f : Found). AreSparing stock avoid (operands_of f.sites) ps) same' orders, subst (λ (f : Found). AreStored stock (cuts_of f.sites) cs) same' stored)
 
-      go : (found.sites ≡ operand q t whole ∷ []) ⊎ ((shape : Term) × (found.sites ≡ cut shape t ∷ []) × (whole ≡ false) × ((avoid == 0) ≡ true) × (q ≡ 16)) → IsOffer stock avoid t whole k (Chains (record { start = q; goal = d }))
+      go : (found.sites ≡ operand q t whole ∷ []) ⊎ ((shape : Term) × (found.sites ≡ cut shape t ∷ []) × (whole ≡ false) × ((avoid == 0) ≡ true) × (q ≡ 16)) → IsOffer stock avoid t whole row k (Chains (record { start = q; goal = d }))
       go (inl e) =
           let lt = within e in
           let at = slot_reg q lt in
@@ -190,13 +190,13 @@ module _ (stock : Stock) (avoid : ℕ) (t : Term) (whole : Bool) where
         let there : slice_get list n ≡ Some x = subst (λ j. slice_get list j ≡ Some x) at got in
         let same : x ≡ f = cc in subst (λ (y : FormMatch). IsSparing stock avoid (row_ask t whole r) (use_form y.form ps cs)) same sparing
 
-    pub tried_more : (offer : Offer) (chains chains' : List ChainRule) (old new : Row) → IsTried stock avoid t whole list n chains old → IsOffer stock avoid t whole f.form offer → Noted offer chains chains' old new → IsTried stock avoid t whole list (n + 1) chains' new
+    pub tried_more : (offer : Offer) (chains chains' : List ChainRule) (old new : Row) → IsTried stock avoid t whole list n chains old → IsOffer stock avoid t whole old f.form offer → Noted offer chains chains' old new → IsTried stock avoid t whole list (n + 1) chains' new
     tried_more Nothing chains chains' old new tried offer (e, e') =
         subst (λ ms. IsTried stock avoid t whole list (n + 1) ms new) (sym e) (subst (λ row. IsTried stock avoid t whole list (n + 1) chains row) (sym e') (record {
           sound = tried.sound;
           lifts = tried.lifts;
           met = λ i x ps cs r lt got slot sparing. elim (cases_eq i n) [
-            | inl at ↦ absurd (offer ps cs r slot (at_match i x ps cs r at got sparing))
+            | inl at ↦ inl (offer ps cs r slot (at_match i x ps cs r at got sparing))
             | inr other ↦ tried.met i x ps cs r (omega arith) got slot sparing
           ];
         }))
@@ -246,7 +246,7 @@ module _ (stock : Stock) (avoid : ℕ) (t : Term) (whole : Bool) where
     pub least_row_of : IsLeastRow stock avoid t whole new
     least_row_of r slot = record { reached = closed.sound stock avoid t whole tried.lifts tried.sound r slot; least = λ p h. complete (cost p) p r (omega arith) slot h }
 
-pub look_within : (stock : Stock) (avoid : ℕ) (t : Term) (whole : Bool) (k : ℕ) (offer : Offer) → IsOffer stock avoid t whole k offer → IsWithin offer
-look_within stock avoid t whole k Nothing h = tt
-look_within stock avoid t whole k (Chains m) h = tt
-look_within stock avoid t whole k (Reaches slot n) h = h.0.within
+pub look_within : (stock : Stock) (avoid : ℕ) (t : Term) (whole : Bool) (row : Row) (k : ℕ) (offer : Offer) → IsOffer stock avoid t whole row k offer → IsWithin offer
+look_within stock avoid t whole row k Nothing h = tt
+look_within stock avoid t whole row k (Chains m) h = tt
+look_within stock avoid t whole row k (Reaches slot n) h = h.0.within

@@ -5,7 +5,7 @@ use Rattle.std.proofs.lemmas.Nat.{and_le_l, and_le_r, and_comm, or_comm, and_or_
 use Rattle.net_model.specs.Terms.{Term}
 use Rattle.form_model.specs.Plans.{Plan, use_form, Operands, no_operands, operand_then, Cuts, no_cuts, cut_then}
 use Rattle.form_model.specs.Covers.{Stock, Operand, form_clobbers, written, all_written, IsOrderly, AreOrderly, AreCut}
-use Rattle.cover.specs.Asks.{Ask, operand_ask, cut_ask, with_reg, IsSparing, AreSparing, AreStored}
+use Rattle.cover.specs.Inner.Asks.{Ask, operand_ask, cut_ask, with_reg, IsSparing, AreSparing, AreStored}
 
 zero_and : (a : ℕ) → bit_and 0 a ≡ 0
 zero_and a = let h = and_le_l 0 a in omega (arith, h)
@@ -14,7 +14,7 @@ pub and_zero : (a : ℕ) → bit_and a 0 ≡ 0
 and_zero a = let h = and_le_r a 0 in omega (arith, h)
 
 -- a union is apart from a set exactly where both parts are
-apart_left : (a b s : ℕ) → bit_and (bit_or a b) s ≡ 0 → bit_and a s ≡ 0
+pub apart_left : (a b s : ℕ) → bit_and (bit_or a b) s ≡ 0 → bit_and a s ≡ 0
 apart_left a b s h =
     ap (λ x. bit_and x s) (sym (and_or_self a b))
     ∙ and_assoc s (bit_or b a) a
@@ -24,10 +24,10 @@ apart_left a b s h =
     ∙ ap (λ x. bit_and x a) h
     ∙ zero_and a
 
-apart_right : (a b s : ℕ) → bit_and (bit_or a b) s ≡ 0 → bit_and b s ≡ 0
+pub apart_right : (a b s : ℕ) → bit_and (bit_or a b) s ≡ 0 → bit_and b s ≡ 0
 apart_right a b s h = apart_left b a s (ap (λ x. bit_and x s) (or_comm b a) ∙ h)
 
-apart_both : (a b s : ℕ) → bit_and a s ≡ 0 → bit_and b s ≡ 0 → bit_and (bit_or a b) s ≡ 0
+pub apart_both : (a b s : ℕ) → bit_and a s ≡ 0 → bit_and b s ≡ 0 → bit_and (bit_or a b) s ≡ 0
 apart_both a b s ha hb = and_or_apart s a b hb ∙ ha
 
 mutual

@@ -7,10 +7,10 @@ use Rattle.form_model.specs.Matches.{Site, operand, cut}
 use Rattle.form_model.specs.Covers.{operands_of, cuts_of}
 use Rattle.tree_grammar.specs.declared.parts.Part.{Part}
 use Rattle.tree_grammar.specs.declared.parts.Part.TheVariants
-use Rattle.tree_grammar.specs.Parts.{part_of, parts_of, AreAt, IsAt}
+use Rattle.tree_grammar.specs.Parts.{part_of, sites_of, AreAt, IsPartAt}
 use Rattle.cover.specs.declared.parts.OpenOperand.{OpenOperand}
 use Rattle.cover.specs.declared.parts.OpenCut.{OpenCut}
-use Rattle.cover.specs.Jobs.{open_operand, open_operands, open_cuts, OperandsAt, CutsAt, HasOperand, HasCut}
+use Rattle.cover.specs.Inner.Jobs.{open_operand, open_operands, open_cuts, OperandsAt, CutsAt, HasOperand, HasCut}
 
 pub take_get : {X : Type 0} (xs : List X) (i : ℕ) (x : X) → slice_get xs i ≡ Some x → take (i + 1) xs ≡ take i xs ++ (x ∷ [])
 take_get xs i x h = (let e : i + 1 ≡ suc i = omega arith in ap (λ n. take n xs) e) ∙ go xs i h
@@ -34,7 +34,7 @@ are_first : (nodes : List Term) (xs : List Part) (p : Part) → AreAt nodes (xs 
 are_first nodes [] p h = tt
 are_first nodes (x ∷ xs) p h = (h.0, are_first nodes xs p h.1)
 
-are_last : (nodes : List Term) (xs : List Part) (p : Part) → AreAt nodes (xs ++ (p ∷ [])) → IsAt nodes p
+are_last : (nodes : List Term) (xs : List Part) (p : Part) → AreAt nodes (xs ++ (p ∷ [])) → IsPartAt nodes p
 are_last nodes [] p h = h.0
 are_last nodes (x ∷ xs) p h = are_last nodes xs p h.1
 
@@ -54,19 +54,19 @@ stored_is : (p : Part) (old new : List OpenCut) → HasCut p old new → open_cu
 stored_is (TheVariants.Operand id tree whole at) old new h = ap open_cuts h ∙ (let xs = open_cuts old in search rules)
 stored_is (TheVariants.Cut shape tree at) old new h = ap open_cuts h ∙ map-append _ old _
 
-pub input_step : (p : Part) (old new : List OpenOperand) (xs : List Part) → HasOperand p old new → open_operands old ≡ operands_of (parts_of xs) → open_operands new ≡ operands_of (parts_of (xs ++ (p ∷ [])))
+pub input_step : (p : Part) (old new : List OpenOperand) (xs : List Part) → HasOperand p old new → open_operands old ≡ operands_of (sites_of xs) → open_operands new ≡ operands_of (sites_of (xs ++ (p ∷ [])))
 input_step p old new xs h e =
-    input_is p old new h ∙ ap (λ l. l ++ operands_of (part_of p ∷ [])) e ∙ sym (operands-append (parts_of xs) (part_of p ∷ [])) ∙ ap operands_of (sym (map-append part_of xs (p ∷ [])))
+    input_is p old new h ∙ ap (λ l. l ++ operands_of (part_of p ∷ [])) e ∙ sym (operands-append (sites_of xs) (part_of p ∷ [])) ∙ ap operands_of (sym (map-append part_of xs (p ∷ [])))
 
-pub stored_step : (p : Part) (old new : List OpenCut) (xs : List Part) → HasCut p old new → open_cuts old ≡ cuts_of (parts_of xs) → open_cuts new ≡ cuts_of (parts_of (xs ++ (p ∷ [])))
+pub stored_step : (p : Part) (old new : List OpenCut) (xs : List Part) → HasCut p old new → open_cuts old ≡ cuts_of (sites_of xs) → open_cuts new ≡ cuts_of (sites_of (xs ++ (p ∷ [])))
 stored_step p old new xs h e =
-    stored_is p old new h ∙ ap (λ l. l ++ cuts_of (part_of p ∷ [])) e ∙ sym (cuts-append (parts_of xs) (part_of p ∷ [])) ∙ ap cuts_of (sym (map-append part_of xs (p ∷ [])))
+    stored_is p old new h ∙ ap (λ l. l ++ cuts_of (part_of p ∷ [])) e ∙ sym (cuts-append (sites_of xs) (part_of p ∷ [])) ∙ ap cuts_of (sym (map-append part_of xs (p ∷ [])))
 
-input_put : (nodes : List Term) (p : Part) (old new : List OpenOperand) → HasOperand p old new → IsAt nodes p → OperandsAt nodes old → OperandsAt nodes new
+input_put : (nodes : List Term) (p : Part) (old new : List OpenOperand) → HasOperand p old new → IsPartAt nodes p → OperandsAt nodes old → OperandsAt nodes new
 input_put nodes (TheVariants.Operand id tree whole at) old new h here k = subst (OperandsAt nodes) (sym h) (inputs_push nodes old _ k (here, tt))
 input_put nodes (TheVariants.Cut shape tree at) old new h here k = subst (OperandsAt nodes) (sym h) k
 
-stored_put : (nodes : List Term) (p : Part) (old new : List OpenCut) → HasCut p old new → IsAt nodes p → CutsAt nodes old → CutsAt nodes new
+stored_put : (nodes : List Term) (p : Part) (old new : List OpenCut) → HasCut p old new → IsPartAt nodes p → CutsAt nodes old → CutsAt nodes new
 stored_put nodes (TheVariants.Operand id tree whole at) old new h here k = subst (CutsAt nodes) (sym h) k
 stored_put nodes (TheVariants.Cut shape tree at) old new h here k = subst (CutsAt nodes) (sym h) (stored_push nodes old _ k (here, tt))
 

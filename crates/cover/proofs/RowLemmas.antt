@@ -7,8 +7,8 @@ use Rattle.std.proofs.lemmas.List.Sums.{sum_by-set}
 use Rattle.net_model.specs.Terms.{Term}
 use Rattle.form_model.specs.Covers.{Stock}
 use Rattle.cover.specs.declared.rows.ChainRule.{ChainRule}
-use Rattle.cover.specs.Least.{AtMost, Reached}
-use Rattle.cover.specs.Rows.{Row, entry, row_ask, IsBelow, IsLift, weight, weight_of, Lower, Chained, Changed, Keeps, Swept, IsClosed, Entered}
+use Rattle.cover.specs.Inner.Least.{AtMost, Reached}
+use Rattle.cover.specs.Inner.Rows.{Row, entry, row_ask, IsBelow, IsLift, weight, weight_of, Lower, Chained, Changed, Keeps, Swept, IsClosed, Entered}
 
 -- an entry after a write
 pub entry_same : (row : Row) (d : ℕ) (v : Option ℕ) → d < length row → entry (slice_set row d v) d ≡ v

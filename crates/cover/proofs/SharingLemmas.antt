@@ -13,13 +13,13 @@ use Rattle.net_model.specs.Terms.{Term, read, un, bin, slice, zext, sext, size_o
 use Rattle.form_model.specs.Trees.{tree_term}
 use Rattle.form_model.specs.declared.trees.Tree.{Tree}
 use Rattle.form_model.specs.declared.trees.Tree.TheVariants.{Lit as Lit', Read', Un', Bin', Slice', Zext', Sext'}
-use Rattle.tree_grammar.specs.Numbers.{subtrees, Holds}
+use Rattle.tree_grammar.specs.Numbers.{subtrees, HoldsSubtrees}
 use Rattle.tree_grammar.proofs.NumberLemmas.{lists_tail, holds_left, holds_right, holds_here}
 use Rattle.cover.specs.declared.sharing.Root.{Root}
 use Rattle.cover.specs.declared.sharing.Root.TheVariants.{Lit, Read, Un, Bin, Slice, Zext, Sext}
 use Rattle.cover.specs.declared.sharing.Sharing.{Sharing}
 use Rattle.cover.specs.contracts.sharing.RootPartialEq.TheImpl.{ghosts as root_eq}
-use Rattle.cover.specs.Sharing.{root_term, AreFirsts, AreOwn, Shares, Rooted, Shared, first_of, second_of, operand_size, HaveNumbers, OperandShared}
+use Rattle.cover.specs.Inner.Sharing.{root_term, AreFirsts, AreOwn, Shares, Rooted, Shared, first_of, second_of, operand_size, HaveNumbers, OperandShared}
 
 -- ---- equal roots are the same
 
@@ -110,17 +110,17 @@ own_firsts nodes numbers own = record { equal = λ n f t got here. ap (slice_get
 
 -- ---- operands
 
-holds_first : (nodes : List Term) (at : ℕ) (t a : Term) → first_of t ≡ Some a → Holds nodes at t → Holds nodes (at + 1) a
-holds_first nodes at (read b w) a e h = let same : b ≡ a = cc in subst (λ x. Holds nodes (at + 1) x) same (lists_tail nodes at (read b w) (subtrees b) h)
-holds_first nodes at (un op b) a e h = let same : b ≡ a = cc in subst (λ x. Holds nodes (at + 1) x) same (lists_tail nodes at (un op b) (subtrees b) h)
-holds_first nodes at (bin op b c) a e h = let same : b ≡ a = cc in subst (λ x. Holds nodes (at + 1) x) same (holds_left nodes at (bin op b c) b c h)
-holds_first nodes at (slice b x y) a e h = let same : b ≡ a = cc in subst (λ x. Holds nodes (at + 1) x) same (lists_tail nodes at (slice b x y) (subtrees b) h)
-holds_first nodes at (zext b w) a e h = let same : b ≡ a = cc in subst (λ x. Holds nodes (at + 1) x) same (lists_tail nodes at (zext b w) (subtrees b) h)
-holds_first nodes at (sext b w) a e h = let same : b ≡ a = cc in subst (λ x. Holds nodes (at + 1) x) same (lists_tail nodes at (sext b w) (subtrees b) h)
+holds_first : (nodes : List Term) (at : ℕ) (t a : Term) → first_of t ≡ Some a → HoldsSubtrees nodes at t → HoldsSubtrees nodes (at + 1) a
+holds_first nodes at (read b w) a e h = let same : b ≡ a = cc in subst (λ x. HoldsSubtrees nodes (at + 1) x) same (lists_tail nodes at (read b w) (subtrees b) h)
+holds_first nodes at (un op b) a e h = let same : b ≡ a = cc in subst (λ x. HoldsSubtrees nodes (at + 1) x) same (lists_tail nodes at (un op b) (subtrees b) h)
+holds_first nodes at (bin op b c) a e h = let same : b ≡ a = cc in subst (λ x. HoldsSubtrees nodes (at + 1) x) same (holds_left nodes at (bin op b c) b c h)
+holds_first nodes at (slice b x y) a e h = let same : b ≡ a = cc in subst (λ x. HoldsSubtrees nodes (at + 1) x) same (lists_tail nodes at (slice b x y) (subtrees b) h)
+holds_first nodes at (zext b w) a e h = let same : b ≡ a = cc in subst (λ x. HoldsSubtrees nodes (at + 1) x) same (lists_tail nodes at (zext b w) (subtrees b) h)
+holds_first nodes at (sext b w) a e h = let same : b ≡ a = cc in subst (λ x. HoldsSubtrees nodes (at + 1) x) same (lists_tail nodes at (sext b w) (subtrees b) h)
 holds_first nodes at _ a e h = absurd (cc)
 
-holds_second : (nodes : List Term) (at : ℕ) (t b : Term) → second_of t ≡ Some b → Holds nodes at t → Holds nodes (at + 1 + operand_size (first_of t)) b
-holds_second nodes at (bin op a c) b e h = let same : c ≡ b = cc in subst (λ x. Holds nodes (at + 1 + size_of a) x) same (holds_right nodes at (bin op a c) a c h)
+holds_second : (nodes : List Term) (at : ℕ) (t b : Term) → second_of t ≡ Some b → HoldsSubtrees nodes at t → HoldsSubtrees nodes (at + 1 + operand_size (first_of t)) b
+holds_second nodes at (bin op a c) b e h = let same : c ≡ b = cc in subst (λ x. HoldsSubtrees nodes (at + 1 + size_of a) x) same (holds_right nodes at (bin op a c) a c h)
 holds_second nodes at _ b e h = absurd (cc)
 
 pub tree_sizes : (t : Tree) → size_of (tree_term t) ≡ 1 + operand_size (first_of (tree_term t)) + operand_size (second_of (tree_term t))
@@ -132,7 +132,7 @@ tree_sizes (Slice' p a hi lo) = omega arith
 tree_sizes (Zext' p a w) = omega arith
 tree_sizes (Sext' p a w) = omega arith
 
-operand_found : (old new : Sharing) (at x : ℕ) (o : Option Term) (nodes : List Term) → OperandShared old new at o x → ((a : Term) → o ≡ Some a → Holds nodes at a) → Shares nodes old → Shares nodes new × ((a : Term) → o ≡ Some a → slice_get nodes x ≡ Some a)
+operand_found : (old new : Sharing) (at x : ℕ) (o : Option Term) (nodes : List Term) → OperandShared old new at o x → ((a : Term) → o ≡ Some a → HoldsSubtrees nodes at a) → Shares nodes old → Shares nodes new × ((a : Term) → o ≡ Some a → slice_get nodes x ≡ Some a)
 operand_found old new at x None nodes e holds shares = (subst (Shares nodes) (sym e) shares, λ a h. absurd (cc))
 operand_found old new at x (Some t) nodes h holds shares = let f = h nodes (holds t refl) shares in (f.0, λ a e. f.1 ∙ e)
 
@@ -140,8 +140,8 @@ operand_found old new at x (Some t) nodes h holds shares = let f = h nodes (hold
 pub share_more : (old mid last new : Sharing) (t : Term) (o p : Option Term) (at inner next x y first : ℕ) (root : Root) → o ≡ first_of t → p ≡ second_of t → inner ≡ at + 1 → next ≡ inner + operand_size o → OperandShared old mid inner o x → OperandShared mid last next p y → ((nodes : List Term) → HaveNumbers nodes t x y → root_term nodes root ≡ Some t) → Rooted last new at root first → Shared old new at t first
 share_more old mid last new t o p at inner next x y first root eo ep ei en h k made rooted nodes holds shares =
     let there : next ≡ at + 1 + operand_size (first_of t) = (let s = ap operand_size eo in omega (arith, ei, en, s)) in
-    let f = operand_found old mid inner x o nodes h (λ a e. subst (λ i. Holds nodes i a) (sym ei) (holds_first nodes at t a (sym eo ∙ e) holds)) shares in
-    let g = operand_found mid last next y p nodes k (λ b e. subst (λ i. Holds nodes i b) (sym there) (holds_second nodes at t b (sym ep ∙ e) holds)) f.0 in
+    let f = operand_found old mid inner x o nodes h (λ a e. subst (λ i. HoldsSubtrees nodes i a) (sym ei) (holds_first nodes at t a (sym eo ∙ e) holds)) shares in
+    let g = operand_found mid last next y p nodes k (λ b e. subst (λ i. HoldsSubtrees nodes i b) (sym there) (holds_second nodes at t b (sym ep ∙ e) holds)) f.0 in
     let here = holds_here nodes at t holds in
     let known = rooted nodes (here ∙ sym (made nodes (λ a e. f.1 a (eo ∙ e), λ b e. g.1 b (ep ∙ e)))) g.0 in
     (known.0, known.1 ∙ here)

@@ -10,8 +10,8 @@ use Rattle.form_model.specs.Shapes.{is_shape, shows_below}
 use Rattle.form_model.specs.Rules.{Rule, Kind, into_reg, into_memory, jumps, branches, into, temporary}
 use Rattle.form_model.specs.Matches.{same_op1, same_op2, Site, operand, cut, Found, settled, open_if, both, shape_match, literal_match, cell_match, read_match, un_match, bin_match, slice_match, zext_match, sext_match, matched, address_match, goal_match}
 use Rattle.form_model.specs.Covers.{operands_of, cuts_of}
-use Rattle.cover.specs.Asks.{operands_size, terms_size, rank, rest}
-use Rattle.cover.specs.Rows.{goal_slot}
+use Rattle.cover.specs.Inner.Asks.{operands_size, terms_size, rank, rest}
+use Rattle.cover.specs.Inner.Rows.{goal_slot}
 
 pub picked : {A : Type 0} (b : Bool) (x : Option A) (y : A) → (if b then x else None) ≡ Some y → (b ≡ true) × (x ≡ Some y)
 picked true x y h = (refl, h)

@@ -9,11 +9,11 @@ use Rattle.form_model.specs.Matches.{taken}
 use Rattle.form_model.specs.declared.forms.Form.{Form}
 use Rattle.tree_grammar.specs.declared.parts.Match.{Match}
 use Rattle.form_model.specs.Trees.{tree_term}
-use Rattle.tree_grammar.specs.Parts.{destination_at, found_of, parts_of, AreAt, Stands}
+use Rattle.tree_grammar.specs.Parts.{destination_at, found_of, sites_of, AreAt, Stands}
 use Rattle.cover.specs.declared.table.Instance.{Instance}
-use Rattle.cover.specs.Asks.{takes}
-use Rattle.cover.specs.Rows.{entry_destination, row_ask, IsSlot, goal_slot}
-use Rattle.cover.specs.Jobs.{stock_of, nodes_of}
+use Rattle.cover.specs.Inner.Asks.{takes}
+use Rattle.cover.specs.Inner.Rows.{entry_destination, row_ask, IsSlot, goal_slot}
+use Rattle.cover.specs.Inner.Jobs.{stock_of, nodes_of}
 use Rattle.cover.proofs.SizeLemmas.{Small}
 use Rattle.cover.proofs.OfferLemmas.{row_small}
 use Rattle.cover.proofs.NodeLemmas.{nodes_hold, slot_stands}
@@ -23,7 +23,7 @@ pub record Start (instance : Instance) (form : Form) (k goal : ℕ) (t : Term) (
   pub goes : goal_slot (rule_of form).goal whole ≡ Some goal
   pub slot : IsSlot whole goal
   pub takes_it : takes (stock_of instance) (rule_of form) (row_ask t whole goal) ≡ Some (found_of m)
-  pub small : Small whole t (parts_of m.parts.items)
+  pub small : Small whole t (sites_of m.parts.items)
 
 pub rule_at : (instance : Instance) (k : ℕ) (form : Form) → slice_get instance.forms.now k ≡ Some form → slice_get (stock_of instance).rules k ≡ Some (rule_of form)
 rule_at instance k form h = slice_get-map rule_of instance.forms.now k ∙ ap (option_map rule_of) h

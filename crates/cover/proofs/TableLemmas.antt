@@ -9,11 +9,11 @@ use Rattle.cover.specs.declared.table.Instance.{Instance}
 use Rattle.cover.specs.contracts.table.KeyPartialEq.TheImpl.{ghosts as key_eq}
 use Rattle.std.specs.Prelude.{slice_get}
 use Rattle.net_model.specs.Terms.{Term}
-use Rattle.cover.specs.Least.{IsLeast}
-use Rattle.cover.specs.Rows.{row_ask, IsSlot}
+use Rattle.cover.specs.Inner.Least.{IsLeast}
+use Rattle.cover.specs.Inner.Rows.{row_ask, IsSlot}
 use Rattle.std.specs.contracts.prelude.BoolPartialEq.TheImpl.{ghosts as bool_eq}
-use Rattle.cover.specs.Jobs.{stock_of, nodes_of}
-use Rattle.cover.specs.Tables.{IsRight}
+use Rattle.cover.specs.Inner.Jobs.{stock_of, nodes_of}
+use Rattle.cover.specs.Inner.Tables.{IsRight}
 
 same_bool : (a b : Bool) → bool_eq.eq a b ≡ true → a ≡ b
 same_bool true true h = refl

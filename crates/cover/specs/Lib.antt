@@ -1,10 +1,3 @@
-pub mod Asks
-pub mod Entries
-pub mod Sharing
-pub mod Least
-pub mod Rows
 pub mod Jobs
-pub mod Matched
-pub mod Tables
-pub mod Choice
 pub mod Best
+pub mod Inner

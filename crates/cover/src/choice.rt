@@ -1,19 +1,21 @@
-//! The first cover of least cost: its form, then the order of its operands, then their covers, and those of its cuts.
+//! The first cover of least cost: its form, then the order of its operands, then their covers, and
+//! those of its cuts.
 
 ghost use Rattle.std.specs.Prelude.{◌≡◌, ℕ, ◌+◌, ◌-◌, ◌<◌, ◌≤◌, ◌≢◌, Some, IfOk, OnOk, IfSome, IfNone, length, slice_get};
+ghost use Rattle.std.specs.Bool.{OnTrue};
 ghost use Rattle.form_model.specs.Plans.{operand_then, cut_then, plan_of, operands_plan, cuts_plan};
-ghost use Rattle.cover.specs.Asks.{rest};
-ghost use Rattle.cover.specs.Least.{IsLeast, IsLeastOrder, IsLeastCut};
+ghost use Rattle.cover.specs.Inner.Asks.{rest};
+ghost use Rattle.cover.specs.Inner.Least.{AtMost, IsLeast, IsLeastOrder, IsLeastCut};
 ghost use Rattle.form_model.specs.Trees.{tree_term};
-ghost use Rattle.cover.specs.Rows.{IsSlot, row_ask};
-ghost use Rattle.cover.specs.Matched.{AreMatches};
-ghost use Rattle.cover.specs.Choice.{ask_of, matches_ask, StandsWant, Begins, BeginsAt, CostsOf, Starts, StartsCut, IsFirst, IsFirstOrder, IsFirstCuts};
-ghost use Rattle.cover.specs.Jobs.{stock_of, nodes_of, open_operands, open_cuts, OperandsAt, CutsAt};
-ghost use Rattle.cover.specs.Tables.{AreRight};
+ghost use Rattle.cover.specs.Inner.Rows.{IsSlot, row_ask};
+ghost use Rattle.cover.specs.Inner.Matched.{AreMatches};
+ghost use Rattle.cover.specs.Inner.Choice.{ask_of, matches_ask, StandsWant, Begins, BeginsAt, CostsOf, Starts, StartsCut, IsFirst, IsFirstOrder, IsFirstCuts};
+ghost use Rattle.cover.specs.Inner.Jobs.{stock_of, nodes_of, open_operands, open_cuts, OperandsAt, CutsAt};
+ghost use Rattle.cover.specs.Inner.Tables.{AreRight};
 
-use crate::costs::plus;
+use crate::costs::{form_cost, plus};
 use crate::fits::{Fit, Want, cost_of, fit_at};
-use crate::least::{cuts_cost, least, orders};
+use crate::least::{cuts_cost, floor_of, least, orders};
 use crate::matches::Matches;
 use crate::parts::{OpenCut, OpenOperand, put_reg, register_of, without};
 use crate::table::{CostTable, Instance, matches_at};
@@ -173,7 +175,18 @@ fn costs_of(n: u64, operands: Option<u64>, cuts: Option<u64>) -> Result<Option<P
     Ok(Some(PartCosts { operands, cuts }))
 }
 
-// The least costs of the parts of the match at `i`, if it begins a cover of the least cost `n` for the entry.
+// Whether what costs so much or more can't cost `n`.
+fn is_above(floor: Option<u64>, n: u64) -> bool
+    ensures { OnTrue result (AtMost floor n → ⊥) }
+{
+    match floor {
+        Some(m) => n < m,
+        None => true,
+    }
+}
+
+// The least costs of the parts of the match at `i`, if it begins a cover of the least cost `n` for
+// the entry.
 fn begins_at<'a>(
     alloc: Global,
     instance: &Instance<'a>,
@@ -199,8 +212,12 @@ fn begins_at<'a>(
     if found.clobbers & avoid != 0 {
         return Ok(None);
     }
-    let a = orders(alloc, instance, table, &found.operands, avoid)?;
     let b = cuts_cost(alloc, instance, table, &found.cuts)?;
+    let floor = floor_of(alloc, instance, table, &found.operands, avoid)?;
+    if is_above(form_cost(floor, b)?, n) {
+        return Ok(None);
+    }
+    let a = orders(alloc, instance, table, &found.operands, avoid)?;
     costs_of(n, a, b)
 }
 
@@ -269,7 +286,8 @@ fn choose_among<'a>(
     unreachable!()
 }
 
-// The covers of operands in their order, from that of the first, which stands at a place among those that are left.
+// The covers of operands in their order, from that of the first, which stands at a place among
+// those that are left.
 fn operand_first(
     alloc: Global,
     place: usize,

@@ -1,9 +1,9 @@
 //! Costs: how many forms a cover has.
 
-ghost use Rattle.std.specs.Prelude.{◌≡◌, ◌+◌, IfOk};
+ghost use Rattle.std.specs.Prelude.{◌≡◌, ◌+◌, ℕ, Some, IfOk};
 ghost use Rattle.std.specs.Bool.{OnTrue, OnFalse};
-ghost use Rattle.cover.specs.Least.{AtMost, lesser, summed};
-ghost use Rattle.cover.specs.Rows.{IsBelow};
+ghost use Rattle.cover.specs.Inner.Least.{AtMost, lesser, summed};
+ghost use Rattle.cover.specs.Inner.Rows.{IsBelow};
 
 use rec_bits::NoMemory;
 
@@ -34,6 +34,24 @@ pub(crate) fn sum_of(a: Option<u64>, b: Option<u64>) -> Result<Option<u64>, NoMe
     match (a, b) {
         (Some(m), Some(n)) => Ok(Some(plus(m, n)?)),
         _ => Ok(None),
+    }
+}
+
+// The cost of a form with the parts of its match.
+pub(crate) fn form_cost(operands: Option<u64>, cuts: Option<u64>) -> Result<Option<u64>, NoMemory>
+    ensures { IfOk result (λ o. o ≡ summed (summed (Some 1) operands) cuts) }
+{
+    sum_of(sum_of(Some(1), operands)?, cuts)
+}
+
+// Whether what costs so much or more can't be less than the cost that is known.
+pub(crate) fn is_as_dear(floor: Option<u64>, known: Option<u64>) -> bool
+    ensures { OnTrue result ((n : ℕ) → AtMost floor n → AtMost known n) }
+{
+    match (floor, known) {
+        (None, _) => true,
+        (_, None) => false,
+        (Some(m), Some(k)) => k <= m,
     }
 }
 

@@ -1,10 +1,10 @@
 //! The forms that begin a cover of what is asked for, and the least cost of its covers.
 
 ghost use Rattle.std.specs.Prelude.{◌≡◌, ◌+◌, ◌<◌, IfOk, OnOk, IfSome, length};
-ghost use Rattle.cover.specs.Least.{IsLeast, IsLeastForm};
-ghost use Rattle.cover.specs.Choice.{ask_of, StandsWant, IsFit, FitOf};
-ghost use Rattle.cover.specs.Jobs.{stock_of, nodes_of, OperandsAt, CutsAt};
-ghost use Rattle.cover.specs.Tables.{AreRight};
+ghost use Rattle.cover.specs.Inner.Least.{IsLeast, IsLeastForm};
+ghost use Rattle.cover.specs.Inner.Choice.{ask_of, StandsWant, IsFit, FitOf};
+ghost use Rattle.cover.specs.Inner.Jobs.{stock_of, nodes_of, OperandsAt, CutsAt};
+ghost use Rattle.cover.specs.Inner.Tables.{AreRight};
 
 use crate::costs::{lesser_of, plus};
 use crate::least::{cuts_cost, orders};

@@ -7,8 +7,10 @@ ghost use Rattle.form_model.specs.Rules.{destination_of};
 ghost use Rattle.form_model.specs.Covers.{IsChosen, HasNoCover, job_cost};
 ghost use Rattle.form_model.specs.Plans.{cost, plan_of};
 ghost use Rattle.tree_grammar.specs.Parts.{destination_at};
-ghost use Rattle.cover.specs.Best.{root_ask, stock_with, choice_of, IsTreeCover, better_of, IsBest};
-ghost use Rattle.cover.specs.Jobs.{trees_of, stock_of};
+ghost use Rattle.cover.specs.Best.{stock_with, choice_of};
+ghost use Rattle.cover.specs.Inner.Best.{root_ask, IsTreeCover, better_of, IsBest};
+ghost use Rattle.cover.specs.Jobs.{trees_of};
+ghost use Rattle.cover.specs.Inner.Jobs.{stock_of};
 
 use crate::choice::choose;
 use crate::covers::{CoverFault, JobCover, TreeCover};
@@ -21,7 +23,8 @@ use tree_grammar::Destination;
 
 // The first cover of least cost of the instance's tree, if there is a cover.
 fn cover_tree(alloc: Global, instance: &Instance) -> Result<Option<TreeCover>, NoMemory>
-    ensures { IfOk result (λ o. IsTreeCover (stock_of instance.now) (root_ask (destination_at instance.now.destination) (tree_term instance.now.tree.now)) o) }
+    ensures { IfOk result (λ o.
+        IsTreeCover (stock_of instance.now) (root_ask (destination_at instance.now.destination) (tree_term instance.now.tree.now)) o) }
 {
     let mut table = new_table(alloc, instance)?;
     let want = Want {
@@ -63,7 +66,8 @@ fn best_of(
     job: &Job,
     temps: u32,
 ) -> Result<Option<JobCover>, NoMemory>
-    ensures { IfOk result (λ o. IsBest (stock_with forms.now temps) (destination_of job.now.aim) (trees_of job.now.trees.items) (length job.now.trees.items) o) }
+    ensures { IfOk result (λ o.
+        IsBest (stock_with forms.now temps) (destination_of job.now.aim) (trees_of job.now.trees.items) (length job.now.trees.items) o) }
 {
     let mut best = None;
     for j in 0..job.trees.len() {
@@ -112,14 +116,18 @@ fn without_branch(aim: &Aim, c: JobCover) -> JobCover
     }
 }
 
-/// The first among the orderly covers of least cost of a job, where so many temporary cells are used; `NoCover` exactly where no tree of the
-/// job has an orderly cover. Covers of equal cost are ordered by the tree that they cover, then by the place of the form, then by the order of
-/// the operands, then by their covers in that order, and then by the cuts' covers. Want of memory stands also for a form of a register whose
-/// number is 16 or more, and for a cost, a tree or a setting of a form past 64 bits.
+/// The first among the orderly covers of least cost of a job, where so many temporary cells are
+/// used; `NoCover` exactly where no tree of the job has an orderly cover. Covers of equal cost are
+/// ordered by the tree that they cover, then by the place of the form, then by the order of the
+/// operands, then by their covers in that order, and then by the cuts' covers. Want of memory
+/// stands also for a form of a register whose number is 16 or more, and for a cost, a tree or a
+/// setting of a form past 64 bits.
 pub fn cover(alloc: Global, forms: &Forms, job: &Job, temps: u32) -> Result<JobCover, CoverFault>
-    ensures chosen { IfOk result (λ c. IsChosen (stock_with forms.now.list.items temps) (destination_of job.now.aim) (trees_of job.now.trees.items) (choice_of c)) }
+    ensures chosen { IfOk result (λ c.
+        IsChosen (stock_with forms.now.list.items temps) (destination_of job.now.aim) (trees_of job.now.trees.items) (choice_of c)) }
     ensures cost { IfOk result (λ c. c.cost ≡ job_cost (destination_of job.now.aim) (plan_of c.cover)) }
-    ensures none { result ≡ Err CoverFault.NoCover → HasNoCover (stock_with forms.now.list.items temps) (destination_of job.now.aim) (trees_of job.now.trees.items) }
+    ensures none { result ≡ Err CoverFault.NoCover →
+        HasNoCover (stock_with forms.now.list.items temps) (destination_of job.now.aim) (trees_of job.now.trees.items) }
 {
     match best_of(alloc, &forms.list, job, temps) {
         Ok(Some(c)) => Ok(without_branch(&job.aim, c)),

@@ -1,17 +1,18 @@
-//! Least costs: of a tree for a register or a temporary cell, of operands over their orders, and of cuts.
+//! Least costs: of a tree for a register or a temporary cell, of operands over their orders, and of
+//! cuts.
 
 ghost use Rattle.std.specs.Prelude.{◌≡◌, ◌<◌, Some, IfOk, OnOk, vec_len, length, slice_get};
 ghost use Rattle.form_model.specs.Trees.{tree_term};
-ghost use Rattle.cover.specs.Least.{IsLeast, IsLeastOrder, IsLeastFrom, IsLeastCut};
-ghost use Rattle.cover.specs.Rows.{row_ask, IsSlot, IsLeastRow};
-ghost use Rattle.cover.specs.Jobs.{stock_of, nodes_of, open_operands, open_cuts, OperandsAt, CutsAt};
-ghost use Rattle.cover.specs.Matched.{AreMatches, IsOfferAt};
-ghost use Rattle.cover.specs.Tables.{AreRight};
+ghost use Rattle.cover.specs.Inner.Least.{IsLeast, IsLeastOrder, IsLeastFrom, IsLeastCut, IsFloor};
+ghost use Rattle.cover.specs.Inner.Rows.{row_ask, IsSlot, IsLeastRow};
+ghost use Rattle.cover.specs.Inner.Jobs.{stock_of, nodes_of, open_operands, open_cuts, OperandsAt, CutsAt};
+ghost use Rattle.cover.specs.Inner.Matched.{AreMatches, IsOfferAt};
+ghost use Rattle.cover.specs.Inner.Tables.{AreRight};
 
-use crate::costs::{lesser_of, sum_of};
+use crate::costs::{form_cost, is_as_dear, lesser_of, sum_of};
 use crate::matches::{Matches, start_of};
 use crate::parts::{OpenCut, OpenOperand, put_reg, register_of, without};
-use crate::rows::{ChainRule, Offer, close, note, offer_of};
+use crate::rows::{ChainRule, Offer, close, known_cost, note, offer_of};
 use crate::sharing::first_equal;
 use crate::table::{CostTable, Instance, Key, keep, kept, matches_at};
 use form_model::{RegSet, Tree};
@@ -19,7 +20,8 @@ use rec_bits::NoMemory;
 use smallvec::SmallVec;
 use std::alloc::Global;
 
-// The least cost of the covers of a tree for an entry of its row that write none of the registers to avoid. The tree's row is found once.
+// The least cost of the covers of a tree for an entry of its row that write none of the registers
+// to avoid. The tree's row is found once.
 #[cycle(covering)]
 pub(crate) fn least<'a>(
     alloc: Global,
@@ -85,20 +87,22 @@ fn row_of<'a>(
     requires matches { AreMatches instance.now matches.now }
     requires right { AreRight instance.now table.old }
     ensures len { IfOk result (λ row. vec_len row ≡ 17) }
-    ensures least { IfOk result (λ row. IsLeastRow (stock_of instance.now) avoid (tree_term matches.now.tree.now) matches.now.whole row.items) }
+    ensures least { IfOk result (λ row.
+        IsLeastRow (stock_of instance.now) avoid (tree_term matches.now.tree.now) matches.now.whole row.items) }
     ensures right { OnOk result (AreRight instance.now table.new) }
 {
     let mut row = vec![in alloc; None; 17]?;
     let mut chains = SmallVec::new(alloc);
     for i in 0..matches.list.len() {
-        let offer = offer_at(alloc, instance, table, matches, avoid, i)?;
+        let offer = offer_at(alloc, instance, table, matches, avoid, &row, i)?;
         note(offer, &mut chains, &mut row)?;
     }
     close(&chains, &mut row)?;
     Ok(row)
 }
 
-// What the match at `i` gives for the row of a tree.
+// What the match at `i` gives for the row of a tree: nothing where it can't make its entry less.
+// The operands' orders are gone through only where their floor could.
 #[cycle(covering)]
 fn offer_at<'a>(
     alloc: Global,
@@ -106,12 +110,13 @@ fn offer_at<'a>(
     table: &mut CostTable<'a>,
     matches: &Matches<'a>,
     avoid: RegSet,
+    row: &[Option<u64>],
     i: usize,
 ) -> Result<Offer, NoMemory>
     requires place { i < length matches.now.list.items }
     requires matches { AreMatches instance.now matches.now }
     requires right { AreRight instance.now table.old }
-    ensures offer { IfOk result (λ l. IsOfferAt (stock_of instance.now) avoid matches.now i l) }
+    ensures offer { IfOk result (λ l. IsOfferAt (stock_of instance.now) avoid matches.now row.now i l) }
     ensures right { OnOk result (AreRight instance.now table.new) }
 {
     let found = &matches.list[i];
@@ -124,9 +129,47 @@ fn offer_at<'a>(
             goal: found.goal,
         }));
     }
-    let a = orders(alloc, instance, table, &found.operands, avoid)?;
     let b = cuts_cost(alloc, instance, table, &found.cuts)?;
-    Ok(offer_of(found.goal, sum_of(sum_of(Some(1), a)?, b)?))
+    let floor = floor_of(alloc, instance, table, &found.operands, avoid)?;
+    if is_as_dear(form_cost(floor, b)?, known_cost(row, found.goal)) {
+        return Ok(Offer::Nothing);
+    }
+    let a = orders(alloc, instance, table, &found.operands, avoid)?;
+    Ok(offer_of(found.goal, form_cost(a, b)?))
+}
+
+// What no order of the operands costs less than: the sum of their least costs, where none has to
+// spare the register of another.
+#[cycle(covering)]
+pub(crate) fn floor_of<'a>(
+    alloc: Global,
+    instance: &Instance<'a>,
+    table: &mut CostTable<'a>,
+    ops: &[OpenOperand<'a>],
+    avoid: RegSet,
+) -> Result<Option<u64>, NoMemory>
+    requires at { OperandsAt (nodes_of instance.now) ops.now }
+    requires right { AreRight instance.now table.old }
+    ensures floor { IfOk result (λ o. IsFloor (stock_of instance.now) avoid (open_operands ops.now) o) }
+    ensures right { OnOk result (AreRight instance.now table.new) }
+{
+    if ops.is_empty() {
+        return Ok(Some(0));
+    }
+    let first = ops[0];
+    let slot = register_of(first.id)?;
+    let m = least(
+        alloc,
+        instance,
+        table,
+        first.tree,
+        first.at,
+        first.whole,
+        slot,
+        avoid,
+    )?;
+    let n = floor_of(alloc, instance, table, &ops[1..], avoid)?;
+    sum_of(m, n)
 }
 
 // The least cost of the operands, over their orders.
@@ -154,7 +197,8 @@ pub(crate) fn orders<'a>(
     Ok(best)
 }
 
-// The least cost of the operands, over the orders that begin with the one at `i`. What follows isn't asked for where that has no cover.
+// The least cost of the operands, over the orders that begin with the one at `i`. What follows
+// isn't asked for where that has no cover.
 #[cycle(covering)]
 fn orders_from<'a>(
     alloc: Global,

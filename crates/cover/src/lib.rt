@@ -6,13 +6,13 @@
 //! `law_of_choices`: there is at most one such cover, and none where `HasNoCover` holds. So there
 //! is always one right answer.
 //!
-//! Invariant: `AreRight` in `specs/Tables`. Equal subtrees have one number. Each row that the table
-//! keeps is right for its key, the number of a subtree, whether it is whole, and the registers to
-//! avoid: for each register and for a temporary cell it has the least cost of the covers that write
-//! none of these. Each list of matches has all forms that match its subtree, in their order. A row
-//! is kept only once it is closed under the forms that go on from another entry of the same row,
-//! *chain rules*. `choice` reads off a cover by asking for each part whether it is one of the least
-//! cost that is left.
+//! Invariant: `AreRight` in `specs/Inner/Tables`. Equal subtrees have one number. Each row that the
+//! table keeps is right for its key, the number of a subtree, whether it is whole, and the
+//! registers to avoid: for each register and for a temporary cell it has the least cost of the
+//! covers that write none of these. Each list of matches has all forms that match its subtree, in
+//! their order. A row is kept only once it is closed under the forms that go on from another entry
+//! of the same row, *chain rules*. `choice` reads off a cover by asking for each part whether it is
+//! one of the least cost that is left.
 //!
 //! Files:
 //!
@@ -22,17 +22,19 @@
 //! - `rows`: a row of least costs, and its closure under chain rules.
 //! - `sharing`: which of the numbered subtrees are equal.
 //! - `matches`: the forms that match a subtree, with what their matches leave open, once for all
-//!   sets of registers to avoid.
+//!   sets of registers to avoid. A form with an operator that isn't the tree's is passed over.
 //! - `table`: the rows and the lists of matches that were found, and `Instance`, what is to be
 //!   covered by what.
-//! - `least`: least costs of a tree, of operands over all orders, and of cuts.
+//! - `least`: least costs of a tree, of operands over all orders, and of cuts, and the *floor* of
+//!   operands, which no order costs less than: orders are gone through only where it can make an
+//!   entry less.
 //! - `fits`: the forms that begin a cover of what is asked for, and the least cost of its covers.
 //! - `choice`: the first cover of a known least cost, from the root down.
 //! - `jobs`: `cover`: the better of a job's trees.
 //! - `laws`: `law_of_choices`.
-//! - `specs/`: public contracts cite `stock_with` and `choice_of` in `Best` and `trees_of` in
-//!   `Jobs`; what is promised stands in `form_model/specs/Covers`. The rest, with `Asks`, `Least`,
-//!   `Rows` and `Choice`, is what the functions here tell one another.
+//! - `specs/`, cited by public contracts: `Best` and `Jobs`; what is promised stands in
+//!   `form_model/specs/Covers`. `specs/Inner/`: what the functions here tell one another, with
+//!   `Asks`, `Least`, `Rows` and `Choice` at the head.
 //! - `proofs/`: named by what they are about; from costs to the promise they go `LeastLemmas`,
 //!   `RowLemmas`, `TableLemmas`, `ChoiceLemmas`, `OrderlyLemmas`, `BestLemmas`, and `OnceLemmas`
 //!   for the law.

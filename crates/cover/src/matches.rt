@@ -1,17 +1,20 @@
 //! The forms that match a subtree, which are found once for all sets of registers to avoid.
 
-ghost use Rattle.std.specs.Prelude.{◌≡◌, ◌<◌, ◌==◌, true, Some, IfOk, OnOk, length, slice_get};
-ghost use Rattle.net_model.specs.Terms.{size_of};
+ghost use Rattle.std.specs.Prelude.{◌≡◌, ◌<◌, ◌==◌, true, ℕ, Bool, Option, Some, None, IfOk, OnOk, length, slice_get};
+ghost use Rattle.std.specs.Bool.{OnFalse};
+ghost use Rattle.net_model.specs.Terms.{Term, size_of, term_of};
+ghost use Rattle.form_model.specs.Matches.{Found, bin_match, matched, un_match};
 ghost use Rattle.form_model.specs.Trees.{tree_term};
-ghost use Rattle.cover.specs.Asks.{start_under};
-ghost use Rattle.cover.specs.Jobs.{nodes_of};
-ghost use Rattle.cover.specs.Matched.{AreMatches, MatchesForm, with_match};
+ghost use Rattle.cover.specs.Inner.Asks.{start_under};
+ghost use Rattle.cover.specs.Inner.Jobs.{nodes_of};
+ghost use Rattle.cover.specs.Inner.Matched.{AreMatches, MatchesForm, with_match};
 
 use crate::parts::{OpenCut, OpenOperand, cuts_in, operands_in, rest_of};
 use crate::rows::{destination_of_entry, goal_of};
 use crate::table::Instance;
 use form_model::{RegSet, Tree};
-use rec_bits::NoMemory;
+use net_model::Expr;
+use rec_bits::{NoMemory, Op1, Op2};
 use std::alloc::Global;
 use tree_grammar::{match_at, tree_size};
 
@@ -23,7 +26,8 @@ pub struct FormMatch<'a> {
     /// The entry to which it goes.
     pub goal: u8,
     pub clobbers: RegSet,
-    /// The entry from which it goes on where nothing is to be avoided, if the one part of the match is the whole tree.
+    /// The entry from which it goes on where nothing is to be avoided, if the one part of the match
+    /// is the whole tree.
     pub start: Option<u8>,
     pub operands: Vec<OpenOperand<'a>>,
     pub cuts: Vec<OpenCut<'a>>,
@@ -37,8 +41,8 @@ pub struct Matches<'a> {
     pub list: Vec<FormMatch<'a>>,
 }
 
-// The entry from which a match goes on with these registers to avoid, if its one part is the whole tree. A cut goes on from the entry of a
-// temporary cell only where there is nothing to avoid.
+// The entry from which a match goes on with these registers to avoid, if its one part is the whole
+// tree. A cut goes on from the entry of a temporary cell only where there is nothing to avoid.
 pub(crate) fn start_of(found: &FormMatch, avoid: RegSet) -> Option<u8>
     ensures { result ≡ start_under found.now.start (avoid == 0) }
 {
@@ -50,20 +54,57 @@ pub(crate) fn start_of(found: &FormMatch, avoid: RegSet) -> Option<u8>
     }
 }
 
+// Whether the tree's root is this operator of one operand.
+fn is_un(tree: &Tree, op: Op1) -> bool
+    ensures { OnFalse result ((f : Term → Bool → Option Found) → un_match f op (tree_term tree.now) ≡ None) }
+{
+    match tree {
+        Tree::Un(o, _) => *o == op,
+        _ => false,
+    }
+}
+
+// Whether the tree's root is this operator of two operands.
+fn is_bin(tree: &Tree, op: Op2) -> bool
+    ensures { OnFalse result ((f g : Term → Bool → Option Found) → bin_match f g op (tree_term tree.now) ≡ None) }
+{
+    match tree {
+        Tree::Bin(o, _, _) => *o == op,
+        _ => false,
+    }
+}
+
+// Whether a form's value may take the tree: an operator at its root has to be the tree's too. It
+// spares most forms a match.
+fn may_take(value: &Expr, tree: &Tree) -> bool
+    ensures { OnFalse result ((temps : ℕ) (whole : Bool) → matched temps (term_of value.now) (tree_term tree.now) whole ≡ None) }
+{
+    match value {
+        Expr::Un(op, _) => is_un(tree, *op),
+        Expr::Bin(op, _, _) => is_bin(tree, *op),
+        _ => true,
+    }
+}
+
 // The match of the form at `k`, if it matches the tree for an entry of the tree's row.
 fn match_form<'a>(
     alloc: Global,
     instance: &Instance<'a>,
     tree: &'a Tree,
     number: u64,
+    size: u64,
     whole: bool,
     k: usize,
 ) -> Result<Option<FormMatch<'a>>, NoMemory>
     requires form { k < length instance.now.forms.now }
+    requires size { size ≡ size_of (tree_term tree.now) }
     requires number { slice_get (nodes_of instance.now) number ≡ Some (tree_term tree.now) }
     ensures { IfOk result (λ o. MatchesForm instance.now (tree_term tree.now) whole k o) }
 {
     let form = &instance.forms[k];
+    if !may_take(&form.value, tree) {
+        return Ok(None);
+    }
     let Some(goal) = goal_of(form, whole)? else {
         return Ok(None);
     };
@@ -79,7 +120,7 @@ fn match_form<'a>(
     else {
         return Ok(None);
     };
-    let start = rest_of(&found.parts, tree_size(tree)?, true)?;
+    let start = rest_of(&found.parts, size, true)?;
     let operands = operands_in(alloc, &found.parts)?;
     let cuts = cuts_in(alloc, &found.parts)?;
     Ok(Some(FormMatch {
@@ -120,8 +161,9 @@ pub(crate) fn matches_of<'a>(
     ensures whole { IfOk result (λ ms. ms.whole ≡ whole) }
 {
     let mut list = Vec::new(alloc);
+    let size = tree_size(tree)?;
     for k in 0..instance.forms.len() {
-        let found = match_form(alloc, instance, tree, number, whole, k)?;
+        let found = match_form(alloc, instance, tree, number, size, whole, k)?;
         put_match(&mut list, found)?;
     }
     Ok(Matches { tree, whole, list })

@@ -4,9 +4,9 @@ ghost use Rattle.std.specs.Prelude.{◌≡◌, [], ◌∷◌, ◌<◌, IfOk, OnO
 ghost use Rattle.net_model.specs.Terms.{Term};
 ghost use Rattle.form_model.specs.Covers.{operands_of, cuts_of};
 ghost use Rattle.form_model.specs.Matches.{operand};
-ghost use Rattle.tree_grammar.specs.Parts.{part_of, parts_of, AreAt};
-ghost use Rattle.cover.specs.Asks.{with_reg, rest};
-ghost use Rattle.cover.specs.Jobs.{open_operands, open_cuts, OperandsAt, CutsAt, HasOperand, HasCut};
+ghost use Rattle.tree_grammar.specs.Parts.{part_of, sites_of, AreAt};
+ghost use Rattle.cover.specs.Inner.Asks.{with_reg, rest};
+ghost use Rattle.cover.specs.Inner.Jobs.{open_operands, open_cuts, OperandsAt, CutsAt, HasOperand, HasCut};
 
 use form_model::{RegSet, Tree};
 use rec_bits::NoMemory;
@@ -29,7 +29,8 @@ pub struct OpenCut<'a> {
     pub at: u64,
 }
 
-// The register's number, which is below 16; a form for another register has no bit in a set of registers.
+// The register's number, which is below 16; a form for another register has no bit in a set of
+// registers.
 pub(crate) fn register_of(id: u32) -> Result<u8, NoMemory>
     ensures { IfOk result (λ r. (r ≡ id) × (r < 16)) }
 {
@@ -49,7 +50,7 @@ pub(crate) fn operands_in<'a>(
     alloc: Global,
     parts: &[Part<'a>],
 ) -> Result<Vec<OpenOperand<'a>>, NoMemory>
-    ensures operands { IfOk result (λ v. open_operands v.items ≡ operands_of (parts_of parts.now)) }
+    ensures operands { IfOk result (λ v. open_operands v.items ≡ operands_of (sites_of parts.now)) }
     ensures at { IfOk result (λ v. (nodes : List Term) → AreAt nodes parts.now → OperandsAt nodes v.items) }
 {
     let mut out = Vec::new(alloc);
@@ -83,7 +84,7 @@ fn put_operand<'a>(out: &mut Vec<OpenOperand<'a>>, part: Part<'a>) -> Result<(),
 
 // The cuts among the parts, from left to right.
 pub(crate) fn cuts_in<'a>(alloc: Global, parts: &[Part<'a>]) -> Result<Vec<OpenCut<'a>>, NoMemory>
-    ensures cuts { IfOk result (λ v. open_cuts v.items ≡ cuts_of (parts_of parts.now)) }
+    ensures cuts { IfOk result (λ v. open_cuts v.items ≡ cuts_of (sites_of parts.now)) }
     ensures at { IfOk result (λ v. (nodes : List Term) → AreAt nodes parts.now → CutsAt nodes v.items) }
 {
     let mut out = Vec::new(alloc);
@@ -124,11 +125,11 @@ pub(crate) fn without<'a>(
     Ok(rest)
 }
 
-// The entry of the same tree's row from which a match goes on, if its one part is the whole tree. A cut goes on from the entry of a
-// temporary cell where there is nothing to avoid.
+// The entry of the same tree's row from which a match goes on, if its one part is the whole tree. A
+// cut goes on from the entry of a temporary cell where there is nothing to avoid.
 pub(crate) fn rest_of(parts: &[Part], size: u64, free: bool) -> Result<Option<u8>, NoMemory>
-    ensures is { IfOk result (λ o. o ≡ rest size free (parts_of parts.now)) }
-    ensures register { IfOk result (λ o. IfSome o (λ q. (t : Term) (w : Bool) → parts_of parts.now ≡ operand q t w ∷ [] → q < 16)) }
+    ensures is { IfOk result (λ o. o ≡ rest size free (sites_of parts.now)) }
+    ensures register { IfOk result (λ o. IfSome o (λ q. (t : Term) (w : Bool) → sites_of parts.now ≡ operand q t w ∷ [] → q < 16)) }
 {
     if parts.len() != 1 {
         return Ok(None);

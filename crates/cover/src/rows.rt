@@ -1,12 +1,13 @@
-//! Rows of least costs of one tree: an entry for each register, and behind them one for a temporary cell.
+//! Rows of least costs of one tree: an entry for each register, and behind them one for a temporary
+//! cell.
 
 ghost use Rattle.std.specs.Prelude.{◌≡◌, ◌<◌, Some, IfOk, OnOk, IfSome, vec_len, length, slice_set, if◌then◌else◌};
 ghost use Rattle.std.specs.Bool.{OnTrue, OnFalse};
 ghost use Rattle.form_model.specs.Rules.{kind_of};
 ghost use Rattle.form_model.specs.Plans.{cost};
 ghost use Rattle.tree_grammar.specs.Parts.{destination_at};
-ghost use Rattle.cover.specs.Least.{AtMost};
-ghost use Rattle.cover.specs.Rows.{entry, entry_destination, IsSlot, goal_slot, IsBelow, AreWithin, IsWithin, offer_is, Noted, Chained, Swept, IsClosed, Entered};
+ghost use Rattle.cover.specs.Inner.Least.{AtMost};
+ghost use Rattle.cover.specs.Inner.Rows.{entry, entry_destination, IsSlot, goal_slot, IsBelow, AreWithin, IsWithin, offer_is, Noted, Chained, Swept, IsClosed, Entered};
 
 use crate::costs::{is_less, plus};
 use crate::parts::register_of;
@@ -15,8 +16,8 @@ use rec_bits::NoMemory;
 use smallvec::SmallVec;
 use tree_grammar::Destination;
 
-/// A form whose match leaves the whole tree as its one part: from a cover for one entry of the tree's row it makes a cover for another,
-/// which costs 1 more.
+/// A form whose match leaves the whole tree as its one part: from a cover for one entry of the
+/// tree's row it makes a cover for another, which costs 1 more.
 #[derive(Clone, Copy, Default)]
 pub struct ChainRule {
     /// The entry that it starts from.
@@ -56,6 +57,16 @@ pub(crate) fn goal_of(form: &Form, whole: bool) -> Result<Option<u8>, NoMemory>
     }
 }
 
+// The cost in an entry of a row.
+pub(crate) fn known_cost(row: &[Option<u64>], slot: u8) -> Option<u64>
+    ensures { result ≡ entry row.now slot }
+{
+    match row.get(slot as usize) {
+        Some(cost) => *cost,
+        None => None,
+    }
+}
+
 // Enters a cost where it is less than the one that is known, and says whether it is.
 fn enter(row: &mut Vec<Option<u64>>, r: u8, n: u64) -> bool
     requires len { vec_len row.old ≡ 17 }
@@ -84,7 +95,8 @@ fn enter_cost(row: &mut Vec<Option<u64>>, r: u8, n: u64)
     enter(row, r, n);
 }
 
-// Lowers the entry to which a chain rule leads, where the one from which it starts allows it, and says whether it has.
+// Lowers the entry to which a chain rule leads, where the one from which it starts allows it, and
+// says whether it has.
 fn try_chain(m: ChainRule, row: &mut Vec<Option<u64>>) -> Result<bool, NoMemory>
     requires len { vec_len row.old ≡ 17 }
     requires start { m.start < 17 }
@@ -129,7 +141,7 @@ pub(crate) fn close(chains: &[ChainRule], row: &mut Vec<Option<u64>>) -> Result<
 // Adds what a form gives to the chain rules or to the row.
 pub(crate) fn note(
     offer: Offer,
-    chains: &mut SmallVec<ChainRule, 4>,
+    chains: &mut SmallVec<ChainRule, 32>,
     row: &mut Vec<Option<u64>>,
 ) -> Result<(), NoMemory>
     requires len { vec_len row.old ≡ 17 }

@@ -3,9 +3,9 @@
 ghost use Rattle.std.specs.Prelude.{◌≡◌, ◌+◌, ℕ, IfOk, OnOk, List, Some, slice_get};
 ghost use Rattle.net_model.specs.Terms.{Term, size_of};
 ghost use Rattle.form_model.specs.Trees.{tree_term};
-ghost use Rattle.cover.specs.Jobs.{nodes_of};
+ghost use Rattle.cover.specs.Inner.Jobs.{nodes_of};
 ghost use Rattle.tree_grammar.specs.Parts.{AddressStands, destination_at, value_at};
-ghost use Rattle.cover.specs.Sharing.{AreFirsts, AreOwn, HaveNumbers, OperandShared, Rooted, Shared, Shares, first_of, operand_size, operand_term, root_term, second_of};
+ghost use Rattle.cover.specs.Inner.Sharing.{AreFirsts, AreOwn, HaveNumbers, OperandShared, Rooted, Shared, Shares, first_of, operand_size, operand_term, root_term, second_of};
 
 use crate::costs::plus;
 use crate::table::Instance;
@@ -15,7 +15,8 @@ use rec_bits::{NoMemory, Op1, Op2};
 use std::alloc::Global;
 use tree_grammar::{Destination, tree_size};
 
-/// The root of a subtree, with the number of the first subtree that equals each operand. Equal subtrees have one root.
+/// The root of a subtree, with the number of the first subtree that equals each operand. Equal
+/// subtrees have one root.
 #[derive(Clone, Copy, PartialEq, Eq, Hash)]
 pub enum Root {
     Lit { width: u8, value: u64 },
@@ -56,7 +57,8 @@ fn own_numbers(alloc: Global, count: u64) -> Result<Vec<u64>, NoMemory>
 
 // Notes that the subtree of number `at` equals that of number `first`.
 fn set_first(firsts: &mut Vec<u64>, at: u64, first: u64)
-    ensures { (nodes : List Term) → slice_get nodes first ≡ slice_get nodes at → AreFirsts nodes firsts.old.items → AreFirsts nodes firsts.new.items }
+    ensures { (nodes : List Term) → slice_get nodes first ≡ slice_get nodes at → AreFirsts nodes firsts.old.items →
+        AreFirsts nodes firsts.new.items }
 {
     let i = at as usize;
     if i < firsts.len() {
@@ -77,9 +79,11 @@ fn first_with(sharing: &mut Sharing, root: Root, at: u64) -> Result<u64, NoMemor
     Ok(at)
 }
 
-// The root of a tree whose operands equal the subtrees of these numbers; the second is for an operator of two operands alone.
+// The root of a tree whose operands equal the subtrees of these numbers; the second is for an
+// operator of two operands alone.
 fn root_of(tree: &Tree, first: u64, second: u64) -> Root
-    ensures { (nodes : List Term) → HaveNumbers nodes (tree_term tree.now) first second → root_term nodes result ≡ Some (tree_term tree.now) }
+    ensures { (nodes : List Term) → HaveNumbers nodes (tree_term tree.now) first second →
+        root_term nodes result ≡ Some (tree_term tree.now) }
 {
     match tree {
         Tree::Lit { width, value } => Root::Lit {
@@ -118,7 +122,8 @@ fn second_operand(tree: &Tree) -> Option<&Tree>
     }
 }
 
-// Finds the equal ones among a tree's subtrees, which have their numbers from `at` on, and those before them.
+// Finds the equal ones among a tree's subtrees, which have their numbers from `at` on, and those
+// before them.
 #[cycle(sharing)]
 fn share(sharing: &mut Sharing, tree: &Tree, at: u64) -> Result<Numbered, NoMemory>
     ensures next { IfOk result (λ n. n.next ≡ at + size_of (tree_term tree.now)) }
@@ -165,7 +170,8 @@ fn address_size(destination: Destination) -> Result<u64, NoMemory>
 
 // Finds the equal ones among the subtrees of a store's address.
 fn share_address(sharing: &mut Sharing, destination: Destination) -> Result<(), NoMemory>
-    ensures { OnOk result ((nodes : List Term) → AddressStands nodes 0 (destination_at destination.entry) → Shares nodes sharing.old → Shares nodes sharing.new) }
+    ensures { OnOk result ((nodes : List Term) → AddressStands nodes 0 (destination_at destination.entry) →
+        Shares nodes sharing.old → Shares nodes sharing.new) }
 {
     match destination {
         Destination::Store(address) => {
@@ -193,7 +199,8 @@ pub(crate) fn first_numbers(alloc: Global, instance: &Instance) -> Result<Vec<u6
 
 /// The number of the first subtree that equals the one of this number.
 pub(crate) fn first_equal(firsts: &[u64], number: u64) -> u64
-    ensures { (nodes : List Term) (t : Term) → AreFirsts nodes firsts.now → slice_get nodes number ≡ Some t → slice_get nodes result ≡ Some t }
+    ensures { (nodes : List Term) (t : Term) → AreFirsts nodes firsts.now → slice_get nodes number ≡ Some t →
+        slice_get nodes result ≡ Some t }
 {
     match firsts.get(number as usize) {
         Some(first) => *first,

@@ -2,12 +2,12 @@
 
 ghost use Rattle.std.specs.Prelude.{◌≡◌, ◌<◌, Some, IfOk, OnOk, IfSome, slice_get};
 ghost use Rattle.net_model.specs.Terms.{Term};
-ghost use Rattle.cover.specs.Least.{IsLeast};
-ghost use Rattle.cover.specs.Rows.{row_ask, IsSlot};
+ghost use Rattle.cover.specs.Inner.Least.{IsLeast};
+ghost use Rattle.cover.specs.Inner.Rows.{row_ask, IsSlot};
 ghost use Rattle.form_model.specs.Trees.{tree_term};
-ghost use Rattle.cover.specs.Jobs.{stock_of, nodes_of};
-ghost use Rattle.cover.specs.Matched.{AreMatches};
-ghost use Rattle.cover.specs.Tables.{IsRight, AreRight};
+ghost use Rattle.cover.specs.Inner.Jobs.{stock_of, nodes_of};
+ghost use Rattle.cover.specs.Inner.Matched.{AreMatches};
+ghost use Rattle.cover.specs.Inner.Tables.{IsRight, AreRight};
 
 use crate::matches::{Matches, matches_of};
 use crate::sharing::{first_equal, first_numbers};
@@ -18,7 +18,8 @@ use std::alloc::Global;
 use std::rc::Rc;
 use tree_grammar::Destination;
 
-/// What is to be covered, and by what: a tree with its destination, the forms, and the number of temporary cells.
+/// What is to be covered, and by what: a tree with its destination, the forms, and the number of
+/// temporary cells.
 #[derive(Clone, Copy)]
 pub struct Instance<'a> {
     pub forms: &'a [Form],
@@ -27,7 +28,8 @@ pub struct Instance<'a> {
     pub tree: &'a Tree,
 }
 
-/// What a row is kept under: the number of the tree, the first of those that are equal, whether it is whole, and the registers to avoid.
+/// What a row is kept under: the number of the tree, the first of those that are equal, whether it
+/// is whole, and the registers to avoid.
 #[derive(Clone, Copy, PartialEq, Eq, Hash)]
 pub struct Key {
     pub number: u64,
@@ -45,7 +47,8 @@ pub struct MatchKey {
 /// The matches and the rows of least costs that were found.
 #[derive(Drop)]
 pub struct CostTable<'a> {
-    /// For the number of each subtree that of the first equal one, under which what is found of all of them is kept.
+    /// For the number of each subtree that of the first equal one, under which what is found of all
+    /// of them is kept.
     pub firsts: Vec<u64>,
     pub matches: IndexMap<MatchKey, Rc<Matches<'a>>>,
     pub rows: IndexMap<Key, Vec<Option<u64>>>,
@@ -65,7 +68,8 @@ pub(crate) fn new_table<'a>(
     })
 }
 
-// The least cost that is kept in an entry of the key's row; the outer option tells whether the row is kept.
+// The least cost that is kept in an entry of the key's row; the outer option tells whether the row
+// is kept.
 pub(crate) fn kept(
     instance: &Instance,
     table: &CostTable,

@@ -1,4 +1,5 @@
-//! An accumulator of 16 bits with words of 12 bits: the program counter is storage 0, the accumulator 1, the memory 2.
+//! An accumulator of 16 bits with words of 12 bits: the program counter is storage 0, the
+//! accumulator 1, the memory 2.
 
 use form_model::{Aim, Form, Forms, Goal, Job, RegSet, Target, Tree};
 use net_model::Expr;
@@ -59,7 +60,8 @@ fn branch(alloc: Global, pattern: u32, value: Expr) -> Result<Form, AllocError> 
     Ok(form(pattern, goal, None, value, 3))
 }
 
-// The machine's forms: a branch where the accumulator is 0, sums in both orders, a load, a difference, a number and a store.
+// The machine's forms: a branch where the accumulator is 0, sums in both orders, a load, a
+// difference, a number and a store.
 pub(crate) fn accumulator(alloc: Global) -> Result<Forms, AllocError> {
     let acc = Expr::Reg(1, 16);
     let zero = Expr::Const {

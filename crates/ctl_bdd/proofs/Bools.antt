@@ -2,13 +2,14 @@
 use Rattle.std.proofs.Common.{◌≡◌, ℕ, ◌+◌, ◌*◌, ◌^◌, ◌&&◌, cond, Bool, true, false, List, [], ◌∷◌, ◌++◌, length, refl, ap, ◌∙◌, arith, suc}
 use Rattle.std.proofs.Math.Nat.{pow-suc}
 use Rattle.rec_bits.specs.Operators.{bit_of}
-use Rattle.ctl_bdd.specs.Bits.{number_of, pair_of, pairs_of, choice_of, alike, all_alike}
+use Rattle.ctl_bdd.specs.Bits.{bits_value}
+use Rattle.ctl_bdd.specs.Inner.Bits.{pair_of, pairs_of, choice_of, alike, all_alike}
 use Rattle.ctl_bdd.specs.declared.bits.Pairing.{Pairing}
 
-pub number_push : (bs : List Bool) (b : Bool) → number_of (bs ++ b ∷ []) ≡ number_of bs + bit_of b * 2 ^ length bs
+pub number_push : (bs : List Bool) (b : Bool) → bits_value (bs ++ b ∷ []) ≡ bits_value bs + bit_of b * 2 ^ length bs
 number_push [] true = refl
 number_push [] false = refl
-number_push (x ∷ bs) b = by (number_of (bs ++ b ∷ [])) (number_of bs) (bit_of x) (bit_of b) (2 ^ length bs) (2 ^ suc (length bs)) (number_push bs b) (pow-suc 2 (length bs))
+number_push (x ∷ bs) b = by (bits_value (bs ++ b ∷ [])) (bits_value bs) (bit_of x) (bit_of b) (2 ^ length bs) (2 ^ suc (length bs)) (number_push bs b) (pow-suc 2 (length bs))
   where
     by : (n m x b p q : ℕ) → n ≡ m + b * p → q ≡ p * 2 → n * 2 + x ≡ m * 2 + x + b * q
     by n m x b p q e f = let g : b * q ≡ b * p * 2 = rw f (omega arith) in omega (arith, e, g)

@@ -4,7 +4,7 @@ use Rattle.std.specs.List.{AllByRecursion, list_any}
 use Rattle.std.proofs.lemmas.Bool.{eqb-true}
 use Rattle.net_model.specs.declared.hardware.Netlist.{Netlist}
 use Rattle.net_model.specs.Nets.{width_at}
-use Rattle.net_model.specs.Symbolic.{blank}
+use Rattle.net_model.specs.Symbolic.{no_state}
 use Rattle.net_model.specs.Value.{value_of}
 use Rattle.net_model.specs.Transfers.{IsClean}
 use Rattle.bit_bdd.specs.Diagrams.{Diagrams, Extends, has_word}
@@ -64,7 +64,7 @@ bits_found netlist book controls c n lt s =
 -- ---- what the bits say
 
 -- the set of a net of one bit has the words under which it is 1
-pub one_set : (netlist : Netlist) (book : Diagrams) (n : ℕ) (sets : List ℕ) → IsNetBits netlist book (n, sets) → width_at netlist n ≡ 1 → (set : ℕ) × (sets ≡ set ∷ []) × ((word : ℕ) → word < 2 ^ book.bits → has_word book set word ≡ (value_of netlist blank word n == 1))
+pub one_set : (netlist : Netlist) (book : Diagrams) (n : ℕ) (sets : List ℕ) → IsNetBits netlist book (n, sets) → width_at netlist n ≡ 1 → (set : ℕ) × (sets ≡ set ∷ []) × ((word : ℕ) → word < 2 ^ book.bits → has_word book set word ≡ (value_of netlist no_state word n == 1))
 one_set netlist book n [] b w = absurd (omega (arith, b.number.long, w))
 one_set netlist book n (set ∷ []) b w =
     (set, refl, λ word lt. bit_is (has_word book set word) ∙ ap (λ x. x == 1) (sym (number_one book set word) ∙ b.number.number word lt))

@@ -8,7 +8,7 @@ use Rattle.rec_bits.specs.Operators.{bit_of}
 use Rattle.net_model.specs.Clock.{enabled_count}
 use Rattle.bit_bdd.specs.Diagrams.{Diagrams, has_word, Extends}
 use Rattle.ctl_bdd.specs.Bits.{number_at}
-use Rattle.ctl_bdd.specs.Tables.{IsTable, numbers_at, sets_at}
+use Rattle.ctl_bdd.specs.Tables.{IsBitTable, numbers_at, sets_at}
 use Rattle.ctl_bdd.proofs.Sets.{number_later}
 use Rattle.ctl_bdd.proofs.Numbers.{number_one}
 
@@ -44,5 +44,5 @@ pub any_step : {X : Type 0} (f : X → Bool) (xs : List X) (i : ℕ) (d : X) →
 any_step f xs i d lt =
     ap (λ k. f (get_or xs i d) || list_any f (drop k xs)) (add-one i) ∙ sym (ap (list_any f) (drop-cons xs i d lt))
 
-pub numbers_later : (old new : Diagrams) → Extends old new → (table : List (List ℕ)) → IsTable old table → (word : ℕ) → numbers_at new table word ≡ numbers_at old table word
+pub numbers_later : (old new : Diagrams) → Extends old new → (table : List (List ℕ)) → IsBitTable old table → (word : ℕ) → numbers_at new table word ≡ numbers_at old table word
 numbers_later old new e table t word = fun_ext (λ n. number_later old new e (sets_at table n) (t.sets n) word)

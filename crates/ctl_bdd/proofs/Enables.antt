@@ -8,14 +8,15 @@ use Rattle.net_model.specs.declared.hardware.Net.{Net}
 use Rattle.net_model.specs.declared.hardware.Gate.{Gate}
 use Rattle.net_model.specs.declared.hardware.Gate.TheVariants.{Bus}
 use Rattle.net_model.specs.Widths.{GateFits, NetFits, DriversFit, IsTyped}
-use Rattle.net_model.specs.Symbolic.{is_static, blank}
+use Rattle.net_model.specs.Symbolic.{is_static, no_state}
 use Rattle.net_model.specs.Value.{value_of}
 use Rattle.net_model.specs.Clock.{enabled_count, gate_clashes}
 use Rattle.net_model.specs.Control.{AllPass, gate_enables, GateControlled, IsControlled}
 use Rattle.net_model.proofs.GateControls.{gate_controlled}
 use Rattle.bit_bdd.specs.Diagrams.{Diagrams}
 use Rattle.ctl_bdd.specs.Places.{is_placed}
-use Rattle.ctl_bdd.specs.Tables.{AreBits, HasControls, HasEnable, HasEnables, numbers_at, sets_at}
+use Rattle.ctl_bdd.specs.Tables.{AreBits, HasControls, numbers_at, sets_at}
+use Rattle.ctl_bdd.specs.Inner.Tables.{HasEnable, HasEnables}
 use Rattle.net_model.specs.Transfers.{clash_at}
 use Rattle.rec_bits.proofs.Booleans.{or_left, or_right}
 use Rattle.ctl_bdd.proofs.Placed.{all_by_place, enable_placed}
@@ -38,11 +39,11 @@ module _ (netlist : Netlist) (book : Diagrams) (table : List (List ℕ)) (h : Ha
   firsts [] a = tt
   firsts (driver ∷ drivers) a = (a.0.0, firsts drivers a.1)
 
-  same_count : (word : ℕ) → word < 2 ^ book.bits → (drivers : List (ℕ × ℕ)) → AllByRecursion (λ (driver : ℕ × ℕ). HasEnable table driver × AreBits netlist book driver.1 (sets_at table driver.1)) drivers → enabled_count (numbers_at book table word) drivers ≡ enabled_count (value_of netlist blank word) drivers
+  same_count : (word : ℕ) → word < 2 ^ book.bits → (drivers : List (ℕ × ℕ)) → AllByRecursion (λ (driver : ℕ × ℕ). HasEnable table driver × AreBits netlist book driver.1 (sets_at table driver.1)) drivers → enabled_count (numbers_at book table word) drivers ≡ enabled_count (value_of netlist no_state word) drivers
   same_count word lt [] a = refl
   same_count word lt (driver ∷ drivers) a =
-      let e : numbers_at book table word driver.1 ≡ value_of netlist blank word driver.1 = a.0.1.number word lt in
-      let f : enabled_count (numbers_at book table word) drivers ≡ enabled_count (value_of netlist blank word) drivers = same_count word lt drivers a.1 in
+      let e : numbers_at book table word driver.1 ≡ value_of netlist no_state word driver.1 = a.0.1.number word lt in
+      let f : enabled_count (numbers_at book table word) drivers ≡ enabled_count (value_of netlist no_state word) drivers = same_count word lt drivers a.1 in
       (λ j. cond (e j == 1) 1 0 + f j)
 
   module _ (t : IsTyped netlist) (control : IsControlled netlist) where
@@ -63,10 +64,10 @@ module _ (netlist : Netlist) (book : Diagrams) (table : List (List ℕ)) (h : Ha
     pub all_have : AllByRecursion (λ (net : Net). HasEnables table net.gate) netlist.nets
     all_have = all_by_place (λ (net : Net). HasEnables table net.gate) netlist.nets net_has
 
-    same_clash : (word : ℕ) → word < 2 ^ book.bits → (k : ℕ) (net : Net) → slice_get netlist.nets k ≡ Some net → gate_clashes (numbers_at book table word) net.gate ≡ gate_clashes (value_of netlist blank word) net.gate
+    same_clash : (word : ℕ) → word < 2 ^ book.bits → (k : ℕ) (net : Net) → slice_get netlist.nets k ≡ Some net → gate_clashes (numbers_at book table word) net.gate ≡ gate_clashes (value_of netlist no_state word) net.gate
     same_clash word lt k net there = by net.gate refl
       where
-        by : (gate : Gate) → net.gate ≡ gate → gate_clashes (numbers_at book table word) gate ≡ gate_clashes (value_of netlist blank word) gate
+        by : (gate : Gate) → net.gate ≡ gate → gate_clashes (numbers_at book table word) gate ≡ gate_clashes (value_of netlist no_state word) gate
         by (Bus drivers) e = ap (nat_lt 1) (same_count word lt drivers (bus_have k net.width net drivers there e))
         by _ e = refl
 
@@ -86,7 +87,7 @@ module _ (netlist : Netlist) (book : Diagrams) (table : List (List ℕ)) (h : Ha
     pub legal_is : (word : ℕ) → word < 2 ^ book.bits → (not (list_any (λ (net : Net). gate_clashes (numbers_at book table word) net.gate) netlist.nets) ≡ true) ↔ (clash_at netlist word ≡ None)
     legal_is word lt =
         let f : Net → Bool = λ net. gate_clashes (numbers_at book table word) net.gate in
-        let g : Net → Bool = λ net. gate_clashes (value_of netlist blank word) net.gate in
+        let g : Net → Bool = λ net. gate_clashes (value_of netlist no_state word) net.gate in
         let same : list_any f netlist.nets ≡ list_any g netlist.nets = any_same f g netlist.nets (all_by_place (λ (net : Net). f net ≡ g net) netlist.nets (same_clash word lt)) in
         let one : (not (list_any g netlist.nets) ≡ true) ↔ (position_from g 0 netlist.nets ≡ None) = nowhere g 0 netlist.nets in
         (λ e. position_from-zero g netlist.nets ∙ one.0 (ap not (sym same) ∙ e), λ e. ap not same ∙ one.1 (sym (position_from-zero g netlist.nets) ∙ e))

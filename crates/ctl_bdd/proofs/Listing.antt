@@ -7,7 +7,7 @@ use Rattle.std.proofs.lemmas.List.{map-append, append-nil}
 use Rattle.std.proofs.lemmas.List.Elements.{filter-append}
 use Rattle.rec_bits.specs.Operators.{bit_of}
 use Rattle.net_model.specs.declared.hardware.Netlist.{Netlist}
-use Rattle.net_model.specs.Symbolic.{blank}
+use Rattle.net_model.specs.Symbolic.{no_state}
 use Rattle.net_model.specs.Value.{value_of}
 use Rattle.bit_bdd.specs.Diagrams.{Diagrams, Extends, has_word}
 use Rattle.ctl_bdd.specs.Bits.{bools, number_at}
@@ -61,7 +61,7 @@ module _ (netlist : Netlist) (book : Diagrams) (table : List (List ℕ)) (h : Ha
       record {
         sets = h.sets.sets n;
         number = bits;
-        bits = λ k word kt wt. set_is book (sets_at table n) word (value_of netlist blank word n) k kt (bits.number word wt);
+        bits = λ k word kt wt. set_is book (sets_at table n) word (value_of netlist no_state word n) k kt (bits.number word wt);
       }
 
   below : (P : ℕ → Type 0) (i : ℕ) → ((n : ℕ) → n < i → P n) → AllByRecursion P (numbers_below i)

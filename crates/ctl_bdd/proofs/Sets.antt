@@ -3,7 +3,7 @@ use Rattle.std.proofs.Common.{◌≡◌, ℕ, ◌+◌, ◌<◌, ◌≤◌, List,
 use Rattle.std.proofs.lemmas.List.{map-append, map_more, length-map, length-take-le}
 use Rattle.bit_bdd.specs.Diagrams.{Diagrams, has_word, Extends}
 use Rattle.bit_bdd.proofs.CallerLemmas.{same_words}
-use Rattle.ctl_bdd.specs.Bits.{AreSets, bools, number_of, number_at}
+use Rattle.ctl_bdd.specs.Bits.{AreSets, bools, bits_value, number_at}
 
 pub sets_later : (old new : Diagrams) → Extends old new → (sets : List ℕ) → AreSets old sets → AreSets new sets
 sets_later old new e [] h = tt
@@ -17,7 +17,7 @@ bools_later old new e (set ∷ sets) h word =
     (λ j. p j ∷ q j)
 
 pub number_later : (old new : Diagrams) → Extends old new → (sets : List ℕ) → AreSets old sets → (word : ℕ) → number_at new sets word ≡ number_at old sets word
-number_later old new e sets h word = ap number_of (bools_later old new e sets h word)
+number_later old new e sets h word = ap bits_value (bools_later old new e sets h word)
 
 pub set_in : (book : Diagrams) (sets : List ℕ) (i : ℕ) → i < length sets → AreSets book sets → get_or sets i 0 < length book.nodes
 set_in book [] i lt h = absurd (omega (arith, lt))

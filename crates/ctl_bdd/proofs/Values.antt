@@ -14,8 +14,9 @@ use Rattle.net_model.specs.Nets.{width_at, code_bits, row_nets}
 use Rattle.net_model.specs.CheckedRules.{is_control_gate}
 use Rattle.net_model.specs.Widths.{GateFits, RowsFit, RestFits}
 use Rattle.bit_bdd.specs.Diagrams.{Diagrams, has_word}
-use Rattle.ctl_bdd.specs.Bits.{AreSets, bools, number_of, number_at}
-use Rattle.ctl_bdd.specs.Tables.{AreGateBits, HasRows, HasRest, IsTable, sets_at}
+use Rattle.ctl_bdd.specs.Bits.{AreSets, bools, bits_value, number_at}
+use Rattle.ctl_bdd.specs.Tables.{AreGateBits, IsBitTable, sets_at}
+use Rattle.ctl_bdd.specs.Inner.Tables.{HasRows, HasRest}
 use Rattle.ctl_bdd.proofs.Sets.{sets_append, sets_take, sets_drop, sets_replicate, set_in, bools_more, bools_long, bools_taken}
 use Rattle.ctl_bdd.proofs.Numbers.{number_not, number_take, number_drop, number_append, number_zeros, number_ones, number_negative}
 
@@ -38,24 +39,24 @@ module _ (book : Diagrams) (word : ℕ) where
 
   number_slice : (sets : List ℕ) (hi lo : ℕ) → number_at book (take (hi + 1 - lo) (drop lo sets)) word ≡ slice_of (number_at book sets word) hi lo
   number_slice sets hi lo =
-      ap number_of (bools_take (hi + 1 - lo) (drop lo sets) ∙ ap (take (hi + 1 - lo)) (bools_drop lo sets))
+      ap bits_value (bools_take (hi + 1 - lo) (drop lo sets) ∙ ap (take (hi + 1 - lo)) (bools_drop lo sets))
       ∙ number_take (hi + 1 - lo) (drop lo (bools book sets word))
       ∙ ap (λ x. x % 2 ^ (hi + 1 - lo)) (number_drop lo (bools book sets word))
 
   number_joined : (low high : List ℕ) → number_at book (low ++ high) word ≡ cat_of (number_at book high word) (number_at book low word) (length low)
   number_joined low high =
-      ap number_of (map-append (λ s. has_word book s word) low high)
+      ap bits_value (map-append (λ s. has_word book s word) low high)
       ∙ number_append (bools book low word) (bools book high word)
       ∙ ap (cat_of (number_at book high word) (number_at book low word)) (bools_long book low word)
 
-  number_filled : (low : List ℕ) (n set : ℕ) → number_at book (low ++ replicate n set) word ≡ cat_of (number_of (replicate n (has_word book set word))) (number_at book low word) (length low)
+  number_filled : (low : List ℕ) (n set : ℕ) → number_at book (low ++ replicate n set) word ≡ cat_of (bits_value (replicate n (has_word book set word))) (number_at book low word) (length low)
   number_filled low n set =
-      number_joined low (replicate n set) ∙ ap (λ bs. cat_of (number_of bs) (number_at book low word) (length low)) (bools_replicate n set)
+      number_joined low (replicate n set) ∙ ap (λ bs. cat_of (bits_value bs) (number_at book low word) (length low)) (bools_replicate n set)
 
   number_zero_extended : (low : List ℕ) (n set : ℕ) → has_word book set word ≡ false → number_at book (low ++ replicate n set) word ≡ number_at book low word
   number_zero_extended low n set e =
       number_filled low n set
-      ∙ ap (λ b. cat_of (number_of (replicate n b)) (number_at book low word) (length low)) e
+      ∙ ap (λ b. cat_of (bits_value (replicate n b)) (number_at book low word) (length low)) e
       ∙ ap (λ x. cat_of x (number_at book low word) (length low)) (number_zeros n)
       ∙ omega arith
 
@@ -68,7 +69,7 @@ module _ (book : Diagrams) (word : ℕ) where
       let all : bools book low word ≡ bools book (take (length low - 1) low) word ++ has_word book (get_or low (length low - 1) 0) word ∷ [] =
       ap (λ l. bools book l word) (sym (take_all (length low) low (omega arith)) ∙ ap (λ n. take n low) (sym more)) ∙ bools_more book low (length low - 1) word lt in
       let long : length (bools book (take (length low - 1) low) word) + 1 ≡ length low = ap (λ n. n + 1) (bools_taken book low (length low - 1) word (omega arith)) ∙ more in
-      (λ j. is_negative_of (sym long j) (number_of (all j)))
+      (λ j. is_negative_of (sym long j) (bits_value (all j)))
       ∙ number_negative (bools book (take (length low - 1) low) word) (has_word book (get_or low (length low - 1) 0) word)
 
   number_sign_extended : (low : List ℕ) (width : ℕ) → 1 ≤ length low → length low ≤ width → number_at book (low ++ replicate (width - length low) (get_or low (length low - 1) 0)) word ≡ sext_of (number_at book low word) (length low) width
@@ -78,11 +79,11 @@ module _ (book : Diagrams) (word : ℕ) where
       ∙ by (has_word book (get_or low (length low - 1) 0) word) (number_at book low word) (length low) (width - length low) width (omega (arith, k))
       ∙ ap (λ t. cond t (number_at book low word + (2 ^ width - 2 ^ length low)) (number_at book low word)) (sym (negative low h))
     where
-      by : (b : Bool) (x w n width : ℕ) → n + w ≡ width → cat_of (number_of (replicate n b)) x w ≡ cond b (x + (2 ^ width - 2 ^ w)) x
+      by : (b : Bool) (x w n width : ℕ) → n + w ≡ width → cat_of (bits_value (replicate n b)) x w ≡ cond b (x + (2 ^ width - 2 ^ w)) x
       by true x w n width e =
           let p : 2 ^ width ≡ 2 ^ n * 2 ^ w = ap (λ m. 2 ^ m) (sym e) ∙ pow-add 2 n w in
-          let q : 2 ^ n ≡ number_of (replicate n true) + 1 = sym (number_ones n) in
-          let r : 2 ^ width ≡ number_of (replicate n true) * 2 ^ w + 2 ^ w = p ∙ ap (λ m. m * 2 ^ w) q ∙ omega arith in
+          let q : 2 ^ n ≡ bits_value (replicate n true) + 1 = sym (number_ones n) in
+          let r : 2 ^ width ≡ bits_value (replicate n true) * 2 ^ w + 2 ^ w = p ∙ ap (λ m. m * 2 ^ w) q ∙ omega arith in
           omega (arith, r)
       by false x w n width e = ap (λ m. cat_of m x w) (number_zeros n) ∙ omega arith
 
@@ -108,12 +109,12 @@ module _ (netlist : Netlist) (old new : Diagrams) (table : List (List ℕ)) (wid
     sets = sets;
     long = long ∙ named ∙ fits.1;
     number = λ word h.
-        ap number_of (words word) ∙ number_not (bools old (sets_at table a) word)
+        ap bits_value (words word) ∙ number_not (bools old (sets_at table a) word)
         ∙ ap (λ n. 2 ^ n - 1 - number_at old (sets_at table a) word) (bools_long old (sets_at table a) word ∙ named ∙ fits.1);
   }
   not_gate Neg a out control fits named sets long words = cc
 
-module _ (netlist : Netlist) (book : Diagrams) (table : List (List ℕ)) (t : IsTable book table) (width : ℕ) where
+module _ (netlist : Netlist) (book : Diagrams) (table : List (List ℕ)) (t : IsBitTable book table) (width : ℕ) where
   pub slice_gate : (of hi lo : ℕ) (out : List ℕ) → GateFits netlist width (Slice of hi lo) → length (sets_at table of) ≡ width_at netlist of → out ≡ take (hi + 1 - lo) (drop lo (sets_at table of)) → AreGateBits netlist book book table width (Slice of hi lo) out
   slice_gate of hi lo out fits named e = record {
     sets = rw e (sets_take book (hi + 1 - lo) _ (sets_drop book lo _ (t.sets of)));

@@ -1,9 +1,10 @@
--- What is told of a netlist's control: the bits of static nets in control places, and the words without clash.
+-- What is told of a netlist's control: the bits of static nets in control places, and the words
+-- without clash.
 use Rattle.std.specs.Prelude.{◌≡◌, ◌↔◌, ℕ, ◌^◌, ◌<◌, ◌==◌, if◌then◌else◌, true, List, [], ◌∷◌, length, map, Option, None, Some, slice_index}
 use Rattle.std.specs.List.{AllByRecursion}
 use Rattle.std.specs.Int.{bit_at}
 use Rattle.net_model.specs.declared.hardware.Netlist.{Netlist}
-use Rattle.net_model.specs.Symbolic.{blank}
+use Rattle.net_model.specs.Symbolic.{no_state}
 use Rattle.net_model.specs.Value.{value_of}
 use Rattle.net_model.specs.Transfers.{IsClean, ClashesAlways}
 use Rattle.bit_bdd.specs.Diagrams.{Diagrams, has_word}
@@ -19,9 +20,10 @@ pub record IsNetBits (netlist : Netlist) (book : Diagrams) (net : ℕ × List �
   pub sets : AreSets book net.1
   pub number : AreBits netlist book net.0 net.1
   pub bits : (k word : ℕ) → k < length net.1 → word < 2 ^ book.bits →
-      has_word book (slice_index net.1 k) word ≡ (bit_at (value_of netlist blank word net.0) k == 1)
+      has_word book (slice_index net.1 k) word ≡ (bit_at (value_of netlist no_state word net.0) k == 1)
 
--- the bits of each static net in a control place, and the words without clash, of which there is one
+-- the bits of each static net in a control place, and the words without clash, of which there is
+-- one
 pub record IsControl (netlist : Netlist) (book : Diagrams) (controls : ControlBits) : Type 0 where
   pub nets : map (λ (net : ℕ × List ℕ). net.0) controls.bits ≡ static_controls netlist
   pub bits : AllByRecursion (IsNetBits netlist book) controls.bits
@@ -35,6 +37,6 @@ bits_in [] n = None
 bits_in (net ∷ nets) n = if net.0 == n then Some net.1 else bits_in nets n
 
 -- each word of the code clashes; want of memory has no cause
-abbrev pub HasCause : Netlist → CtlFault → Type 0
-HasCause netlist AlwaysClash = ClashesAlways netlist
-HasCause netlist Memory = Unit {0}
+abbrev pub HasControlCause : Netlist → CtlFault → Type 0
+HasControlCause netlist AlwaysClash = ClashesAlways netlist
+HasControlCause netlist Memory = Unit {0}

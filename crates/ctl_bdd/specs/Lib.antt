@@ -1,5 +1,5 @@
 pub mod Bits
-pub mod Flags
 pub mod Places
 pub mod Tables
 pub mod Controls
+pub mod Inner

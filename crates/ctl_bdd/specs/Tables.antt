@@ -1,11 +1,9 @@
 -- A list of sets for each net, empty where there are none.
-use Rattle.std.specs.Prelude.{◌≡◌, ℕ, ◌^◌, ◌<◌, true, List, [], length, Option, None, Some, slice_index_or}
-use Rattle.std.specs.List.{AllByRecursion}
+use Rattle.std.specs.Prelude.{◌≡◌, ℕ, ◌^◌, ◌<◌, true, List, [], length, slice_index_or}
 use Rattle.net_model.specs.declared.hardware.Netlist.{Netlist}
 use Rattle.net_model.specs.declared.hardware.Gate.{Gate}
-use Rattle.net_model.specs.declared.hardware.Gate.TheVariants.{Bus}
 use Rattle.net_model.specs.Nets.{width_at}
-use Rattle.net_model.specs.Symbolic.{blank}
+use Rattle.net_model.specs.Symbolic.{no_state}
 use Rattle.net_model.specs.Value.{gate_value, value_of}
 use Rattle.bit_bdd.specs.Diagrams.{Diagrams}
 use Rattle.ctl_bdd.specs.Bits.{AreSets, number_at}
@@ -20,44 +18,26 @@ abbrev pub numbers_at : Diagrams → List (List ℕ) → ℕ → ℕ → ℕ
 numbers_at book table word n = number_at book (sets_at table n) word
 
 -- all are sets of the book
-pub record IsTable (book : Diagrams) (table : List (List ℕ)) : Type 0 where
+pub record IsBitTable (book : Diagrams) (table : List (List ℕ)) : Type 0 where
   pub sets : (n : ℕ) → AreSets book (sets_at table n)
 
 -- a set for each bit of a net, in which the words lie under which the net's value has that bit
 pub record AreBits (netlist : Netlist) (book : Diagrams) (n : ℕ) (sets : List ℕ) : Type 0 where
   pub long : length sets ≡ width_at netlist n
-  pub number : (word : ℕ) → word < 2 ^ book.bits → number_at book sets word ≡ value_of netlist blank word n
+  pub number : (word : ℕ) → word < 2 ^ book.bits → number_at book sets word ≡ value_of netlist no_state word n
 
 -- ---- gates
-
--- the sets of each row, and a number for it that a selector of so many bits may have
-abbrev pub HasRows : List (List ℕ) → ℕ → ℕ → List (ℕ × ℕ) → Type 0
-HasRows table bits width rows = AllByRecursion (λ (row : ℕ × ℕ). (row.0 < 2 ^ bits) × (length (sets_at table row.1) ≡ width)) rows
-
-abbrev pub HasRest : List (List ℕ) → ℕ → Option ℕ → Type 0
-HasRest table width None = Unit {0}
-HasRest table width (Some rest) = length (sets_at table rest) ≡ width
 
 -- a set for each bit of a gate's value, in a book that has grown
 pub record AreGateBits (netlist : Netlist) (old new : Diagrams) (table : List (List ℕ)) (width : ℕ) (gate : Gate) (out : List ℕ) : Type 0 where
   pub sets : AreSets new out
   pub long : length out ≡ width
   pub number : (word : ℕ) → word < 2 ^ old.bits →
-      number_at new out word ≡ gate_value (numbers_at old table word) netlist blank word width gate
-
--- ---- enables
-
--- the one set of a driver's enable
-abbrev pub HasEnable : List (List ℕ) → ℕ × ℕ → Type 0
-HasEnable table driver = length (sets_at table driver.1) ≡ 1
-
-abbrev pub HasEnables : List (List ℕ) → Gate → Type 0
-HasEnables table (Bus drivers) = AllByRecursion (HasEnable table) drivers
-HasEnables table _ = Unit {0}
+      number_at new out word ≡ gate_value (numbers_at old table word) netlist no_state word width gate
 
 -- ---- control
 
 -- the sets of each static net in a control place
 pub record HasControls (netlist : Netlist) (book : Diagrams) (table : List (List ℕ)) : Type 0 where
-  pub sets : IsTable book table
+  pub sets : IsBitTable book table
   pub bits : (n : ℕ) → n < length netlist.nets → is_static_control netlist n ≡ true → AreBits netlist book n (sets_at table n)

@@ -2,7 +2,8 @@
 
 ghost use Rattle.std.specs.Prelude.{◌≡◌, ℕ, ◌+◌, ◌-◌, ◌%◌, ◌^◌, ◌<◌, ◌≤◌, ◌==◌, ◌&&◌, ◌++◌, not, if◌then◌else◌, map, length, replicate, IfOk};
 ghost use Rattle.bit_bdd.specs.Diagrams.{Extends, has_word};
-ghost use Rattle.ctl_bdd.specs.Bits.{AreSets, alike, all_alike, bools, choice_of, number_at, pair_of, pairs_of};
+ghost use Rattle.ctl_bdd.specs.Bits.{AreSets, bools, number_at};
+ghost use Rattle.ctl_bdd.specs.Inner.Bits.{alike, all_alike, choice_of, pair_of, pairs_of};
 
 use bit_bdd::{Book, SetId};
 use rec_bits::{Items, NoMemory};
@@ -205,8 +206,8 @@ pub(crate) fn equal_set(
     Ok(same)
 }
 
-/// The words at which the sets of `bits`, the lowest bit first, give the number `key`. There are at most 64 of them, and the key
-/// has no more bits. The book grows.
+/// The words at which the sets of `bits`, the lowest bit first, give the number `key`. There are at
+/// most 64 of them, and the key has no more bits. The book grows.
 pub fn equals(alloc: Global, book: &mut Book, bits: &[SetId], key: u64) -> Result<SetId, NoMemory>
     requires bits { AreSets book.old bits.now }
     requires few { length bits.now ≤ 64 }

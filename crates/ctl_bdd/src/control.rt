@@ -7,7 +7,7 @@ ghost use Rattle.net_model.specs.Control.{control_places};
 ghost use Rattle.net_model.specs.Nets.{word_width};
 ghost use Rattle.net_model.specs.Transfers.{IsClean};
 ghost use Rattle.bit_bdd.specs.Diagrams.{Extends, has_word};
-ghost use Rattle.ctl_bdd.specs.Controls.{HasCause, IsControl};
+ghost use Rattle.ctl_bdd.specs.Controls.{HasControlCause, IsControl};
 ghost use Rattle.ctl_bdd.specs.Places.{static_controls};
 ghost use Rattle.ctl_bdd.specs.Tables.{HasControls, sets_at};
 
@@ -93,14 +93,16 @@ fn listed_bits(
     Ok(bits)
 }
 
-/// The bits of the static nets that stand in control places, as sets of instruction words, and the words under which no bus clashes.
-/// The book has as many bits as the code, and is at most extended.
+/// The bits of the static nets that stand in control places, as sets of instruction words, and the
+/// words under which no bus clashes. The book has as many bits as the code, and is at most
+/// extended.
 ///
-/// `AlwaysClash` comes exactly where under each word a bus clashes, and `Memory` is want of memory. No step goes over the words.
+/// `AlwaysClash` comes exactly where under each word a bus clashes, and `Memory` is want of memory.
+/// No step goes over the words.
 pub fn controls(alloc: Global, checked: &Checked, book: &mut Book) -> Result<ControlBits, CtlFault>
     requires { book.old.bits ≡ word_width checked.now.netlist }
     ensures grows { Extends book.old book.new }
-    ensures control { MatchResult result (IsControl checked.now.netlist book.new) (HasCause checked.now.netlist) }
+    ensures control { MatchResult result (IsControl checked.now.netlist book.new) (HasControlCause checked.now.netlist) }
 {
     let netlist = checked.netlist();
     let places = static_places(alloc, checked)?;

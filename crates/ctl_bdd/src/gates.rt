@@ -10,7 +10,8 @@ ghost use Rattle.net_model.specs.Widths.{GateFits, IsTyped};
 ghost use Rattle.bit_bdd.specs.Diagrams.{Extends};
 ghost use Rattle.ctl_bdd.specs.Bits.{AreSets, number_at};
 ghost use Rattle.net_model.specs.Flags.{is_control_pair};
-ghost use Rattle.ctl_bdd.specs.Tables.{AreGateBits, HasRows, HasRest, IsTable, numbers_at, sets_at};
+ghost use Rattle.ctl_bdd.specs.Tables.{AreGateBits, IsBitTable, numbers_at, sets_at};
+ghost use Rattle.ctl_bdd.specs.Inner.Tables.{HasRows, HasRest};
 
 use crate::bits::{
     Pairing, choice_bits, constant_bits, constant_set, equal_set, equals, extend, join, not_bits,
@@ -81,7 +82,8 @@ fn slice_bits(alloc: Global, sets: &[SetId], hi: u8, lo: u8) -> Result<Items<Set
     Items::from_slice(alloc, &sets[usize::from(lo)..usize::from(hi) + 1])
 }
 
-// The bits of a row, for the words at which the selector has its number, and other bits for all others.
+// The bits of a row, for the words at which the selector has its number, and other bits for all
+// others.
 fn row_bits(
     alloc: Global,
     book: &mut Book,
@@ -118,7 +120,7 @@ fn rest_bits(
     width: u8,
 ) -> Result<Items<SetId>, NoMemory>
     requires high { width ≤ 64 }
-    requires table { IsTable book.now table.now }
+    requires table { IsBitTable book.now table.now }
     requires rest { HasRest table.now width rest }
     ensures sets { IfOk result (λ out. AreSets book.now out) }
     ensures long { IfOk result (λ out. length out ≡ width) }
@@ -148,7 +150,7 @@ fn case_bits(
     width: u8,
 ) -> Result<Items<SetId>, NoMemory>
     requires high { width ≤ 64 }
-    requires table { IsTable book.old table.now }
+    requires table { IsBitTable book.old table.now }
     requires sel { AreSets book.old sel.now }
     requires few { length sel.now ≤ 64 }
     requires rows { HasRows table.now (length sel.now) width rows.now }
@@ -170,7 +172,8 @@ fn case_bits(
     Ok(out)
 }
 
-// The bits of a gate's value, where control may use the gate and the nets that it names have theirs.
+// The bits of a gate's value, where control may use the gate and the nets that it names have
+// theirs.
 pub(crate) fn gate_bits(
     alloc: Global,
     netlist: &Netlist,
@@ -181,7 +184,7 @@ pub(crate) fn gate_bits(
     requires typed { IsTyped netlist.now }
     requires code { length netlist.now.codes ≡ 1 }
     requires word { book.old.bits ≡ code_bits (slice_get netlist.now.codes 0) }
-    requires table { IsTable book.old table.now }
+    requires table { IsBitTable book.old table.now }
     requires low { 1 ≤ net.now.width }
     requires high { net.now.width ≤ 64 }
     requires gate { GateFits netlist.now net.now.width net.now.gate }

@@ -4,7 +4,8 @@ ghost use Rattle.std.specs.Prelude.{◌≡◌, ℕ, ◌<◌, ◌&&◌, ◌||◌,
 ghost use Rattle.std.specs.List.{AllByRecursion, list_any};
 ghost use Rattle.net_model.specs.Clock.{enabled_count, gate_clashes};
 ghost use Rattle.bit_bdd.specs.Diagrams.{Extends, has_word};
-ghost use Rattle.ctl_bdd.specs.Tables.{HasEnable, HasEnables, IsTable, numbers_at, sets_at};
+ghost use Rattle.ctl_bdd.specs.Tables.{IsBitTable, numbers_at, sets_at};
+ghost use Rattle.ctl_bdd.specs.Inner.Tables.{HasEnable, HasEnables};
 
 use crate::bits::constant_set;
 use crate::gates::sets_of;
@@ -57,7 +58,7 @@ fn bus_legal(
     drivers: &[(u32, u32)],
 ) -> Result<SetId, NoMemory>
     requires legal { legal < length book.old.nodes }
-    requires table { IsTable book.old table.now }
+    requires table { IsBitTable book.old table.now }
     requires enables { AllByRecursion (HasEnable table.now) drivers.now }
     ensures grows { Extends book.old book.new }
     ensures within { IfOk result (λ id. id < length book.new.nodes) }
@@ -83,7 +84,7 @@ fn gate_legal(
     gate: &Gate,
 ) -> Result<SetId, NoMemory>
     requires legal { legal < length book.old.nodes }
-    requires table { IsTable book.old table.now }
+    requires table { IsBitTable book.old table.now }
     requires enables { HasEnables table.now gate.now }
     ensures grows { Extends book.old book.new }
     ensures within { IfOk result (λ id. id < length book.new.nodes) }
@@ -107,7 +108,7 @@ pub(crate) fn legal_set(
     table: &[Items<SetId>],
     nets: &[Net],
 ) -> Result<SetId, NoMemory>
-    requires table { IsTable book.old table.now }
+    requires table { IsBitTable book.old table.now }
     requires enables { AllByRecursion (λ net. HasEnables table.now net.gate) nets.now }
     ensures grows { Extends book.old book.new }
     ensures within { IfOk result (λ id. id < length book.new.nodes) }

@@ -3,9 +3,9 @@
 //!
 //! Promise: `controls` gives for each bit of each static net in a control place the set of exactly
 //! the words under which it is 1, and the set of exactly the words without a clash, or
-//! `AlwaysClash` exactly where there is none (`control`: `IsControl`, `HasCause`). The book is only
-//! extended (`grows`). `bits_of` finds the sets of a net, and `equals` gives the words at which
-//! such bits give a number. No step goes over the words.
+//! `AlwaysClash` exactly where there is none (`control`: `IsControl`, `HasControlCause`). The book
+//! is only extended (`grows`). `bits_of` finds the sets of a net, and `equals` gives the words at
+//! which such bits give a number. No step goes over the words.
 //!
 //! Invariant: the table of sets is filled in the order of the checked netlist, for the nets that
 //! control needs alone, so the sets of the nets that a gate names are there before its own. Bits
@@ -21,8 +21,8 @@
 //! - `legal`: the words under which no bus clashes.
 //! - `control`: `controls`.
 //! - `lib`: `ControlBits`, with `bits_of`, and `CtlFault`.
-//! - `specs/`: `Controls`, `Places`, and parts of `Bits` and `Tables` are cited by public
-//!   contracts; the rest of these, and `Flags`, mirror loops.
+//! - `specs/`, cited by public contracts: `Controls`, `Places`, `Bits`, `Tables`. `specs/Inner/`:
+//!   what goes with loops.
 //! - `proofs/`: `Filling` and `Needed` for the table, `Values`, `Numbers`, `Rows` and `Bools` for
 //!   gates, `Clashes` and `Enables` for buses, `Sets`, `CallerLemmas`.
 #![tactic(auto)]
@@ -45,7 +45,8 @@ use rec_bits::{Items, NoMemory};
 /// What control depends on.
 #[derive(Debug, Drop)]
 pub struct ControlBits {
-    /// The static nets in control places, ascending, each with a set for each of its bits, the lowest bit first.
+    /// The static nets in control places, ascending, each with a set for each of its bits, the
+    /// lowest bit first.
     pub bits: Items<(u32, Items<SetId>)>,
     /// The words under which no bus clashes.
     pub legal: SetId,
@@ -54,7 +55,8 @@ pub struct ControlBits {
 impl ControlBits {
     ghost use Rattle.ctl_bdd.specs.Controls.{bits_in};
 
-    /// The sets of a net's bits, the lowest bit first, or None where the net isn't static or stands in no control place.
+    /// The sets of a net's bits, the lowest bit first, or None where the net isn't static or stands
+    /// in no control place.
     pub fn bits_of(&self, net: u32) -> Option<&[SetId]>
         ensures { option_copied result ≡ bits_in self.now.bits net }
     {

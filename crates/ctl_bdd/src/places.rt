@@ -6,7 +6,7 @@ ghost use Rattle.net_model.specs.CheckedRules.{is_control};
 ghost use Rattle.net_model.specs.Control.{control_places};
 ghost use Rattle.net_model.specs.Nets.{gate_nets};
 ghost use Rattle.net_model.specs.Flags.{flag_at};
-ghost use Rattle.ctl_bdd.specs.Flags.{IsClosed};
+ghost use Rattle.ctl_bdd.specs.Inner.Flags.{IsClosed};
 
 use crate::flags::{new_flags, set_all};
 use net_model::{Checked, Gate, Netlist, is_set};
@@ -62,7 +62,8 @@ fn set_named(alloc: Global, flags: &mut Items<bool>, gate: &Gate, net: u32) -> R
     Ok(())
 }
 
-// For each net whether one of these is it or depends on it, from the last net in order to the first.
+// For each net whether one of these is it or depends on it, from the last net in order to the
+// first.
 pub(crate) fn needed_flags(
     alloc: Global,
     checked: &Checked,

@@ -5,8 +5,8 @@ ghost use Rattle.net_model.specs.CheckedRules.{is_control};
 ghost use Rattle.net_model.specs.Nets.{word_width};
 ghost use Rattle.bit_bdd.specs.Diagrams.{Extends};
 ghost use Rattle.net_model.specs.Flags.{flag_at};
-ghost use Rattle.ctl_bdd.specs.Flags.{IsClosed};
-ghost use Rattle.ctl_bdd.specs.Tables.{AreBits, IsTable, sets_at};
+ghost use Rattle.ctl_bdd.specs.Inner.Flags.{IsClosed};
+ghost use Rattle.ctl_bdd.specs.Tables.{AreBits, IsBitTable, sets_at};
 
 use crate::gates::gate_bits;
 use bit_bdd::{Book, SetId};
@@ -35,7 +35,7 @@ pub(crate) fn table_of(
     requires closed { IsClosed checked.now.netlist needed.now }
     requires word { book.old.bits ≡ word_width checked.now.netlist }
     ensures grows { Extends book.old book.new }
-    ensures table { IfOk result (IsTable book.new) }
+    ensures table { IfOk result (IsBitTable book.new) }
     ensures bits { IfOk result (λ table. (n : ℕ) → n < length checked.now.netlist.nets → flag_at needed.now n ≡ true →
         AreBits checked.now.netlist book.new n (sets_at table n)) }
 {

@@ -15,11 +15,11 @@ use Rattle.net_model.specs.CheckedRules.{StorageKeeps}
 use Rattle.net_model.proofs.Effects.{next_is_state}
 use Rattle.net_model.proofs.NextStates.{set_fits}
 use Rattle.cycle_sim.specs.declared.edge.Port.{Port}
-use Rattle.cycle_sim.specs.Ports.{port_of, port_width, HasPortWidth}
+use Rattle.cycle_sim.specs.Inner.Ports.{port_of, memory_port_width, HasPortWidth}
 
 -- ---- the port is the memory's
 
-pub port_width_is : (storages : List Storage) → port_width (port_of storages) ≡ memory_width storages
+pub port_width_is : (storages : List Storage) → memory_port_width (port_of storages) ≡ memory_width storages
 port_width_is [] = refl
 port_width_is (Register name width input when ∷ storages) = port_width_is storages
 port_width_is (Memory name width size addr_width value addr when ∷ storages) = refl
@@ -73,7 +73,7 @@ set_is_state netlist s address value h k = record {
 }
 
 -- a value that a cell of the port takes is one that a cell of the memory takes
-pub told_of : (storages : List Storage) (port : Option Port) (value : ℕ) (r : Bool) → port_width port ≡ memory_width storages → (IsTrue r ↔ (value < 2 ^ port_width port)) → IsTrue r ↔ (value < 2 ^ memory_width storages)
+pub told_of : (storages : List Storage) (port : Option Port) (value : ℕ) (r : Bool) → memory_port_width port ≡ memory_width storages → (IsTrue r ↔ (value < 2 ^ memory_port_width port)) → IsTrue r ↔ (value < 2 ^ memory_width storages)
 told_of storages port value r p e = rw (sym p) e
 
 pub refused : (r : Bool) (P Q : Type 0) → (IsTrue r ↔ Q) → r ≡ false → IsTrue false ↔ (P × Q)

@@ -22,9 +22,9 @@ use Rattle.net_model.specs.Widths.{GateFits, IsTyped}
 use Rattle.net_model.proofs.Fits.{typed_width}
 use Rattle.cycle_sim.specs.declared.operation.Operation.{Operation}
 use Rattle.cycle_sim.specs.declared.operation.Operation.TheVariants.{Table, Search}
-use Rattle.cycle_sim.specs.Operations.{IsReady, operation_value}
-use Rattle.cycle_sim.specs.Decoding.{binary_of, choice_of, chosen, decoded, drivers_by, optional, rows_by, table_of}
-use Rattle.cycle_sim.specs.Programs.{HoldsGate, IsPlainGate}
+use Rattle.cycle_sim.specs.Inner.Operations.{HasOperands, operation_value}
+use Rattle.cycle_sim.specs.Inner.Decoding.{binary_of, choice_of, chosen, decoded, drivers_by, optional, rows_by, table_of}
+use Rattle.cycle_sim.specs.Inner.Programs.{HoldsGate, IsPlainGate}
 
 -- ---- numbers
 
@@ -108,7 +108,8 @@ bus_gives v f w (driver ∷ drivers) h = rw (h.0, h.1.0, bus_gives v f w drivers
 
 -- ---- gates
 
--- an operation gives the gate's value; a gate without one that has a place of its own has its value standing there
+-- an operation gives the gate's value; a gate without one that has a place of its own has its value
+-- standing there
 abbrev pub Gives : (v w : ℕ → ℕ) (netlist : Netlist) (s : State) (word width : ℕ) → Gate → Option Operation → Type 0
 Gives v w netlist s word width gate None =
     IsPlainGate gate → (x : ℕ) → HoldsGate gate x → x ≡ gate_value w netlist s word width gate
@@ -143,20 +144,20 @@ module _ (netlist : Netlist) (typed : IsTyped netlist) (f : ℕ → ℕ) where
   -- ---- the places and the widths of an operation
 
   module _ (n : ℕ) (within : (m : ℕ) → m < length netlist.nets → f m < n) where
-    binary_ready : (op : Op2) (from width p q : ℕ) → p < n → q < n → 1 ≤ from → from ≤ 64 → IsReady n (binary_of op from width p q)
+    binary_ready : (op : Op2) (from width p q : ℕ) → p < n → q < n → 1 ≤ from → from ≤ 64 → HasOperands n (binary_of op from width p q)
     binary_ready Shl from width p q hp hq low high = (hp, hq, low, high)
     binary_ready Shr from width p q hp hq low high = (hp, hq, low, high)
     binary_ready Sar from width p q hp hq low high = (hp, hq, low, high)
     binary_ready Lts from width p q hp hq low high = (hp, hq, low, high)
     binary_ready op from width p q hp hq low high = (hp, hq)
 
-    choice_ready : (t : Bool) (x y : Operation) → IsReady n x → IsReady n y → IsReady n (cond t x y)
+    choice_ready : (t : Bool) (x y : Operation) → HasOperands n x → HasOperands n y → HasOperands n (cond t x y)
     choice_ready true x y h k = h
     choice_ready false x y h k = k
 
     abbrev pub OptionReady : Option Operation → Type 0
     OptionReady None = Unit {0}
-    OptionReady (Some operation) = IsReady n operation
+    OptionReady (Some operation) = HasOperands n operation
 
     pub decoded_ready : (width : ℕ) (gate : Gate) → GateFits netlist width gate → 1 ≤ width → width ≤ 64 → OptionReady (decoded netlist f width gate)
     decoded_ready width (Word code) g low high = tt

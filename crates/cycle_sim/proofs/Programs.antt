@@ -20,12 +20,12 @@ use Rattle.net_model.proofs.Orders.{value_is}
 use Rattle.cycle_sim.specs.declared.edge.BusDrivers.{BusDrivers}
 use Rattle.cycle_sim.specs.declared.edge.Port.{Port}
 use Rattle.cycle_sim.specs.declared.program.Program.{Program}
-use Rattle.cycle_sim.specs.Clocks.{cell_in}
-use Rattle.cycle_sim.specs.Decoding.{buses_from, buses_with, constant_of, constants_of, drivers_by, latches_by, optional, port_by, source_in}
-use Rattle.cycle_sim.specs.Operations.{run_of}
-use Rattle.cycle_sim.specs.Ports.{cell_by, cells_by, port_of, port_width, HasPortWidth}
-use Rattle.cycle_sim.specs.Programs.{clash_by, regs_by, AreSources, Follows, HoldsNet, HoldsGate, IsPlain, IsPlainGate, IsProgram, IsRoom, Runs}
-use Rattle.cycle_sim.specs.Running.{IsRunning}
+use Rattle.cycle_sim.specs.Clocks.{cell_net}
+use Rattle.cycle_sim.specs.Inner.Decoding.{buses_from, buses_with, constant_of, constants_of, drivers_by, latches_by, optional, port_by, source_in}
+use Rattle.cycle_sim.specs.Inner.Operations.{run_of}
+use Rattle.cycle_sim.specs.Inner.Ports.{cell_by, cells_by, port_of, memory_port_width, HasPortWidth}
+use Rattle.cycle_sim.specs.Inner.Programs.{clash_by, regs_by, AreSources, RunsAs, HoldsNet, HoldsGate, IsPlain, IsPlainGate, IsProgram, IsRoom, Runs}
+use Rattle.cycle_sim.specs.Inner.Running.{IsRunning}
 use Rattle.cycle_sim.proofs.Edges.{words_fit_at}
 use Rattle.cycle_sim.proofs.Runs.{run_long}
 
@@ -59,12 +59,12 @@ module _ (v f : ℕ → ℕ) where
   cells_are (Register name width input when ∷ storages) cells = cells_are storages cells
   cells_are (Memory name width size addr_width value addr when ∷ storages) cells = rw (enabled_by when) refl
 
-  cell_is : (storages : List Storage) (size : ℕ) → cell_by v (port_by f (port_of storages)) size ≡ cell_in (λ m. v (f m)) storages size
+  cell_is : (storages : List Storage) (size : ℕ) → cell_by v (port_by f (port_of storages)) size ≡ cell_net (λ m. v (f m)) storages size
   cell_is [] size = refl
   cell_is (Register name width input when ∷ storages) size = cell_is storages size
   cell_is (Memory name width _ addr_width value addr when ∷ storages) size = rw (enabled_by when) refl
 
-pub width_by : (f : ℕ → ℕ) (port : Option Port) → port_width (port_by f port) ≡ port_width port
+pub width_by : (f : ℕ → ℕ) (port : Option Port) → memory_port_width (port_by f port) ≡ memory_port_width port
 width_by f None = refl
 width_by f (Some port) = refl
 
@@ -117,7 +117,7 @@ module _ (netlist : Netlist) (order : List ℕ) (o : IsOrder netlist order) (typ
         ];
   }
 
-  pub follows : (sources : List ℕ) → AreSources netlist order sources → program.latches ≡ latches_by (source_in sources) netlist.storages → program.buses ≡ buses_from (source_in sources) 0 netlist.nets → program.port ≡ port_by (source_in sources) (port_of netlist.storages) → Follows netlist s word (run_of s word program.instructions room) program
+  pub follows : (sources : List ℕ) → AreSources netlist order sources → program.latches ≡ latches_by (source_in sources) netlist.storages → program.buses ≡ buses_from (source_in sources) 0 netlist.nets → program.port ≡ port_by (source_in sources) (port_of netlist.storages) → RunsAs netlist s word (run_of s word program.instructions room) program
   follows sources places l b p =
       let v : ℕ → ℕ = slice_index (run_of s word program.instructions room) in
       let all : (λ m. v (source_in sources m)) ≡ value_of netlist s word = fun_ext (stand sources places) in
@@ -130,7 +130,7 @@ module _ (netlist : Netlist) (order : List ℕ) (o : IsOrder netlist order) (typ
             ∙ ap (λ u. clash_in u netlist.nets) all;
         regs = λ regs. ap (λ x. regs_by v x regs) l ∙ regs_are v (source_in sources) netlist.storages regs ∙ ap (λ u. next_regs u netlist.storages regs) all;
         cells = λ cells. ap (λ x. cells_by v x cells) p ∙ cells_are v (source_in sources) netlist.storages cells ∙ ap (λ u. next_cells u netlist.storages cells) all;
-        written = λ size. ap (λ x. cell_by v x size) p ∙ cell_is v (source_in sources) netlist.storages size ∙ ap (λ u. cell_in u netlist.storages size) all;
+        written = λ size. ap (λ x. cell_by v x size) p ∙ cell_is v (source_in sources) netlist.storages size ∙ ap (λ u. cell_net u netlist.storages size) all;
       }
 
 pub is_program : (netlist : Netlist) (order : List ℕ) → IsOrder netlist order → IsTyped netlist → (program : Program) → Runs netlist program.instructions → (sources : List ℕ) → AreSources netlist order sources → program.latches ≡ latches_by (source_in sources) netlist.storages → program.buses ≡ buses_from (source_in sources) 0 netlist.nets → program.port ≡ port_by (source_in sources) (port_of netlist.storages) → IsProgram netlist program
@@ -162,9 +162,9 @@ constants_room netlist = record { long = constants_long netlist.nets; constants 
 
 module _ (netlist : Netlist) (words : List ℕ) (s : State) (program : Program) (room : List ℕ) (h : IsRunning netlist words s program room) (values : List ℕ) where
   -- what the instructions leave
-  pub ran : values ≡ run_of s (word_at netlist words s) program.instructions room → Follows netlist s (word_at netlist words s) values program
+  pub ran : values ≡ run_of s (word_at netlist words s) program.instructions room → RunsAs netlist s (word_at netlist words s) values program
   ran e =
-      subst (λ l. Follows netlist s (word_at netlist words s) l program) (sym e)
+      subst (λ l. RunsAs netlist s (word_at netlist words s) l program) (sym e)
       (h.decoded.follows s (word_at netlist words s) room h.state.fits (words_fit_at netlist words h.words_fit _) h.room)
 
   -- it is still a simulator in another state that fits, with what they left

@@ -13,23 +13,23 @@ use Rattle.net_model.specs.declared.states.State.{State}
 use Rattle.net_model.specs.Nets.{gate_nets, nets_of}
 use Rattle.net_model.specs.Value.{gate_value, net_value, value_of}
 use Rattle.net_model.specs.Widths.{IsTyped, NetFits, StateFits, WordFits}
-use Rattle.net_model.specs.Order.{place_of, IsOrder}
+use Rattle.net_model.specs.Order.{position_of, IsOrder}
 use Rattle.net_model.proofs.Fits.{value_fits}
 use Rattle.net_model.proofs.Orders.{at_place, one_more, place_at, value_is}
 use Rattle.cycle_sim.specs.declared.operation.Instruction.{Instruction}
 use Rattle.cycle_sim.specs.declared.operation.Operation.{Operation}
-use Rattle.cycle_sim.specs.Operations.{AreReady, IsReady, operation_value, run_of}
-use Rattle.cycle_sim.specs.Decoding.{decoded, source_in, source_of}
-use Rattle.cycle_sim.specs.Programs.{added, AreSources, HoldsNet, IsPlain, IsPlainGate, IsRoom, IsSource, Runs}
+use Rattle.cycle_sim.specs.Inner.Operations.{AreReady, HasOperands, operation_value, run_of}
+use Rattle.cycle_sim.specs.Inner.Decoding.{decoded, source_in, source_of}
+use Rattle.cycle_sim.specs.Inner.Programs.{added, AreSources, HoldsNet, IsPlain, IsPlainGate, IsRoom, IsSource, Runs}
 use Rattle.cycle_sim.proofs.Gates.{Gives, gives, OptionReady, decoded_ready}
 
 -- ---- the place of a net
 
 module _ (netlist : Netlist) (order : List ℕ) (o : IsOrder netlist order) (n : ℕ) (net : Net) (there : slice_get netlist.nets n ≡ Some net) (within : n < length netlist.nets) where
-  below : (gate : Gate) → gate ≡ net.gate → AllByRecursion (λ m. place_of order m < place_of order n) (gate_nets gate)
+  below : (gate : Gate) → gate ≡ net.gate → AllByRecursion (λ m. position_of order m < position_of order n) (gate_nets gate)
   below gate e =
-      subst (λ g. AllByRecursion (λ m. place_of order m < place_of order n) (gate_nets g)) (sym e)
-      (subst (λ r. AllByRecursion (λ m. place_of order m < place_of order n) (nets_of r)) there (o.falls n))
+      subst (λ g. AllByRecursion (λ m. position_of order m < position_of order n) (gate_nets g)) (sym e)
+      (subst (λ r. AllByRecursion (λ m. position_of order m < position_of order n) (nets_of r)) there (o.falls n))
 
   equation : (gate : Gate) → gate ≡ net.gate → (s : State) (word : ℕ) → value_of netlist s word n ≡ gate_value (value_of netlist s word) netlist s word net.width gate
   equation gate e s word =
@@ -45,7 +45,7 @@ module _ (netlist : Netlist) (order : List ℕ) (o : IsOrder netlist order) (n :
     same = λ s word. refl;
   }
 
-  moved : (a x : ℕ) → place_of order a < place_of order n → ((s : State) (word : ℕ) → value_of netlist s word n ≡ value_of netlist s word a) → IsSource netlist order a x → IsSource netlist order n x
+  moved : (a x : ℕ) → position_of order a < position_of order n → ((s : State) (word : ℕ) → value_of netlist s word n ≡ value_of netlist s word a) → IsSource netlist order a x → IsSource netlist order n x
   moved a x lt e h = record {
     within = h.within;
     earlier = omega (arith, h.earlier, lt);
@@ -53,24 +53,24 @@ module _ (netlist : Netlist) (order : List ℕ) (o : IsOrder netlist order) (n :
     same = λ s word. h.same s word ∙ sym (e s word);
   }
 
-  pub source_here : (f : ℕ → ℕ) (i : ℕ) → place_of order n ≤ i → ((m : ℕ) → place_of order m < i → IsSource netlist order m (f m)) → (gate : Gate) → gate ≡ net.gate → IsSource netlist order n (source_of f n gate)
+  pub source_here : (f : ℕ → ℕ) (i : ℕ) → position_of order n ≤ i → ((m : ℕ) → position_of order m < i → IsSource netlist order m (f m)) → (gate : Gate) → gate ≡ net.gate → IsSource netlist order n (source_of f n gate)
   source_here f i h done (Wire a) e =
-      let lt : place_of order a < place_of order n = (below (Wire a) e).0 in
+      let lt : position_of order a < position_of order n = (below (Wire a) e).0 in
       moved a (f a) lt (equation (Wire a) e) (done a (omega (arith, lt, h)))
   source_here f i h done (Zext a) e =
-      let lt : place_of order a < place_of order n = (below (Zext a) e).0 in
+      let lt : position_of order a < position_of order n = (below (Zext a) e).0 in
       moved a (f a) lt (equation (Zext a) e) (done a (omega (arith, lt, h)))
   source_here f i h done gate e = itself gate e tt
 
 -- one more place
-pub sources_turn : (netlist : Netlist) (order : List ℕ) → IsOrder netlist order → (sources : List ℕ) (i : ℕ) → i < length order → length sources ≡ length netlist.nets → (net : Net) → net ≡ get_or netlist.nets (slice_index order i) net → ((m : ℕ) → place_of order m < i → IsSource netlist order m (source_in sources m)) → (m : ℕ) → place_of order m < i + 1 → IsSource netlist order m (source_in (slice_set sources (slice_index order i) (source_of (source_in sources) (slice_index order i) net.gate)) m)
+pub sources_turn : (netlist : Netlist) (order : List ℕ) → IsOrder netlist order → (sources : List ℕ) (i : ℕ) → i < length order → length sources ≡ length netlist.nets → (net : Net) → net ≡ get_or netlist.nets (slice_index order i) net → ((m : ℕ) → position_of order m < i → IsSource netlist order m (source_in sources m)) → (m : ℕ) → position_of order m < i + 1 → IsSource netlist order m (source_in (slice_set sources (slice_index order i) (source_of (source_in sources) (slice_index order i) net.gate)) m)
 sources_turn netlist order o sources i lt long net is done =
     let within : slice_index order i < length netlist.nets = o.nets i lt in
     let there : slice_get netlist.nets (slice_index order i) ≡ Some net = slice_get_read netlist.nets (length netlist.nets) (slice_index order i) net refl within is in
     one_more netlist order o (IsSource netlist order) sources 4294967295 _ i lt long done
     (source_here netlist order o (slice_index order i) net there within (source_in sources) i (place_at order i lt) done net.gate refl)
 
-pub sources_done : (netlist : Netlist) (order : List ℕ) → IsOrder netlist order → (sources : List ℕ) → length sources ≡ length netlist.nets → ((m : ℕ) → place_of order m < length order → IsSource netlist order m (source_in sources m)) → AreSources netlist order sources
+pub sources_done : (netlist : Netlist) (order : List ℕ) → IsOrder netlist order → (sources : List ℕ) → length sources ≡ length netlist.nets → ((m : ℕ) → position_of order m < length order → IsSource netlist order m (source_in sources m)) → AreSources netlist order sources
 sources_done netlist order o sources long done = record { long = long; each = λ m h. done m (o.places m h) }
 
 -- ---- a run
@@ -93,8 +93,8 @@ module _ (s : State) (word : ℕ) where
 -- the instructions of the first nets of the order
 pub record Built (netlist : Netlist) (order : List ℕ) (i : ℕ) (instructions : List Instruction) : Type 0 where
   pub ready : AreReady (length netlist.nets) instructions
-  pub before : AllByRecursion (λ (instruction : Instruction). place_of order instruction.place < i) instructions
-  pub right : (s : State) (word : ℕ) (room : List ℕ) → StateFits netlist s → WordFits netlist word → IsRoom netlist room → (n : ℕ) → place_of order n < i → IsPlain (slice_get netlist.nets n) → slice_index (run_of s word instructions room) n ≡ value_of netlist s word n
+  pub before : AllByRecursion (λ (instruction : Instruction). position_of order instruction.place < i) instructions
+  pub right : (s : State) (word : ℕ) (room : List ℕ) → StateFits netlist s → WordFits netlist word → IsRoom netlist room → (n : ℕ) → position_of order n < i → IsPlain (slice_get netlist.nets n) → slice_index (run_of s word instructions room) n ≡ value_of netlist s word n
 
 pub none_built : (netlist : Netlist) (order : List ℕ) → Built netlist order 0 []
 none_built netlist order = record { ready = tt; before = tt; right = λ s word room f w r n h. absurd (omega (arith, h)) }
@@ -114,10 +114,10 @@ module _ (netlist : Netlist) (order : List ℕ) (o : IsOrder netlist order) (typ
 
   module _ (s : State) (word : ℕ) (room : List ℕ) (f : StateFits netlist s) (w : WordFits netlist word) (r : IsRoom netlist room) where
     -- a net before this one stands at its place
-    stands : (m : ℕ) → place_of order m < i → slice_index (run_of s word instructions room) (source_in sources m) ≡ value_of netlist s word m
+    stands : (m : ℕ) → position_of order m < i → slice_index (run_of s word instructions room) (source_in sources m) ≡ value_of netlist s word m
     stands m h =
-        let q : slice_index order (place_of order m) ≡ m = at_place order m (omega (arith, h, lt)) in
-        let k : slice_index order (place_of order m) < length netlist.nets = o.nets (place_of order m) (omega (arith, h, lt)) in
+        let q : slice_index order (position_of order m) ≡ m = at_place order m (omega (arith, h, lt)) in
+        let k : slice_index order (position_of order m) < length netlist.nets = o.nets (position_of order m) (omega (arith, h, lt)) in
         let p = places.each m (subst (λ j. j < length netlist.nets) q k) in
         b.right s word room f w r (source_in sources m) (omega (arith, p.earlier, h)) p.plain ∙ p.same s word
 
@@ -129,7 +129,7 @@ module _ (netlist : Netlist) (order : List ℕ) (o : IsOrder netlist order) (typ
     turn_gives =
         gives netlist typed (source_in sources) (slice_index (run_of s word instructions room)) (value_of netlist s word) s word net.width net.gate nowhere
         (value_fits netlist s word typed f w (length netlist.nets)) fits_turn.2 fits_turn.1
-        (all_weaker (λ m. place_of order m < place_of order (slice_index order i)) (λ m. slice_index (run_of s word instructions room) (source_in sources m) ≡ value_of netlist s word m)
+        (all_weaker (λ m. position_of order m < position_of order (slice_index order i)) (λ m. slice_index (run_of s word instructions room) (source_in sources m) ≡ value_of netlist s word m)
         (λ m h. stands m (omega (arith, h, place_at order i lt)))
         (gate_nets net.gate) (below netlist order o (slice_index order i) net at_turn (o.nets i lt) net.gate refl))
 
@@ -137,25 +137,25 @@ module _ (netlist : Netlist) (order : List ℕ) (o : IsOrder netlist order) (typ
     turn_equation = equation netlist order o (slice_index order i) net at_turn (o.nets i lt) net.gate refl s word
 
     -- a net without an instruction stands there from the start
-    turn_none : Gives (slice_index (run_of s word instructions room)) (value_of netlist s word) netlist s word net.width net.gate None → (n : ℕ) → place_of order n < i + 1 → IsPlain (slice_get netlist.nets n) → slice_index (run_of s word instructions room) n ≡ value_of netlist s word n
+    turn_none : Gives (slice_index (run_of s word instructions room)) (value_of netlist s word) netlist s word net.width net.gate None → (n : ℕ) → position_of order n < i + 1 → IsPlain (slice_get netlist.nets n) → slice_index (run_of s word instructions room) n ≡ value_of netlist s word n
     turn_none g n h p =
-        elim (cases_lt (place_of order n) i) as (λ _. slice_index (run_of s word instructions room) n ≡ value_of netlist s word n) [
+        elim (cases_lt (position_of order n) i) as (λ _. slice_index (run_of s word instructions room) n ≡ value_of netlist s word n) [
           | inl k ↦ b.right s word room f w r n k p
           | inr k ↦
-              let q : slice_index order (place_of order n) ≡ n = at_place order n (omega (arith, h, lt)) in
-              let e : place_of order n ≡ i = omega (arith, h, k) in
+              let q : slice_index order (position_of order n) ≡ n = at_place order n (omega (arith, h, lt)) in
+              let e : position_of order n ≡ i = omega (arith, h, k) in
               let e' : slice_index order i ≡ n = ap (slice_index order) (sym e) ∙ q in
               let there : slice_get netlist.nets n ≡ Some net = ap (slice_get netlist.nets) (sym e') ∙ at_turn in
               run_other s word n instructions room
-              (all_weaker (λ (instruction : Instruction). place_of order instruction.place < i) (λ (instruction : Instruction). n ≢ instruction.place)
-              (λ (instruction : Instruction) (l : place_of order instruction.place < i) (d : n ≡ instruction.place). absurd (omega (arith, l, k, ap (place_of order) d)))
+              (all_weaker (λ (instruction : Instruction). position_of order instruction.place < i) (λ (instruction : Instruction). n ≢ instruction.place)
+              (λ (instruction : Instruction) (l : position_of order instruction.place < i) (d : n ≡ instruction.place). absurd (omega (arith, l, k, ap (position_of order) d)))
               instructions b.before)
               ∙ g (subst (λ r. IsPlain r) there p) (slice_index room n) (subst (λ r. HoldsNet r (slice_index room n)) there (r.constants n))
               ∙ sym turn_equation
               ∙ ap (value_of netlist s word) e'
         ]
 
-    turn_some : (operation : Operation) → Gives (slice_index (run_of s word instructions room)) (value_of netlist s word) netlist s word net.width net.gate (Some operation) → (n : ℕ) → place_of order n < i + 1 → IsPlain (slice_get netlist.nets n) → slice_index (slice_set (run_of s word instructions room) (slice_index order i) (operation_value (slice_index (run_of s word instructions room)) s word operation)) n ≡ value_of netlist s word n
+    turn_some : (operation : Operation) → Gives (slice_index (run_of s word instructions room)) (value_of netlist s word) netlist s word net.width net.gate (Some operation) → (n : ℕ) → position_of order n < i + 1 → IsPlain (slice_get netlist.nets n) → slice_index (slice_set (run_of s word instructions room) (slice_index order i) (operation_value (slice_index (run_of s word instructions room)) s word operation)) n ≡ value_of netlist s word n
     turn_some operation g n h =
         one_more netlist order o (λ (m v : ℕ). IsPlain (slice_get netlist.nets m) → v ≡ value_of netlist s word m)
         (run_of s word instructions room) 0 _ i lt (run_long s word instructions room ∙ r.long)
@@ -165,12 +165,12 @@ module _ (netlist : Netlist) (order : List ℕ) (o : IsOrder netlist order) (typ
   added_built : (d : Option Operation) → OptionReady netlist typed (source_in sources) (length netlist.nets) (λ m h. (places.each m h).within) d → ((s : State) (word : ℕ) (room : List ℕ) → StateFits netlist s → WordFits netlist word → IsRoom netlist room → Gives (slice_index (run_of s word instructions room)) (value_of netlist s word) netlist s word net.width net.gate d) → Built netlist order (i + 1) (added (slice_index order i) d instructions)
   added_built None y g = record {
     ready = b.ready;
-    before = all_weaker (λ (instruction : Instruction). place_of order instruction.place < i) (λ (instruction : Instruction). place_of order instruction.place < i + 1) (λ instruction h. omega (arith, h)) instructions b.before;
+    before = all_weaker (λ (instruction : Instruction). position_of order instruction.place < i) (λ (instruction : Instruction). position_of order instruction.place < i + 1) (λ instruction h. omega (arith, h)) instructions b.before;
     right = λ s word room f w r. turn_none s word room f w r (g s word room f w r);
   }
   added_built (Some operation) y g = record {
-    ready = all_append (λ (instruction : Instruction). (instruction.place < length netlist.nets) × IsReady (length netlist.nets) instruction.operation) instructions _ b.ready ((o.nets i lt, y), tt);
-    before = all_append (λ (instruction : Instruction). place_of order instruction.place < i + 1) instructions _ (all_weaker (λ (instruction : Instruction). place_of order instruction.place < i) (λ (instruction : Instruction). place_of order instruction.place < i + 1) (λ instruction h. omega (arith, h)) instructions b.before) (omega (arith, place_at order i lt), tt);
+    ready = all_append (λ (instruction : Instruction). (instruction.place < length netlist.nets) × HasOperands (length netlist.nets) instruction.operation) instructions _ b.ready ((o.nets i lt, y), tt);
+    before = all_append (λ (instruction : Instruction). position_of order instruction.place < i + 1) instructions _ (all_weaker (λ (instruction : Instruction). position_of order instruction.place < i) (λ (instruction : Instruction). position_of order instruction.place < i + 1) (λ instruction h. omega (arith, h)) instructions b.before) (omega (arith, place_at order i lt), tt);
     right = λ s word room f w r n h p. ap (λ l. slice_index l n) (run_more s word instructions _ room) ∙ turn_some s word room f w r operation (g s word room f w r) n h p;
   }
 

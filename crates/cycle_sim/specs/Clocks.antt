@@ -11,20 +11,20 @@ use Rattle.cycle_sim.specs.declared.sim.Clocked.TheVariants.{Stepped}
 use Rattle.cycle_sim.specs.declared.sim.Clocked.TheVariants as answer
 use Rattle.cycle_sim.specs.Shown.{Shown}
 
--- the cell of the data memory that is written, where v gives the values of the nets: there is one where the memory has no `when` or a
--- `when` of value 1, and its address lies below the size
-abbrev pub cell_in : (ℕ → ℕ) → List Storage → ℕ → Option ℕ
-cell_in v [] size = None
-cell_in v (Register name width input when ∷ storages) size = cell_in v storages size
-cell_in v (Memory name width _ addr_width value addr when ∷ storages) size =
+-- the cell of the data memory that is written, where v gives the values of the nets: there is one
+-- where the memory has no `when` or a `when` of value 1, and its address lies below the size
+abbrev pub cell_net : (ℕ → ℕ) → List Storage → ℕ → Option ℕ
+cell_net v [] size = None
+cell_net v (Register name width input when ∷ storages) size = cell_net v storages size
+cell_net v (Memory name width _ addr_width value addr when ∷ storages) size =
     if is_enabled v when && nat_lt (v addr) size then Some (v addr) else None
 
 -- the cell that a clock without clash writes
 abbrev pub written_cell : Netlist → List ℕ → State → Option ℕ
-written_cell netlist words s = cell_in (value_of netlist s (word_at netlist words s)) netlist.storages (length s.cells)
+written_cell netlist words s = cell_net (value_of netlist s (word_at netlist words s)) netlist.storages (length s.cells)
 
--- a clock that answers `Stepped` leaves the next state and has written that cell; one that answers `Clash` clashed at that bus, left
--- the state as it was and wrote nothing
+-- a clock that answers `Stepped` leaves the next state and has written that cell; one that answers
+-- `Clash` clashed at that bus, left the state as it was and wrote nothing
 abbrev pub Clocks : Shown → Shown → Clocked → Type 0
 Clocks old new Stepped =
     (clock old.netlist old.words old.state ≡ Next new.state) × (new.last_write ≡ written_cell old.netlist old.words old.state)

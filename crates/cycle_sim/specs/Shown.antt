@@ -3,7 +3,8 @@ use Rattle.std.specs.Prelude.{ℕ, List, Option}
 use Rattle.net_model.specs.declared.hardware.Netlist.{Netlist}
 use Rattle.net_model.specs.declared.states.State.{State}
 
--- the netlist, its instruction words, what its storages hold, and the cell that the last clock wrote
+-- the netlist, its instruction words, what its storages hold, and the cell that the last clock
+-- wrote
 pub record Shown : Type 0 where
   pub netlist : Netlist
   pub words : List ℕ

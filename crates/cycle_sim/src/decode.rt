@@ -1,7 +1,7 @@
 // Gates, storages and buses decoded once, over the places where the values of nets stand.
 
 ghost use Rattle.std.specs.Prelude.{◌≡◌, ◌<◌, ◌^◌, ◌≤◌, IfOk, length};
-ghost use Rattle.cycle_sim.specs.Decoding.{binary_of, buses_from, choice_of, chosen, constants_of, decoded, drivers_by, latches_by, latch_by, constant_of, optional, port_by, rows_by, source_in, source_of, table_of};
+ghost use Rattle.cycle_sim.specs.Inner.Decoding.{binary_of, buses_from, choice_of, chosen, constants_of, decoded, drivers_by, latches_by, latch_by, constant_of, optional, port_by, rows_by, source_in, source_of, table_of};
 
 use crate::edge::{BusDrivers, Latch, Port};
 use crate::operation::{NOWHERE, Operation, place_at};

@@ -2,8 +2,8 @@
 
 ghost use Rattle.std.specs.Prelude.{◌≡◌, ◌<◌, ◌^◌, IfSome, length, slice_index};
 ghost use Rattle.net_model.specs.Clock.{clash_in, enabled_count, gate_clashes, is_enabled};
-ghost use Rattle.cycle_sim.specs.Ports.{cell_by, cells_by, port_of};
-ghost use Rattle.cycle_sim.specs.Programs.{clash_by, latched, regs_by};
+ghost use Rattle.cycle_sim.specs.Inner.Ports.{cell_by, cells_by, port_of};
+ghost use Rattle.cycle_sim.specs.Inner.Programs.{clash_by, latched, regs_by};
 
 use crate::values::value_at;
 use net_model::{Gate, Net, Storage};
@@ -12,7 +12,8 @@ use rec_bits::Items;
 // How many drivers of a bus may be enabled.
 const ENABLED_AT_MOST: usize = 1;
 
-// How a clock writes the data memory: the width of its cells and the nets of the value, of the address and of the enable.
+// How a clock writes the data memory: the width of its cells and the nets of the value, of the
+// address and of the enable.
 #[derive(Clone, Copy)]
 pub(crate) struct Port {
     pub width: u8,

@@ -7,9 +7,9 @@
 //! first bus that clashes. `pc`, `reg`, `cell` and `last_write` tell what the simulator holds. No
 //! call of a `Sim` but `new` takes memory.
 //!
-//! Invariant: a `Sim` keeps `IsRunning`: its words and its state fit the netlist, and its program is
-//! one of the netlist (`IsProgram`): run from any state under any word, the program's array gives
-//! registers, memory and buses what the values of the nets give them.
+//! Invariant: a `Sim` keeps `IsRunning`: its words and its state fit the netlist, and its program
+//! is one of the netlist (`IsProgram`): run from any state under any word, the program's array
+//! gives registers, memory and buses what the values of the nets give them.
 //!
 //! A netlist is decoded once, when its simulator is made. Wires, and nets with zeros above another,
 //! have no place in the array, since what names them goes to their source; constants are written
@@ -24,8 +24,9 @@
 //! - `program`: the instructions of a netlist, in the order of its nets.
 //! - `edge`: what a clock does, given the array: clashes, registers, the memory.
 //! - `sim`: `Sim`, with its clock.
-//! - `specs/`: `Clocks` and `Shown` (what contracts see of a simulator) are cited by public
-//!   contracts; `Running`, `Ports`, `Operations`, `Decoding` and `Programs` are for the invariant.
+//! - `specs/`, cited by public contracts: `Clocks` and `Shown` (what contracts see of a simulator).
+//!   `specs/Inner/`: `Running`, `Ports`, `Operations`, `Decoding` and `Programs`, for the
+//!   invariant.
 //! - `proofs/`: `Gates`: an instruction gives its net's value; `Runs`: so do all of them;
 //!   `Programs`: and so a program is one of its netlist; `Edges`: a clock, from the array.
 #![tactic(auto)]

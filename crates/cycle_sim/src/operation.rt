@@ -2,7 +2,7 @@
 
 ghost use Rattle.std.specs.Prelude.{◌≡◌, ◌%◌, ◌^◌, ◌<◌, ◌≤◌, length, slice_index, slice_index_or};
 ghost use Rattle.rec_bits.specs.Operators.{apply1_of, apply2_of, sext_of};
-ghost use Rattle.cycle_sim.specs.Operations.{AreReady, IsReady, operation_value, run_of};
+ghost use Rattle.cycle_sim.specs.Inner.Operations.{AreReady, HasOperands, operation_value, run_of};
 
 use crate::values::{bus_of, case_of, number_at, value_at};
 use net_model::State;
@@ -11,7 +11,8 @@ use rec_bits::{Items, Op1, Op2, apply1, apply2, mask, sext};
 /// A place past the end of each array: 0 is read there.
 pub(crate) const NOWHERE: u32 = 4_294_967_295;
 
-/// What gives a place its number at a clock. Operands are places, and a mask has a 1 for each bit of the result.
+/// What gives a place its number at a clock. Operands are places, and a mask has a 1 for each bit
+/// of the result.
 #[derive(Drop)]
 pub(crate) enum Operation {
     /// The instruction word.
@@ -82,7 +83,8 @@ pub(crate) enum Operation {
         rows: Items<(u64, u32)>,
         rest: Option<u32>,
     },
-    /// The number of the first driver whose enable is 1; pairs of a number's place and its enable's.
+    /// The number of the first driver whose enable is 1; pairs of a number's place and its
+    /// enable's.
     Drive(Items<(u32, u32)>),
 }
 
@@ -123,7 +125,7 @@ fn operand(values: &[u64], place: u32) -> u64
 
 // The number that an operation gives.
 fn operate(operation: &Operation, state: &State, word: u64, values: &[u64]) -> u64
-    requires { IsReady (length values.now) operation.now }
+    requires { HasOperands (length values.now) operation.now }
     ensures { result ≡ operation_value (slice_index values.now) state.now word operation.now }
 {
     match operation {

@@ -2,8 +2,8 @@
 
 ghost use Rattle.std.specs.Prelude.{◌≡◌, IfOk, OnOk};
 ghost use Rattle.net_model.specs.Nets.{memory_width};
-ghost use Rattle.cycle_sim.specs.Ports.{HasPortWidth, port_width};
-ghost use Rattle.cycle_sim.specs.Programs.{added, AreSources, IsProgram, Runs};
+ghost use Rattle.cycle_sim.specs.Inner.Ports.{HasPortWidth, memory_port_width};
+ghost use Rattle.cycle_sim.specs.Inner.Programs.{added, AreSources, IsProgram, Runs};
 
 use crate::decode::{buses, decode, latches, routed, source_of};
 use crate::edge::{BusDrivers, Latch, Port, find_port};
@@ -12,7 +12,8 @@ use net_model::Checked;
 use rec_bits::{Items, NoMemory};
 use std::alloc::Global;
 
-/// The nets as instructions, and where storages, buses and the data memory's port take their values.
+/// The nets as instructions, and where storages, buses and the data memory's port take their
+/// values.
 #[derive(Drop)]
 pub(crate) struct Program {
     pub instructions: Items<Instruction>,
@@ -24,7 +25,7 @@ pub(crate) struct Program {
 /// The program of a netlist.
 pub(crate) fn program_of(alloc: Global, checked: &Checked) -> Result<Program, NoMemory>
     ensures program { IfOk result (λ program. IsProgram checked.now.netlist program) }
-    ensures width { IfOk result (λ program. port_width program.port ≡ memory_width checked.now.netlist.storages) }
+    ensures width { IfOk result (λ program. memory_port_width program.port ≡ memory_width checked.now.netlist.storages) }
     ensures fits { IfOk result (λ program. HasPortWidth program.port) }
 {
     let netlist = checked.netlist();

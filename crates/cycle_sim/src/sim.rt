@@ -7,7 +7,7 @@ ghost use Rattle.net_model.specs.Nets.{memory_width};
 ghost use Rattle.net_model.specs.Widths.{IsState, WordFits};
 ghost use Rattle.net_model.specs.Clock.{counter_in, word_at};
 ghost use Rattle.cycle_sim.specs.Clocks.{Clocks, register_in};
-ghost use Rattle.cycle_sim.specs.Ports.{HasPortWidth, port_width};
+ghost use Rattle.cycle_sim.specs.Inner.Ports.{HasPortWidth, memory_port_width};
 
 use crate::decode::constants;
 use crate::edge::{Port, clock_cells, clock_registers, first_clash};
@@ -28,7 +28,8 @@ pub enum Clocked {
     Clash(u32),
 }
 
-/// A netlist with the words of its instruction memory, what its storages hold, and the cell that the last clock wrote.
+/// A netlist with the words of its instruction memory, what its storages hold, and the cell that
+/// the last clock wrote.
 #[derive(Drop)]
 pub struct Sim<'a> {
     checked: &'a Checked,
@@ -42,7 +43,7 @@ pub struct Sim<'a> {
 
 impl<'a> Model for Sim<'a> {
     ghost use Rattle.cycle_sim.specs.Shown.{Shown};
-    ghost use Rattle.cycle_sim.specs.Running.{IsRunning};
+    ghost use Rattle.cycle_sim.specs.Inner.Running.{IsRunning};
 
     ghost Value = { Shown };
 
@@ -52,7 +53,8 @@ impl<'a> Model for Sim<'a> {
 }
 
 impl<'a> Sim<'a> {
-    /// A simulator of the netlist on these words, past which the instruction memory holds 0, from the state `start`.
+    /// A simulator of the netlist on these words, past which the instruction memory holds 0, from
+    /// the state `start`.
     pub fn new(
         alloc: Global,
         checked: &'a Checked,
@@ -76,8 +78,9 @@ impl<'a> Sim<'a> {
         })
     }
 
-    /// One clock edge under the word at the program counter. All storages take their next values together, from the old ones. Where
-    /// two drivers of a bus are enabled, nothing changes, and the first such bus is told.
+    /// One clock edge under the word at the program counter. All storages take their next values
+    /// together, from the old ones. Where two drivers of a bus are enabled, nothing changes, and
+    /// the first such bus is told.
     pub fn clock(&mut self) -> Clocked
         ensures netlist { self.new.netlist ≡ self.old.netlist }
         ensures words { self.new.words ≡ self.old.words }
@@ -112,7 +115,8 @@ impl<'a> Sim<'a> {
         value_at(self.state.regs.as_slice(), self.checked.pc())
     }
 
-    /// The value of the register with this storage's number, or None where there is no such register.
+    /// The value of the register with this storage's number, or None where there is no such
+    /// register.
     pub fn reg(&self, storage: u32) -> Option<u64>
         ensures { result ≡ register_in self.now.netlist self.now.state storage }
     {
@@ -129,10 +133,10 @@ impl<'a> Sim<'a> {
         self.state.cells.get(address as usize).copied()
     }
 
-    /// Puts a value into a cell and answers true; answers false, and changes nothing, where there is no such cell or the value is too
-    /// wide for it.
+    /// Puts a value into a cell and answers true; answers false, and changes nothing, where there
+    /// is no such cell or the value is too wide for it.
     pub fn set_cell(&mut self, address: u32, value: u64) -> bool
-        ensures told { IsTrue result ↔ ((address < length self.old.state.cells) × (value < 2 ^ memory_width self.old.netlist.storages)) }
+        ensures fits { IsTrue result ↔ ((address < length self.old.state.cells) × (value < 2 ^ memory_width self.old.netlist.storages)) }
         ensures set { OnTrue result (self.new ≡ record self.old { state = record self.old.state { cells = slice_set self.old.state.cells address value } }) }
         ensures kept { OnFalse result (self.new ≡ self.old) }
         ensures state { IsState self.new.netlist self.new.state }
@@ -148,7 +152,8 @@ impl<'a> Sim<'a> {
         true
     }
 
-    /// The cell that the last clock wrote, or None where it wrote none, where it clashed, and where there was none.
+    /// The cell that the last clock wrote, or None where it wrote none, where it clashed, and where
+    /// there was none.
     pub fn last_write(&self) -> Option<u32>
         ensures { result ≡ self.now.last_write }
     {
@@ -167,7 +172,7 @@ fn word_of(checked: &Checked, words: &[u64], state: &State) -> u64
 // Whether a value fits a cell of the data memory.
 fn is_cell_value(port: Option<Port>, value: u64) -> bool
     requires { HasPortWidth port }
-    ensures { IsTrue result ↔ (value < 2 ^ port_width port) }
+    ensures { IsTrue result ↔ (value < 2 ^ memory_port_width port) }
 {
     match port {
         Some(port) => value <= mask(port.width),

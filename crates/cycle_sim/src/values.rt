@@ -36,7 +36,8 @@ pub fn zeros(alloc: Global, nets: usize) -> Result<Items<u64>, NoMemory>
     Ok(Items::from_vec(vec![in alloc; 0; nets]?))
 }
 
-/// The values of all nets in a state under an instruction word, each net evaluated once, in order. What stood in `values` doesn't count.
+/// The values of all nets in a state under an instruction word, each net evaluated once, in order.
+/// What stood in `values` doesn't count.
 pub fn evaluate(checked: &Checked, state: &State, word: u64, values: &mut Items<u64>)
     requires long { length values.old ≡ length checked.now.netlist.nets }
     requires fit { ValuesFit checked.now.netlist (slice_index values.old) }

@@ -1,4 +1,5 @@
--- A chosen cover has no more cuts than its tree has nodes that can be cut: a cut inside a cover of the same cut would make a dearer cover.
+-- A chosen cover has no more cuts than its tree has nodes that can be cut: a cut inside a cover of
+-- the same cut would make a dearer cover.
 use Rattle.std.proofs.Common.{◌≡◌, ℕ, zero, suc, ◌+◌, ◌<◌, ◌≤◌, ◌^◌, ◌⊎◌, inl, inr, bit_and, bit_or, Bool, true, false, List, [], ◌∷◌, Some, refl, sym, ap, ◌∙◌, subst, arith}
 use Rattle.std.specs.Prelude.{slice_get, remove}
 use Rattle.net_model.specs.Terms.{Term}

@@ -1,4 +1,5 @@
--- The accumulator machine's forms are as the laws want them, so its covers leave their trees' values.
+-- The accumulator machine's forms are as the laws want them, so its covers leave their trees'
+-- values.
 use Rattle.std.proofs.Common.{◌≡◌, ◌∙◌, ◌%◌, ◌^◌, ◌||◌, Bool, false, ℕ, zero, suc, ◌≤◌, ◌<◌, ◌+◌, List, [], ◌∷◌, length, Some, true, refl, ap, subst, sym, slice_get, arith}
 use Rattle.net_model.specs.declared.states.State.{State}
 use Rattle.std.specs.Int.{bit_at}
@@ -8,9 +9,9 @@ use Rattle.net_model.specs.Meaning.{mean}
 use Rattle.net_model.specs.Terms.{Term, reg, const, read, bin, zext, write, term_width}
 use Rattle.form_model.specs.Rules.{Rule, Kind, into_reg, cell}
 use Rattle.form_model.specs.Effects.{register, term_reads}
-use Rattle.emit_seq.specs.Formed.{uses, Apart, IsOnce, IsAlike, IsIntoReg, IsFormed, AreFormed}
+use Rattle.emit_seq.specs.Formed.{uses, BitsApart, IsOnce, MeansAlike, IsIntoReg, IsFormed, AreFormed}
 use Rattle.emit_seq.specs.Leaves.{LeaveValue}
-use Rattle.emit_seq.specs.Spares.{clobbers_of, AreShared, IsCounter, AreSpare}
+use Rattle.emit_seq.specs.Spares.{clobbers_of, AreShared, ReadsCounter, AreSpare}
 use Rattle.emit_seq.specs.Worked.{field, acc_rules, acc_stock, acc_patterns, less_tree, less_plan, less_orderly}
 use Rattle.emit_seq.proofs.Zips.{Each}
 use Rattle.emit_seq.proofs.Leaving.{leave_value}
@@ -21,13 +22,13 @@ each_at P [] k rule e h = absurd (cc)
 each_at P (x ∷ rules) zero rule e h = subst P (cc) h.0
 each_at P (x ∷ rules) (suc k) rule e h = each_at P rules k rule e h.1
 
-itself : (t : Term) → IsAlike t t
+itself : (t : Term) → MeansAlike t t
 itself t = record { means = λ s i. refl; reads = λ i r. refl }
 
-no_bit : (a b : Term) → ((k : ℕ) → uses a k ≡ false) → Apart a b
+no_bit : (a b : Term) → ((k : ℕ) → uses a k ≡ false) → BitsApart a b
 no_bit a b f k h = absurd (true≢false (sym h ∙ f k))
 
-into : (rule : Rule) (r : ℕ) (value : Term) → slice_get acc_patterns rule.pattern ≡ Some (record { storage = r; move = write value }) → IsAlike rule.value value → IsOnce rule.value
+into : (rule : Rule) (r : ℕ) (value : Term) → slice_get acc_patterns rule.pattern ≡ Some (record { storage = r; move = write value }) → MeansAlike rule.value value → IsOnce rule.value
     → bit_at rule.clobbers r ≡ 1 → r < 3 → IsIntoReg acc_patterns 3 rule r
 into rule r value e a o c b = record { value = value; is = e; alike = a; once = o; clobbered = c; below = b }
 
@@ -37,7 +38,7 @@ or_comm true false = refl
 or_comm false true = refl
 or_comm false false = refl
 
-sum_alike : (a b : Term) → term_width a ≡ term_width b → IsAlike (bin Add a b) (bin Add b a)
+sum_alike : (a b : Term) → term_width a ≡ term_width b → MeansAlike (bin Add a b) (bin Add b a)
 sum_alike a b e = record {
   means = λ s i. sums (mean a s i) (mean b s i) (term_width a) (term_width b) e;
   reads = λ i r. or_comm (term_reads i a (register r)) (term_reads i b (register r));
@@ -159,10 +160,11 @@ acc_counts = (
     one_zero : into_reg 1 ≡ into_reg 0 → ⊥
     one_zero e = let q : 1 ≡ 0 = ap number e in omega (arith, q)
 
-acc_counter : IsCounter acc_rules 0
+acc_counter : ReadsCounter acc_rules 0
 acc_counter k rule e = each_at Counts acc_rules k rule e acc_counts
 
--- from every state of three registers and at least five cells x = (a + b) - (a - b) is done, and no variable but x changes
+-- from every state of three registers and at least five cells x = (a + b) - (a - b) is done, and no
+-- variable but x changes
 pub acc_leaves : (s : State) → length s.regs ≡ 3 → 5 ≤ length s.cells → LeaveValue (acc_stock 2) acc_patterns (cell 4) less_tree less_plan s
 acc_leaves s r c =
     leave_value (acc_stock 2) acc_patterns 3 acc_formed (cell 4) less_tree less_plan s tt less_orderly (omega arith)

@@ -12,7 +12,7 @@ use Rattle.form_model.specs.Covers.{Stock, IsOrderly}
 use Rattle.form_model.specs.Effects.{operation_of, steps_effect}
 use Rattle.form_model.specs.Steps.{cut_count, rule_at, found_at, plan_cut_cells, own_steps, cut_steps, cover_steps, branch_setting}
 use Rattle.emit_seq.specs.Formed.{AreFormed}
-use Rattle.emit_seq.specs.Leaves.{placed, IsStart, IsOfJob, LeaveValue}
+use Rattle.emit_seq.specs.Leaves.{placed, IsCoverStart, IsOfJob, LeaveValue}
 use Rattle.emit_seq.proofs.Walks.{effect-steps, IsLocal, IsKept, kept_local}
 use Rattle.emit_seq.proofs.Opened.{IsOpened, opened_plan}
 use Rattle.emit_seq.proofs.Forms.{OwnBelow, test_means}
@@ -28,7 +28,7 @@ module _ (stock : Stock) (patterns : List Pattern) (count : ℕ) (formed : AreFo
     holds : PlanHolds stock patterns s plan 0 destination tree true mid
     ends : steps_effect (operation_of patterns) (cover_steps stock destination tree plan) s ≡ placed s mid destination (0 + cut_count plan) (mean tree s 0)
 
-  brought : (destination : Destination) (tree : Term) (plan : Plan) (s : State) → IsOrderly stock destination tree true plan → cut_count plan ≤ stock.temps → IsStart stock count destination tree s
+  brought : (destination : Destination) (tree : Term) (plan : Plan) (s : State) → IsOrderly stock destination tree true plan → cut_count plan ≤ stock.temps → IsCoverStart stock count destination tree s
       → OwnBelow destination (0 + cut_count plan) stock.temps → IsBrought destination tree plan s
   brought destination tree plan s c f h o =
       let g : IsGood stock patterns s plan = good_plan stock patterns s count formed (sym h.regs) h.temps plan in
@@ -65,9 +65,10 @@ module _ (stock : Stock) (patterns : List Pattern) (count : ℕ) (formed : AreFo
         cells = length-set mid.cells a v ∙ l;
       })
 
-  -- the steps of an orderly cover of at most as many cuts as there are temporary cells leave the value of its tree
+  -- the steps of an orderly cover of at most as many cuts as there are temporary cells leave the
+  -- value of its tree
   pub leave_value : (destination : Destination) (tree : Term) (plan : Plan) (s : State) → IsOfJob destination → IsOrderly stock destination tree true plan → cut_count plan ≤ stock.temps
-      → IsStart stock count destination tree s → LeaveValue stock patterns destination tree plan s
+      → IsCoverStart stock count destination tree s → LeaveValue stock patterns destination tree plan s
   leave_value (cell a) tree plan s j c f h =
       let b : IsBrought (cell a) tree plan s = brought (cell a) tree plan s c f h tt in
       let p : IsPut s (steps_effect (operation_of patterns) (cover_steps stock (cell a) tree plan) s) a (mean tree s 0) = put_into s b.mid _ a (mean tree s 0) b.ends b.regs b.cells b.same h.aim in

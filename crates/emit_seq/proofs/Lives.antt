@@ -7,7 +7,7 @@ use Rattle.form_model.specs.Matches.{Site, operand, cut}
 use Rattle.form_model.specs.Effects.{Operation, register, reads, writes}
 use Rattle.form_model.specs.Live.{Regs, group_reads, group_writes, live_before, singles, AllSpare}
 use Rattle.form_model.specs.Steps.{woven}
-use Rattle.emit_seq.specs.Spares.{AreGiven, AreApart}
+use Rattle.emit_seq.specs.Spares.{AreDefined, AreApart}
 use Rattle.emit_seq.proofs.Zips.{Each}
 
 pub singles-append : {A : Type 0} (xs ys : List A) → singles (xs ++ ys) ≡ singles xs ++ singles ys
@@ -29,7 +29,8 @@ module _ {A : Type 0} (m : A → Operation) (c : A → Regs) (pc : ℕ) where
   apart-append [] ys h k = k
   apart-append (x ∷ xs) ys h k = (h.0, h.1, apart-append xs ys h.2 k)
 
-  -- the steps spare what is live after them, and before them nothing else is live, and none of those that are gone
+  -- the steps spare what is live after them, and before them nothing else is live, and none of
+  -- those that are gone
   pub record IsTidy (xs : List A) (after : Regs) (Gone : ℕ → Type 0) : Type 0 where
     pub spare : AllSpare m c xs after
     pub apart : AreApart m pc xs
@@ -73,7 +74,7 @@ module _ {A : Type 0} (m : A → Operation) (c : A → Regs) (pc : ℕ) where
   or_some false b h = inr h
 
   -- what is live at the start is known, so each read is given
-  pub given_of : (xs : List A) (known after : Regs) → ((r : ℕ) → live_before m (singles xs) after r ≡ true → known r ≡ true) → AreGiven m known xs after
+  pub given_of : (xs : List A) (known after : Regs) → ((r : ℕ) → live_before m (singles xs) after r ≡ true → known r ≡ true) → AreDefined m known xs after
   given_of [] known after h = h
   given_of (x ∷ xs) known after h =
       ((λ r e. h r (read_live (reads (m x) (register r)) _ _ e)), given_of xs (λ r. known r || writes (m x) r) after (λ r e. later r e (cases_Bool (writes (m x) r))))

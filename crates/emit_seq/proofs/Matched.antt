@@ -1,5 +1,5 @@
--- Where a form matches a tree, the form's expression has the tree's value under the setting, once the operands are in their registers and the cuts
--- in their cells.
+-- Where a form matches a tree, the form's expression has the tree's value under the setting, once
+-- the operands are in their registers and the cuts in their cells.
 use Rattle.std.proofs.Common.{◌≡◌, ℕ, zero, suc, ◌<◌, ◌≤◌, ◌==◌, ◌||◌, ◌&&◌, ◌⊎◌, inl, inr, not, max, bit_or, Bool, true, false, if◌then◌else◌, List, [], ◌∷◌, ◌++◌, slice_index, Option, Some, None, is_some, refl, sym, ap, ◌∙◌, subst, arith}
 use Rattle.std.specs.Int.{bit_at}
 use Rattle.std.proofs.lemmas.Nat.Bits.{bit_at-zero, bit_at_or}
@@ -15,7 +15,7 @@ use Rattle.form_model.specs.Trees.{is_number, is_cell}
 use Rattle.form_model.specs.Shapes.{is_shape, shape_setting, shows, shows_below}
 use Rattle.form_model.specs.Matches.{Site, operand, cut, Found, settled, open_if, both, shape_match, literal_match, cell_match, read_match, un_match, bin_match, slice_match, zext_match, sext_match, matched, same_op1, same_op2}
 use Rattle.form_model.specs.Steps.{CutCells, bits_or_none, cells_setting}
-use Rattle.emit_seq.specs.Formed.{uses, Apart, IsOnce}
+use Rattle.emit_seq.specs.Formed.{uses, BitsApart, IsOnce}
 use Rattle.emit_seq.specs.Leaves.{ReadsFrom}
 use Rattle.emit_seq.proofs.Fields.{picked, or_left, or_right, Shows, shape_shows}
 
@@ -191,7 +191,7 @@ module _ (temps : ℕ) (before now : State) where
 
   pub two_meant : (a b t u : Term) (x y f : Found) (cuts front back : List CutCells) → record { setting = bit_or x.setting y.setting; sites = x.sites ++ y.sites } ≡ f
       → ((k : ℕ) → bit_at (cells_setting cuts) k ≡ max (bit_at (cells_setting front) k) (bit_at (cells_setting back) k))
-      → Apart a b → Apart b a → IsMeant temps before now a t x front → IsMeant temps before now b u y back → AreMeant a b t u f cuts
+      → BitsApart a b → BitsApart b a → IsMeant temps before now a t x front → IsMeant temps before now b u y back → AreMeant a b t u f cuts
   two_meant a b t u x y f cuts front back e g p q m n = record {
     first_width = m.width;
     second_width = n.width;
@@ -226,7 +226,7 @@ module _ (temps : ℕ) (before now : State) (same : (c : ℕ) → temps ≤ c �
       record { width = m.width; within = m.within; means = λ i u. cc (e, m.width, m.means i u) }
   un_meant a op ih t f cuts h r k = absurd (cc)
 
-  bin_meant : (a b : Term) (op : Op2) → Sound a → Sound b → Apart a b → Apart b a → (t : Term) (f : Found) (cuts : List CutCells)
+  bin_meant : (a b : Term) (op : Op2) → Sound a → Sound b → BitsApart a b → BitsApart b a → (t : Term) (f : Found) (cuts : List CutCells)
       → bin_match (matched temps a) (matched temps b) op t ≡ Some f → ReadsFrom temps before t
       → Holds temps before now f.sites cuts → IsMeant temps before now (bin op a b) t f cuts
   bin_meant a b op iha ihb ab ba (bin o c d) f cuts h r k =

@@ -68,7 +68,8 @@ module _ (temps : ℕ) (before : State) where
   read-append (operand id tree whole ∷ xs) ys h k = (h.0, read-append xs ys h.1 k)
   read-append (cut shape tree ∷ xs) ys h k = (h.0, read-append xs ys h.1 k)
 
-  -- what a match of this expression takes: trees that read nothing below, and an operand for each register that the expression reads
+  -- what a match of this expression takes: trees that read nothing below, and an operand for each
+  -- register that the expression reads
   pub record IsTaken (e t : Term) (f : Found) : Type 0 where
     pub sites : ReadsFrom temps before t → SitesRead f.sites
     pub given : (i r : ℕ) → term_reads i e (register r) ≡ true → IsIdOf (operands_of f.sites) r

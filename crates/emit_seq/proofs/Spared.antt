@@ -5,7 +5,7 @@ use Rattle.std.specs.Int.{bit_at}
 use Rattle.std.proofs.lemmas.Nat.Bits.{bit_at_or, bit_at-lt}
 use Rattle.std.proofs.lemmas.Bool.{true≢false, eqb-true, eq-eqb, cases_Bool, and_parts}
 use Rattle.net_model.specs.Terms.{Term}
-use Rattle.net_model.specs.Symbolic.{blank}
+use Rattle.net_model.specs.Symbolic.{no_state}
 use Rattle.net_model.specs.Patterns.{Pattern}
 use Rattle.form_model.specs.declared.forms.Step.{Step}
 use Rattle.form_model.specs.Shapes.{is_shape, shape_setting, shows_below}
@@ -18,7 +18,7 @@ use Rattle.form_model.specs.Live.{Regs, no_regs, live_before, singles, AllSpare}
 use Rattle.form_model.specs.Steps.{OperandCells, CutCells, operand_counts, cut_counts, plan_operand_cells, plan_cut_cells, operand_cells_or_none, rule_at, found_at, own_steps, operand_steps, cut_steps, inside_operands, into_cells, plan_setting, branch_setting, form_step, cover_steps}
 use Rattle.emit_seq.specs.Formed.{IsIntoMemory, IsFormed, AreFormed}
 use Rattle.emit_seq.specs.Leaves.{IsOfJob}
-use Rattle.emit_seq.specs.Spares.{clobbers_of, step_clobbers, AreShared, IsCounter, AreGiven, wanted, AreSpare}
+use Rattle.emit_seq.specs.Spares.{clobbers_of, step_clobbers, AreShared, ReadsCounter, AreDefined, wanted, AreSpare}
 use Rattle.emit_seq.proofs.Fields.{picked}
 use Rattle.emit_seq.proofs.Matched.{Joined, joined}
 use Rattle.emit_seq.proofs.Sites.{IsIdOf, operands-append, id_left, id_right, shape_unread, matched_taken}
@@ -53,7 +53,7 @@ address_given : (temps : ℕ) (at : Term) (destination : Destination) (x : Found
 address_given temps at (cell a) x h i r e =
     let c : (is_shape at ≡ true) × (settled (shape_setting at a) ≡ Some x) = picked (is_shape at) (settled (shape_setting at a)) x h in
     absurd (true≢false (sym e ∙ shape_unread at i r c.0))
-address_given temps at (stored address) x h i r e = (matched_taken temps blank at address false x h).given i r e
+address_given temps at (stored address) x h i r e = (matched_taken temps no_state at address false x h).given i r e
 address_given temps at temporary x h i r e =
     let c : ((is_shape at && shows_below at temps) ≡ true) × (settled (Some 0) ≡ Some x) = picked (is_shape at && shows_below at temps) (settled (Some 0)) x h in
     let q : (is_shape at ≡ true) × (shows_below at temps ≡ true) = and_parts _ _ c.0 in
@@ -73,7 +73,7 @@ memory_step temps patterns rule destination tree whole found f h i r e =
       | inl u ↦ id_left (operands_of j.first.sites) (operands_of j.second.sites) r
           (address_given temps f.at destination j.first (ap (λ z. address_match temps z destination) (sym f.has) ∙ j.is_first) i r (f.alike_addr.reads i r ∙ u))
       | inr u ↦ id_right (operands_of j.first.sites) (operands_of j.second.sites) r
-          ((matched_taken temps blank rule.value tree whole j.second j.is_second).given i r (f.alike_value.reads i r ∙ u))
+          ((matched_taken temps no_state rule.value tree whole j.second j.is_second).given i r (f.alike_value.reads i r ∙ u))
     ]))
 
 memory_writes : (patterns : List Pattern) (rule : Rule) → IsIntoMemory patterns rule → (i r : ℕ) → writes (operation_of patterns (record { pattern = rule.pattern; setting = i })) r ≡ true → ⊥
@@ -85,7 +85,7 @@ form_step_of temps patterns count rule (into_reg q) (into id) tree whole found f
     let c : ((q == id) ≡ true) × (matched temps rule.value tree whole ≡ Some found) = picked (q == id) (matched temps rule.value tree whole) found h in
     let same : q ≡ id = eqb-true q id c.0 in
     record {
-      read = λ i r e. (matched_taken temps blank rule.value tree whole found c.1).given i r
+      read = λ i r e. (matched_taken temps no_state rule.value tree whole found c.1).given i r
           (f.alike.reads i r ∙ sym (ap (λ (p : Option Pattern). reads (operation_or_none p i) (register r)) f.is) ∙ e);
       owns = λ i r e. ap (λ (p : Option Pattern). writes (operation_or_none p i) r) f.is ∙ eq-eqb q r (same ∙ e);
       owned = λ i r e. sym same ∙ eqb-true q r (sym (ap (λ (p : Option Pattern). writes (operation_or_none p i) r) f.is) ∙ e);
@@ -171,7 +171,7 @@ module _ (m : Step → Operation) (c : Step → Regs) (pc : ℕ) where
             | inr u ↦ u
           ]
 
-module _ (stock : Stock) (patterns : List Pattern) (count pc : ℕ) (formed : AreFormed patterns count stock.rules) (shared : AreShared stock.rules) (counter : IsCounter stock.rules pc) where
+module _ (stock : Stock) (patterns : List Pattern) (count pc : ℕ) (formed : AreFormed patterns count stock.rules) (shared : AreShared stock.rules) (counter : ReadsCounter stock.rules pc) where
   abbrev m : Step → Operation
   m = operation_of patterns
 
@@ -215,7 +215,7 @@ module _ (stock : Stock) (patterns : List Pattern) (count pc : ℕ) (formed : Ar
           goal_is stock.temps (rule_at stock k) (rule_at stock k).goal pc tree whole (found_at stock k (into pc) tree whole) w.takes in
           let (i, e) = counter k (rule_at stock k) w.listed g.0 in
           h.none (operands_of (found_at stock k (into pc) tree whole).sites) w.operands
-          ((matched_taken stock.temps blank (rule_at stock k).value tree whole (found_at stock k (into pc) tree whole) g.1).given i pc e)
+          ((matched_taken stock.temps no_state (rule_at stock k).value tree whole (found_at stock k (into pc) tree whole) g.1).given i pc e)
 
   operand_no_counter : (i : ℕ) (p : Plan) (ps : Operands) → IsNoCounter p → AreNoCounter ps → AreNoCounter (operand_then i p ps)
   operand_no_counter i p ps h k = record { none = none' }
@@ -404,7 +404,7 @@ module _ (stock : Stock) (patterns : List Pattern) (count pc : ℕ) (formed : Ar
       tidy_append m c pc (cut_steps stock plan 0 destination tree true) (own_steps stock plan 0 destination tree true) no_regs (λ r. ⊥) (IsOwn destination) (λ r. ⊥) u t (λ r h. inl h) in
       record {
         spare = subst (λ (z : Regs). AllSpare m c (cover_steps stock destination tree plan) z) (sym e) w.spare;
-        given = subst (λ (z : Regs). AreGiven m no_regs (cover_steps stock destination tree plan) z) (sym e)
+        given = subst (λ (z : Regs). AreDefined m no_regs (cover_steps stock destination tree plan) z) (sym e)
             (given_of m c pc (cover_steps stock destination tree plan) no_regs no_regs (λ r h. w.live r h));
         apart = w.apart;
         unwanted = ap (λ (z : Regs). z pc) e;
@@ -412,7 +412,7 @@ module _ (stock : Stock) (patterns : List Pattern) (count pc : ℕ) (formed : Ar
 
   test_given : (temps : ℕ) (rule : Rule) (goal : Kind) (tree : Term) (whole : Bool) (found : Found) → goal_match temps rule goal tested tree whole ≡ Some found → (i r : ℕ)
       → term_reads i rule.value (register r) ≡ true → IsIdOf (operands_of found.sites) r
-  test_given temps rule (branches when_one to) tree whole found h i r e = (matched_taken temps blank rule.value tree true found h).given i r e
+  test_given temps rule (branches when_one to) tree whole found h i r e = (matched_taken temps no_state rule.value tree true found h).given i r e
   test_given temps rule goal tree whole found h i r e = absurd (cc)
 
   append_none : (xs : List Step) → xs ≡ xs ++ []

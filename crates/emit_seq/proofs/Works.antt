@@ -37,7 +37,8 @@ module _ (stock : Stock) (patterns : List Pattern) (before : State) where
   PlanHolds (use_form k ps cs) n destination tree whole mid =
       Holds low before mid (found_at stock k destination tree whole).sites (plan_cut_cells (found_at stock k destination tree whole).sites ps cs n)
 
-  -- from s the cover's own steps lead to a state in which its operands stand, and put the value of the tree into its destination
+  -- from s the cover's own steps lead to a state in which its operands stand, and put the value of
+  -- the tree into its destination
   pub record IsDone (p : Plan) (n : ℕ) (destination : Destination) (tree : Term) (whole : Bool) (s : State) : Type 0 where
     pub mid : State
     pub cells : mid.cells ≡ s.cells
@@ -46,7 +47,8 @@ module _ (stock : Stock) (patterns : List Pattern) (before : State) where
     pub holds : PlanHolds p n destination tree whole mid
     pub ends : steps_effect m (own_steps stock p n destination tree whole) s ≡ placed before mid destination (n + cut_count p) (mean tree before 0)
 
-  -- the steps for the cuts of a cover change their cells alone, and its own steps do what they should once those are filled
+  -- the steps for the cuts of a cover change their cells alone, and its own steps do what they
+  -- should once those are filled
   pub record IsGood (p : Plan) : Type 0 where
     pub quiet : (n : ℕ) (destination : Destination) (tree : Term) (whole : Bool) → IsOrderly stock destination tree whole p → ReadsFrom low before tree → DestinationReads low before destination
         → n + cut_count p ≤ low → (s : State) → IsKept low before s → IsLocal n (n + cut_count p) s (steps_effect m (cut_steps stock p n destination tree whole) s)

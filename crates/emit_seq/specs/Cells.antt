@@ -1,4 +1,5 @@
--- How many cells the cuts of a cover can want: a cut is a node of a word's width below the root of its tree.
+-- How many cells the cuts of a cover can want: a cut is a node of a word's width below the root of
+-- its tree.
 use Rattle.std.specs.Prelude.{ℕ, ◌+◌, ◌≡◌, ◌==◌, ◌&&◌, not, Bool, true, false, if◌then◌else◌, List, Option, Some, None, slice_get}
 use Rattle.net_model.specs.Terms.{Term, word, reg, const, read, un, bin, slice, cat, zext, sext, select, term_width}
 use Rattle.form_model.specs.Trees.{is_number, is_cell}

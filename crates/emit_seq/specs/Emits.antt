@@ -5,14 +5,15 @@ use Rattle.form_model.specs.Rules.{Destination, tested}
 use Rattle.form_model.specs.Plans.{Plan, use_form, Operands, Cuts}
 use Rattle.form_model.specs.Covers.{Stock, Choice}
 use Rattle.form_model.specs.Steps.{OperandCells, rule_at, found_at, plan_operand_cells, plan_cut_cells, plan_setting, cover_steps}
-use Rattle.tree_grammar.specs.Parts.{parts_of}
+use Rattle.tree_grammar.specs.Parts.{sites_of}
 use Rattle.emit_seq.specs.declared.emits.Emitted.{Emitted}
 use Rattle.emit_seq.specs.declared.roots.Root.{Root}
 use Rattle.emit_seq.specs.Views.{cells_of_operands, cells_of_cuts}
 
--- the form at the root of a cover whose cuts have the cells from n on: its match, its operands and cuts, and its step
+-- the form at the root of a cover whose cuts have the cells from n on: its match, its operands and
+-- cuts, and its step
 pub record IsFormAtRoot (stock : Stock) (k : ℕ) (ps : Operands) (cs : Cuts) (n : ℕ) (destination : Destination) (tree : Term) (whole : Bool) (root : Root) : Type 0 where
-  pub parts : parts_of root.parts.items ≡ (found_at stock k destination tree whole).sites
+  pub parts : sites_of root.parts.items ≡ (found_at stock k destination tree whole).sites
   pub operands : cells_of_operands root.operands.items ≡ plan_operand_cells (found_at stock k destination tree whole).sites ps cs n
   pub cuts : cells_of_cuts root.cuts.items ≡ plan_cut_cells (found_at stock k destination tree whole).sites ps cs n
   pub pattern : root.step.pattern ≡ (rule_at stock k).pattern
@@ -34,7 +35,8 @@ setting_of_test destination setting = None
 abbrev pub branch_of : Stock → Destination → Term → Plan → Option ℕ
 branch_of stock destination tree plan = setting_of_test destination (plan_setting stock plan 0 destination tree true)
 
--- the steps of the tree that the cover names, and for a test the setting of the bits of its branch's condition
+-- the steps of the tree that the cover names, and for a test the setting of the bits of its
+-- branch's condition
 pub record IsEmitted (stock : Stock) (destination : Destination) (trees : List Term) (choice : Choice) (e : Emitted) : Type 0 where
   pub tree : Term
   pub used : slice_get trees choice.which ≡ Some tree

@@ -1,4 +1,5 @@
--- What the steps of covers need of the forms: that each does what it says, under any setting of its bits.
+-- What the steps of covers need of the forms: that each does what it says, under any setting of its
+-- bits.
 use Rattle.std.specs.Prelude.{ℕ, ◌<◌, ◌≡◌, Bool, true, false, ◌||◌, ◌&&◌, nat_le, List, Some, slice_get}
 use Rattle.std.specs.Int.{bit_at}
 use Rattle.net_model.specs.declared.states.State.{State}
@@ -26,8 +27,8 @@ uses (sext a w) k = uses a k
 uses (select c a b) k = uses c k || (uses a k || uses b k)
 
 -- no bit occurs in both
-abbrev pub Apart : Term → Term → Type 0
-Apart a b = (k : ℕ) → uses a k ≡ true → uses b k ≡ false
+abbrev pub BitsApart : Term → Term → Type 0
+BitsApart a b = (k : ℕ) → uses a k ≡ true → uses b k ≡ false
 
 -- no bit occurs twice
 abbrev pub IsOnce : Term → Type 0
@@ -36,17 +37,17 @@ IsOnce (reg r w) = Unit {0}
 IsOnce (const w v) = Unit {0}
 IsOnce (read a w) = IsOnce a
 IsOnce (un o a) = IsOnce a
-IsOnce (bin o a b) = IsOnce a × IsOnce b × Apart a b × Apart b a
+IsOnce (bin o a b) = IsOnce a × IsOnce b × BitsApart a b × BitsApart b a
 IsOnce (slice a hi lo) = IsOnce a
-IsOnce (cat a b) = IsOnce a × IsOnce b × Apart a b × Apart b a
+IsOnce (cat a b) = IsOnce a × IsOnce b × BitsApart a b × BitsApart b a
 IsOnce (zext a w) = IsOnce a
 IsOnce (sext a w) = IsOnce a
-IsOnce (select c a b) = IsOnce c × IsOnce a × IsOnce b × Apart c a × Apart a b × Apart b c
+IsOnce (select c a b) = IsOnce c × IsOnce a × IsOnce b × BitsApart c a × BitsApart a b × BitsApart b c
 
 -- ---- a form and its pattern
 
 -- an expression with the operands of operators swapped
-pub record IsAlike (a b : Term) : Type 0 where
+pub record MeansAlike (a b : Term) : Type 0 where
   pub means : (s : State) (i : ℕ) → mean a s i ≡ mean b s i
   pub reads : (i r : ℕ) → term_reads i a (register r) ≡ term_reads i b (register r)
 
@@ -54,7 +55,7 @@ pub record IsAlike (a b : Term) : Type 0 where
 pub record IsIntoReg (patterns : List Pattern) (count : ℕ) (rule : Rule) (r : ℕ) : Type 0 where
   pub value : Term
   pub is : slice_get patterns rule.pattern ≡ Some (record { storage = r; move = write value })
-  pub alike : IsAlike rule.value value
+  pub alike : MeansAlike rule.value value
   pub once : IsOnce rule.value
   pub clobbered : bit_at rule.clobbers r ≡ 1
   pub below : r < count
@@ -67,12 +68,12 @@ pub record IsIntoMemory (patterns : List Pattern) (rule : Rule) : Type 0 where
   pub is : slice_get patterns rule.pattern ≡ Some (record { storage = storage; move = write_at addr value })
   pub at : Term
   pub has : rule.addr ≡ Some at
-  pub alike_addr : IsAlike at addr
-  pub alike_value : IsAlike rule.value value
+  pub alike_addr : MeansAlike at addr
+  pub alike_value : MeansAlike rule.value value
   pub once_addr : IsOnce at
   pub once_value : IsOnce rule.value
-  pub apart : Apart at rule.value
-  pub apart_back : Apart rule.value at
+  pub apart : BitsApart at rule.value
+  pub apart_back : BitsApart rule.value at
 
 abbrev pub IsFormed : List Pattern → ℕ → Rule → Kind → Type 0
 IsFormed patterns count rule (into_reg r) = IsIntoReg patterns count rule r

@@ -52,9 +52,9 @@ IsAimWithin (cell address) s = address < length s.cells
 IsAimWithin (stored address) s = mean address s 0 < length s.cells
 IsAimWithin destination s = Unit {0}
 
--- a state from which the steps do their work: so many registers, no read of the tree and of a store's address below the temporary cells, and
--- both the aim and the temporary cells in the memory
-pub record IsStart (stock : Stock) (count : ℕ) (destination : Destination) (tree : Term) (s : State) : Type 0 where
+-- a state from which the steps do their work: so many registers, no read of the tree and of a
+-- store's address below the temporary cells, and both the aim and the temporary cells in the memory
+pub record IsCoverStart (stock : Stock) (count : ℕ) (destination : Destination) (tree : Term) (s : State) : Type 0 where
   pub regs : length s.regs ≡ count
   pub reads : ReadsFrom stock.temps s tree
   pub aim_reads : DestinationReads stock.temps s destination
@@ -84,7 +84,8 @@ HasValue stock (stored address) tree plan s t = slice_index t.cells (mean addres
 HasValue stock tested tree plan s t = mean (condition_of stock plan) t (branch_setting stock tree plan) ≡ mean tree s 0
 HasValue stock destination tree plan s t = Unit {0}
 
--- the steps, done one after the other from s, leave the tree's value at its aim, and change no other cell from the temporary ones on
+-- the steps, done one after the other from s, leave the tree's value at its aim, and change no
+-- other cell from the temporary ones on
 pub record LeaveValue (stock : Stock) (patterns : List Pattern) (destination : Destination) (tree : Term) (plan : Plan) (s : State) : Type 0 where
   pub value : HasValue stock destination tree plan s (steps_effect (operation_of patterns) (cover_steps stock destination tree plan) s)
   pub others : (c : ℕ) → stock.temps ≤ c → (IsAim destination s c → ⊥)

@@ -6,4 +6,4 @@ pub mod Settles
 pub mod Cells
 pub mod Views
 pub mod Emits
-pub mod CellLists
+pub mod Inner

@@ -101,7 +101,8 @@ five_cut : cover_steps (acc_stock 1) (cell 2) (bin Add (at 1) (const 16 5))
     ≡ step 6 5 ∷ step 7 0 ∷ step 4 1 ∷ step 3 0 ∷ step 7 2 ∷ []
 five_cut = refl
 
--- x = (a - (a - b)) - (b - a): the cut inside the operand has the cell 0, and the form's own cut the cell 1
+-- x = (a - (a - b)) - (b - a): the cut inside the operand has the cell 0, and the form's own cut
+-- the cell 1
 inner_steps : cover_steps (acc_stock 4) (cell 6) (bin Sub (bin Sub (at 4) (bin Sub (at 4) (at 5))) (bin Sub (at 5) (at 4)))
     (with_one 10 (use_form 8
     (operand_then 0 (use_form 8 (operand_then 0 (leaf 7) no_operands) (cut_then (with_one 10 (with_one 8 (leaf 7))) no_cuts)) no_operands)
@@ -144,7 +145,8 @@ two_steps : cover_steps two_stock (cell 2) (bin Add (at 0) (at 1))
     ≡ step 4 0 ∷ step 2 0 ∷ step 4 1 ∷ step 3 0 ∷ step 5 2 ∷ []
 two_steps = refl
 
--- the patterns of that machine, and the steps of a cover that isn't orderly: X first, and then the way to A through X. They leave a + a, not a + b
+-- the patterns of that machine, and the steps of a cover that isn't orderly: X first, and then the
+-- way to A through X. They leave a + a, not a + b
 abbrev two_patterns : List Pattern
 two_patterns = record { storage = 0; move = write (bin Add (reg 0 8) (const 8 1)) } ∷ record { storage = 0; move = write field }
     ∷ record { storage = 1; move = write x_reg } ∷ record { storage = 1; move = write (bin Add a_reg x_reg) } ∷ record { storage = 2; move = write mem }

@@ -2,8 +2,8 @@
 
 ghost use Rattle.std.specs.Prelude.{◌≡◌, ℕ, ◌+◌, ◌∷◌, List, IfOk, slice_index};
 ghost use Rattle.form_model.specs.Matches.{Site};
-ghost use Rattle.tree_grammar.specs.Parts.{part_of, parts_of};
-ghost use Rattle.emit_seq.specs.CellLists.{AreMatchCells, HaveCells};
+ghost use Rattle.tree_grammar.specs.Parts.{part_of, sites_of};
+ghost use Rattle.emit_seq.specs.Inner.CellLists.{AreMatchCells, HaveCells};
 ghost use Rattle.emit_seq.specs.Views.{cells_of_cuts, cells_of_operands};
 
 use crate::counts::plus;
@@ -13,7 +13,8 @@ use rec_bits::NoMemory;
 use std::alloc::Global;
 use tree_grammar::Part;
 
-/// An operand, with the cells of the cuts inside its cover: from the first up to the one past the last.
+/// An operand, with the cells of the cuts inside its cover: from the first up to the one past the
+/// last.
 #[derive(Clone, Copy)]
 pub struct OperandCells<'a> {
     pub id: u32,
@@ -88,8 +89,8 @@ fn add_part<'a>(
     }
 }
 
-/// The operands and the cuts of a match, which have the cells from `first` on: `inside` has the numbers of cuts of the operands, and `own` those
-/// of the cuts inside each cut.
+/// The operands and the cuts of a match, which have the cells from `first` on: `inside` has the
+/// numbers of cuts of the operands, and `own` those of the cuts inside each cut.
 pub fn match_cells<'a>(
     alloc: Global,
     parts: &[Part<'a>],
@@ -97,7 +98,7 @@ pub fn match_cells<'a>(
     own: &[u64],
     first: u64,
 ) -> Result<MatchCells<'a>, NoMemory>
-    ensures { IfOk result (λ cells. AreMatchCells (parts_of parts.now) inside.now own.now first cells) }
+    ensures { IfOk result (λ cells. AreMatchCells (sites_of parts.now) inside.now own.now first cells) }
 {
     let mut cells = MatchCells {
         operands: Vec::new(alloc),

@@ -4,7 +4,7 @@ ghost use Rattle.std.specs.Prelude.{◌≡◌, ◌++◌, IfOk, OnOk, insert};
 ghost use Rattle.form_model.specs.Plans.{cuts_plan, operands_plan, plan_of};
 ghost use Rattle.form_model.specs.Steps.{cut_steps as cut_steps_of, inside_operands as inside_operands_of, into_cells as into_cells_of, woven as woven_of};
 ghost use Rattle.form_model.specs.Trees.{tree_term};
-ghost use Rattle.tree_grammar.specs.Parts.{destination_at, parts_of};
+ghost use Rattle.tree_grammar.specs.Parts.{destination_at, sites_of};
 ghost use Rattle.emit_seq.specs.Views.{cells_of_cuts, cells_of_operands, stock_of};
 
 use crate::cells::{CutCells, OperandCells};
@@ -31,7 +31,7 @@ fn put_woven(
     inside: &[Items<Step>],
     own: &[Items<Step>],
 ) -> Result<(), NoMemory>
-    ensures { OnOk result (out.new ≡ out.old ++ woven_of (parts_of parts.now) inside.now own.now) }
+    ensures { OnOk result (out.new ≡ out.old ++ woven_of (sites_of parts.now) inside.now own.now) }
 {
     match parts {
         [] => Ok(()),
@@ -76,7 +76,8 @@ pub fn cut_steps<'a>(
     cover: &Cover,
     covered: Covered<'a>,
 ) -> Result<Items<Step>, NoMemory>
-    ensures { IfOk result (λ steps. steps ≡ cut_steps_of (stock_of stock.entry) (plan_of cover.now) covered.entry.first (destination_at covered.entry.destination) (tree_term covered.entry.tree.now) covered.entry.whole) }
+    ensures { IfOk result (λ steps.
+        steps ≡ cut_steps_of (stock_of stock.entry) (plan_of cover.now) covered.entry.first (destination_at covered.entry.destination) (tree_term covered.entry.tree.now) covered.entry.whole) }
 {
     let mut root = root_of(alloc, stock, cover, covered)?;
     let inside = inside_operands(alloc, stock, &cover.operands, &mut root.operands)?;
@@ -91,7 +92,8 @@ pub fn cut_steps<'a>(
     Ok(out)
 }
 
-// For each operand, from left to right, the steps for the cuts inside it. The cells of each are taken out of those that are left.
+// For each operand, from left to right, the steps for the cuts inside it. The cells of each are
+// taken out of those that are left.
 #[cycle(cutting)]
 fn inside_operands<'a>(
     alloc: Global,
@@ -99,7 +101,8 @@ fn inside_operands<'a>(
     operands: &CoverOperands,
     left: &mut Vec<OperandCells<'a>>,
 ) -> Result<Vec<Items<Step>>, NoMemory>
-    ensures { IfOk result (λ v. v.items ≡ inside_operands_of (stock_of stock.entry) (operands_plan operands.now) (cells_of_operands left.old.items)) }
+    ensures { IfOk result (λ v.
+        v.items ≡ inside_operands_of (stock_of stock.entry) (operands_plan operands.now) (cells_of_operands left.old.items)) }
 {
     match operands {
         CoverOperands::Empty => Ok(Vec::new(alloc)),
@@ -113,7 +116,8 @@ fn inside_operands<'a>(
     }
 }
 
-// For each of the form's own cuts, from left to right, the steps for those inside it, and then its own.
+// For each of the form's own cuts, from left to right, the steps for those inside it, and then its
+// own.
 #[cycle(cutting)]
 fn into_cells<'a>(
     alloc: Global,

@@ -17,7 +17,8 @@ use rec_bits::{Items, NoMemory};
 use std::alloc::Global;
 use tree_grammar::Destination;
 
-/// The steps of a job, and for a test the setting of the bits of its branch's condition, with 0 in all other bits.
+/// The steps of a job, and for a test the setting of the bits of its branch's condition, with 0 in
+/// all other bits.
 #[derive(Drop)]
 pub struct Emitted {
     pub steps: Items<Step>,
@@ -50,8 +51,10 @@ fn emit_at<'a>(
     destination: Destination<'a>,
     tree: &'a Tree,
 ) -> Result<Emitted, NoMemory>
-    ensures steps { IfOk result (λ e. e.steps ≡ cover_steps (stock_of stock.entry) (destination_at destination.entry) (tree_term tree.now) (plan_of cover.now)) }
-    ensures branch { IfOk result (λ e. e.branch ≡ branch_setting_of (stock_of stock.entry) (destination_at destination.entry) (tree_term tree.now) (plan_of cover.now)) }
+    ensures steps { IfOk result (λ e.
+        e.steps ≡ cover_steps (stock_of stock.entry) (destination_at destination.entry) (tree_term tree.now) (plan_of cover.now)) }
+    ensures branch { IfOk result (λ e.
+        e.branch ≡ branch_setting_of (stock_of stock.entry) (destination_at destination.entry) (tree_term tree.now) (plan_of cover.now)) }
 {
     let covered = Covered {
         tree,
@@ -65,9 +68,11 @@ fn emit_at<'a>(
     Ok(Emitted { steps, branch })
 }
 
-/// The steps of a job whose tree of number `which` this cover covers: first those that put its cuts into the temporary cells 0, 1 and so on,
-/// from left to right and a cut after those inside it, then those of its operands in their order, and then the form's own. A test's branch is no
-/// step. On a cover that isn't an orderly one of that tree by these forms, for so many temporary cells, want of memory may be answered too.
+/// The steps of a job whose tree of number `which` this cover covers: first those that put its cuts
+/// into the temporary cells 0, 1 and so on, from left to right and a cut after those inside it,
+/// then those of its operands in their order, and then the form's own. A test's branch is no step.
+/// On a cover that isn't an orderly one of that tree by these forms, for so many temporary cells,
+/// want of memory may be answered too.
 pub fn emit(
     alloc: Global,
     forms: &Forms,

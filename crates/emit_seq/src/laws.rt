@@ -11,22 +11,24 @@ ghost use Rattle.form_model.specs.Covers.{Stock, Choice, IsChosen, IsOrderly, jo
 ghost use Rattle.form_model.specs.Steps.{branch_setting, cut_count, cover_steps};
 ghost use Rattle.emit_seq.specs.Cells.{AllReadWords, cuttable_count};
 ghost use Rattle.emit_seq.specs.Formed.{AreFormed};
-ghost use Rattle.emit_seq.specs.Leaves.{condition_of, IsOfJob, IsStart, LeaveValue};
+ghost use Rattle.emit_seq.specs.Leaves.{condition_of, IsOfJob, IsCoverStart, LeaveValue};
 ghost use Rattle.emit_seq.specs.Settles.{AreOfForms};
-ghost use Rattle.emit_seq.specs.Spares.{AreShared, IsCounter, AreSpare};
+ghost use Rattle.emit_seq.specs.Spares.{AreShared, ReadsCounter, AreSpare};
 
-/// The steps of an orderly cover with at most as many cuts as there are temporary cells, done one after the other, leave its tree's value at the
-/// aim, and change no other cell from the temporary ones on. For a test, the branch's condition has the tree's value after them.
+/// The steps of an orderly cover with at most as many cuts as there are temporary cells, done one
+/// after the other, leave its tree's value at the aim, and change no other cell from the temporary
+/// ones on. For a test, the branch's condition has the tree's value after them.
 pub fn law_of_values()
     ensures { (stock : Stock) (patterns : List Pattern) (count : ℕ) → AreFormed patterns count stock.rules →
         (destination : Destination) (tree : Term) (plan : Plan) (s : State) → IsOfJob destination → IsOrderly stock destination tree true plan →
-        cut_count plan ≤ stock.temps → IsStart stock count destination tree s → LeaveValue stock patterns destination tree plan s }
+        cut_count plan ≤ stock.temps → IsCoverStart stock count destination tree s → LeaveValue stock patterns destination tree plan s }
 {}
 
-/// The steps spare what is still needed, read only what an earlier step put into a register, and leave the program counter alone.
+/// The steps spare what is still needed, read only what an earlier step put into a register, and
+/// leave the program counter alone.
 pub fn law_of_registers()
     ensures { (stock : Stock) (patterns : List Pattern) (count pc : ℕ) → AreFormed patterns count stock.rules → AreShared stock.rules →
-        IsCounter stock.rules pc → (destination : Destination) (tree : Term) (plan : Plan) → IsOfJob destination →
+        ReadsCounter stock.rules pc → (destination : Destination) (tree : Term) (plan : Plan) → IsOfJob destination →
         IsOrderly stock destination tree true plan → AreSpare stock patterns pc destination tree plan }
 {}
 
@@ -36,8 +38,8 @@ pub fn law_of_costs()
         IsOrderly stock destination tree true plan → length (cover_steps stock destination tree plan) ≡ job_cost destination plan }
 {}
 
-/// Each step is one of a form of the list, with values for the bits of its transfer, and 0 for all others. The setting of a test's branch has no
-/// bits but those of its condition.
+/// Each step is one of a form of the list, with values for the bits of its transfer, and 0 for all
+/// others. The setting of a test's branch has no bits but those of its condition.
 pub fn law_of_settings()
     ensures steps { (stock : Stock) (destination : Destination) (tree : Term) (plan : Plan) → IsOrderly stock destination tree true plan →
         AreOfForms stock.rules (cover_steps stock destination tree plan) }
@@ -45,8 +47,8 @@ pub fn law_of_settings()
         bit_and (branch_setting stock tree plan) (fields (condition_of stock plan)) ≡ branch_setting stock tree plan }
 {}
 
-/// Where the forms read words of so many bits, a chosen cover has at most as many cuts, inner ones among them, as its tree has nodes that can be
-/// cut.
+/// Where the forms read words of so many bits, a chosen cover has at most as many cuts, inner ones
+/// among them, as its tree has nodes that can be cut.
 pub fn law_of_cells()
     ensures { (bits : ℕ) (stock : Stock) → AllReadWords bits stock.rules → (destination : Destination) (trees : List Term) (choice : Choice) →
         (c : IsChosen stock destination trees choice) → cut_count choice.plan ≤ cuttable_count bits destination c.covers.tree true }

@@ -23,9 +23,9 @@
 //! - `cuts`: the steps that put cuts into their cells.
 //! - `emits`: `emit`.
 //! - `laws`: the five laws.
-//! - `specs/`: public contracts cite `Formed` (what is asked of forms), `Leaves`, `Spares`,
-//!   `Settles`, `Cells`, and parts of `Emits` and `Views`; the steps themselves are
-//!   `form_model/specs/Steps`. `CellLists` mirrors a loop; `Worked` is computed.
+//! - `specs/`, cited by public contracts: `Formed` (what is asked of forms), `Leaves`, `Spares`,
+//!   `Settles`, `Cells`, `Emits`, `Views`; the steps themselves are `form_model/specs/Steps`;
+//!   `Worked` is computed. `specs/Inner/`: `CellLists`, which goes with a loop.
 //! - `proofs/`: `Works` and `Spared` are the two inductions over covers, under `Leaving` and
 //!   `Lives`; `Matched`, `Forms` and `Fields` are for one form, `Walks` for cuts; `Counted`,
 //!   `Settled`, `Few`.

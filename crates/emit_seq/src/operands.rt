@@ -21,7 +21,8 @@ fn put_form_step(
     destination: Destination,
     step: Step,
 ) -> Result<(), NoMemory>
-    ensures { OnOk result ((rule : Rule) → step.pattern ≡ rule.pattern → out.new ≡ out.old ++ form_step rule (destination_at destination.entry) step.setting) }
+    ensures { OnOk result ((rule : Rule) → step.pattern ≡ rule.pattern →
+        out.new ≡ out.old ++ form_step rule (destination_at destination.entry) step.setting) }
 {
     match destination {
         Destination::Test => Ok(()),
@@ -29,7 +30,8 @@ fn put_form_step(
     }
 }
 
-/// Adds the steps of a cover without those for its cuts: those of its operands, and then the form's own.
+/// Adds the steps of a cover without those for its cuts: those of its operands, and then the form's
+/// own.
 #[cycle(evaluating)]
 pub fn put_own_steps<'a>(
     alloc: Global,
@@ -45,7 +47,8 @@ pub fn put_own_steps<'a>(
     put_form_step(out, covered.destination, root.step)
 }
 
-// Adds the steps of operands, in the order of their evaluation. The cells of each operand are taken out of those that are left.
+// Adds the steps of operands, in the order of their evaluation. The cells of each operand are taken
+// out of those that are left.
 #[cycle(evaluating)]
 fn put_operands<'a>(
     alloc: Global,

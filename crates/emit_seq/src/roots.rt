@@ -25,7 +25,8 @@ pub struct Stock<'a> {
     pub temps: u32,
 }
 
-/// What a cover is of: a tree, where it goes, whether it is whole, and the first cell of the cuts in the cover.
+/// What a cover is of: a tree, where it goes, whether it is whole, and the first cell of the cuts
+/// in the cover.
 #[derive(Clone, Copy)]
 pub struct Covered<'a> {
     pub tree: &'a Tree,
@@ -55,7 +56,8 @@ fn found_at<'a>(
     form: &'a Form,
     covered: Covered<'a>,
 ) -> Result<Match<'a>, NoMemory>
-    ensures { IfOk result (λ found. taken stock.entry.temps (rule_of form.now) (destination_at covered.entry.destination) (tree_term covered.entry.tree.now) covered.entry.whole ≡ Some (found_of found)) }
+    ensures { IfOk result (λ found.
+        taken stock.entry.temps (rule_of form.now) (destination_at covered.entry.destination) (tree_term covered.entry.tree.now) covered.entry.whole ≡ Some (found_of found)) }
 {
     let found = match_at(
         alloc,
@@ -76,7 +78,8 @@ pub fn root_of<'a>(
     cover: &Cover,
     covered: Covered<'a>,
 ) -> Result<Root<'a>, NoMemory>
-    ensures { IfOk result (λ root. IsRoot (stock_of stock.entry) (plan_of cover.now) covered.entry.first (destination_at covered.entry.destination) (tree_term covered.entry.tree.now) covered.entry.whole root) }
+    ensures { IfOk result (λ root.
+        IsRoot (stock_of stock.entry) (plan_of cover.now) covered.entry.first (destination_at covered.entry.destination) (tree_term covered.entry.tree.now) covered.entry.whole root) }
 {
     let form = form_at(stock, cover.form)?;
     let found = found_at(alloc, stock, form, covered)?;
@@ -109,7 +112,8 @@ pub fn take_out<'a>(
     left: &mut Vec<OperandCells<'a>>,
     place: usize,
 ) -> Result<OperandCells<'a>, NoMemory>
-    ensures { IfOk result (λ cells. IsTakenOut (cells_of_operands left.old.items) place (cells_of_operand cells) (cells_of_operands left.new.items)) }
+    ensures { IfOk result (λ cells.
+        IsTakenOut (cells_of_operands left.old.items) place (cells_of_operand cells) (cells_of_operands left.new.items)) }
 {
     if place >= left.len() {
         return Err(NoMemory);

@@ -4,7 +4,7 @@ use Rattle.std.specs.Prelude.{is_some}
 use Rattle.std.proofs.lemmas.Nat.{pow_pos, mod_below, shl-shr, shl_below}
 use Rattle.std.proofs.Math.Nat.{pow-le-pow_right, mod-eq_of_lt}
 use Rattle.net_model.specs.Terms.{Term, word, reg, const, read, un, bin, slice, cat, zext, sext, select, term_width}
-use Rattle.net_model.specs.Symbolic.{blank}
+use Rattle.net_model.specs.Symbolic.{no_state}
 use Rattle.net_model.specs.Meaning.{mean}
 use Rattle.form_model.specs.Shapes.{FieldFits, field_setting, then_some, is_field}
 
@@ -30,7 +30,7 @@ true_less a b e = grind (arith, e)
 pub record IsFieldAt (bits : ℕ) (field : Term) (v b : ℕ) : Type 0 where
   pub fits : b < 2 ^ bits
   pub small : v < 2 ^ term_width field
-  pub is : mean field blank b ≡ v
+  pub is : mean field no_state b ≡ v
 
 slice_at : (bits hi lo v : ℕ) → lo ≤ hi → hi < bits → v < 2 ^ (hi + 1 - lo) → (v * 2 ^ lo < 2 ^ bits) × ((v * 2 ^ lo / 2 ^ lo) % 2 ^ (hi + 1 - lo) ≡ v)
 slice_at bits hi lo v p q h =
@@ -60,7 +60,7 @@ setting_of_field bits (sext a w) i f v b e = absurd (true≢false (sym i))
 setting_of_field bits (select a c d) i f v b e = absurd (true≢false (sym i))
 
 -- each word gives a field a value of its width
-pub field_small : (bits : ℕ) (t : Term) → is_field t ≡ true → FieldFits bits t → (i : ℕ) → i < 2 ^ bits → mean t blank i < 2 ^ term_width t
+pub field_small : (bits : ℕ) (t : Term) → is_field t ≡ true → FieldFits bits t → (i : ℕ) → i < 2 ^ bits → mean t no_state i < 2 ^ term_width t
 field_small bits (word w) p f i lt = subst (λ k. i < 2 ^ k) (sym f) lt
 field_small bits (slice (word w) hi lo) p f i lt = mod_below _ _ (pow_pos (hi + 1 - lo))
 field_small bits (reg r w) p f i lt = absurd (true≢false (sym p))

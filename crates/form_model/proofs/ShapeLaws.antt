@@ -7,7 +7,7 @@ use Rattle.std.proofs.Math.Nat.{pow-le-pow_right, mod-eq_of_lt}
 use Rattle.rec_bits.specs.Operators.{sext_of, is_negative_of}
 use Rattle.rec_bits.proofs.Booleans.{both}
 use Rattle.net_model.specs.Terms.{Term, word, reg, const, read, un, bin, slice, cat, zext, sext, select, term_width}
-use Rattle.net_model.specs.Symbolic.{blank}
+use Rattle.net_model.specs.Symbolic.{no_state}
 use Rattle.net_model.specs.Meaning.{mean}
 use Rattle.form_model.specs.Shapes.{FieldFits, IsExactShape, IsReach, ShapeFits, Shows, field_setting, is_field, is_shape, reach_of, shape_setting, shows, shows_below}
 use Rattle.form_model.proofs.FieldLaws.{setting_of_field, field_has_setting, field_small, then_some_is, then_some_true}
@@ -51,17 +51,17 @@ sext_other x n w one less h = by (is_negative_of n x) refl
 
 -- ---- what shows
 
-setting_of_sext : (bits : ℕ) (a : Term) (w : ℕ) → is_field a ≡ true → ShapeFits bits (sext a w) → (v b : ℕ) → shape_setting (sext a w) v ≡ Some b → (b < 2 ^ bits) × (mean (sext a w) blank b ≡ v)
+setting_of_sext : (bits : ℕ) (a : Term) (w : ℕ) → is_field a ≡ true → ShapeFits bits (sext a w) → (v b : ℕ) → shape_setting (sext a w) v ≡ Some b → (b < 2 ^ bits) × (mean (sext a w) no_state b ≡ v)
 setting_of_sext bits a w i f v b e = by (sext_of (v % 2 ^ term_width a) (term_width a) w == v) refl e
   where
-    by : (t : Bool) → (sext_of (v % 2 ^ term_width a) (term_width a) w == v) ≡ t → cond t (field_setting a (v % 2 ^ term_width a)) None ≡ Some b → (b < 2 ^ bits) × (mean (sext a w) blank b ≡ v)
+    by : (t : Bool) → (sext_of (v % 2 ^ term_width a) (term_width a) w == v) ≡ t → cond t (field_setting a (v % 2 ^ term_width a)) None ≡ Some b → (b < 2 ^ bits) × (mean (sext a w) no_state b ≡ v)
     by true q e =
         let g = setting_of_field bits a i f.0 (v % 2 ^ term_width a) b e in
         (g.fits, ap (λ n. sext_of n (term_width a) w) g.is ∙ eqb-true _ _ q)
     by false q e = absurd (cc)
 
 -- under the setting the shape has the value
-pub setting_of_shape : (bits : ℕ) (t : Term) → is_shape t ≡ true → ShapeFits bits t → (v b : ℕ) → shape_setting t v ≡ Some b → (b < 2 ^ bits) × (mean t blank b ≡ v)
+pub setting_of_shape : (bits : ℕ) (t : Term) → is_shape t ≡ true → ShapeFits bits t → (v b : ℕ) → shape_setting t v ≡ Some b → (b < 2 ^ bits) × (mean t no_state b ≡ v)
 setting_of_shape bits (const w c) i f v b e =
     let g = then_some_true (v == c) 0 b e in
     (subst (λ n. n < 2 ^ bits) g.1 (pow_pos bits), sym (eqb-true v c g.0))
@@ -80,9 +80,9 @@ some_of : (o : Option ℕ) → is_some o ≡ true → (b : ℕ) × (o ≡ Some b
 some_of None e = absurd (true≢false (sym e))
 some_of (Some b) e = (b, refl)
 
-sext_has_setting : (bits : ℕ) (a : Term) (w : ℕ) → is_field a ≡ true → ShapeFits bits (sext a w) → (i v : ℕ) → i < 2 ^ bits → mean (sext a w) blank i ≡ v → is_some (shape_setting (sext a w) v) ≡ true
+sext_has_setting : (bits : ℕ) (a : Term) (w : ℕ) → is_field a ≡ true → ShapeFits bits (sext a w) → (i v : ℕ) → i < 2 ^ bits → mean (sext a w) no_state i ≡ v → is_some (shape_setting (sext a w) v) ≡ true
 sext_has_setting bits a w p f i v lt e =
-    let x = mean a blank i in
+    let x = mean a no_state i in
     let small = field_small bits a p f.0 i lt in
     let low : v % 2 ^ term_width a ≡ x = ap (λ n. n % 2 ^ term_width a) (sym e) ∙ sext_low x (term_width a) w small (omega (arith, f.2)) in
     let same : (sext_of (v % 2 ^ term_width a) (term_width a) w == v) ≡ true = eq-eqb _ _ (ap (λ n. sext_of n (term_width a) w) low ∙ e) in
@@ -90,7 +90,7 @@ sext_has_setting bits a w p f i v lt e =
     (field_has_setting bits a p f.0 (v % 2 ^ term_width a) (subst (λ n. n < 2 ^ term_width a) (sym low) small))
 
 -- and there is a setting for each value under some word
-pub shape_has_setting : (bits : ℕ) (t : Term) → is_shape t ≡ true → ShapeFits bits t → (i v : ℕ) → i < 2 ^ bits → mean t blank i ≡ v → is_some (shape_setting t v) ≡ true
+pub shape_has_setting : (bits : ℕ) (t : Term) → is_shape t ≡ true → ShapeFits bits t → (i v : ℕ) → i < 2 ^ bits → mean t no_state i ≡ v → is_some (shape_setting t v) ≡ true
 shape_has_setting bits (const w c) p f i v lt e = then_some_is (v == c) 0 (eq-eqb v c (sym e))
 shape_has_setting bits (zext a w) p f i v lt e = field_has_setting bits a p f.0 v (subst (λ n. n < 2 ^ term_width a) e (field_small bits a p f.0 i lt))
 shape_has_setting bits (sext a w) p f i v lt e = sext_has_setting bits a w p f i v lt e
@@ -161,7 +161,7 @@ sext_reach bits a w p f = record {
       let wide : 2 ^ (term_width a - 1) ≤ 2 ^ term_width a = pow-le-pow_right (lit< tt) (omega arith) in
       let h = r.below v (omega (arith, wide, lt)) in
       record { word = h.word; fits = h.fits; is = ap (λ n. sext_of n (term_width a) w) h.is ∙ sext_plain v (term_width a) w lt });
-  unshown = λ h. sext_other (mean a blank h.word) (term_width a) w f.1 f.2 (field_small bits a p f.0 h.word h.fits) h.is;
+  unshown = λ h. sext_other (mean a no_state h.word) (term_width a) w f.1 f.2 (field_small bits a p f.0 h.word h.fits) h.is;
 }
 
 pub reach_is : (bits : ℕ) (t : Term) → is_shape t ≡ true → ShapeFits bits t → IsReach bits t (reach_of t)

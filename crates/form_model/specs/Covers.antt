@@ -29,7 +29,8 @@ abbrev pub form_clobbers : Option Rule → ℕ
 form_clobbers None = 0
 form_clobbers (Some rule) = rule.clobbers
 
--- the clobbers of the form and of the operands' covers; cuts are stored before, so what they write doesn't count
+-- the clobbers of the form and of the operands' covers; cuts are stored before, so what they write
+-- doesn't count
 abbrev mutual
   pub written : List Rule → Plan → ℕ
   written rules (use_form k ps cs) = bit_or (form_clobbers (slice_get rules k)) (all_written rules ps)
@@ -53,7 +54,8 @@ abbrev mutual
       × (found : Found) × (taken stock.temps rule destination tree whole ≡ Some found)
       × AreOrderly stock (operands_of found.sites) ps × AreCut stock (cuts_of found.sites) cs
 
-  -- each operand has an orderly cover into its register, and no later one writes an earlier one's register
+  -- each operand has an orderly cover into its register, and no later one writes an earlier one's
+  -- register
   pub AreOrderly : Stock → List Operand → Operands → Type 0
   AreOrderly stock left no_operands = left ≡ []
   AreOrderly stock left (operand_then i p ps) =
@@ -81,7 +83,8 @@ abbrev mutual
   CutsBefore (cut_then p cs) (cut_then q ds) = IsBefore p q ⊎ ((p ≡ q) × CutsBefore cs ds)
   CutsBefore _ _ = ⊥
 
-  -- the order as a list of places; the place among those that are left compares as the place from the left does
+  -- the order as a list of places; the place among those that are left compares as the place from
+  -- the left does
   pub IsSooner : Operands → Operands → Type 0
   IsSooner (operand_then i p ps) (operand_then j q qs) = (i < j) ⊎ ((i ≡ j) × IsSooner ps qs)
   IsSooner _ _ = ⊥

@@ -1,9 +1,10 @@
--- What steps do to a state, one after the other and several at one clock edge. A step is a pattern with the values of its field bits, and the
--- meaning of its expressions is read under those bits, since they have no others.
+-- What steps do to a state, one after the other and several at one clock edge. A step is a pattern
+-- with the values of its field bits, and the meaning of its expressions is read under those bits,
+-- since they have no others.
 use Rattle.std.specs.Prelude.{ℕ, Bool, true, false, ◌==◌, ◌||◌, ◌&&◌, not, if◌then◌else◌, List, [], ◌∷◌, Option, Some, None, slice_get, slice_set}
 use Rattle.net_model.specs.declared.states.State.{State}
 use Rattle.net_model.specs.Terms.{Term, word, reg, const, read, un, bin, slice, cat, zext, sext, select, Move, keep, write, write_at}
-use Rattle.net_model.specs.Symbolic.{blank}
+use Rattle.net_model.specs.Symbolic.{no_state}
 use Rattle.net_model.specs.Meaning.{mean}
 use Rattle.net_model.specs.Patterns.{Pattern}
 use Rattle.form_model.specs.declared.forms.Step.{Step}
@@ -61,9 +62,10 @@ pub data Location : Type 0 where
   cell_at : (address : ℕ) → Location
   some_cell : Location
 
--- an address that is a field shape is settled by the setting, a constant's too; any other may be every address
+-- an address that is a field shape is settled by the setting, a constant's too; any other may be
+-- every address
 abbrev pub location_at : ℕ → Term → Location
-location_at setting a = if is_shape a then cell_at (mean a blank setting) else some_cell
+location_at setting a = if is_shape a then cell_at (mean a no_state setting) else some_cell
 
 abbrev pub move_location : ℕ → ℕ → Move → Location
 move_location storage setting keep = register storage
@@ -81,13 +83,13 @@ may_see (register r) y = false
 may_see (cell_at v) (cell_at w) = v == w
 may_see x y = true
 
-abbrev pub is_register : Location → ℕ → Bool
-is_register (register q) r = q == r
-is_register _ r = false
+abbrev pub names_register : Location → ℕ → Bool
+names_register (register q) r = q == r
+names_register _ r = false
 
 abbrev pub term_reads : ℕ → Term → Location → Bool
 term_reads setting (word w) p = false
-term_reads setting (reg r w) p = is_register p r
+term_reads setting (reg r w) p = names_register p r
 term_reads setting (const w v) p = false
 term_reads setting (read a w) p = may_see (location_at setting a) p || term_reads setting a p
 term_reads setting (un o a) p = term_reads setting a p

@@ -37,7 +37,8 @@ abbrev pub singles : {A : Type 0} → List A → List (List A)
 singles [] = []
 singles (x ∷ xs) = (x ∷ []) ∷ singles xs
 
--- at each step of a list, each register that the step may clobber is its own destination or isn't live after it
+-- at each step of a list, each register that the step may clobber is its own destination or isn't
+-- live after it
 abbrev pub AllSpare : {A : Type 0} → (A → Operation) → (A → Regs) → List A → Regs → Type 0
 AllSpare m clobbers [] after = Unit {0}
 AllSpare m clobbers (x ∷ xs) after =

@@ -9,13 +9,16 @@ use Rattle.form_model.specs.Trees.{is_number, is_cell}
 use Rattle.form_model.specs.Shapes.{is_shape, shape_setting, shows_below}
 use Rattle.form_model.specs.Rules.{Rule, Kind, into_reg, into_memory, branches, Destination, into, cell, stored, temporary, tested}
 
--- what a match leaves open: an operand, which another form has to put into a register, and a cut, which has to be in a temporary cell before,
--- where the read's address is this field shape. An operand that is whole can't be a cut itself: it is the tree of a job, or the number that is a read's address
+-- what a match leaves open: an operand, which another form has to put into a register, and a cut,
+-- which has to be in a temporary cell before, where the read's address is this field shape. An
+-- operand that is whole can't be a cut itself: it is the tree of a job, or the number that is a
+-- read's address
 pub data Site : Type 0 where
   operand : (id : ℕ) → (tree : Term) → (whole : Bool) → Site
   cut : (shape : Term) → (tree : Term) → Site
 
--- a match: the bits of the word that it settles, with 0 in those that will name a temporary cell, and its sites from left to right
+-- a match: the bits of the word that it settles, with 0 in those that will name a temporary cell,
+-- and its sites from left to right
 pub record Found : Type 0 where
   pub setting : ℕ
   pub sites : List Site
@@ -45,7 +48,8 @@ abbrev pub literal_match : Term → Term → Option Found
 literal_match addr (read a w) = shape_match addr a
 literal_match addr _ = None
 
--- a read at a field shape takes a read at a number that the shape shows, or a cut, where it shows every temporary address
+-- a read at a field shape takes a read at a number that the shape shows, or a cut, where it shows
+-- every temporary address
 abbrev pub cell_match : ℕ → Term → ℕ → Term → Bool → Option Found
 cell_match temps addr width tree whole =
     if width == term_width tree then (if is_cell tree then literal_match addr tree
@@ -83,7 +87,8 @@ abbrev pub sext_match : (Term → Bool → Option Found) → ℕ → ℕ → Ter
 sext_match f from width (sext a w) = if (term_width a == from) && (w == width) then f a false else None
 sext_match f from width _ = None
 
--- what an expression of a form takes of a tree, for so many temporary cells. A field shape is matched as a whole
+-- what an expression of a form takes of a tree, for so many temporary cells. A field shape is
+-- matched as a whole
 abbrev pub matched : ℕ → Term → Term → Bool → Option Found
 matched temps (word w) tree whole = shape_match (word w) tree
 matched temps (const w v) tree whole = shape_match (const w v) tree
@@ -121,7 +126,7 @@ goal_match temps rule into_memory temporary tree whole =
 goal_match temps rule (branches when_one to) tested tree whole = matched temps rule.value tree true
 goal_match temps rule _ _ tree whole = None
 
--- what a form takes of a tree that goes to a destination. `whole` tells of an operand alone: the tree of a cell or of a test is whole, and that of a
--- store or of a temporary cell isn't
+-- what a form takes of a tree that goes to a destination. `whole` tells of an operand alone: the
+-- tree of a cell or of a test is whole, and that of a store or of a temporary cell isn't
 abbrev pub taken : ℕ → Rule → Destination → Term → Bool → Option Found
 taken temps rule destination tree whole = goal_match temps rule rule.goal destination tree whole

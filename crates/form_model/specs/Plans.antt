@@ -6,8 +6,8 @@ use Rattle.form_model.specs.declared.covers.CoverOperands.TheVariants.{Empty as 
 use Rattle.form_model.specs.declared.covers.CoverCuts.{CoverCuts}
 use Rattle.form_model.specs.declared.covers.CoverCuts.TheVariants.{Empty as EndOfCuts, Then' as CutThen}
 
--- the form's place in the list, its operands in the order of their evaluation, each with its place from the left among those that are left,
--- and its cuts from left to right
+-- the form's place in the list, its operands in the order of their evaluation, each with its place
+-- from the left among those that are left, and its cuts from left to right
 mutual
   pub data Plan : Type 0 where
     use_form : (form : ℕ) → Operands → Cuts → Plan

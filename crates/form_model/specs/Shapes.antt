@@ -2,7 +2,7 @@
 use Rattle.std.specs.Prelude.{ℕ, zero, suc, Bool, true, false, ◌+◌, ◌-◌, ◌*◌, ◌^◌, ◌%◌, ◌==◌, ◌<◌, ◌≤◌, ◌≡◌, ◌↔◌, ◌&&◌, nat_lt, is_some, if◌then◌else◌, Option, Some, None}
 use Rattle.rec_bits.specs.Operators.{sext_of}
 use Rattle.net_model.specs.Terms.{Term, word, const, slice, zext, sext, term_width}
-use Rattle.net_model.specs.Symbolic.{blank}
+use Rattle.net_model.specs.Symbolic.{no_state}
 use Rattle.net_model.specs.Meaning.{mean}
 
 -- the instruction word, or a slice of it
@@ -34,7 +34,7 @@ ShapeFits bits t = FieldFits bits t
 pub record Shows (bits : ℕ) (shape : Term) (value : ℕ) : Type 0 where
   pub word : ℕ
   pub fits : word < 2 ^ bits
-  pub is : mean shape blank word ≡ value
+  pub is : mean shape no_state word ≡ value
 
 -- the shape shows each number below this one, which is the least address that it doesn't show
 pub record IsReach (bits : ℕ) (shape : Term) (reach : ℕ) : Type 0 where
@@ -79,6 +79,6 @@ shows_below t (suc n) = shows t n && shows_below t n
 -- what is computed for a field shape of words of so many bits is what it shows
 pub record IsExactShape (bits : ℕ) (shape : Term) : Type 0 where
   pub shown : (v : ℕ) → (shows shape v ≡ true) ↔ Shows bits shape v
-  pub setting : (v b : ℕ) → shape_setting shape v ≡ Some b → (b < 2 ^ bits) × (mean shape blank b ≡ v)
+  pub setting : (v b : ℕ) → shape_setting shape v ≡ Some b → (b < 2 ^ bits) × (mean shape no_state b ≡ v)
   pub below : (n : ℕ) → (shows_below shape n ≡ true) ↔ ((v : ℕ) → v < n → Shows bits shape v)
   pub reach : IsReach bits shape (reach_of shape)

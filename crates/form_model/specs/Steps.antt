@@ -1,5 +1,5 @@
--- The steps of a cover: first those that put its cuts into temporary cells, each cell its own, then those of its operands in their order, then the
--- form's own step.
+-- The steps of a cover: first those that put its cuts into temporary cells, each cell its own, then
+-- those of its operands in their order, then the form's own step.
 use Rattle.std.specs.Prelude.{ℕ, ◌+◌, Bool, true, false, List, [], ◌∷◌, ◌++◌, Option, Some, None, slice_get, slice_index, remove, insert, bit_or, drop}
 use Rattle.net_model.specs.Terms.{Term, const}
 use Rattle.form_model.specs.declared.forms.Step.{Step}
@@ -40,14 +40,16 @@ pub record OperandCells : Type 0 where
   pub first : ℕ
   pub past : ℕ
 
--- a cut, with the shape that names its cell, the first cell of the cuts inside it, and its own cell, which comes after those
+-- a cut, with the shape that names its cell, the first cell of the cuts inside it, and its own
+-- cell, which comes after those
 pub record CutCells : Type 0 where
   pub shape : Term
   pub tree : Term
   pub first : ℕ
   pub cell : ℕ
 
--- the operands from left to right, where n is the first cell, ks are the operands' numbers of cuts and ls those inside the form's own cuts
+-- the operands from left to right, where n is the first cell, ks are the operands' numbers of cuts
+-- and ls those inside the form's own cuts
 abbrev pub operand_cells : List Site → List ℕ → List ℕ → ℕ → List OperandCells
 operand_cells [] ks ls n = []
 operand_cells (operand id tree whole ∷ sites) ks ls n =

@@ -1,4 +1,5 @@
--- Worked field shapes and matches: a netlist of 12 instruction bits, whose words name a cell or a number by their low 8.
+-- Worked field shapes and matches: a netlist of 12 instruction bits, whose words name a cell or a
+-- number by their low 8.
 use Rattle.std.specs.Prelude.{ℕ, ◌≡◌, refl, true, false, [], ◌∷◌, List, Option, Some, None}
 use Rattle.rec_bits.specs.declared.operator.Op2.TheVariants.{Add, Mul}
 use Rattle.net_model.specs.Terms.{Term, word, reg, const, read, bin, slice, cat, zext, sext}
@@ -39,7 +40,8 @@ constant_shown = refl
 constant_other : shape_setting (const 8 3) 4 ≡ None
 constant_other = refl
 
--- a constant that is extended is no field shape, nor is a slice of something else, nor a field beside another
+-- a constant that is extended is no field shape, nor is a slice of something else, nor a field
+-- beside another
 constant_extended : is_shape (zext (const 8 3) 16) ≡ false
 constant_extended = refl
 
@@ -99,7 +101,8 @@ extracted_takes = refl
 too_many_cells : matched 257 extracted sum false ≡ None
 too_many_cells = refl
 
--- a whole tree is no cut, nor is a number that is the address of a read, be it an operand or where a read stands for it
+-- a whole tree is no cut, nor is a number that is the address of a read, be it an operand or where
+-- a read stands for it
 no_cut_at_root : matched 1 variable sum true ≡ None
 no_cut_at_root = refl
 

@@ -1,6 +1,7 @@
 //! Covers of trees by forms.
 
-/// A cover of a tree: the form at its root, by its place in the list of forms, and the covers of what the form's match leaves open.
+/// A cover of a tree: the form at its root, by its place in the list of forms, and the covers of
+/// what the form's match leaves open.
 #[cycle(covers)]
 #[derive(Drop)]
 pub struct Cover {

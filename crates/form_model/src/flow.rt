@@ -1,4 +1,5 @@
-//! The flow of a program: its assignments and tests in the order of the text, and where each goes on.
+//! The flow of a program: its assignments and tests in the order of the text, and where each goes
+//! on.
 
 use crate::Job;
 use rec_bits::Items;

@@ -12,9 +12,11 @@ pub enum Goal {
     Reg(u32),
     /// The data memory.
     Memory,
-    /// The program counter, in every case; `reach` is the least address that no setting of the form's bits gives.
+    /// The program counter, in every case; `reach` is the least address that no setting of the
+    /// form's bits gives.
     Jump { reach: u64 },
-    /// The program counter: the target where the condition is 1, or where it is 0, and otherwise the next word.
+    /// The program counter: the target where the condition is 1, or where it is 0, and otherwise
+    /// the next word.
     Branch { when_one: bool, target: Target },
 }
 
@@ -27,8 +29,8 @@ pub enum Target {
     Relative(Expr),
 }
 
-/// A transfer of which code can be made: for each choice of its field bits some word does it, steps, and changes nothing that it needn't but
-/// the clobbers.
+/// A transfer of which code can be made: for each choice of its field bits some word does it,
+/// steps, and changes nothing that it needn't but the clobbers.
 #[derive(Debug, Drop)]
 pub struct Form {
     /// The number of its pattern.

@@ -6,12 +6,14 @@ ghost use Rattle.form_model.specs.Trees.{HasNoState, is_tree, tree_term};
 ghost use Rattle.form_model.specs.declared.trees.Tree.{Tree as CodeTree};
 ghost use Rattle.net_model.specs.Terms.{Term};
 
-/// Which values a field shape shows, under which bits of the word, and up to where it shows them all, is what is computed for it.
+/// Which values a field shape shows, under which bits of the word, and up to where it shows them
+/// all, is what is computed for it.
 pub fn law_of_shapes()
     ensures { (bits : ℕ) (shape : Term) → is_shape shape ≡ true → ShapeFits bits shape → IsExactShape bits shape }
 {}
 
-/// A tree is an expression over numbers and the memory, in which no register and no instruction bit occurs.
+/// A tree is an expression over numbers and the memory, in which no register and no instruction bit
+/// occurs.
 pub fn law_of_trees()
     ensures tree { (tree : CodeTree) → is_tree (tree_term tree) ≡ true }
     ensures state { (term : Term) → is_tree term ≡ true → HasNoState term }

@@ -2,8 +2,8 @@
 
 use rec_bits::{Op1, Op2};
 
-/// An expression over numbers and the data memory. Each tells its own width in bits: in `Read` the last number, and in `Zext` and `Sext` the
-/// width that is reached.
+/// An expression over numbers and the data memory. Each tells its own width in bits: in `Read` the
+/// last number, and in `Zext` and `Sext` the width that is reached.
 #[derive(Debug, Drop)]
 pub enum Tree {
     Lit { width: u8, value: u64 },

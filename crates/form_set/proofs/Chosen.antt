@@ -9,9 +9,9 @@ use Rattle.sym_expr.specs.declared.pool.Node.{Node}
 use Rattle.net_model.specs.Transfers.{Keeps, StepsOn}
 use Rattle.transfer_set.specs.Tables.{Table}
 use Rattle.form_set.specs.declared.pattern_ids.PatternIds.{PatternIds}
-use Rattle.form_set.specs.PatternIds.{InSet, ArePatternIds, ids_pattern}
+use Rattle.form_set.specs.Inner.PatternIds.{InSet, ArePatternIds, ids_pattern}
 use Rattle.transfer_set.specs.Ready.{IsReady}
-use Rattle.form_set.specs.Words.{CanJump, ForEachSetting, CanKeep, IsSetOf, Joins, joins, fails, none, KeepsMemory, KeepsOthers, is_register, with}
+use Rattle.form_set.specs.Words.{CanJump, ForEachSetting, CanKeep, IsSetOf, Joins, joins, fails, none, WordKeepsMemory, KeepsOthers, is_register_storage, with}
 use Rattle.form_set.proofs.Registers.{no_register, register_is}
 use Rattle.form_set.proofs.Holding.{and_set, each_is, keep_is, memory_kept, one_more, other_memory, own_memory, set_later, step_is}
 
@@ -25,9 +25,9 @@ module _ (netlist : Netlist) (old new : Diagrams) (pool : List Node) (table : Ta
 
   pub jump_set : (ids : PatternIds) → ArePatternIds netlist old pool ids → (id : ℕ) → id ≡ table.memory → (keeps : ℕ) → keeps ≡ slice_index table.keeps id
       → (set : ℕ) → Extends old new → set < length new.nodes → ((word : ℕ) → has_word new set word ≡ (has_word old ids.set word && has_word old keeps word))
-      → IsSetOf new (KeepsMemory netlist (ids_pattern pool ids)) set
+      → IsSetOf new (WordKeepsMemory netlist (ids_pattern pool ids)) set
   jump_set ids p id ei keeps ek set grows within words =
-      and_set old new (IsWordOf netlist (ids_pattern pool ids)) (Keeps netlist (memory_id netlist.storages)) (KeepsMemory netlist (ids_pattern pool ids))
+      and_set old new (IsWordOf netlist (ids_pattern pool ids)) (Keeps netlist (memory_id netlist.storages)) (WordKeepsMemory netlist (ids_pattern pool ids))
       ids.set keeps set grows p.set (memory_set p.memory id ei keeps ek) within words (memory_kept netlist (ids_pattern pool ids))
 
   pub more_set : (p : Pattern) (registers set : ℕ) → IsSetOf old (KeepsOthers netlist p registers) set → (id : ℕ) → id < length netlist.storages
@@ -83,19 +83,19 @@ module _ (netlist : Netlist) (book : Diagrams) (pool : List Node) (table : Table
   keep_told registers set s b h = told book (KeepsOthers netlist (ids_pattern pool ids) registers) set ids.fields _ b h p.fields s
       (λ word k. p.clean word k.given.clean)
 
-  pub jump_told : (set : ℕ) → IsSetOf book (KeepsMemory netlist (ids_pattern pool ids)) set → (b : Bool) → (b ≡ true) ↔ ForEachSetting ids.fields (InSet book set)
+  pub jump_told : (set : ℕ) → IsSetOf book (WordKeepsMemory netlist (ids_pattern pool ids)) set → (b : Bool) → (b ≡ true) ↔ ForEachSetting ids.fields (InSet book set)
       → (b ≡ true) ↔ CanJump netlist (ids_pattern pool ids)
-  jump_told set s b h = told book (KeepsMemory netlist (ids_pattern pool ids)) set ids.fields _ b h p.fields s
+  jump_told set s b h = told book (WordKeepsMemory netlist (ids_pattern pool ids)) set ids.fields _ b h p.fields s
       (λ word k. p.clean word k.given.clean)
 
 -- a register that doesn't join
-pub fails_is : (netlist : Netlist) (p : Pattern) (id kept more : ℕ) (ok : Bool) → is_register (slice_get netlist.storages id) ≡ true → more ≡ with kept id
+pub fails_is : (netlist : Netlist) (p : Pattern) (id kept more : ℕ) (ok : Bool) → is_register_storage (slice_get netlist.storages id) ≡ true → more ≡ with kept id
     → (ok ≡ true) ↔ CanKeep netlist p more → ok ≡ false → Joins netlist p id kept kept
 fails_is netlist p id kept more ok r e h n = fails ((register_is _).0 r) (λ k. true≢false (sym (h.1 (subst (CanKeep netlist p) (sym e) k)) ∙ n)) refl
 
-pub joins_is : (netlist : Netlist) (p : Pattern) (id kept more : ℕ) (ok : Bool) → is_register (slice_get netlist.storages id) ≡ true → more ≡ with kept id
+pub joins_is : (netlist : Netlist) (p : Pattern) (id kept more : ℕ) (ok : Bool) → is_register_storage (slice_get netlist.storages id) ≡ true → more ≡ with kept id
     → (ok ≡ true) ↔ CanKeep netlist p more → ok ≡ true → Joins netlist p id kept more
 joins_is netlist p id kept more ok r e h y = joins ((register_is _).0 r) (subst (CanKeep netlist p) e (h.0 y)) e
 
-pub none_is : (netlist : Netlist) (p : Pattern) (id kept : ℕ) → is_register (slice_get netlist.storages id) ≡ false → Joins netlist p id kept kept
+pub none_is : (netlist : Netlist) (p : Pattern) (id kept : ℕ) → is_register_storage (slice_get netlist.storages id) ≡ false → Joins netlist p id kept kept
 none_is netlist p id kept n = none (no_register _ n) refl

@@ -15,10 +15,10 @@ use Rattle.net_model.specs.Fields.{move_fields}
 use Rattle.form_set.specs.declared.branches.BranchIds.{BranchIds}
 use Rattle.form_set.specs.declared.classes.Class.{Class}
 use Rattle.form_set.specs.declared.classes.Class.TheVariants.{Plain, Jump, Branch}
-use Rattle.form_set.specs.Copies.{ids_branch}
-use Rattle.form_set.specs.Adding.{HasAdded, IsClass, IsReachOf, jumps_to}
+use Rattle.form_set.specs.Inner.Copies.{ids_branch}
+use Rattle.form_set.specs.Inner.Adding.{HasAdded, IsClass, IsReachOf, jumps_to}
 use Rattle.form_set.specs.Listing.{plain, jump, branch, IsJump, branch_rules, jump_rule, plain_rules}
-use Rattle.form_set.specs.PatternIds.{ids_pattern}
+use Rattle.form_set.specs.Inner.PatternIds.{ids_pattern}
 
 write_same : (a b : Term) → write a ≡ write b → a ≡ b
 write_same a b e = cc

@@ -5,7 +5,7 @@ use Rattle.std.proofs.lemmas.Bool.{eqb-true, eq-eqb}
 use Rattle.std.proofs.lemmas.Nat.{and_le_r}
 use Rattle.std.proofs.Math.Nat.{pow-le-pow_right}
 use Rattle.bit_bdd.specs.Diagrams.{Diagrams, CanReach, IsCanonical, has_word}
-use Rattle.form_set.specs.PatternIds.{InSet}
+use Rattle.form_set.specs.Inner.PatternIds.{InSet}
 use Rattle.form_set.specs.Words.{ForEachSetting}
 use Rattle.form_set.proofs.Bits.{differ_same, same_differ, setting_of}
 

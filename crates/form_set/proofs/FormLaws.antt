@@ -15,7 +15,7 @@ use Rattle.form_model.specs.Rules.{Rule}
 use Rattle.form_set.specs.Listing.{AreRules, AreRulesOf, plain, jump, branch, other, IsPlain, branch_rule, plain_rule, sides_of, test_sides}
 use Rattle.form_set.specs.Promises.{HasWords, IsForm, IsFormOf, of_branch, of_jump, of_plain}
 use Rattle.form_set.specs.Swaps.{map_below, swap_count}
-use Rattle.form_set.specs.Words.{AreClobbers, AreKept, CanKeep, Joins, joins, fails, none, all_registers, is_register, registers_below, with}
+use Rattle.form_set.specs.Words.{AreClobbers, AreKept, CanKeep, Joins, joins, fails, none, all_registers, is_register_storage, registers_below, with}
 use Rattle.net_model.proofs.Storages.{register_within}
 use Rattle.form_set.proofs.Bits.{bit_cases}
 use Rattle.form_set.proofs.Holding.{with_new, with_old}
@@ -37,16 +37,16 @@ one_more : (b : Bool) (set n r : ℕ) → bit_at set r ≡ 1 → bit_at (cond b 
 one_more true set n r e = with_old set n r e
 one_more false set n r e = e
 
-below_has : (storages : List Storage) (n r : ℕ) → r < n → is_register (slice_get storages r) ≡ true → bit_at (registers_below storages n) r ≡ 1
+below_has : (storages : List Storage) (n r : ℕ) → r < n → is_register_storage (slice_get storages r) ≡ true → bit_at (registers_below storages n) r ≡ 1
 below_has storages zero r lt h = absurd (omega (arith, lt))
 below_has storages (suc n) r lt h = by (r == n) refl (λ less. below_has storages n r less h)
   where
-    by : (b : Bool) → (r == n) ≡ b → (r < n → bit_at (registers_below storages n) r ≡ 1) → bit_at (cond (is_register (slice_get storages n)) (with (registers_below storages n) n) (registers_below storages n)) r ≡ 1
+    by : (b : Bool) → (r == n) ≡ b → (r < n → bit_at (registers_below storages n) r ≡ 1) → bit_at (cond (is_register_storage (slice_get storages n)) (with (registers_below storages n) n) (registers_below storages n)) r ≡ 1
     by true e before =
         (let q = eqb-true r n e in
-        subst (λ (b : Bool). bit_at (cond b (with (registers_below storages n) n) (registers_below storages n)) r ≡ 1) (sym (ap (λ k. is_register (slice_get storages k)) (sym q) ∙ h))
+        subst (λ (b : Bool). bit_at (cond b (with (registers_below storages n) n) (registers_below storages n)) r ≡ 1) (sym (ap (λ k. is_register_storage (slice_get storages k)) (sym q) ∙ h))
         (subst (λ k. bit_at (with (registers_below storages n) n) k ≡ 1) (sym q) (with_new (registers_below storages n) n)))
-    by false e before = one_more (is_register (slice_get storages n)) (registers_below storages n) n r (before (grind (arith, e, lt)))
+    by false e before = one_more (is_register_storage (slice_get storages n)) (registers_below storages n) n r (before (grind (arith, e, lt)))
 
 -- a register that is no clobber is kept
 unclobbered : (all kept storage r : ℕ) → bit_at all r ≡ 1 → bit_at (bit_or (2 ^ storage) (bit_xor all kept)) r ≡ 0 → bit_at kept r ≡ 1
@@ -60,7 +60,8 @@ unclobbered all kept storage r a e =
     by (inr q) x y = q
     by (inl q) x y = absurd (omega (arith, q, x, y, a))
 
--- for every setting of a plain form there is a word that does its transfer, steps, and changes no more than the clobbers
+-- for every setting of a plain form there is a word that does its transfer, steps, and changes no
+-- more than the clobbers
 pub plain_words : (netlist : Netlist) (p : Pattern) (clobbers : ℕ) → IsPlain netlist p → AreClobbers netlist p clobbers → HasWords netlist p clobbers
 plain_words netlist p clobbers h c setting is =
     let w = kept_can netlist p (length netlist.storages) c.kept c.are h.ok setting is in (

@@ -17,8 +17,8 @@ use Rattle.net_model.specs.Transfers.{Keeps, StepsOn, move_at}
 use Rattle.transfer_set.specs.Sets.{IsKeepSet, IsStepSet}
 use Rattle.sym_expr.specs.declared.pool.Node.{Node}
 use Rattle.form_set.specs.declared.pattern_ids.PatternIds.{PatternIds}
-use Rattle.form_set.specs.PatternIds.{InSet, ArePatternIds, ids_pattern}
-use Rattle.form_set.specs.Words.{ForEachSetting, IsSetOf, KeepsMemory, KeepsOthers, with}
+use Rattle.form_set.specs.Inner.PatternIds.{InSet, ArePatternIds, ids_pattern}
+use Rattle.form_set.specs.Words.{ForEachSetting, IsSetOf, WordKeepsMemory, KeepsOthers, with}
 
 -- ---- sets
 
@@ -78,7 +78,7 @@ other_memory netlist p n word = (
   λ k. ((k.given, record { clean = k.given.clean; steps = k.steps }), record { clean = k.given.clean; keeps = k.memory n }),
 )
 
-pub memory_kept : (netlist : Netlist) (p : Pattern) (word : ℕ) → (IsWordOf netlist p word × Keeps netlist (memory_id netlist.storages) word) ↔ KeepsMemory netlist p word
+pub memory_kept : (netlist : Netlist) (p : Pattern) (word : ℕ) → (IsWordOf netlist p word × Keeps netlist (memory_id netlist.storages) word) ↔ WordKeepsMemory netlist p word
 memory_kept netlist p word =
     ((λ h. record { given = h.0; memory = h.1.keeps }), λ k. (k.given, record { clean = k.given.clean; keeps = k.memory }))
 

@@ -1,4 +1,5 @@
--- What it means that an expression is linear: no register but the free ones and no instruction bit occurs twice.
+-- What it means that an expression is linear: no register but the free ones and no instruction bit
+-- occurs twice.
 use Rattle.std.proofs.Common.{◌≡◌, ◌↔◌, ℕ, ◌+◌, ◌≤◌, ◌==◌, ◌&&◌, min, nat_lt, nat_le, Bool, true, false, true≢false, cond, refl, sym, ap, arith, inl, inr}
 use Rattle.std.specs.Prelude.{bit_and, bit_or, ◌⊎◌}
 use Rattle.std.specs.Int.{bit_at}
@@ -8,7 +9,7 @@ use Rattle.net_model.specs.Terms.{Term, word, reg, const, read, un, bin, slice, 
 use Rattle.net_model.specs.Fields.{fields}
 use Rattle.net_model.specs.Occurs.{IsLinear, bit_uses, register_uses, registers}
 use Rattle.net_model.proofs.Counts.{fields_has, registers_has}
-use Rattle.form_set.specs.Linear.{are_apart, is_linear, meet_in, move_linear}
+use Rattle.form_set.specs.Inner.Linear.{are_apart, is_linear, meet_in, move_linear}
 use Rattle.form_set.proofs.Bits.{bit_cases}
 
 -- ---- sets that meet in a third

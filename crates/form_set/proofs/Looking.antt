@@ -8,7 +8,7 @@ use Rattle.net_model.specs.declared.hardware.Storage.{Storage}
 use Rattle.net_model.specs.declared.hardware.Storage.TheVariants.{Register, Memory}
 use Rattle.net_model.specs.CheckedRules.{CodeKeeps, IsCounter, KeepsRules}
 use Rattle.net_model.specs.Clock.{is_enabled}
-use Rattle.net_model.specs.Symbolic.{blank, sym_of}
+use Rattle.net_model.specs.Symbolic.{no_state, sym_of}
 use Rattle.net_model.specs.Value.{value_of}
 use Rattle.net_model.specs.Widths.{IsTyped, StorageFits}
 use Rattle.net_model.proofs.KeptRules.{few_storages, typed_of}
@@ -26,12 +26,12 @@ use Rattle.net_model.specs.Transfers.{move_at, same_reg, storage_move, transfer_
 use Rattle.sym_expr.specs.declared.pool.Node.{Node}
 use Rattle.sym_expr.specs.Pools.{TermFits, term_at}
 use Rattle.transfer_set.specs.declared.row.Row.{Row}
-use Rattle.transfer_set.specs.Rows.{row_pattern, told_patterns}
+use Rattle.transfer_set.specs.Rows.{row_pattern, row_patterns}
 use Rattle.transfer_set.specs.Tables.{IsRow, Table}
 use Rattle.transfer_set.specs.TextMarks.{IsMoveOf}
 use Rattle.transfer_set.proofs.TermsOf.{move_terms}
 use Rattle.form_set.specs.declared.pattern_ids.PatternIds.{PatternIds}
-use Rattle.form_set.specs.PatternIds.{IsNarrow, ArePatternIds, row_ids, ids_pattern}
+use Rattle.form_set.specs.Inner.PatternIds.{IsNarrow, ArePatternIds, row_ids, ids_pattern}
 use Rattle.transfer_set.specs.Ready.{IsReady}
 
 -- ---- the program counter takes few bits
@@ -45,9 +45,9 @@ fits_at netlist [] h id storage e = absurd (cc)
 fits_at netlist (x ∷ storages) h zero storage e = (let q : x ≡ storage = cc in subst (StorageFits netlist) q h.0)
 fits_at netlist (x ∷ storages) h (suc id) storage e = fits_at netlist storages h.1 id storage e
 
-counter_at : (netlist : Netlist) → IsTyped netlist → (i id : ℕ) (storage : Storage) → StorageFits netlist storage → IsCounter (Some storage) → IsNarrow (storage_move (sym_of netlist i) (value_of netlist blank i) id storage)
+counter_at : (netlist : Netlist) → IsTyped netlist → (i id : ℕ) (storage : Storage) → StorageFits netlist storage → IsCounter (Some storage) → IsNarrow (storage_move (sym_of netlist i) (value_of netlist no_state i) id storage)
 counter_at netlist typed i id (Register name width input None) f h =
-    narrow_if (is_enabled (value_of netlist blank i) None) _ keep
+    narrow_if (is_enabled (value_of netlist no_state i) None) _ keep
     (narrow_if (same_reg (sym_of netlist i input) id) keep (write (sym_of netlist i input)) tt
     (let w = width_is netlist i typed (length netlist.nets) input in omega (arith, w, f.0.1, h))) tt
 counter_at netlist typed i id (Register name width input (Some when)) f h = absurd h
@@ -90,12 +90,12 @@ ids_are netlist order k book pool bits fits row r p =
     }
 
 -- the pattern of this number
-pub told_at : (pool : List Node) (rows : List Row) (n : ℕ) → option_map (ids_pattern pool) (option_map row_ids (slice_get rows n)) ≡ slice_get (told_patterns pool rows) n
+pub told_at : (pool : List Node) (rows : List Row) (n : ℕ) → option_map (ids_pattern pool) (option_map row_ids (slice_get rows n)) ≡ slice_get (row_patterns pool rows) n
 told_at pool [] n = refl
 told_at pool (row ∷ rows) zero = refl
 told_at pool (row ∷ rows) (suc n) = told_at pool rows n
 
-get_pattern : (pool : List Node) (rows : List Row) (n : ℕ) (row : Row) (d : Pattern) → slice_get rows n ≡ Some row → (n < length (told_patterns pool rows)) × (slice_index_or (told_patterns pool rows) n d ≡ row_pattern pool row)
+get_pattern : (pool : List Node) (rows : List Row) (n : ℕ) (row : Row) (d : Pattern) → slice_get rows n ≡ Some row → (n < length (row_patterns pool rows)) × (slice_index_or (row_patterns pool rows) n d ≡ row_pattern pool row)
 get_pattern pool [] n row d e = absurd (cc)
 get_pattern pool (x ∷ rows) zero row d e = (omega arith, (let q : x ≡ row = cc in ap (row_pattern pool) q))
 get_pattern pool (x ∷ rows) (suc n) row d e = (let r = get_pattern pool rows n row d e in (omega (arith, r.0), r.1))

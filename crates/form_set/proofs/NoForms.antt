@@ -10,7 +10,7 @@ use Rattle.net_model.specs.Transfers.{move_at}
 use Rattle.net_model.specs.Fields.{move_fields}
 use Rattle.form_model.specs.Rules.{Rule, into_memory, into_reg}
 use Rattle.form_set.specs.Listing.{AreRules, AreRulesOf, plain, jump, branch, other, IsBranch, IsJump, IsPlain, branch_rule, plain_rule, counter_at, goal_at, sides_of, test_sides}
-use Rattle.form_set.specs.Promises.{all_rules, is_no_jump, is_control, no_jumps, only_control}
+use Rattle.form_set.specs.Promises.{all_rules, is_no_jump, is_control_goal, no_jumps, only_control}
 use Rattle.form_set.specs.Swaps.{map_below, swap_count}
 use Rattle.form_set.specs.Targets.{Branch, term_branch}
 use Rattle.transfer_set.specs.declared.stepping.Counter.{Counter}
@@ -46,10 +46,10 @@ none_each q f h (suc n) lt e =
 
 -- ---- goals
 
-goal_plain : (netlist : Netlist) (storage : ℕ) → (is_control (goal_at netlist storage) ≡ false) × (is_no_jump (goal_at netlist storage) ≡ true)
+goal_plain : (netlist : Netlist) (storage : ℕ) → (is_control_goal (goal_at netlist storage) ≡ false) × (is_no_jump (goal_at netlist storage) ≡ true)
 goal_plain netlist storage = by (storage == memory_id netlist.storages)
   where
-    by : (b : Bool) → (is_control (cond b into_memory (into_reg storage)) ≡ false) × (is_no_jump (cond b into_memory (into_reg storage)) ≡ true)
+    by : (b : Bool) → (is_control_goal (cond b into_memory (into_reg storage)) ≡ false) × (is_no_jump (cond b into_memory (into_reg storage)) ≡ true)
     by true = (refl, refl)
     by false = (refl, refl)
 
@@ -75,14 +75,14 @@ plain_not_branch netlist reach p parts h b =
 
 control_of : (netlist : Netlist) (reach number : ℕ) (p : Pattern) (rules : List Rule) → AreRulesOf netlist reach number p rules → (only_control rules ≡ true) ↔ (IsPlain netlist p → ⊥)
 control_of netlist reach number p rules (plain clobbers h c e) = (
-  (λ t k. none_each (λ rule. is_control rule.goal) (plain_rule netlist number p clobbers) (λ j. (goal_plain netlist p.storage).0) (2 ^ swap_count (sides_of p.move)) (pow_pos (swap_count (sides_of p.move)))
+  (λ t k. none_each (λ rule. is_control_goal rule.goal) (plain_rule netlist number p clobbers) (λ j. (goal_plain netlist p.storage).0) (2 ^ swap_count (sides_of p.move)) (pow_pos (swap_count (sides_of p.move)))
       (subst (λ rs. only_control rs ≡ true) e t)),
   λ never. absurd (never h),
 )
 control_of netlist reach number p rules (jump h e) = ((λ t k. plain_not_jump netlist p k h), λ never. ap only_control e)
 control_of netlist reach number p rules (branch parts h e) = (
   (λ t k. plain_not_branch netlist reach p parts k h),
-  λ never. ap only_control e ∙ all_each (λ rule. is_control rule.goal) (branch_rule netlist number p parts) (λ j. refl) (2 ^ swap_count (test_sides parts)),
+  λ never. ap only_control e ∙ all_each (λ rule. is_control_goal rule.goal) (branch_rule netlist number p parts) (λ j. refl) (2 ^ swap_count (test_sides parts)),
 )
 control_of netlist reach number p rules (other a b c e) = ((λ t. a), λ never. ap only_control e)
 
@@ -121,7 +121,7 @@ module _ (netlist : Netlist) (reach : ℕ) (q : Rule → Bool) (P : Pattern → 
 -- no form but jump and branch forms: no pattern is plain
 pub no_step : (netlist : Netlist) (reach number : ℕ) (ps : List Pattern) (rules : List Rule) → AreRules netlist reach number ps rules
     → (only_control rules ≡ true) ↔ ((k : ℕ) (p : Pattern) → slice_get ps k ≡ Some p → IsPlain netlist p → ⊥)
-no_step netlist reach number ps rules h = none_is netlist reach (λ rule. is_control rule.goal) (IsPlain netlist) (control_of netlist reach) number ps rules h
+no_step netlist reach number ps rules h = none_is netlist reach (λ rule. is_control_goal rule.goal) (IsPlain netlist) (control_of netlist reach) number ps rules h
 
 -- no jump form: no pattern is a jump
 pub no_jump : (netlist : Netlist) (reach number : ℕ) (ps : List Pattern) (rules : List Rule) → AreRules netlist reach number ps rules

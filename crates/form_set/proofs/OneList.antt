@@ -7,7 +7,7 @@ use Rattle.net_model.specs.Terms.{Term, Move, write}
 use Rattle.net_model.specs.Fields.{move_fields}
 use Rattle.form_model.specs.Rules.{Rule}
 use Rattle.form_model.specs.Shapes.{reach_of}
-use Rattle.form_set.specs.Adding.{IsGreatestReach, IsReachOf, jumps_not, jumps_to}
+use Rattle.form_set.specs.Inner.Adding.{IsGreatestReach, IsReachOf, jumps_not, jumps_to}
 use Rattle.form_set.specs.Listing.{AreForms, AreRules, AreRulesOf, plain, jump, branch, other, IsBranch, branch_rules, counter_at, jump_rule, plain_rules}
 use Rattle.form_set.specs.Targets.{Branch, term_branch}
 use Rattle.form_set.specs.Words.{AreClobbers, AreKept, Joins, joins, fails, none, all_registers}

@@ -3,7 +3,7 @@ use Rattle.std.proofs.Common.{◌≡◌, ◌↔◌, ℕ, zero, suc, ◌<◌, ◌
 use Rattle.net_model.specs.declared.hardware.Storage.{Storage}
 use Rattle.net_model.specs.declared.hardware.Storage.TheVariants.{Register, Memory}
 use Rattle.net_model.specs.Nets.{IsRegister}
-use Rattle.form_set.specs.Words.{is_register}
+use Rattle.form_set.specs.Words.{is_register_storage}
 use Rattle.net_model.specs.declared.hardware.Netlist.{Netlist}
 use Rattle.net_model.specs.Terms.{Term, reg}
 use Rattle.transfer_set.specs.TextMarks.{IsTermOf}
@@ -18,10 +18,10 @@ index_none (x ∷ xs) zero e = absurd (cc)
 index_none (x ∷ xs) (suc i) e = index_none xs i e
 
 -- a register, computed
-pub register_is : (o : Option Storage) → (is_register o ≡ true) ↔ IsRegister o
+pub register_is : (o : Option Storage) → (is_register_storage o ≡ true) ↔ IsRegister o
 register_is None = ((λ e. absurd (true≢false (sym e))), λ h. absurd h)
 register_is (Some (Register name width input when)) = ((λ e. tt), λ h. refl)
 register_is (Some (Memory name width size addr_width value addr when)) = ((λ e. absurd (true≢false (sym e))), λ h. absurd h)
 
-pub no_register : (o : Option Storage) → is_register o ≡ false → IsRegister o → ⊥
+pub no_register : (o : Option Storage) → is_register_storage o ≡ false → IsRegister o → ⊥
 no_register o e h = true≢false (sym ((register_is o).1 h) ∙ e)

@@ -9,11 +9,11 @@ use Rattle.net_model.specs.Terms.{Term, word, reg, const, read, un, bin, slice, 
 use Rattle.net_model.specs.Transfers.{move_at}
 use Rattle.sym_expr.specs.declared.pool.Node.{Node}
 use Rattle.transfer_set.specs.declared.row.Row.{Row}
-use Rattle.transfer_set.specs.Rows.{row_pattern, told_patterns}
+use Rattle.transfer_set.specs.Rows.{row_pattern, row_patterns}
 use Rattle.net_model.specs.Fields.{move_fields}
 use Rattle.form_model.specs.Rules.{Rule, into_memory, into_reg}
 use Rattle.form_model.specs.Shapes.{is_shape, reach_of}
-use Rattle.form_set.specs.Adding.{HasAdded, IsGreatestReach, IsReachOf, jumps_not, jumps_to}
+use Rattle.form_set.specs.Inner.Adding.{HasAdded, IsGreatestReach, IsReachOf, jumps_not, jumps_to}
 use Rattle.form_set.specs.Listing.{AreRules, AreRulesOf, plain, jump, branch, other, IsBranch, IsJump, IsPlain, greatest_reach, goal_at, goal_reach, jump_rule, branch_rule, plain_rule, counter_at, sides_of, test_sides}
 use Rattle.form_set.specs.Swaps.{map_below, swap_count}
 use Rattle.form_set.specs.Targets.{Branch, term_branch}
@@ -147,15 +147,15 @@ greatest_is netlist reach number (p ∷ ps) rules r h f =
 
 -- ---- the patterns of a table by their numbers
 
-pub told_some : (pool : List Node) (rows : List Row) (n : ℕ) → n < length rows → (p : Pattern) × (slice_get (told_patterns pool rows) n ≡ Some p)
+pub told_some : (pool : List Node) (rows : List Row) (n : ℕ) → n < length rows → (p : Pattern) × (slice_get (row_patterns pool rows) n ≡ Some p)
 told_some pool [] n lt = absurd (omega (arith, lt))
 told_some pool (row ∷ rows) zero lt = (row_pattern pool row, refl)
 told_some pool (row ∷ rows) (suc n) lt = told_some pool rows n (omega (arith, lt))
 
-told_all : (pool : List Node) (rows : List Row) → take (length rows) (told_patterns pool rows) ≡ told_patterns pool rows
+told_all : (pool : List Node) (rows : List Row) → take (length rows) (row_patterns pool rows) ≡ row_patterns pool rows
 told_all pool [] = refl
 told_all pool (row ∷ rows) = ap (λ ps. row_pattern pool row ∷ ps) (told_all pool rows)
 
 -- the last of them
-pub all_told : (pool : List Node) (rows : List Row) (n : ℕ) → n ≡ length rows → take n (told_patterns pool rows) ≡ told_patterns pool rows
-all_told pool rows n e = ap (λ k. take k (told_patterns pool rows)) e ∙ told_all pool rows
+pub all_told : (pool : List Node) (rows : List Row) (n : ℕ) → n ≡ length rows → take n (row_patterns pool rows) ≡ row_patterns pool rows
+all_told pool rows n e = ap (λ k. take k (row_patterns pool rows)) e ∙ told_all pool rows

@@ -1,4 +1,5 @@
--- The bits of a field shape: a setting has no others, and each word with these bits gives the shape its value.
+-- The bits of a field shape: a setting has no others, and each word with these bits gives the shape
+-- its value.
 use Rattle.std.proofs.Common.{◌≡◌, ℕ, ◌+◌, ◌-◌, ◌*◌, ◌/◌, ◌%◌, ◌^◌, ◌<◌, ◌≤◌, ◌==◌, Bool, true, false, true≢false, cond, Some, None, refl, sym, ap, subst, ◌∙◌, arith}
 use Rattle.std.specs.Prelude.{bit_and}
 use Rattle.std.proofs.lemmas.Nat.{and_mask, shl-shr}
@@ -10,7 +11,7 @@ use Rattle.net_model.specs.declared.states.State.{State}
 use Rattle.net_model.specs.Fields.{WordFitsTerm, bits_between, fields}
 use Rattle.net_model.specs.Meaning.{mean}
 use Rattle.net_model.specs.Nets.{word_width}
-use Rattle.net_model.specs.Symbolic.{blank}
+use Rattle.net_model.specs.Symbolic.{no_state}
 use Rattle.net_model.specs.Terms.{Term, word, reg, const, read, un, bin, slice, cat, zext, sext, select, term_width}
 use Rattle.net_model.proofs.TermLaws.{mean_fields}
 use Rattle.sym_expr.specs.Pools.{TermFits}
@@ -65,7 +66,7 @@ shape_only bits (cat a c) i f v b e = absurd (true≢false (sym i))
 shape_only bits (select a c d) i f v b e = absurd (true≢false (sym i))
 
 -- a field shape reads no state
-field_blank : (t : Term) → is_field t ≡ true → (s : State) (i : ℕ) → mean t s i ≡ mean t blank i
+field_blank : (t : Term) → is_field t ≡ true → (s : State) (i : ℕ) → mean t s i ≡ mean t no_state i
 field_blank (word w) h s i = refl
 field_blank (slice (word w) hi lo) h s i = refl
 field_blank (reg r w) h s i = absurd (true≢false (sym h))
@@ -79,7 +80,7 @@ field_blank (zext a w) h s i = absurd (true≢false (sym h))
 field_blank (sext a w) h s i = absurd (true≢false (sym h))
 field_blank (select a c d) h s i = absurd (true≢false (sym h))
 
-pub shape_blank : (t : Term) → is_shape t ≡ true → (s : State) (i : ℕ) → mean t s i ≡ mean t blank i
+pub shape_blank : (t : Term) → is_shape t ≡ true → (s : State) (i : ℕ) → mean t s i ≡ mean t no_state i
 shape_blank (const w c) h s i = refl
 shape_blank (zext a w) h s i = field_blank a h s i
 shape_blank (sext a w) h s i = ap (λ n. sext_of n (term_width a) w) (field_blank a h s i)

@@ -5,7 +5,7 @@ use Rattle.std.specs.Int.{bit_at}
 use Rattle.std.proofs.lemmas.Bool.{eqb-true}
 use Rattle.std.proofs.lemmas.Nat.Bits.{shr_and_one}
 use Rattle.net_model.specs.Terms.{Term, word, reg, const, read, un, bin, slice, cat, zext, sext, select}
-use Rattle.form_set.specs.Swaps.{AreWithin, IsAddrWithin, Sides, addr_swaps, at_level, in_two, levels, swap_chosen, swap_from, swap_in, swap_number, swap_side, swaps_in}
+use Rattle.form_set.specs.Swaps.{SidesWithin, IsAddrWithin, Sides, addr_swaps, at_level, in_two, levels, swap_chosen, swap_from, swap_in, swap_number, swap_side, swaps_in}
 
 pub side_first : (n f : ℕ) (s : Sides) → n < 8 → f ≡ min 8 (addr_swaps s.addr) → n < f → swap_side n s ≡ record { addr = option_map (swap_number n) s.addr; value = s.value }
 side_first n f s few e less =
@@ -89,9 +89,9 @@ addr_within : (most number : ℕ) (a : Option Term) → IsAddrWithin most a → 
 addr_within most number None h = tt
 addr_within most number (Some a) h = subst (λ n. n ≤ most) (sym (levels_from (levels a) 0 number a)) h
 
-pub side_within : (most number : ℕ) (s : Sides) → AreWithin most s → AreWithin most (swap_side number s)
+pub side_within : (most number : ℕ) (s : Sides) → SidesWithin most s → SidesWithin most (swap_side number s)
 side_within most number s h = by (nat_lt number (addr_swaps s.addr))
   where
-    by : (b : Bool) → AreWithin most (cond b (record { addr = option_map (swap_number number) s.addr; value = s.value }) (record { addr = s.addr; value = swap_number (number - addr_swaps s.addr) s.value }))
+    by : (b : Bool) → SidesWithin most (cond b (record { addr = option_map (swap_number number) s.addr; value = s.value }) (record { addr = s.addr; value = swap_number (number - addr_swaps s.addr) s.value }))
     by true = record { addr = addr_within most number s.addr h.addr; value = h.value }
     by false = record { addr = h.addr; value = subst (λ n. n ≤ most) (sym (levels_from (levels s.value) 0 (number - addr_swaps s.addr) s.value)) h.value }

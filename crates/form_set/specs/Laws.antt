@@ -29,7 +29,8 @@ FormsAreOfPatterns =
     (netlist : Netlist) (patterns : List Pattern) (rules : List Rule) (reach : ℕ) → AreForms netlist patterns rules reach →
     (k : ℕ) (rule : Rule) → slice_get rules k ≡ Some rule → IsForm netlist reach 0 patterns rule
 
--- for every setting of a plain pattern some word does its transfer, steps, and changes nothing that code sees but what it writes and the clobbers
+-- for every setting of a plain pattern some word does its transfer, steps, and changes nothing that
+-- code sees but what it writes and the clobbers
 abbrev pub SettingsHaveWords : Type 0
 SettingsHaveWords = (netlist : Netlist) (pattern : Pattern) (clobbers : ℕ) → IsPlain netlist pattern → AreClobbers netlist pattern clobbers → HasWords netlist pattern clobbers
 
@@ -59,7 +60,8 @@ NoJumpForm =
     (netlist : Netlist) (patterns : List Pattern) (rules : List Rule) (reach : ℕ) → AreForms netlist patterns rules reach →
     (no_jumps rules ≡ true) ↔ ((k : ℕ) (pattern : Pattern) → slice_get patterns k ≡ Some pattern → IsJump netlist pattern → ⊥)
 
--- the bits that give a shape a value are bits of the shape, and each word with these bits gives it the value
+-- the bits that give a shape a value are bits of the shape, and each word with these bits gives it
+-- the value
 abbrev pub SettingsAreOfShapes : Type 0
 SettingsAreOfShapes =
     (bits : ℕ) (shape : Term) → is_shape shape ≡ true → ShapeFits bits shape → (value setting : ℕ) → shape_setting shape value ≡ Some setting →

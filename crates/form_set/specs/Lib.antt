@@ -1,12 +1,9 @@
-pub mod Linear
 pub mod Static
 pub mod Swaps
 pub mod Targets
 pub mod Words
 pub mod Listing
-pub mod PatternIds
-pub mod Copies
-pub mod Adding
 pub mod Promises
 pub mod Laws
 pub mod Worked
+pub mod Inner

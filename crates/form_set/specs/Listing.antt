@@ -29,7 +29,8 @@ goal_at netlist storage = if storage == memory_id netlist.storages then into_mem
 
 -- ---- plain forms
 
--- what gives forms: linear, with field shapes for its outermost static parts, and ok without anything to keep
+-- what gives forms: linear, with field shapes for its outermost static parts, and ok without
+-- anything to keep
 pub record IsPlain (netlist : Netlist) (pattern : Pattern) : Type 0 where
   pub linear : IsLinear 0 pattern.move
   pub shapes : move_shaped pattern.move ≡ true
@@ -71,7 +72,8 @@ jump_rule netlist number target fields = record {
 
 -- ---- branch forms
 
--- a pattern PC := select(c, t, step) or PC := select(c, step, t) with an allowed target, where reach is that of the jump forms
+-- a pattern PC := select(c, t, step) or PC := select(c, step, t) with an allowed target, where
+-- reach is that of the jump forms
 pub record IsBranch (netlist : Netlist) (reach : ℕ) (pattern : Pattern) (branch : Branch) : Type 0 where
   pub value : Term
   pub storage : pattern.storage ≡ counter_of netlist.codes
@@ -124,7 +126,8 @@ abbrev pub greatest_reach : List Rule → ℕ
 greatest_reach [] = 0
 greatest_reach (rule ∷ rules) = max (goal_reach rule.goal) (greatest_reach rules)
 
--- exactly the forms of a netlist with these patterns, in their order, and the greatest reach of the jump forms
+-- exactly the forms of a netlist with these patterns, in their order, and the greatest reach of the
+-- jump forms
 pub record AreForms (netlist : Netlist) (patterns : List Pattern) (rules : List Rule) (reach : ℕ) : Type 0 where
   pub list : AreRules netlist reach 0 patterns rules
   pub greatest_is : reach ≡ greatest_reach rules

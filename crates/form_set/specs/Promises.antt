@@ -31,8 +31,8 @@ pub record IsForm (netlist : Netlist) (reach first : ℕ) (patterns : List Patte
   pub at : slice_get patterns place ≡ Some pattern
   pub of : IsFormOf netlist reach (first + place) pattern rule
 
--- the word does a pattern's transfer, steps, keeps the data memory unless that is the pattern's storage, and keeps each register that isn't
--- among these
+-- the word does a pattern's transfer, steps, keeps the data memory unless that is the pattern's
+-- storage, and keeps each register that isn't among these
 pub record KeepsBut (netlist : Netlist) (pattern : Pattern) (clobbers : ℕ) (word : ℕ) : Type 0 where
   pub given : IsWordOf netlist pattern word
   pub steps : Steps netlist word
@@ -68,14 +68,14 @@ abbrev pub all_rules : (Rule → Bool) → List Rule → Bool
 all_rules q [] = true
 all_rules q (rule ∷ rules) = q rule && all_rules q rules
 
-abbrev pub is_control : GoalKind → Bool
-is_control (jumps reach) = true
-is_control (branches when_one to) = true
-is_control _ = false
+abbrev pub is_control_goal : GoalKind → Bool
+is_control_goal (jumps reach) = true
+is_control_goal (branches when_one to) = true
+is_control_goal _ = false
 
 -- no form but jump and branch forms
 abbrev pub only_control : List Rule → Bool
-only_control rules = all_rules (λ rule. is_control rule.goal) rules
+only_control rules = all_rules (λ rule. is_control_goal rule.goal) rules
 
 abbrev pub is_no_jump : GoalKind → Bool
 is_no_jump (jumps reach) = false

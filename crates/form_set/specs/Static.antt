@@ -4,22 +4,23 @@ use Rattle.net_model.specs.Terms.{Term, word, reg, const, read, un, bin, slice, 
 use Rattle.form_model.specs.Shapes.{is_shape}
 
 -- an expression over the instruction word and constants
-abbrev pub is_static : Term → Bool
-is_static (word w) = true
-is_static (reg r w) = false
-is_static (const w v) = true
-is_static (read a w) = false
-is_static (un o a) = is_static a
-is_static (bin o a b) = is_static a && is_static b
-is_static (slice a hi lo) = is_static a
-is_static (cat a b) = is_static a && is_static b
-is_static (zext a w) = is_static a
-is_static (sext a w) = is_static a
-is_static (select c a b) = is_static c && (is_static a && is_static b)
+abbrev pub is_static_term : Term → Bool
+is_static_term (word w) = true
+is_static_term (reg r w) = false
+is_static_term (const w v) = true
+is_static_term (read a w) = false
+is_static_term (un o a) = is_static_term a
+is_static_term (bin o a b) = is_static_term a && is_static_term b
+is_static_term (slice a hi lo) = is_static_term a
+is_static_term (cat a b) = is_static_term a && is_static_term b
+is_static_term (zext a w) = is_static_term a
+is_static_term (sext a w) = is_static_term a
+is_static_term (select c a b) = is_static_term c && (is_static_term a && is_static_term b)
 
--- an outermost static part has to be a field shape; where an expression isn't static, its operands decide
+-- an outermost static part has to be a field shape; where an expression isn't static, its operands
+-- decide
 abbrev pub shaped : Term → Bool → Bool
-shaped t operands = if is_static t then is_shape t else operands
+shaped t operands = if is_static_term t then is_shape t else operands
 
 -- each static part of an expression that isn't inside another one is a field shape
 abbrev pub has_shapes : Term → Bool

@@ -1,4 +1,5 @@
--- The operators whose operands can change places, their numbers, and the expressions with some of them swapped.
+-- The operators whose operands can change places, their numbers, and the expressions with some of
+-- them swapped.
 use Rattle.std.specs.Prelude.{ℕ, zero, suc, ◌+◌, ◌-◌, ◌==◌, Bool, true, false, if◌then◌else◌, ◌≤◌, min, max, nat_lt, option_map, Option, Some, None, List, [], ◌∷◌, ◌++◌}
 use Rattle.std.specs.Int.{bit_at}
 use Rattle.rec_bits.specs.declared.operator.Op2.{Op2}
@@ -71,8 +72,8 @@ swap_in level place (select c a b) =
     (select c a (swap_in (level - 1) (place - swaps_in (level - 1) c - swaps_in (level - 1) a) b))))
 swap_in level place t = t
 
--- an expression with the operator of this number swapped, where they are numbered from 0 by levels from the root and from left to right in
--- a level: looked for in so many levels, from this one on
+-- an expression with the operator of this number swapped, where they are numbered from 0 by levels
+-- from the root and from left to right in a level: looked for in so many levels, from this one on
 abbrev pub swap_from : ℕ → ℕ → ℕ → Term → Term
 swap_from zero level number t = t
 swap_from (suc levels) level number t =
@@ -104,7 +105,7 @@ abbrev pub IsAddrWithin : ℕ → Option Term → Type 0
 IsAddrWithin most None = Unit {0}
 IsAddrWithin most (Some a) = levels a ≤ most
 
-pub record AreWithin (most : ℕ) (sides : Sides) : Type 0 where
+pub record SidesWithin (most : ℕ) (sides : Sides) : Type 0 where
   pub addr : IsAddrWithin most sides.addr
   pub value : levels sides.value ≤ most
 
@@ -122,8 +123,8 @@ swap_side number sides =
 abbrev pub swap_count : Sides → ℕ
 swap_count sides = min 8 (addr_swaps sides.addr + swaps_of sides.value)
 
--- the operators below a number swapped whose bit is set in the choice. They are swapped from the last to the first, since a swap moves
--- only operators of greater numbers
+-- the operators below a number swapped whose bit is set in the choice. They are swapped from the
+-- last to the first, since a swap moves only operators of greater numbers
 abbrev pub swap_chosen : ℕ → ℕ → Sides → Sides
 swap_chosen zero choice sides = sides
 swap_chosen (suc number) choice sides = swap_chosen number choice (if bit_at choice number == 1 then swap_side number sides else sides)

@@ -28,7 +28,8 @@ abbrev pub relative_target : Counter → Term → Option BranchTarget
 relative_target pc (bin Add a b) = first_of (distance_if (is_reg pc a) b) (distance_if (is_reg pc b) a)
 relative_target pc _ = None
 
--- the targets that are used: absolute ones that reach as far as jumps do, and distances among which is two
+-- the targets that are used: absolute ones that reach as far as jumps do, and distances among which
+-- is two
 abbrev pub allowed_target : Counter → ℕ → Term → Option BranchTarget
 allowed_target pc reach t = first_of (absolute_target reach t) (relative_target pc t)
 

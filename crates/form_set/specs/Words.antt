@@ -23,7 +23,8 @@ ForEachSetting fields P = (setting : ℕ) → IsSetting fields setting → (word
 
 -- ---- words that keep
 
--- the word is in the pattern's set, steps, keeps the data memory unless that is the pattern's storage, and keeps each register of a set
+-- the word is in the pattern's set, steps, keeps the data memory unless that is the pattern's
+-- storage, and keeps each register of a set
 pub record KeepsOthers (netlist : Netlist) (pattern : Pattern) (kept : ℕ) (word : ℕ) : Type 0 where
   pub given : IsWordOf netlist pattern word
   pub steps : Steps netlist word
@@ -35,21 +36,21 @@ abbrev pub CanKeep : Netlist → Pattern → ℕ → Type 0
 CanKeep netlist pattern kept = ForEachSetting (move_fields pattern.move) (KeepsOthers netlist pattern kept)
 
 -- the word is in the pattern's set and keeps the data memory
-pub record KeepsMemory (netlist : Netlist) (pattern : Pattern) (word : ℕ) : Type 0 where
+pub record WordKeepsMemory (netlist : Netlist) (pattern : Pattern) (word : ℕ) : Type 0 where
   pub given : IsWordOf netlist pattern word
   pub memory : memory_move netlist word ≡ keep
 
 -- what a jump or a branch asks for
 abbrev pub CanJump : Netlist → Pattern → Type 0
-CanJump netlist pattern = ForEachSetting (move_fields pattern.move) (KeepsMemory netlist pattern)
+CanJump netlist pattern = ForEachSetting (move_fields pattern.move) (WordKeepsMemory netlist pattern)
 
 -- ---- the clobbers
 
 -- the same as IsRegister, computed
-abbrev pub is_register : Option Storage → Bool
-is_register None = false
-is_register (Some (Register name width input when)) = true
-is_register (Some (Memory name width size addr_width value addr when)) = false
+abbrev pub is_register_storage : Option Storage → Bool
+is_register_storage None = false
+is_register_storage (Some (Register name width input when)) = true
+is_register_storage (Some (Memory name width size addr_width value addr when)) = false
 
 -- a set with one more
 abbrev pub with : ℕ → ℕ → ℕ
@@ -58,12 +59,13 @@ with set r = bit_or set (2 ^ r)
 -- the registers below a number
 abbrev pub registers_below : List Storage → ℕ → ℕ
 registers_below storages zero = 0
-registers_below storages (suc n) = if is_register (slice_get storages n) then with (registers_below storages n) n else registers_below storages n
+registers_below storages (suc n) = if is_register_storage (slice_get storages n) then with (registers_below storages n) n else registers_below storages n
 
 abbrev pub all_registers : List Storage → ℕ
 all_registers storages = registers_below storages (length storages)
 
--- a register joins those that must be kept where every setting still has a word that keeps them all; a memory doesn't
+-- a register joins those that must be kept where every setting still has a word that keeps them
+-- all; a memory doesn't
 pub data Joins (netlist : Netlist) (pattern : Pattern) (id before after : ℕ) : Type 0 where
   joins : IsRegister (slice_get netlist.storages id) → CanKeep netlist pattern (with before id) → after ≡ with before id → Joins netlist pattern id before after
   fails : IsRegister (slice_get netlist.storages id) → (CanKeep netlist pattern (with before id) → ⊥) → after ≡ before → Joins netlist pattern id before after

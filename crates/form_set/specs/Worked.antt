@@ -4,7 +4,7 @@ use Rattle.rec_bits.specs.declared.operator.Op2.TheVariants.{Add, Mul, Eq}
 use Rattle.net_model.specs.Terms.{Term, word, reg, const, read, bin, slice, zext, select, write, write_at}
 use Rattle.net_model.specs.Worked.{a16, z16}
 use Rattle.form_model.specs.Rules.{absolute, branches, into_memory, into_reg}
-use Rattle.form_set.specs.Linear.{move_linear}
+use Rattle.form_set.specs.Inner.Linear.{move_linear}
 use Rattle.form_set.specs.Static.{move_shaped}
 use Rattle.form_set.specs.Swaps.{swap_count, swapped}
 use Rattle.form_set.specs.Targets.{term_branch}
@@ -20,8 +20,9 @@ step = bin Add (reg 0 8) (const 8 1)
 abbrev acc : Term
 acc = reg 1 16
 
--- the patterns of A16 in their order: PC := add(PC,1#8), PC := select(eq(ACC,0#16),f,add(PC,1#8)), PC := f, ACC := add(ACC,read(M,f)),
--- ACC := read(M,f), ACC := sub(ACC,read(M,f)), ACC := zext(f,16), M[f] := ACC
+-- the patterns of A16 in their order: PC := add(PC,1#8), PC := select(eq(ACC,0#16),f,add(PC,1#8)),
+-- PC := f, ACC := add(ACC,read(M,f)), ACC := read(M,f), ACC := sub(ACC,read(M,f)), ACC :=
+-- zext(f,16), M[f] := ACC
 abbrev branch_value : Term
 branch_value = select (bin Eq acc (const 16 0)) f step
 
@@ -87,7 +88,8 @@ a16_branches = refl
 
 -- ---- the numbers of operators
 
--- by levels: the product at the root is 0, the two sums below are 1 and 2, and the product below the second sum is 3
+-- by levels: the product at the root is 0, the two sums below are 1 and 2, and the product below
+-- the second sum is 3
 abbrev deep : Term
 deep = bin Mul (bin Add (reg 1 4) (reg 2 4)) (bin Add (bin Mul (reg 3 4) (reg 4 4)) (reg 5 4))
 

@@ -2,7 +2,7 @@
 
 ghost use Rattle.std.specs.Prelude.{◌≡◌, ◌<◌, ◌≤◌, ◌&&◌, true, length, option_map, IfSome};
 ghost use Rattle.form_model.specs.Shapes.{is_shape as is_shape_of, shows};
-ghost use Rattle.form_set.specs.Copies.{AreBranchIds, id_target, ids_branch};
+ghost use Rattle.form_set.specs.Inner.Copies.{AreBranchIds, id_target, ids_branch};
 ghost use Rattle.form_set.specs.Listing.{counter_at};
 ghost use Rattle.form_set.specs.Targets.{allowed_target, branch_if, const_value, relative_target, select_branch, term_branch};
 ghost use Rattle.net_model.specs.Terms.{term_width};
@@ -113,7 +113,8 @@ fn target_at(pool: &Pool, counter: Counter, reach: u64, expr: ExprId) -> Option<
     }
 }
 
-// The branch with this condition, where one expression is the step and the other a target that is used.
+// The branch with this condition, where one expression is the step and the other a target that is
+// used.
 fn branch_to(
     pool: &Pool,
     counter: Counter,
@@ -142,7 +143,8 @@ fn branch_to(
     })
 }
 
-// The branch that a choice is as the program counter's next value, by its condition and what it chooses from.
+// The branch that a choice is as the program counter's next value, by its condition and what it
+// chooses from.
 fn choice_at(
     pool: &Pool,
     counter: Counter,

@@ -2,10 +2,10 @@
 
 ghost use Rattle.std.specs.Prelude.{◌≡◌, ◌↔◌, ◌<◌, length, IfOk, IfSome, IsTrue};
 ghost use Rattle.bit_bdd.specs.Diagrams.{Extends};
-ghost use Rattle.form_set.specs.Adding.{IsBranchOr, IsClass, IsPlainOr, IsReachOf};
-ghost use Rattle.form_set.specs.Copies.{AreBranchIds};
+ghost use Rattle.form_set.specs.Inner.Adding.{IsBranchOr, IsClass, IsPlainOr, IsReachOf};
+ghost use Rattle.form_set.specs.Inner.Copies.{AreBranchIds};
 ghost use Rattle.form_set.specs.Listing.{IsJump, IsPlain};
-ghost use Rattle.form_set.specs.PatternIds.{ArePatternIds, ids_pattern};
+ghost use Rattle.form_set.specs.Inner.PatternIds.{ArePatternIds, ids_pattern};
 ghost use Rattle.transfer_set.specs.Ready.{IsReady};
 ghost use Rattle.form_set.specs.Words.{AreClobbers};
 

@@ -1,8 +1,8 @@
 //! Expressions of a pool as values of their own.
 
 ghost use Rattle.std.specs.Prelude.{◌≡◌, ◌+◌, ◌-◌, ◌^◌, ◌<◌, ◌≤◌, length, IfOk, option_map};
-ghost use Rattle.form_set.specs.Copies.{ids_sides, told_sides};
-ghost use Rattle.form_set.specs.Swaps.{AreWithin, IsAddrWithin, levels, swap_count as swap_count_of, swapped};
+ghost use Rattle.form_set.specs.Inner.Copies.{ids_sides, copied_sides};
+ghost use Rattle.form_set.specs.Swaps.{SidesWithin, IsAddrWithin, levels, swap_count as swap_count_of, swapped};
 ghost use Rattle.net_model.specs.Terms.{term_of};
 ghost use Rattle.sym_expr.specs.Pools.{term_at};
 ghost use Rattle.transfer_set.specs.Entries.{IsAddrKnown};
@@ -88,8 +88,8 @@ pub(crate) fn sides_at(
 ) -> Result<Sides, NoMemory>
     requires addr { IsAddrKnown (length pool.now) addr }
     requires value { value < length pool.now }
-    ensures sides { IfOk result (λ sides. told_sides sides ≡ ids_sides pool.now addr value) }
-    ensures levels { IfOk result (λ sides. AreWithin (2 ^ 64 - 1) (told_sides sides)) }
+    ensures sides { IfOk result (λ sides. copied_sides sides ≡ ids_sides pool.now addr value) }
+    ensures levels { IfOk result (λ sides. SidesWithin (2 ^ 64 - 1) (copied_sides sides)) }
 {
     // the pool's length bounds the levels of its expressions
     let _len = pool.len();
@@ -125,7 +125,7 @@ pub(crate) fn swapped_at(
 ) -> Result<Sides, NoMemory>
     requires addr { IsAddrKnown (length pool.now) addr }
     requires value { value < length pool.now }
-    ensures { IfOk result (λ sides. told_sides sides ≡ swapped choice (ids_sides pool.now addr value)) }
+    ensures { IfOk result (λ sides. copied_sides sides ≡ swapped choice (ids_sides pool.now addr value)) }
 {
     let mut sides = sides_at(alloc, pool, addr, value)?;
     let count = swap_count(&sides);

@@ -2,7 +2,7 @@
 
 ghost use Rattle.std.specs.Prelude.{◌↔◌, ◌≤◌, ◌<◌, ◌^◌, IfOk, IsTrue, length};
 ghost use Rattle.bit_bdd.specs.Diagrams.{Extends};
-ghost use Rattle.form_set.specs.PatternIds.{InSet};
+ghost use Rattle.form_set.specs.Inner.PatternIds.{InSet};
 ghost use Rattle.form_set.specs.Words.{ForEachSetting};
 
 use bit_bdd::{Book, SetId};

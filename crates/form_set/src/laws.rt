@@ -12,8 +12,9 @@ pub fn law_of_forms()
     ensures { FormsAreOfPatterns }
 {}
 
-/// For every setting of a plain form some word does its transfer, steps, keeps the data memory unless that is what it writes, and keeps each
-/// register that is no clobber; what it writes is a clobber, and so is the program counter.
+/// For every setting of a plain form some word does its transfer, steps, keeps the data memory
+/// unless that is what it writes, and keeps each register that is no clobber; what it writes is a
+/// clobber, and so is the program counter.
 pub fn law_of_words()
     ensures words { SettingsHaveWords }
     ensures own { ClobbersHaveOwn }
@@ -25,13 +26,15 @@ pub fn law_of_swaps()
     ensures { SwapsChangeNothing }
 {}
 
-/// A list has no form but jumps and branches exactly where no pattern is plain, and no jump exactly where no pattern is one.
+/// A list has no form but jumps and branches exactly where no pattern is plain, and no jump exactly
+/// where no pattern is one.
 pub fn law_of_absence()
     ensures plain { NoPlainForm }
     ensures jumps { NoJumpForm }
 {}
 
-/// The bits that give a field shape a value are bits of the shape, and each word with these bits gives it the value.
+/// The bits that give a field shape a value are bits of the shape, and each word with these bits
+/// gives it the value.
 pub fn law_of_settings()
     ensures { SettingsAreOfShapes }
 {}

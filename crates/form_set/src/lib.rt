@@ -24,9 +24,9 @@
 //! - `making`: the forms of a pattern of which it is known what it is; it knows no book.
 //! - `listing`: `forms`: over the patterns once for the reach of jumps and once for the forms.
 //! - `laws`: the laws above.
-//! - `specs/`: `Laws`, `Listing`, `Promises`, `Static`, and `Swaps`, `Targets` and `Words` but for
-//!   a few definitions, are cited by public contracts; `PatternIds`, `Copies`, `Linear` and
-//!   `Adding` mirror the code; `Worked` is computed.
+//! - `specs/`, cited by public contracts: `Laws`, `Listing`, `Promises`, `Static`, `Swaps`,
+//!   `Targets` and `Words`; `Worked` is computed. `specs/Inner/`: `PatternIds`, `Copies`, `Linear`
+//!   and `Adding`, which go with the code.
 //! - `proofs/`: `Chosen` and `Deciding` for words, `Classifying`, `RuleLists`, `OneList` for the
 //!   list, `FormLaws`, `Registers`, `SwapLaws`, `NoForms`, `ShapeBits` for the laws.
 #![tactic(auto)]

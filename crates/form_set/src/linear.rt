@@ -1,7 +1,7 @@
 //! Whether a register or an instruction bit occurs twice in an expression.
 
 ghost use Rattle.std.specs.Prelude.{◌≡◌, ◌↔◌, ◌^◌, ◌<◌, IsTrue, length};
-ghost use Rattle.form_set.specs.Linear.{are_apart as are_apart_of, is_linear as is_linear_of, meet_in as meet_in_of, move_linear as move_linear_of};
+ghost use Rattle.form_set.specs.Inner.Linear.{are_apart as are_apart_of, is_linear as is_linear_of, meet_in as meet_in_of, move_linear as move_linear_of};
 ghost use Rattle.net_model.specs.Occurs.{IsLinear, registers as registers_in};
 ghost use Rattle.sym_expr.specs.Pools.{term_at};
 ghost use Rattle.transfer_set.specs.Entries.{IsAddrKnown, ids_move};

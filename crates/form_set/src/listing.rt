@@ -3,12 +3,12 @@
 ghost use Rattle.std.specs.Prelude.{◌≡◌, ◌<◌, length, max, slice_get, Some, IfOk, OnOk};
 ghost use Rattle.bit_bdd.specs.Diagrams.{Extends};
 ghost use Rattle.form_model.specs.Rules.{rules_of};
-ghost use Rattle.form_set.specs.Adding.{HasAdded, IsGreatestReach, IsReachOf};
+ghost use Rattle.form_set.specs.Inner.Adding.{HasAdded, IsGreatestReach, IsReachOf};
 ghost use Rattle.form_set.specs.Listing.{AreForms, AreRules};
-ghost use Rattle.form_set.specs.PatternIds.{ArePatternIds, ids_pattern};
+ghost use Rattle.form_set.specs.Inner.PatternIds.{ArePatternIds, ids_pattern};
 ghost use Rattle.transfer_set.specs.Ready.{IsReady};
 ghost use Rattle.net_model.specs.Patterns.{Pattern as ThePattern};
-ghost use Rattle.transfer_set.specs.Rows.{told_patterns};
+ghost use Rattle.transfer_set.specs.Rows.{row_patterns};
 
 use crate::classes::{classify, jump_reach};
 use crate::making::add_class;
@@ -33,7 +33,7 @@ fn number_reach(
     requires ready { IsReady checked.now.netlist book.old pool.now patterns.now }
     ensures grows { Extends book.old book.new }
     ensures reach { IfOk result (λ reach. (pattern : ThePattern) →
-        slice_get (told_patterns pool.now patterns.now.rows) number ≡ Some pattern → IsReachOf checked.now.netlist pattern reach) }
+        slice_get (row_patterns pool.now patterns.now.rows) number ≡ Some pattern → IsReachOf checked.now.netlist pattern reach) }
 {
     match known_ids(checked, pool, patterns, book, number) {
         None => Ok(0),
@@ -61,7 +61,7 @@ fn reach_of(
 ) -> Result<u64, NoMemory>
     requires ready { IsReady checked.now.netlist book.old pool.now patterns.now }
     ensures grows { Extends book.old book.new }
-    ensures reach { IfOk result (IsGreatestReach checked.now.netlist (told_patterns pool.now patterns.now.rows)) }
+    ensures reach { IfOk result (IsGreatestReach checked.now.netlist (row_patterns pool.now patterns.now.rows)) }
 {
     let mut reach = 0;
     for number in 0..patterns.len() {
@@ -107,7 +107,7 @@ fn add_number(
     requires ready { IsReady checked.now.netlist book.old pool.now patterns.now }
     ensures grows { Extends book.old book.new }
     ensures added { OnOk result ((pattern : ThePattern) →
-        slice_get (told_patterns pool.now patterns.now.rows) number ≡ Some pattern →
+        slice_get (row_patterns pool.now patterns.now.rows) number ≡ Some pattern →
         HasAdded checked.now.netlist reach number pattern (rules_of list.old.items) (rules_of list.new.items)) }
 {
     match known_ids(checked, pool, patterns, book, number) {
@@ -132,7 +132,8 @@ fn list_of(
 ) -> Result<Vec<Form>, NoMemory>
     requires ready { IsReady checked.now.netlist book.old pool.now patterns.now }
     ensures grows { Extends book.old book.new }
-    ensures list { IfOk result (λ list. AreRules checked.now.netlist reach 0 (told_patterns pool.now patterns.now.rows) (rules_of list.items)) }
+    ensures list { IfOk result (λ list.
+        AreRules checked.now.netlist reach 0 (row_patterns pool.now patterns.now.rows) (rules_of list.items)) }
 {
     let mut list = Vec::new(alloc);
     for number in 0..patterns.len() {
@@ -143,17 +144,20 @@ fn list_of(
     Ok(list)
 }
 
-/// The forms of a netlist with these patterns, and the greatest reach of its jump forms, 0 where there is none.
+/// The forms of a netlist with these patterns, and the greatest reach of its jump forms, 0 where
+/// there is none.
 ///
-/// A pattern gives a form where no register and no instruction bit occurs twice in it, each part of it that the instruction word settles is a
-/// field shape, and for every setting of its instruction bits some word of its set steps and keeps the data memory unless that is what it
-/// writes. What such a word may change beside are the form's clobbers: the registers are taken in order of declaration, and each that still
-/// leaves a word for every setting is kept from then on. A pattern that jumps, or branches to a target that reaches as far as any jump,
-/// gives a form where every setting has a word that keeps the data memory. The forms stand by the numbers of their patterns, and those of one
-/// pattern by its choices of swaps, of which at most eight operators have part.
+/// A pattern gives a form where no register and no instruction bit occurs twice in it, each part of
+/// it that the instruction word settles is a field shape, and for every setting of its instruction
+/// bits some word of its set steps and keeps the data memory unless that is what it writes. What
+/// such a word may change beside are the form's clobbers: the registers are taken in order of
+/// declaration, and each that still leaves a word for every setting is kept from then on. A pattern
+/// that jumps, or branches to a target that reaches as far as any jump, gives a form where every
+/// setting has a word that keeps the data memory. The forms stand by the numbers of their patterns,
+/// and those of one pattern by its choices of swaps, of which at most eight operators have part.
 ///
-/// The patterns' sets are those of the book, and their expressions those of the pool; the book grows, and what it held means what it meant.
-/// Want of memory is the only refusal.
+/// The patterns' sets are those of the book, and their expressions those of the pool; the book
+/// grows, and what it held means what it meant. Want of memory is the only refusal.
 pub fn forms(
     alloc: Global,
     checked: &Checked,
@@ -164,7 +168,8 @@ pub fn forms(
     requires ready { IsReady checked.now.netlist book.old pool.now patterns.now }
     ensures grows { Extends book.old book.new }
     ensures ready { IsReady checked.now.netlist book.new pool.now patterns.now }
-    ensures forms { IfOk result (λ forms. AreForms checked.now.netlist (told_patterns pool.now patterns.now.rows) (rules_of forms.list.items) forms.reach) }
+    ensures forms { IfOk result (λ forms.
+        AreForms checked.now.netlist (row_patterns pool.now patterns.now.rows) (rules_of forms.list.items) forms.reach) }
 {
     let reach = reach_of(alloc, checked, pool, patterns, book)?;
     let list = list_of(alloc, checked, pool, patterns, book, reach)?;

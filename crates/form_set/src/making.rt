@@ -3,10 +3,10 @@
 ghost use Rattle.std.specs.Prelude.{◌≡◌, ◌<◌, ◌≤◌, ◌++◌, ◌==◌, None, length, IfOk, OnOk};
 ghost use Rattle.form_model.specs.Rules.{branch_target_of, kind_of, rule_of, rules_of};
 ghost use Rattle.form_model.specs.Shapes.{is_shape as is_shape_of};
-ghost use Rattle.form_set.specs.Adding.{HasAdded, IsClass};
-ghost use Rattle.form_set.specs.Copies.{AreBranchIds, id_target, ids_branch};
+ghost use Rattle.form_set.specs.Inner.Adding.{HasAdded, IsClass};
+ghost use Rattle.form_set.specs.Inner.Copies.{AreBranchIds, id_target, ids_branch};
 ghost use Rattle.form_set.specs.Listing.{branch_rule, branch_rules, goal_at as goal_at_of, jump_rule, plain_rule, plain_rules};
-ghost use Rattle.form_set.specs.PatternIds.{IsNarrow, ArePatternIds, ids_pattern};
+ghost use Rattle.form_set.specs.Inner.PatternIds.{IsNarrow, ArePatternIds, ids_pattern};
 ghost use Rattle.net_model.specs.Terms.{term_width};
 ghost use Rattle.sym_expr.specs.Pools.{term_at};
 ghost use Rattle.transfer_set.specs.Entries.{IsAddrKnown, ids_move};
@@ -136,7 +136,8 @@ fn branch_form(
 ) -> Result<Form, NoMemory>
     requires parts { AreBranchIds (length pool.now) parts }
     requires fields { ids.fields ≡ move_fields (ids_move pool.now ids.addr ids.value) }
-    ensures { IfOk result (λ form. rule_of form ≡ branch_rule checked.now.netlist number (ids_pattern pool.now ids) (ids_branch pool.now parts) choice) }
+    ensures { IfOk result (λ form.
+        rule_of form ≡ branch_rule checked.now.netlist number (ids_pattern pool.now ids) (ids_branch pool.now parts) choice) }
 {
     let target = target_of(alloc, pool, parts.target)?;
     let sides = swapped_at(alloc, pool, None, parts.test, choice)?;

@@ -1,9 +1,9 @@
 //! Patterns as they are looked up.
 
 ghost use Rattle.std.specs.Prelude.{◌≡◌, ◌<◌, length, option_map, slice_get, slice_index, IfSome};
-ghost use Rattle.form_set.specs.PatternIds.{ArePatternIds, row_ids, ids_pattern};
+ghost use Rattle.form_set.specs.Inner.PatternIds.{ArePatternIds, row_ids, ids_pattern};
 ghost use Rattle.transfer_set.specs.Ready.{IsReady};
-ghost use Rattle.transfer_set.specs.Rows.{told_patterns};
+ghost use Rattle.transfer_set.specs.Rows.{row_patterns};
 
 use bit_bdd::{Book, SetId};
 use net_model::Checked;
@@ -57,9 +57,10 @@ pub(crate) fn known_ids(
 ) -> Option<PatternIds>
     requires ready { IsReady checked.now.netlist _book.now _pool.now patterns.now }
     ensures ids { IfSome result (ArePatternIds checked.now.netlist _book.now _pool.now) }
-    ensures told { option_map (ids_pattern _pool.now) result ≡ slice_get (told_patterns _pool.now patterns.now.rows) number }
+    ensures told { option_map (ids_pattern _pool.now) result ≡ slice_get (row_patterns _pool.now patterns.now.rows) number }
 {
-    // the rules of the netlist say what its expressions name, and the pool's length how wide they are
+    // the rules of the netlist say what its expressions name, and the pool's length how wide they
+    // are
     let _netlist = checked.netlist();
     let _len = _pool.len();
     ids_at(patterns, number)

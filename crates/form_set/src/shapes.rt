@@ -2,7 +2,7 @@
 
 ghost use Rattle.std.specs.Prelude.{◌≡◌, ◌<◌, ◌≤◌, length};
 ghost use Rattle.form_model.specs.Shapes.{is_field as is_field_of, is_shape as is_shape_of, reach_of};
-ghost use Rattle.form_set.specs.Static.{has_shapes as has_shapes_in, is_static as is_settled_of, move_shaped as move_shaped_of};
+ghost use Rattle.form_set.specs.Static.{has_shapes as has_shapes_in, is_static_term as is_settled_of, move_shaped as move_shaped_of};
 ghost use Rattle.net_model.specs.Terms.{term_width};
 ghost use Rattle.transfer_set.specs.Entries.{IsAddrKnown, ids_move};
 ghost use Rattle.sym_expr.specs.Pools.{term_at};

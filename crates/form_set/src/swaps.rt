@@ -2,8 +2,8 @@
 
 ghost use Rattle.std.specs.Prelude.{◌≡◌, ◌+◌, ◌-◌, ◌^◌, ◌<◌, ◌≤◌, ◌==◌, if◌then◌else◌, min, option_map};
 ghost use Rattle.std.specs.Int.{bit_at};
-ghost use Rattle.form_set.specs.Copies.{told_sides};
-ghost use Rattle.form_set.specs.Swaps.{AreWithin, IsAddrWithin, addr_swaps as addr_swaps_of, can_swap as can_swap_of, levels as levels_of, swap_chosen as swap_chosen_of, swap_count as swap_count_of, swap_from as swap_from_of, swap_in as swap_in_of, swap_number as swap_number_of, swap_side as swap_side_of, swaps_in as swaps_in_of, swaps_of as swaps_of_term};
+ghost use Rattle.form_set.specs.Inner.Copies.{copied_sides};
+ghost use Rattle.form_set.specs.Swaps.{SidesWithin, IsAddrWithin, addr_swaps as addr_swaps_of, can_swap as can_swap_of, levels as levels_of, swap_chosen as swap_chosen_of, swap_count as swap_count_of, swap_from as swap_from_of, swap_in as swap_in_of, swap_number as swap_number_of, swap_side as swap_side_of, swaps_in as swaps_in_of, swaps_of as swaps_of_term};
 ghost use Rattle.net_model.specs.Terms.{term_of};
 
 use net_model::Expr;
@@ -227,8 +227,8 @@ fn swap_addr(addr: &mut Option<Expr>, number: u8)
 // Swaps the operator of this number, where those of the address come first.
 fn swap_side(sides: &mut Sides, number: u8)
     requires number { number < 8 }
-    requires levels { AreWithin (2 ^ 64 - 1) (told_sides sides.old) }
-    ensures { told_sides sides.new ≡ swap_side_of number (told_sides sides.old) }
+    requires levels { SidesWithin (2 ^ 64 - 1) (copied_sides sides.old) }
+    ensures { copied_sides sides.new ≡ swap_side_of number (copied_sides sides.old) }
 {
     let first = addr_swaps(&sides.addr);
     if number < first {
@@ -240,7 +240,7 @@ fn swap_side(sides: &mut Sides, number: u8)
 
 // How many operators are swapped.
 pub(crate) fn swap_count(sides: &Sides) -> u8
-    ensures count { result ≡ swap_count_of (told_sides sides.now) }
+    ensures count { result ≡ swap_count_of (copied_sides sides.now) }
     ensures few { result ≤ 8 }
 {
     (addr_swaps(&sides.addr) + swaps_of(&sides.value)).min(8)
@@ -249,9 +249,9 @@ pub(crate) fn swap_count(sides: &Sides) -> u8
 // Swaps an operator where the choice says so.
 fn swap_if(sides: &mut Sides, number: u8, choice: u16)
     requires number { number < 8 }
-    requires levels { AreWithin (2 ^ 64 - 1) (told_sides sides.old) }
-    ensures levels { AreWithin (2 ^ 64 - 1) (told_sides sides.new) }
-    ensures swapped { told_sides sides.new ≡ (if bit_at choice number == 1 then swap_side_of number (told_sides sides.old) else told_sides sides.old) }
+    requires levels { SidesWithin (2 ^ 64 - 1) (copied_sides sides.old) }
+    ensures levels { SidesWithin (2 ^ 64 - 1) (copied_sides sides.new) }
+    ensures swapped { copied_sides sides.new ≡ (if bit_at choice number == 1 then swap_side_of number (copied_sides sides.old) else copied_sides sides.old) }
 {
     if (choice >> number) & 1 == 1 {
         swap_side(sides, number);
@@ -261,8 +261,8 @@ fn swap_if(sides: &mut Sides, number: u8, choice: u16)
 // Swaps those of the operators below a number that the choice says.
 pub(crate) fn swap_chosen(sides: &mut Sides, number: u8, choice: u16)
     requires number { number ≤ 8 }
-    requires levels { AreWithin (2 ^ 64 - 1) (told_sides sides.old) }
-    ensures { told_sides sides.new ≡ swap_chosen_of number choice (told_sides sides.old) }
+    requires levels { SidesWithin (2 ^ 64 - 1) (copied_sides sides.old) }
+    ensures { copied_sides sides.new ≡ swap_chosen_of number choice (copied_sides sides.old) }
 {
     if number == 0 {
         return;

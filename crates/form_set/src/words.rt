@@ -2,9 +2,9 @@
 
 ghost use Rattle.std.specs.Prelude.{◌≡◌, ◌↔◌, ◌<◌, ◌^◌, IfOk, IsTrue, length, slice_get, bit_or};
 ghost use Rattle.bit_bdd.specs.Diagrams.{Extends};
-ghost use Rattle.form_set.specs.PatternIds.{ArePatternIds, ids_pattern};
+ghost use Rattle.form_set.specs.Inner.PatternIds.{ArePatternIds, ids_pattern};
 ghost use Rattle.transfer_set.specs.Ready.{IsReady};
-ghost use Rattle.form_set.specs.Words.{AreClobbers, AreKept, CanJump, CanKeep, IsSetOf, Joins, KeepsMemory, KeepsOthers, all_registers as all_registers_of, is_register as is_register_of, with};
+ghost use Rattle.form_set.specs.Words.{AreClobbers, AreKept, CanJump, CanKeep, IsSetOf, Joins, WordKeepsMemory, KeepsOthers, all_registers as all_registers_of, is_register_storage as is_register_of, with};
 
 use crate::decide::has_all;
 use crate::linear::one;
@@ -81,7 +81,7 @@ pub(crate) fn jump_words(
     requires ready { IsReady _checked.now.netlist book.old _pool.now patterns.now }
     requires ids { ArePatternIds _checked.now.netlist book.old _pool.now ids }
     ensures grows { Extends book.old book.new }
-    ensures words { IfOk result (IsSetOf book.new (KeepsMemory _checked.now.netlist (ids_pattern _pool.now ids))) }
+    ensures words { IfOk result (IsSetOf book.new (WordKeepsMemory _checked.now.netlist (ids_pattern _pool.now ids))) }
 {
     let words = book.and(alloc, ids.set, keep_of(patterns, patterns.memory()))?;
     Ok(words)
@@ -102,7 +102,8 @@ fn with_register(
     requires words { IsSetOf book.old (KeepsOthers checked.now.netlist (ids_pattern _pool.now _part) kept.registers) kept.words }
     requires id { id < length checked.now.netlist.storages }
     ensures grows { Extends book.old book.new }
-    ensures words { IfOk result (λ more. IsSetOf book.new (KeepsOthers checked.now.netlist (ids_pattern _pool.now _part) more.registers) more.words) }
+    ensures words { IfOk result (λ more.
+        IsSetOf book.new (KeepsOthers checked.now.netlist (ids_pattern _pool.now _part) more.registers) more.words) }
     ensures registers { IfOk result (λ more. more.registers ≡ with kept.registers id) }
 {
     // a checked netlist has few storages
@@ -169,7 +170,8 @@ fn joined(
     requires words { IsSetOf book.old (KeepsOthers checked.now.netlist (ids_pattern pool.now ids) kept.registers) kept.words }
     requires id { id < length checked.now.netlist.storages }
     ensures grows { Extends book.old book.new }
-    ensures words { IfOk result (λ more. IsSetOf book.new (KeepsOthers checked.now.netlist (ids_pattern pool.now ids) more.registers) more.words) }
+    ensures words { IfOk result (λ more.
+        IsSetOf book.new (KeepsOthers checked.now.netlist (ids_pattern pool.now ids) more.registers) more.words) }
     ensures joins { IfOk result (λ more. Joins checked.now.netlist (ids_pattern pool.now ids) id kept.registers more.registers) }
 {
     if !is_register(checked, id) {
@@ -207,7 +209,8 @@ fn kept_registers(
     Ok(kept.registers)
 }
 
-// The storages that a pattern's words may change: its own, and the registers that can't all be kept.
+// The storages that a pattern's words may change: its own, and the registers that can't all be
+// kept.
 pub(crate) fn clobbers(
     alloc: Global,
     checked: &Checked,

@@ -4,7 +4,8 @@ use Rattle.grammar.specs.declared.words.Lexed.{Lexed}
 use Rattle.grammar.specs.Parses.{IsFaultAt, offset_of}
 use Rattle.grammar.specs.Reading.{head, Begins, IsFault}
 
--- one of two fronts of a list goes on with what begins the rest of the other, or the rests are the same
+-- one of two fronts of a list goes on with what begins the rest of the other, or the rests are the
+-- same
 data Fronts {T : Type 0} (front rest longer other : List T) : Type 0 where
   same : rest ≡ other → Fronts front rest longer other
   first : (t : T) (more : List T) → longer ≡ front ++ t ∷ more → head rest ≡ Some t → Fronts front rest longer other

@@ -83,8 +83,9 @@ pub record Agrees {T : Type 0} (all front rest : List T) : Type 0 where
   pub parts : all ≡ front ++ tail
   pub same : head tail ≡ head rest
 
--- v is read from the front of ts, and rest is left. No other text and no other value can be read there, whatever stands behind the
--- first token of rest. The tokens that may go on behind a text of R are among more.
+-- v is read from the front of ts, and rest is left. No other text and no other value can be read
+-- there, whatever stands behind the first token of rest. The tokens that may go on behind a text of
+-- R are among more.
 pub record Reads {T V : Type 0} (R : List T → V → Type 0) (more : T → Bool) (ts : List T) (v : V) (rest : List T) : Type 0 where
   pub used : List T
   pub parts : ts ≡ used ++ rest
@@ -111,7 +112,8 @@ abbrev pub Gives : {T V X : Type 0} → (X → V × List T) → (List T → V �
 Gives see R more ts (Ok x) = Reads R more ts (see x).0 (see x).1
 Gives see R more ts (Err stop) = FailsAs R more ts stop
 
--- What R reads in ts tells what S reads in us, with what is made of the value; and where R fails there, S does here.
+-- What R reads in ts tells what S reads in us, with what is made of the value; and where R fails
+-- there, S does here.
 pub record Leads {T V W : Type 0} (make : V → W) (R : List T → V → Type 0) (more : T → Bool) (ts : List T) (S : List T → W → Type 0) (more_s : T → Bool) (us : List T) : Type 0 where
   pub reads : (v : V) (rest : List T) → Reads R more ts v rest → Reads S more_s us (make v) rest
   pub fails : (left : ℕ) → Fails R more ts left → Fails S more_s us left
@@ -124,7 +126,8 @@ pub record Begins {T V : Type 0} (R : List T → V → Type 0) (ts : List T) : T
   pub value : V
   pub text : R (ts ++ end) value
 
--- The tokens in front begin some text, and with the first one of rest they do not; where rest is empty, the tokens are no text.
+-- The tokens in front begin some text, and with the first one of rest they do not; where rest is
+-- empty, the tokens are no text.
 pub record IsFault {T V : Type 0} (R : List T → V → Type 0) (ts rest : List T) : Type 0 where
   pub front : List T
   pub parts : ts ≡ front ++ rest

@@ -9,7 +9,8 @@ use std::alloc::{AllocError, AllocFailed};
 /// Why nothing was read.
 #[derive(Clone, Copy, Debug, PartialEq, Eq)]
 pub enum Stop {
-    /// The token is at fault with which so many are left, it among them; or 0 where the text ends too early.
+    /// The token is at fault with which so many are left, it among them; or 0 where the text ends
+    /// too early.
     At(usize),
     /// Want of memory.
     Memory,

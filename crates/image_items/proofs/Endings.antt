@@ -7,7 +7,7 @@ use Rattle.text_lines.proofs.Parts.{Avoids, IsLine, avoids-append}
 use Rattle.text_lines.proofs.Numbers.{avoids-decimal, avoids-name}
 use Rattle.image_items.specs.declared.item.Item.{Item}
 use Rattle.image_items.specs.declared.item.Item.TheVariants.{Size, Temps, Variable, Tree, Label, Code, Done}
-use Rattle.image_items.specs.Items.{item_line, IsSayable}
+use Rattle.image_items.specs.Inner.Items.{item_line, IsSayable}
 use Rattle.image_items.proofs.Laws.{label_avoids, list_avoids}
 use Rattle.image_items.proofs.Digits.{hex_avoids_mark}
 

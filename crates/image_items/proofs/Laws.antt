@@ -23,7 +23,7 @@ use Rattle.image_items.proofs.Lists.{fields_cut, fields_last}
 use Rattle.std.proofs.lemmas.Fmt.{decimal_nonempty}
 use Rattle.image_items.specs.declared.item.Item.{Item}
 use Rattle.image_items.specs.declared.item.Item.TheVariants.{Size, Temps, Variable, Tree, Label, Code, Done}
-use Rattle.image_items.specs.Items.{item_line, size_line, temps_line, IsSayable, IsWithin}
+use Rattle.image_items.specs.Inner.Items.{item_line, size_line, temps_line, IsSayable, IsWithin}
 use Rattle.image_items.specs.Reading.{below_2_32, small, number_before, last_number, pair_of, label_of, number_from, numbers_from, fields_of, list_of, place_parts, place_item, size_item, temps_item, tree_item, mark_item, word_parts, word_item, word_in, said_by, item_of}
 use Rattle.image_items.proofs.Digits.{word_in_is, word_in_again, hex_avoids}
 use Rattle.text_lines.proofs.Steps.{bind_ok, bind_again}

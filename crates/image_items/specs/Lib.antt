@@ -1,2 +1,2 @@
-pub mod Items
 pub mod Reading
+pub mod Inner

@@ -11,8 +11,8 @@
 //! - `field`: numbers and words in a line.
 //! - `list`: lists of wanted patterns, which ascend.
 //! - `reading`: from a line to what it says, by its first word.
-//! - `specs/`: `Reading` is cited by the public contract; `Items` says the same from the other
-//!   side, by the line that is written of each item, and no public contract cites it.
+//! - `specs/`: `Reading`, cited by the public contract. `specs/Inner/`: `Items`, which says the
+//!   same from the other side, by the line that is written of each item.
 //! - `proofs/`: `Laws` holds the two sides against each other; `Digits`, `Lists`, `Endings` are for
 //!   its parts.
 #![tactic(auto)]

@@ -11,11 +11,11 @@ use Rattle.text_lines.specs.Lines.{lines_of}
 use Rattle.text_lines.proofs.Parts.{IsLine, lines-joined}
 use Rattle.image_items.specs.declared.item.Item.{Item}
 use Rattle.image_items.specs.declared.item.Item.TheVariants.{Size, Temps, Variable, Tree, Label, Code, Done}
-use Rattle.image_items.specs.Items.{item_line}
+use Rattle.image_items.specs.Inner.Items.{item_line}
 use Rattle.image_items.proofs.Endings.{item_ends}
 use Rattle.code_model.specs.declared.limits.Limits.{Limits}
 use Rattle.code_model.specs.ImageFits.{PlaceFits, MarkFits, CostFits, CodeFits, IsFitting}
-use Rattle.image_text.specs.Lines.{code_items, image_lines}
+use Rattle.image_text.specs.Inner.Lines.{code_items, image_lines}
 
 -- ---- the lines one after the other are the text
 

@@ -1,4 +1,5 @@
--- Reading line by line: what was read is the front of a text, and the text of an image is read whole.
+-- Reading line by line: what was read is the front of a text, and the text of an image is read
+-- whole.
 use Rattle.std.proofs.Common.{◌≡◌, ◌==◌, ◌&&◌, ℕ, ◌+◌, ◌^◌, ◌<◌, ◌≤◌, List, [], ◌∷◌, ◌++◌, length, map, Bool, true, false, Some, None, refl, sym, ap, subst, ◌∙◌, append_assoc, eqb-true, length-append, arith}
 use Rattle.std.proofs.lemmas.List.{append-nil}
 use Rattle.std.proofs.lemmas.Option.{cond_some, same_Some}
@@ -12,14 +13,14 @@ use Rattle.code_model.specs.declared.image.Place.{Place}
 use Rattle.code_model.specs.declared.image.Word.{Word}
 use Rattle.image_items.specs.declared.item.Item.{Item}
 use Rattle.image_items.specs.declared.item.Item.TheVariants.{Size, Temps, Variable, Tree, Label, Code, Done}
-use Rattle.image_items.specs.Items.{IsSayable}
+use Rattle.image_items.specs.Inner.Items.{IsSayable}
 use Rattle.image_text.proofs.Marks.{marks-snoc, follow_true}
 use Rattle.code_model.specs.declared.limits.Limits.{Limits}
 use Rattle.code_model.specs.ImageFits.{PlaceFits, MarkFits, AscendFrom, CostFits, CodeFits, IsFitting}
 use Rattle.image_text.specs.declared.front.Front.{Front}
 use Rattle.image_text.specs.declared.front.Front.TheVariants.{Nothing, Sized, Open, Whole}
-use Rattle.image_text.specs.Lines.{code_items}
-use Rattle.image_text.specs.Fronts.{no_items, may_follow, last_mark, opened, with_size, with_place, with_cost, with_mark, with_word, whole, with_item, after_nothing, after_size, step}
+use Rattle.image_text.specs.Inner.Lines.{code_items}
+use Rattle.image_text.specs.Inner.Fronts.{no_items, may_follow, last_mark, opened, with_size, with_place, with_cost, with_mark, with_word, whole, with_item, after_nothing, after_size, step}
 
 -- ---- what was read
 

@@ -5,7 +5,7 @@ use Rattle.std.specs.Prelude.{nat_lt, slice_get}
 use Rattle.rec_bits.proofs.Booleans.{both}
 use Rattle.code_model.specs.declared.image.Mark.{Mark}
 use Rattle.code_model.specs.ImageFits.{MayFollow, HasNumber, AreMarksAfter}
-use Rattle.image_text.specs.Fronts.{has_number, may_follow, last_mark}
+use Rattle.image_text.specs.Inner.Fronts.{has_number, may_follow, last_mark}
 
 last_from : (mark : Mark) (marks : List Mark) → last_mark (Some mark) marks ≡ slice_get (mark ∷ marks) (length marks)
 last_from mark [] = refl

@@ -7,7 +7,7 @@ use Rattle.text_lines.specs.Lines.{lines_of, IsFirstLine}
 use Rattle.code_model.specs.declared.limits.Limits.{Limits}
 use Rattle.image_text.specs.declared.front.Front.{Front}
 use Rattle.image_text.specs.declared.front.Front.TheVariants.{Nothing}
-use Rattle.image_text.specs.Fronts.{step_line, reads, IsRead, StopsAt}
+use Rattle.image_text.specs.Inner.Fronts.{step_line, reads, IsRead, StopsAt}
 use Rattle.text_lines.specs.Fields.{◌>>=◌}
 
 -- some lines of the bytes were read, and the rest is left

@@ -19,7 +19,7 @@ use Rattle.code_model.specs.ImageText.{bytes_of, image_text}
 use Rattle.text_lines.specs.Lines.{lines_of}
 use Rattle.image_items.specs.declared.item.Item.{Item}
 use Rattle.image_items.specs.declared.item.Item.TheVariants.{Size, Temps, Variable, Tree, Label, Code, Done}
-use Rattle.image_items.specs.Items.{item_line, IsSayable, IsWithin}
+use Rattle.image_items.specs.Inner.Items.{item_line, IsSayable, IsWithin}
 use Rattle.image_items.specs.Reading.{item_of}
 use Rattle.image_items.proofs.Laws.{item_is, item_again}
 use Rattle.image_text.proofs.Marks.{follow_again, last-snoc}
@@ -28,11 +28,11 @@ use Rattle.image_text.proofs.Progress.{reads-append}
 use Rattle.image_text.proofs.Again.{whole_text, written_lines}
 use Rattle.code_model.specs.declared.limits.Limits.{Limits}
 use Rattle.code_model.specs.ImageFits.{PlaceFits, MarkFits, MayFollow, AreMarksAfter, CostFits, CodeFits, IsFitting}
-use Rattle.code_model.specs.ImageLines.{IsImageText, Begin, IsFault, IsRefusal}
+use Rattle.code_model.specs.ImageLines.{IsImageText, Begin, IsLineFault, IsImageRefusal}
 use Rattle.image_text.specs.declared.front.Front.{Front}
 use Rattle.image_text.specs.declared.front.Front.TheVariants.{Nothing, Sized, Open, Whole}
-use Rattle.image_text.specs.Lines.{code_items, image_lines}
-use Rattle.image_text.specs.Fronts.{last_mark, opened, with_size, with_place, with_cost, with_mark, with_word, whole, with_item, after_nothing, after_size, step, step_line, reads, IsRead, StopsAt, Stops, IsWholeOf}
+use Rattle.image_text.specs.Inner.Lines.{code_items, image_lines}
+use Rattle.image_text.specs.Inner.Fronts.{last_mark, opened, with_size, with_place, with_cost, with_mark, with_word, whole, with_item, after_nothing, after_size, step, step_line, reads, IsRead, StopsAt, Stops, IsWholeOf}
 use Rattle.text_lines.specs.Fields.{◌>>=◌}
 use Rattle.text_lines.proofs.Steps.{bind_ok, bind_again}
 
@@ -268,7 +268,7 @@ no_text limits before front line more image n e s f same =
     let d : None ≡ Some (Whole image) = sym a ∙ ap (reads limits Nothing) (same ∙ lines_are limits image n f) ∙ b in
     cc
 
-stop_is_fault : (limits : Limits) (bytes : List ℕ) (at : ℕ) → Narrow limits → StopsAt limits bytes at → IsFault limits bytes at
+stop_is_fault : (limits : Limits) (bytes : List ℕ) (at : ℕ) → Narrow limits → StopsAt limits bytes at → IsLineFault limits bytes at
 stop_is_fault limits bytes at n s = record {
   front = s.before;
   rest = s.line ∷ s.after;
@@ -284,7 +284,7 @@ stop_is_fault limits bytes at n s = record {
 pub text_is_read : (limits : Limits) (bytes : List ℕ) (image : Image) → Narrow limits → IsImageText limits bytes image → reads limits Nothing (lines_of bytes) ≡ Some (Whole image)
 text_is_read limits bytes image n t = ap (reads limits Nothing) (ap lines_of t.text ∙ lines_are limits image n t.fits) ∙ image_read limits image n t.fits
 
-end_is_fault : (limits : Limits) (bytes : List ℕ) (front : Front) → Narrow limits → IsRead limits bytes front → ((image : Image) → front ≡ Whole image → ⊥) → IsFault limits bytes (length bytes)
+end_is_fault : (limits : Limits) (bytes : List ℕ) (front : Front) → Narrow limits → IsRead limits bytes front → ((image : Image) → front ≡ Whole image → ⊥) → IsLineFault limits bytes (length bytes)
 end_is_fault limits bytes front n r other = record {
   front = lines_of bytes;
   rest = [];
@@ -315,18 +315,18 @@ Only limits bytes result = (image : Image) → IsImageText limits bytes image �
 pub record Answers (limits : Limits) (bytes : List ℕ) (result : Result Image ParseFault) : Type 0 where
   pub found : IfOk result (IsImageText limits bytes)
   pub only : Only limits bytes result
-  pub refused : IfErr result (IsRefusal limits bytes)
+  pub refused : IfErr result (IsImageRefusal limits bytes)
 
 pub answer_whole : (limits : Limits) (bytes : List ℕ) (front : Front) (result : Result Image ParseFault) → Narrow limits → IsRead limits bytes front → IsWholeOf front (length bytes) result → Answers limits bytes result
 answer_whole limits bytes front (Ok image) n r e =
     let read : IsRead limits bytes (Whole image) = subst (IsRead limits bytes) e r in
     record { found = whole_is_text limits bytes image n read; only = λ (other : Image) (t : IsImageText limits bytes other). one_image limits bytes image other n read t; refused = tt }
 answer_whole limits bytes front (Err fault) n r e =
-    let f : IsFault limits bytes (length bytes) = end_is_fault limits bytes front n r e.1 in
-    record { found = tt; only = λ (image : Image) (t : IsImageText limits bytes image). absurd (f.whole image t); refused = subst (IsRefusal limits bytes) (sym e.0) f }
+    let f : IsLineFault limits bytes (length bytes) = end_is_fault limits bytes front n r e.1 in
+    record { found = tt; only = λ (image : Image) (t : IsImageText limits bytes image). absurd (f.whole image t); refused = subst (IsImageRefusal limits bytes) (sym e.0) f }
 
 pub answer_stopped : (limits : Limits) (bytes : List ℕ) (fault : ParseFault) → Narrow limits → Stops limits bytes fault → Answers limits bytes (Err fault)
 answer_stopped limits bytes (Text at) n s =
-    let f : IsFault limits bytes at = stop_is_fault limits bytes at n s in
+    let f : IsLineFault limits bytes at = stop_is_fault limits bytes at n s in
     record { found = tt; only = λ (image : Image) (t : IsImageText limits bytes image). absurd (f.whole image t); refused = f }
 answer_stopped limits bytes Memory n s = record { found = tt; only = λ (image : Image) (t : IsImageText limits bytes image). refl; refused = tt }

@@ -1,7 +1,7 @@
 //! What is read of an image text from its front.
 
 ghost use Rattle.std.specs.Prelude.{◌≡◌, ◌≤◌, IfOk, None};
-ghost use Rattle.image_text.specs.Fronts.{may_follow, last_mark, with_size, with_place, with_cost, with_mark, with_word, whole, opened, with_item, after_nothing, after_size, step, step_line};
+ghost use Rattle.image_text.specs.Inner.Fronts.{may_follow, last_mark, with_size, with_place, with_cost, with_mark, with_word, whole, opened, with_item, after_nothing, after_size, step, step_line};
 
 use code_model::{Image, Limits, Mark, Place, Word, bytes_of};
 use image_items::{Item, item_of};
@@ -20,7 +20,7 @@ pub enum Front {
     Whole(Image),
 }
 
-#[tactic(auto, unfolding(crate::specs::Fronts::with_size))]
+#[tactic(auto, unfolding(crate::specs::Inner::Fronts::with_size))]
 fn with_size(limits: Limits, bits: u32, count: u32) -> Option<Front>
     ensures { result ≡ with_size limits bits count }
 {
@@ -47,7 +47,7 @@ fn opened(alloc: Global, limits: Limits, count: u32, temps: u32) -> Front
     }
 }
 
-#[tactic(auto, unfolding(crate::specs::Fronts::with_place))]
+#[tactic(auto, unfolding(crate::specs::Inner::Fronts::with_place))]
 fn with_place(count: u32, mut image: Image, place: Place) -> Result<Option<Front>, NoMemory>
     ensures { IfOk result (λ front. front ≡ with_place count image place) }
 {
@@ -58,7 +58,7 @@ fn with_place(count: u32, mut image: Image, place: Place) -> Result<Option<Front
     Ok(Some(Front::Open { count, image }))
 }
 
-#[tactic(auto, unfolding(crate::specs::Fronts::with_cost))]
+#[tactic(auto, unfolding(crate::specs::Inner::Fronts::with_cost))]
 fn with_cost(count: u32, mut image: Image, cost: (u32, u32)) -> Result<Option<Front>, NoMemory>
     ensures { IfOk result (λ front. front ≡ with_cost count image cost) }
 {
@@ -85,7 +85,7 @@ fn follows(last: Option<Mark>, mark: Mark) -> bool
     }
 }
 
-#[tactic(auto, unfolding(crate::specs::Fronts::with_mark))]
+#[tactic(auto, unfolding(crate::specs::Inner::Fronts::with_mark))]
 fn with_mark(count: u32, mut image: Image, mark: Mark) -> Result<Option<Front>, NoMemory>
     ensures { IfOk result (λ front. front ≡ with_mark count image mark) }
 {
@@ -96,7 +96,7 @@ fn with_mark(count: u32, mut image: Image, mark: Mark) -> Result<Option<Front>, 
     Ok(Some(Front::Open { count, image }))
 }
 
-#[tactic(auto, unfolding(crate::specs::Fronts::with_word))]
+#[tactic(auto, unfolding(crate::specs::Inner::Fronts::with_word))]
 fn with_word(
     limits: Limits,
     count: u32,
@@ -115,7 +115,7 @@ fn with_word(
     Ok(Some(Front::Open { count, image }))
 }
 
-#[tactic(auto, unfolding(crate::specs::Fronts::whole))]
+#[tactic(auto, unfolding(crate::specs::Inner::Fronts::whole))]
 fn whole(count: u32, image: Image) -> Option<Front>
     ensures { result ≡ whole count image }
 {
@@ -126,7 +126,7 @@ fn whole(count: u32, image: Image) -> Option<Front>
     }
 }
 
-#[tactic(auto, unfolding(crate::specs::Fronts::with_item))]
+#[tactic(auto, unfolding(crate::specs::Inner::Fronts::with_item))]
 fn with_item(
     limits: Limits,
     count: u32,
@@ -147,7 +147,7 @@ fn with_item(
     }
 }
 
-#[tactic(auto, unfolding(crate::specs::Fronts::after_nothing))]
+#[tactic(auto, unfolding(crate::specs::Inner::Fronts::after_nothing))]
 fn after_nothing(limits: Limits, item: Item) -> Option<Front>
     ensures { result ≡ after_nothing limits item }
 {
@@ -157,7 +157,7 @@ fn after_nothing(limits: Limits, item: Item) -> Option<Front>
     }
 }
 
-#[tactic(auto, unfolding(crate::specs::Fronts::after_size))]
+#[tactic(auto, unfolding(crate::specs::Inner::Fronts::after_size))]
 fn after_size(alloc: Global, limits: Limits, count: u32, item: Item) -> Option<Front>
     ensures { result ≡ after_size limits count item }
 {
@@ -167,7 +167,7 @@ fn after_size(alloc: Global, limits: Limits, count: u32, item: Item) -> Option<F
     }
 }
 
-#[tactic(auto, unfolding(crate::specs::Fronts::step))]
+#[tactic(auto, unfolding(crate::specs::Inner::Fronts::step))]
 fn step(alloc: Global, limits: Limits, front: Front, item: Item) -> Result<Option<Front>, NoMemory>
     requires some { 1 ≤ limits.bits }
     requires narrow { limits.bits ≤ 64 }
@@ -184,8 +184,9 @@ fn step(alloc: Global, limits: Limits, front: Front, item: Item) -> Result<Optio
     }
 }
 
-/// What is read with one more line, or None where no text of an image that keeps to the limits goes on so.
-#[tactic(auto, unfolding(crate::specs::Fronts::step_line))]
+/// What is read with one more line, or None where no text of an image that keeps to the limits goes
+/// on so.
+#[tactic(auto, unfolding(crate::specs::Inner::Fronts::step_line))]
 pub fn step_line(
     alloc: Global,
     limits: Limits,

@@ -16,8 +16,8 @@
 //! - `front`: what is read from the front of a text, and one line more.
 //! - `reading`: all lines, and `read`.
 //! - `laws`: `law_of_again`.
-//! - `specs/`: no public contract cites a file here, since texts are defined in `code_model/specs`;
-//!   `Fronts` and `Lines` mirror the reading.
+//! - `specs/Inner/`: `Fronts` and `Lines`, which go with the reading. Public contracts cite no file
+//!   here, since texts are defined in `code_model/specs`.
 //! - `proofs/`: `Progress`, `Machine` and `Whole` for going over the lines, `Marks`, `Again` for
 //!   the law.
 #![tactic(auto)]

@@ -3,8 +3,8 @@
 ghost use Rattle.std.specs.Prelude.{◌≡◌, ◌≤◌, ◌<◌, ◌^◌, length, IfOk, IfErr, MatchResult};
 ghost use Rattle.code_model.specs.declared.image.Image.{Image};
 ghost use Rattle.code_model.specs.ImageFits.{limits_of};
-ghost use Rattle.code_model.specs.ImageLines.{IsImageText, IsRefusal};
-ghost use Rattle.image_text.specs.Fronts.{IsRead, Stops, IsWholeOf};
+ghost use Rattle.code_model.specs.ImageLines.{IsImageText, IsImageRefusal};
+ghost use Rattle.image_text.specs.Inner.Fronts.{IsRead, Stops, IsWholeOf};
 
 use crate::front::{Front, step_line};
 use code_model::{Image, Limits};
@@ -48,8 +48,9 @@ fn read_within(alloc: Global, limits: Limits, bytes: &[u8]) -> Result<Image, Par
     requires narrow { limits.bits ≤ 64 }
     requires few { limits.words < 2 ^ 32 }
     ensures found { IfOk result (IsImageText limits bytes.now) }
-    ensures only { (image : Image) → IsImageText limits bytes.now image → MatchResult result (λ found. found ≡ image) (λ fault. fault ≡ ParseFault.Memory) }
-    ensures refused { IfErr result (IsRefusal limits bytes.now) }
+    ensures only { (image : Image) → IsImageText limits bytes.now image →
+        MatchResult result (λ found. found ≡ image) (λ fault. fault ≡ ParseFault.Memory) }
+    ensures refused { IfErr result (IsImageRefusal limits bytes.now) }
 {
     match read_lines(alloc, limits, bytes) {
         Ok(front) => whole_of(front, bytes.len()),
@@ -57,14 +58,16 @@ fn read_within(alloc: Global, limits: Limits, bytes: &[u8]) -> Result<Image, Par
     }
 }
 
-/// The image whose text the bytes are, where it fits the netlist's code. `Text` comes exactly where they aren't the text of such an image,
-/// with the offset of the first line such that the lines before it begin the text of one and with it they don't; that is the length of the
-/// bytes where a line is missing. `Memory` is want of memory.
+/// The image whose text the bytes are, where it fits the netlist's code. `Text` comes exactly where
+/// they aren't the text of such an image, with the offset of the first line such that the lines
+/// before it begin the text of one and with it they don't; that is the length of the bytes where a
+/// line is missing. `Memory` is want of memory.
 pub fn read(alloc: Global, bytes: &[u8], checked: &Checked) -> Result<Image, ParseFault>
     requires { length bytes.now < 2 ^ 32 }
     ensures found { IfOk result (IsImageText (limits_of checked.now.netlist) bytes.now) }
-    ensures only { (image : Image) → IsImageText (limits_of checked.now.netlist) bytes.now image → MatchResult result (λ found. found ≡ image) (λ fault. fault ≡ ParseFault.Memory) }
-    ensures refused { IfErr result (IsRefusal (limits_of checked.now.netlist) bytes.now) }
+    ensures only { (image : Image) → IsImageText (limits_of checked.now.netlist) bytes.now image →
+        MatchResult result (λ found. found ≡ image) (λ fault. fault ≡ ParseFault.Memory) }
+    ensures refused { IfErr result (IsImageRefusal (limits_of checked.now.netlist) bytes.now) }
 {
     let limits = Limits::of(checked);
     let image = read_within(alloc, limits, bytes)?;

@@ -2,7 +2,7 @@
 
 ghost use Rattle.std.specs.Prelude.{◌≡◌, ◌++◌, ◌≤◌, ℕ, IfOk, OnOk, string_bytes};
 ghost use Rattle.std.specs.List.{flat_map};
-ghost use Rattle.code_model.specs.ImageText.{head_text, place_line, cost_line, mark_line, hex_of, after_comma, numbers_text, word_line, word_lines, image_text};
+ghost use Rattle.code_model.specs.ImageText.{image_head, place_line, cost_line, mark_line, hex_of, after_comma, numbers_text, word_line, word_lines, image_text};
 
 use code_model::{Image, Mark, Place, Word, bytes_of};
 use rec_bits::NoMemory;
@@ -129,7 +129,7 @@ fn put_words(alloc: Global, out: &mut Vec<u8>, words: &[Word], bytes: usize) -> 
 }
 
 fn head_lines(alloc: Global, image: &Image) -> Result<String, NoMemory>
-    ensures { IfOk result (λ line. string_bytes line ≡ head_text image.now) }
+    ensures { IfOk result (λ line. string_bytes line ≡ image_head image.now) }
 {
     let bits = image.bits;
     let count = image.words.len();

@@ -3,13 +3,13 @@ use Rattle.std.proofs.Common.{◌≡◌, ℕ, zero, suc, ◌+◌, ◌*◌, ◌/�
 use Rattle.std.proofs.lemmas.Fmt.{length-decimal-le}
 use Rattle.std.specs.Fmt.{decimal, digits}
 use Rattle.job_gen.specs.Each.{each}
-use Rattle.job_gen.specs.NetText.{memory_line, net_text, register_line, register_numbers, register_rows, store_number, store_row, head_text}
+use Rattle.job_gen.specs.NetText.{memory_line, net_text, register_line, register_numbers, register_rows, store_number, store_row, net_head}
 use Rattle.job_gen.specs.SrcText.{drawn, sign, src_text, statement_line}
 
 -- ---- the netlist, by how many accumulators there are behind the first
 
 net_text_of : ℕ → List ℕ
-net_text_of more = head_text ++ (each register_line (more + 1) ++ (memory_line more ++ []))
+net_text_of more = net_head ++ (each register_line (more + 1) ++ (memory_line more ++ []))
 
 short_of : (more : ℕ) → more < 4 → length (net_text_of more) < 4294967296
 unfolding net_text_of register_line register_rows register_numbers store_row store_number digits

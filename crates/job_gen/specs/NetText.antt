@@ -1,5 +1,6 @@
--- The netlist of a number N: r accumulators A0 to A(r - 1), where r is 1 + N mod 4. Accumulator k is loaded under the operation 8k + 1, added to
--- under 8k + 2, subtracted from under 8k + 3, stored under 8k + 4, and set to a number under 8k + 5.
+-- The netlist of a number N: r accumulators A0 to A(r - 1), where r is 1 + N mod 4. Accumulator k
+-- is loaded under the operation 8k + 1, added to under 8k + 2, subtracted from under 8k + 3, stored
+-- under 8k + 4, and set to a number under 8k + 5.
 use Rattle.std.specs.Prelude.{ℕ, ◌+◌, ◌*◌, ◌%◌, List, [], ◌∷◌, codes}
 use Rattle.std.specs.Fmt.{decimal}
 use Rattle.std.specs.List.{concat}
@@ -10,8 +11,8 @@ abbrev pub operation : ℕ → ℕ → List ℕ
 operation k n = decimal (8 * k + n)
 
 -- the code, its fields and the program counter
-abbrev pub head_text : List ℕ
-head_text = concat (
+abbrev pub net_head : List ℕ
+net_head = concat (
     codes "code I : 24 size 4096 at PC;\n"
     ∷ codes "net f : 16 = I[15:0];\n"
     ∷ codes "net op : 8 = I[23:16];\n"
@@ -50,4 +51,4 @@ memory_line more = concat (
 
 -- the whole text
 unfoldable pub net_text : ℕ → List ℕ
-net_text number = concat (head_text ∷ each register_line (number % 4 + 1) ∷ memory_line (number % 4) ∷ [])
+net_text number = concat (net_head ∷ each register_line (number % 4 + 1) ∷ memory_line (number % 4) ∷ [])

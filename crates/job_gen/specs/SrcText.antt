@@ -1,5 +1,6 @@
--- The program of a number N: nine variables, and a loop of ten turns round N statements. Statement j, from 1 on, is read off the number x(j),
--- where x(0) is N and x(j) is (25173 x(j - 1) + 13849) mod 65536.
+-- The program of a number N: nine variables, and a loop of ten turns round N statements. Statement
+-- j, from 1 on, is read off the number x(j), where x(0) is N and x(j) is (25173 x(j - 1) + 13849)
+-- mod 65536.
 use Rattle.std.specs.Prelude.{ℕ, zero, suc, ◌+◌, ◌*◌, ◌/◌, ◌%◌, ◌==◌, if◌then◌else◌, List, [], ◌∷◌, codes}
 use Rattle.std.specs.Fmt.{decimal}
 use Rattle.std.specs.List.{concat}

@@ -13,7 +13,7 @@ use Rattle.lexing.specs.declared.piece.Piece.{Piece}
 use Rattle.lexing.specs.declared.piece.Piece.TheVariants.{Blank, Whole, Wrong}
 use Rattle.lexing.specs.Bytes.{is_blank, is_digit, is_hex_digit, is_letter, is_name_byte, is_comment_byte, begins_with}
 use Rattle.lexing.specs.Numbers.{is_hexadecimal, number_length, number_value}
-use Rattle.lexing.specs.Table.{Table, is_reserved, sign_length}
+use Rattle.lexing.specs.Table.{Lexicon, is_reserved, sign_length}
 use Rattle.lexing.specs.Tokens.{name_piece, number_piece, sign_piece, piece, a_token, tokens_from}
 
 -- ---- a piece lies within the text
@@ -51,7 +51,7 @@ starts_long needle xs e = go needle xs e
     go (n ∷ ns) [] e = absurd cc
     go (n ∷ ns) (x ∷ xs) e = omega (arith, go ns xs (and_right (nat_eq n x) (pointwise nat_eq ns (take (length ns) xs)) e))
 
-name_within : (table : Table) (end : ℕ) (name : List ℕ) → 1 ≤ length name → length name ≤ end → IsWithin end (name_piece table name)
+name_within : (table : Lexicon) (end : ℕ) (name : List ℕ) → 1 ≤ length name → length name ≤ end → IsWithin end (name_piece table name)
 name_within table end name a b = within_if end (nat_le (length name) 32) (cond (is_reserved table name) (Whole Reserved (length name)) (Whole Name (length name))) Wrong
     (λ e. within_if end (is_reserved table name) (Whole Reserved (length name)) (Whole Name (length name)) (λ e. (a, b)) (λ e. (a, b))) (λ e. tt)
 
@@ -83,17 +83,17 @@ longest_le bytes (sign ∷ signs) best h =
     le_if n true x y f g = f refl
     le_if n false x y f g = g
 
-pub sign_le : (table : Table) (bytes : List ℕ) → sign_length table bytes ≤ length bytes
+pub sign_le : (table : Lexicon) (bytes : List ℕ) → sign_length table bytes ≤ length bytes
 sign_le table bytes = longest_le bytes table.signs 0 (omega arith)
 
-sign_within : (table : Table) (bytes : List ℕ) → IsWithin (length bytes) (sign_piece table bytes)
+sign_within : (table : Lexicon) (bytes : List ℕ) → IsWithin (length bytes) (sign_piece table bytes)
 sign_within table bytes = within_if (length bytes) (nat_eq (sign_length table bytes) 0) Wrong (Whole Sign (sign_length table bytes)) (λ e. tt)
     (λ e. let z : sign_length table bytes ≡ 0 → ⊥ = eqb-false (sign_length table bytes) 0 e in (positive (sign_length table bytes) z, sign_le table bytes))
   where
     positive : (n : ℕ) → (n ≡ 0 → ⊥) → 1 ≤ n
     positive n z = omega arith
 
-pub piece_within : (table : Table) (b : ℕ) (bs : List ℕ) → IsWithin (length (b ∷ bs)) (piece table (b ∷ bs))
+pub piece_within : (table : Lexicon) (b : ℕ) (bs : List ℕ) → IsWithin (length (b ∷ bs)) (piece table (b ∷ bs))
 unfolding piece
 piece_within table b bs =
     let xs = b ∷ bs in
@@ -106,44 +106,44 @@ piece_within table b bs =
 
 -- ---- from a place on
 
-skipped : (table : Table) (k at : ℕ) (bs : List ℕ) → tokens_from table at k bs ≡ tokens_from table (at + k) 0 (drop k bs)
+skipped : (table : Lexicon) (k at : ℕ) (bs : List ℕ) → tokens_from table at k bs ≡ tokens_from table (at + k) 0 (drop k bs)
 unfolding tokens_from
 skipped table zero at bs = let e : at ≡ at + 0 = omega arith in ap (λ n. tokens_from table n 0 bs) e
 skipped table (suc k) at [] = refl
 skipped table (suc k) at (b ∷ bs) = let e : at + 1 + k ≡ at + suc k = omega arith in skipped table k (at + 1) bs ∙ ap (λ n. tokens_from table n 0 (drop k bs)) e
 
-after : (table : Table) (at n b : ℕ) (bs : List ℕ) → 1 ≤ n → tokens_from table (at + 1) (n - 1) bs ≡ tokens_from table (at + n) 0 (drop n (b ∷ bs))
+after : (table : Lexicon) (at n b : ℕ) (bs : List ℕ) → 1 ≤ n → tokens_from table (at + 1) (n - 1) bs ≡ tokens_from table (at + n) 0 (drop n (b ∷ bs))
 after table at n b bs h =
     let k : n ≡ suc (n - 1) = omega arith in
     let e : at + 1 + (n - 1) ≡ at + n = omega arith in
     skipped table (n - 1) (at + 1) bs ∙ ap (λ m. tokens_from table m 0 (drop (n - 1) bs)) e ∙ ap (λ m. tokens_from table (at + n) 0 (drop m (b ∷ bs))) (sym k)
 
 -- The bytes xs from the place `at` on, and what stands there.
-from_blank : (table : Table) (at n : ℕ) (xs : List ℕ) → 0 < length xs → piece table xs ≡ Blank n → (1 ≤ n) × (n ≤ length xs) × (tokens_from table at 0 xs ≡ tokens_from table (at + n) 0 (drop n xs))
+from_blank : (table : Lexicon) (at n : ℕ) (xs : List ℕ) → 0 < length xs → piece table xs ≡ Blank n → (1 ≤ n) × (n ≤ length xs) × (tokens_from table at 0 xs ≡ tokens_from table (at + n) 0 (drop n xs))
 unfolding tokens_from
 from_blank table at n [] some e = absurd (omega arith)
 from_blank table at n (b ∷ bs) some e =
     let w : (1 ≤ n) × (n ≤ length (b ∷ bs)) = subst (λ (q : Piece). IsWithin (length (b ∷ bs)) q) e (piece_within table b bs) in
     (w.0, w.1, rw (e, tokens_from) (after table at n b bs w.0))
 
-from_whole : (table : Table) (at n : ℕ) (kind : Kind) (xs : List ℕ) → 0 < length xs → piece table xs ≡ Whole kind n → (1 ≤ n) × (n ≤ length xs) × (tokens_from table at 0 xs ≡ a_token kind at n ∷ tokens_from table (at + n) 0 (drop n xs))
+from_whole : (table : Lexicon) (at n : ℕ) (kind : Kind) (xs : List ℕ) → 0 < length xs → piece table xs ≡ Whole kind n → (1 ≤ n) × (n ≤ length xs) × (tokens_from table at 0 xs ≡ a_token kind at n ∷ tokens_from table (at + n) 0 (drop n xs))
 unfolding tokens_from
 from_whole table at n kind [] some e = absurd (omega arith)
 from_whole table at n kind (b ∷ bs) some e =
     let w : (1 ≤ n) × (n ≤ length (b ∷ bs)) = subst (λ (q : Piece). IsWithin (length (b ∷ bs)) q) e (piece_within table b bs) in
     (w.0, w.1, rw (e, tokens_from) (ap (λ ts. a_token kind at n ∷ ts) (after table at n b bs w.0)))
 
-from_wrong : (table : Table) (at : ℕ) (xs : List ℕ) → 0 < length xs → piece table xs ≡ Wrong → tokens_from table at 0 xs ≡ a_token Bad at 1 ∷ []
+from_wrong : (table : Lexicon) (at : ℕ) (xs : List ℕ) → 0 < length xs → piece table xs ≡ Wrong → tokens_from table at 0 xs ≡ a_token Bad at 1 ∷ []
 unfolding tokens_from
 from_wrong table at [] some e = absurd (omega arith)
 from_wrong table at (b ∷ bs) some e = rw (e, tokens_from) refl
 
-from_end : (table : Table) (at : ℕ) (xs : List ℕ) → xs ≡ [] → tokens_from table at 0 xs ≡ []
+from_end : (table : Lexicon) (at : ℕ) (xs : List ℕ) → xs ≡ [] → tokens_from table at 0 xs ≡ []
 unfolding tokens_from
 from_end table at xs e = ap (λ ys. tokens_from table at 0 ys) e
 
 -- a place of a text, and the tokens before it
-module _ (table : Table) (bytes : List ℕ) (at : ℕ) (found all : List Token) (there : at < length bytes) (so_far : found ++ tokens_from table at 0 (drop at bytes) ≡ all) where
+module _ (table : Lexicon) (bytes : List ℕ) (at : ℕ) (found all : List Token) (there : at < length bytes) (so_far : found ++ tokens_from table at 0 (drop at bytes) ≡ all) where
   some : 0 < length (drop at bytes)
   some = omega (arith, length-drop at bytes)
 
@@ -177,6 +177,6 @@ module _ (table : Table) (bytes : List ℕ) (at : ℕ) (found all : List Token) 
   wrong_ends stands = sym (ap (λ ts. found ++ ts) (from_wrong table at (drop at bytes) some (stands_here Wrong stands))) ∙ so_far
 
 -- behind the last byte
-pub all_read : (table : Table) (bytes : List ℕ) (at : ℕ) (found all : List Token) → length bytes ≤ at → found ++ tokens_from table at 0 (drop at bytes) ≡ all → found ≡ all
+pub all_read : (table : Lexicon) (bytes : List ℕ) (at : ℕ) (found all : List Token) → length bytes ≤ at → found ++ tokens_from table at 0 (drop at bytes) ≡ all → found ≡ all
 all_read table bytes at found all end so_far =
     sym (append-nil found) ∙ sym (ap (λ ts. found ++ ts) (from_end table at (drop at bytes) (nil_from_length (drop at bytes) (omega (arith, length-drop at bytes))))) ∙ so_far

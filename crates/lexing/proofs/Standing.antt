@@ -13,9 +13,9 @@ use Rattle.lexing.specs.declared.piece.Piece.{Piece}
 use Rattle.lexing.specs.declared.piece.Piece.TheVariants.{Blank, Whole, Wrong}
 use Rattle.lexing.specs.Bytes.{is_blank, is_digit, is_hex_digit, is_letter, is_name_byte, is_comment_byte, begins_with}
 use Rattle.lexing.specs.Numbers.{is_hexadecimal, number_length, number_value}
-use Rattle.lexing.specs.Table.{Table, is_reserved, sign_length}
+use Rattle.lexing.specs.Table.{Lexicon, is_reserved, sign_length}
 use Rattle.lexing.specs.Tokens.{name_piece, number_piece, sign_piece, piece}
-use Rattle.lexing.specs.Laws.{IsSpacing, blank, comment, IsRun, IsWord, IsDecimal, IsHexadecimal, IsNumber, IsSign, IsBad, IsKind}
+use Rattle.lexing.specs.Laws.{IsSpacing, blank, comment, IsRun, IsWord, IsDecimal, IsHexadecimal, IsNumeral, IsSign, IsBad, IsKind}
 use Rattle.lexing.proofs.Scans.{and_left, and_right, sign_le}
 use Rattle.lexing.proofs.Runs.{run_at, run_own, run_unique, run_begins, run_some}
 
@@ -50,7 +50,7 @@ marked_no_decimal (suc (suc n)) rest decimal no_letter =
     let tail = All-tail (λ y. is_digit y ≡ true) 48 (120 ∷ take n rest) decimal.run.all in
     let h : is_digit 120 ≡ true = All-head (λ y. is_digit y ≡ true) 120 (take n rest) tail in absurd cc
 
-number_digit : (n b : ℕ) (bs : List ℕ) → IsNumber n (b ∷ bs) → is_digit b ≡ true
+number_digit : (n b : ℕ) (bs : List ℕ) → IsNumeral n (b ∷ bs) → is_digit b ≡ true
 number_digit n b bs number = go number.digits
   where
     go : IsDecimal n (b ∷ bs) ⊎ IsHexadecimal n (b ∷ bs) → is_digit b ≡ true
@@ -70,7 +70,7 @@ digits_at xs digit = go (is_hexadecimal xs) refl
         inr (record { marked = marked; some = omega (arith, run_some is_hex_digit (drop 2 xs) first); run = subst (λ n. IsRun is_hex_digit n (drop 2 xs)) k (run_at is_hex_digit (drop 2 xs)) })
     go false e = inl (record { some = run_some is_digit xs digit; run = run_at is_digit xs })
 
-number_length-unique : (n : ℕ) (xs : List ℕ) → IsNumber n xs → n ≡ number_length xs
+number_length-unique : (n : ℕ) (xs : List ℕ) → IsNumeral n xs → n ≡ number_length xs
 number_length-unique n xs number = go number.digits
   where
     hex_length : (t : Bool) → is_hexadecimal xs ≡ t → t ≡ true → number_length xs ≡ 2 + length (take_while is_hex_digit (drop 2 xs))
@@ -151,7 +151,7 @@ sign_own bytes sign stands = ap (λ ys. take (length sign) ys) (sign_parts bytes
 take_stands : (n : ℕ) (bytes : List ℕ) → starts_with nat_eq bytes (take n bytes) ≡ true
 take_stands n bytes = (starts_is Decides-eqb bytes (take n bytes) (starts_with nat_eq bytes (take n bytes)) refl).1 (drop n bytes) (sym (take-append-drop n bytes))
 
-sign_at : (table : Table) (bytes : List ℕ) → begins_with is_name_byte bytes ≡ false → 1 ≤ sign_length table bytes → IsSign table (sign_length table bytes) bytes
+sign_at : (table : Lexicon) (bytes : List ℕ) → begins_with is_name_byte bytes ≡ false → 1 ≤ sign_length table bytes → IsSign table (sign_length table bytes) bytes
 unfolding FindsSign
 sign_at table bytes begins some = record {
   begins = begins;
@@ -165,26 +165,26 @@ sign_at table bytes begins some = record {
     go (inl none) = absurd (omega arith)
     go (inr s) = subst (λ (xs : List ℕ). Contains table.signs xs) (sym (sign_own bytes s.0 s.2) ∙ ap (λ n. take n bytes) s.3) s.1
 
-sign-le_longest : (table : Table) (n : ℕ) (bytes : List ℕ) → IsSign table n bytes → n ≤ sign_length table bytes
+sign-le_longest : (table : Lexicon) (n : ℕ) (bytes : List ℕ) → IsSign table n bytes → n ≤ sign_length table bytes
 sign-le_longest table n bytes sign =
     let h : length (take n bytes) ≤ sign_length table bytes = All-contains (λ s. starts_with nat_eq bytes s ≡ true → length s ≤ sign_length table bytes) table.signs (take n bytes) (longest_over bytes table.signs 0).1 sign.listed (take_stands n bytes) in
     omega (arith, length-take-le n bytes sign.within, h)
 
 -- ---- a piece is what it is said to be
 
-IsRight : Table → List ℕ → Piece → Type 0
+IsRight : Lexicon → List ℕ → Piece → Type 0
 IsRight table xs (Blank n) = (m : ℕ) → IsSpacing m (drop n xs) → IsSpacing (n + m) xs
 IsRight table xs (Whole kind n) = IsKind table kind n xs × (kind ≡ Bad → ⊥)
 IsRight table xs Wrong = IsBad table xs
 
-right_if : (table : Table) (xs : List ℕ) (t : Bool) (x y : Piece) → (t ≡ true → IsRight table xs x) → (t ≡ false → IsRight table xs y) → IsRight table xs (cond t x y)
+right_if : (table : Lexicon) (xs : List ℕ) (t : Bool) (x y : Piece) → (t ≡ true → IsRight table xs x) → (t ≡ false → IsRight table xs y) → IsRight table xs (cond t x y)
 right_if table xs true x y f g = f refl
 right_if table xs false x y f g = g refl
 
 true_or_false : {P : Type 0} {t : Bool} → t ≡ true → t ≡ false → P
 true_or_false e f = absurd cc
 
-module _ (table : Table) (b : ℕ) (bs : List ℕ) (no_blank : is_blank b ≡ false) (no_comment : starts_with nat_eq (b ∷ bs) (codes "//") ≡ false) where
+module _ (table : Lexicon) (b : ℕ) (bs : List ℕ) (no_blank : is_blank b ≡ false) (no_comment : starts_with nat_eq (b ∷ bs) (codes "//") ≡ false) where
   word_right : is_letter b ≡ true → IsRight table (b ∷ bs) (name_piece table (take_while is_name_byte (b ∷ bs)))
   unfolding IsRight
   word_right letter =
@@ -209,7 +209,7 @@ module _ (table : Table) (b : ℕ) (bs : List ℕ) (no_blank : is_blank b ≡ fa
   number_right no_letter digit =
       let xs = b ∷ bs in
       let n = number_length xs in
-      let bad : ((m : ℕ) → IsNumber m xs → ⊥) → IsBad table xs = λ none. record {
+      let bad : ((m : ℕ) → IsNumeral m xs → ⊥) → IsBad table xs = λ none. record {
         no_blank = no_blank;
         no_comment = no_comment;
         no_word = λ m word. true_or_false word.begins no_letter;
@@ -243,7 +243,7 @@ module _ (table : Table) (b : ℕ) (bs : List ℕ) (no_blank : is_blank b ≡ fa
       positive : (n : ℕ) → (n ≡ 0 → ⊥) → 1 ≤ n
       positive n z = omega arith
 
-piece_right : (table : Table) (b : ℕ) (bs : List ℕ) → IsRight table (b ∷ bs) (piece table (b ∷ bs))
+piece_right : (table : Lexicon) (b : ℕ) (bs : List ℕ) → IsRight table (b ∷ bs) (piece table (b ∷ bs))
 unfolding piece IsRight
 piece_right table b bs =
     let xs = b ∷ bs in
@@ -252,14 +252,14 @@ piece_right table b bs =
     right_if table xs (is_letter b) _ _ (λ letter. word_right table b bs no_blank no_comment letter) (λ no_letter.
     right_if table xs (is_digit b) _ _ (λ digit. number_right table b bs no_blank no_comment no_letter digit) (λ no_digit. sign_right table b bs no_blank no_comment no_letter no_digit))))
 
-pub whole_is : (table : Table) (kind : Kind) (n b : ℕ) (bs : List ℕ) → piece table (b ∷ bs) ≡ Whole kind n → IsKind table kind n (b ∷ bs) × (kind ≡ Bad → ⊥)
+pub whole_is : (table : Lexicon) (kind : Kind) (n b : ℕ) (bs : List ℕ) → piece table (b ∷ bs) ≡ Whole kind n → IsKind table kind n (b ∷ bs) × (kind ≡ Bad → ⊥)
 unfolding IsRight
 whole_is table kind n b bs e = subst (λ (p : Piece). IsRight table (b ∷ bs) p) e (piece_right table b bs)
 
-pub blank_is : (table : Table) (n b : ℕ) (bs : List ℕ) → piece table (b ∷ bs) ≡ Blank n → (m : ℕ) → IsSpacing m (drop n (b ∷ bs)) → IsSpacing (n + m) (b ∷ bs)
+pub blank_is : (table : Lexicon) (n b : ℕ) (bs : List ℕ) → piece table (b ∷ bs) ≡ Blank n → (m : ℕ) → IsSpacing m (drop n (b ∷ bs)) → IsSpacing (n + m) (b ∷ bs)
 unfolding IsRight
 blank_is table n b bs e = subst (λ (p : Piece). IsRight table (b ∷ bs) p) e (piece_right table b bs)
 
-pub wrong_is : (table : Table) (b : ℕ) (bs : List ℕ) → piece table (b ∷ bs) ≡ Wrong → IsBad table (b ∷ bs)
+pub wrong_is : (table : Lexicon) (b : ℕ) (bs : List ℕ) → piece table (b ∷ bs) ≡ Wrong → IsBad table (b ∷ bs)
 unfolding IsRight
 wrong_is table b bs e = subst (λ (p : Piece). IsRight table (b ∷ bs) p) e (piece_right table b bs)

@@ -16,8 +16,8 @@ value_from base n (d ∷ ds) = value_from base (base * n + digit_value d) ds
 abbrev pub is_hexadecimal : List ℕ → Bool
 is_hexadecimal bytes = starts_with nat_eq bytes (codes "0x") && begins_with is_hex_digit (drop 2 bytes)
 
--- The length of the number with which bytes begin: `0x` and the longest run of hexadecimal digits, or else the longest
--- run of decimal digits. Of `0x` without a digit, that is 1.
+-- The length of the number with which bytes begin: `0x` and the longest run of hexadecimal digits,
+-- or else the longest run of decimal digits. Of `0x` without a digit, that is 1.
 abbrev pub number_length : List ℕ → ℕ
 number_length bytes = if is_hexadecimal bytes then 2 + length (take_while is_hex_digit (drop 2 bytes)) else length (take_while is_digit bytes)
 

@@ -8,12 +8,12 @@ use Rattle.lexing.specs.declared.piece.Piece.{Piece}
 use Rattle.lexing.specs.declared.piece.Piece.TheVariants.{Blank, Whole, Wrong}
 use Rattle.lexing.specs.Bytes.{is_blank, is_digit, is_letter, is_name_byte, is_comment_byte, begins_with}
 use Rattle.lexing.specs.Numbers.{number_length, number_value}
-use Rattle.lexing.specs.Table.{Table, is_reserved, sign_length}
+use Rattle.lexing.specs.Table.{Lexicon, is_reserved, sign_length}
 
 -- ---- what stands at a place
 
 -- a run of letters and digits that begins with a letter: at most 32 bytes
-abbrev pub name_piece : Table → List ℕ → Piece
+abbrev pub name_piece : Lexicon → List ℕ → Piece
 name_piece table name =
     if nat_le (length name) 32 then (if is_reserved table name then Whole Reserved (length name) else Whole Name (length name)) else Wrong
 
@@ -24,12 +24,12 @@ number_piece bytes =
     if nat_lt (number_value (take (number_length bytes) bytes)) (2 ^ 64) then Whole Number (number_length bytes) else Wrong)
 
 -- the longest sign
-abbrev pub sign_piece : Table → List ℕ → Piece
+abbrev pub sign_piece : Lexicon → List ℕ → Piece
 sign_piece table bytes = if sign_length table bytes == 0 then Wrong else Whole Sign (sign_length table bytes)
 
--- What stands where a text goes on with these bytes, and how long it is: blanks or a comment, a token, or nothing
--- that a text may have.
-unfoldable pub piece : Table → List ℕ → Piece
+-- What stands where a text goes on with these bytes, and how long it is: blanks or a comment, a
+-- token, or nothing that a text may have.
+unfoldable pub piece : Lexicon → List ℕ → Piece
 piece table [] = Wrong
 piece table (b ∷ bs) =
     if is_blank b then Blank 1 else (
@@ -43,8 +43,9 @@ piece table (b ∷ bs) =
 abbrev pub a_token : Kind → ℕ → ℕ → Token
 a_token kind at len = record { kind = kind; at = at; len = len }
 
--- The tokens from the place `at` on, where the first `skip` bytes belong to the piece before. A bad token ends them.
-unfoldable pub tokens_from : Table → ℕ → ℕ → List ℕ → List Token
+-- The tokens from the place `at` on, where the first `skip` bytes belong to the piece before. A bad
+-- token ends them.
+unfoldable pub tokens_from : Lexicon → ℕ → ℕ → List ℕ → List Token
 tokens_from table at skip [] = []
 tokens_from table at (suc skip) (b ∷ bs) = tokens_from table (at + 1) skip bs
 tokens_from table at zero (b ∷ bs) = elim (piece table (b ∷ bs)) [
@@ -54,7 +55,7 @@ tokens_from table at zero (b ∷ bs) = elim (piece table (b ∷ bs)) [
 ]
 
 -- the tokens of a text
-abbrev pub tokens_of : Table → List ℕ → List Token
+abbrev pub tokens_of : Lexicon → List ℕ → List Token
 tokens_of table bytes = tokens_from table 0 0 bytes
 
 -- the bytes of a token, those that lie within the text

@@ -10,11 +10,12 @@ use Rattle.lexing.specs.Numbers.{written_number}
 use Rattle.lexing.specs.Tokens.{token_bytes}
 
 -- the first that is there
-abbrev pub or_else : {A W : Type 0} → (A → W) → Option A → W → W
-or_else make None next = next
-or_else make (Some a) next = make a
+abbrev pub or_word : {A W : Type 0} → (A → W) → Option A → W → W
+or_word make None next = next
+or_word make (Some a) next = make a
 
--- the word that a text of some kind is, where the language tells what its reserved words and its signs are
+-- the word that a text of some kind is, where the language tells what its reserved words and its
+-- signs are
 abbrev pub word_of : {S K : Type 0} → (List ℕ → Word S K) → (List ℕ → Word S K) → Kind → List ℕ → Word S K
 word_of reserved sign Name text = Named text
 word_of reserved sign Reserved text = reserved text

@@ -2,7 +2,7 @@
 use Rattle.std.specs.Prelude.{◌≡◌, refl, ◌^◌, ◌-◌, [], ◌∷◌, codes}
 use Rattle.lexing.specs.declared.token.Kind.TheVariants.{Name, Reserved, Number, Sign, Bad}
 use Rattle.lexing.specs.Numbers.{number_length, number_value, written_number}
-use Rattle.lexing.specs.Table.{Table, sign_length}
+use Rattle.lexing.specs.Table.{Lexicon, sign_length}
 use Rattle.lexing.specs.Tokens.{a_token, piece, tokens_from, tokens_of, token_bytes}
 
 leading_zeros : number_value (codes "007") ≡ 7
@@ -20,7 +20,7 @@ too_great = refl
 no_hex_digit : number_length (codes "0xg") ≡ 1
 no_hex_digit = refl
 
-abbrev shifts : Table
+abbrev shifts : Lexicon
 shifts = record { reserved = codes "if" ∷ []; signs = codes ">" ∷ codes ">>>" ∷ codes ">>" ∷ codes ">=" ∷ [] }
 
 longest_sign : sign_length shifts (codes ">>>=") ≡ 3

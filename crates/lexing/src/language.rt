@@ -3,7 +3,7 @@
 ghost use Rattle.std.specs.Prelude.{◌≡◌, map};
 ghost use Rattle.std.specs.List.{list_any};
 ghost use Rattle.std.specs.Str.{bytes_eq};
-ghost use Rattle.lexing.specs.Table.{Table, is_reserved, sign_length};
+ghost use Rattle.lexing.specs.Table.{Lexicon, is_reserved, sign_length};
 
 use std::marker::Model;
 
@@ -16,9 +16,9 @@ pub struct Language<'a> {
 
 impl<'a> Model for Language<'a> {
     ghost use Rattle.std.specs.Prelude.{map};
-    ghost use Rattle.lexing.specs.Table.{Table};
+    ghost use Rattle.lexing.specs.Table.{Lexicon};
 
-    ghost Value = { Table };
+    ghost Value = { Lexicon };
 
     ghost view = { λ language. record {
       reserved = map (λ word. word.now) language.reserved.now;

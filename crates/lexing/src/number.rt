@@ -63,8 +63,8 @@ pub fn number_value_of(bytes: &[u8]) -> Option<u64>
     }
 }
 
-/// The value of the bytes of a number token. For other bytes it is what they would be as digits, and `2^64 - 1`
-/// at most.
+/// The value of the bytes of a number token. For other bytes it is what they would be as digits,
+/// and `2^64 - 1` at most.
 pub fn number_of(bytes: &[u8]) -> u64
     ensures { result ≡ written_number bytes.now }
 {

@@ -9,8 +9,8 @@ use crate::{Kind, Language, Token};
 use rec_bits::{Items, NoMemory};
 use std::alloc::Global;
 
-/// The tokens of a text, up to the first place where none begins: there one token of kind `Bad` ends
-/// them. The only error is want of memory.
+/// The tokens of a text, up to the first place where none begins: there one token of kind `Bad`
+/// ends them. The only error is want of memory.
 pub fn tokens(alloc: Global, language: &Language, bytes: &[u8]) -> Result<Items<Token>, NoMemory>
     requires { length bytes.now < 2 ^ 32 }
     ensures exact { IfOk result (λ list. list ≡ tokens_of language.now bytes.now) }

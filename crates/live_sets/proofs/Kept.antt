@@ -10,7 +10,7 @@ use Rattle.net_model.specs.Patterns.{Pattern, IsPattern}
 use Rattle.net_model.proofs.KeptRules.{few_storages, sound_of}
 use Rattle.net_model.specs.Transfers.{move_at}
 use Rattle.sym_expr.specs.declared.pool.Node.{Node}
-use Rattle.transfer_set.specs.Rows.{row_pattern, told_patterns}
+use Rattle.transfer_set.specs.Rows.{row_pattern, row_patterns}
 use Rattle.transfer_set.specs.Ready.{IsReady}
 use Rattle.transfer_set.specs.Tables.{Table, IsRow}
 use Rattle.transfer_set.specs.declared.row.Row.{Row}
@@ -19,7 +19,7 @@ use Rattle.form_model.specs.Effects.{Location, register, reads, move_reads}
 use Rattle.form_model.specs.Live.{group_reads, group_writes, live_before, regs_of}
 use Rattle.word_fit.specs.Steps.{step_operation}
 use Rattle.word_fit.proofs.StepRows.{row_operation, operation_is}
-use Rattle.live_sets.specs.Listed.{IsListed, IsNumbered}
+use Rattle.live_sets.specs.Listed.{IsListed, HasRowIds}
 use Rattle.live_sets.proofs.Bits.{regs_of_past}
 use Rattle.net_model.proofs.Far.{reads_far}
 use Rattle.word_fit.proofs.Occurring.{move_reads_occurs}
@@ -28,9 +28,9 @@ use Rattle.std.proofs.lemmas.List.Elements.{All-weaker}
 module _ (netlist : Netlist) (order : List ℕ) (keeps : KeepsRules netlist order) (pool : List Node) (table : Table) (listed : IsListed netlist pool table) where
   pattern_at : (i : ℕ) (row : Row) → slice_get table.rows i ≡ Some row → IsPattern netlist (row_pattern pool row)
   pattern_at i row e =
-      let at : slice_get (told_patterns pool table.rows) i ≡ Some (row_pattern pool row) = slice_get-map (row_pattern pool) table.rows i ∙ some (slice_get table.rows i) e in
-      subst (λ x. IsPattern netlist x) (get_or_from_slice_get (told_patterns pool table.rows) i (row_pattern pool row) (row_pattern pool row) at)
-      (listed.each i (row_pattern pool row) (slice_get_within (told_patterns pool table.rows) i (row_pattern pool row) at))
+      let at : slice_get (row_patterns pool table.rows) i ≡ Some (row_pattern pool row) = slice_get-map (row_pattern pool) table.rows i ∙ some (slice_get table.rows i) e in
+      subst (λ x. IsPattern netlist x) (get_or_from_slice_get (row_patterns pool table.rows) i (row_pattern pool row) (row_pattern pool row) at)
+      (listed.each i (row_pattern pool row) (slice_get_within (row_patterns pool table.rows) i (row_pattern pool row) at))
     where
       some : (o : Option Row) → o ≡ Some row → elim o as (λ _. Option Pattern) [ None ↦ None | Some x ↦ Some (row_pattern pool x) ] ≡ Some (row_pattern pool row)
       some o h = ap (λ (z : Option Row). elim z as (λ _. Option Pattern) [ None ↦ None | Some x ↦ Some (row_pattern pool x) ]) h
@@ -82,5 +82,5 @@ module _ (netlist : Netlist) (order : List ℕ) (keeps : KeepsRules netlist orde
 pub listed_of : (netlist : Netlist) (book : Diagrams) (pool : List Node) (table : Table) → IsReady netlist book pool table → IsListed netlist pool table
 listed_of netlist book pool table r = record {
   each = r.patterns.each;
-  rows = All-weaker (IsRow netlist book pool) (IsNumbered pool) (λ row h. record { addr = h.addr; value = h.value }) table.rows r.patterns.rows;
+  rows = All-weaker (IsRow netlist book pool) (HasRowIds pool) (λ row h. record { addr = h.addr; value = h.value }) table.rows r.patterns.rows;
 }

@@ -8,7 +8,8 @@ use Rattle.form_model.specs.Live.{regs_of}
 use Rattle.live_sets.specs.declared.locations.Location.{Location as CodeLocation}
 use Rattle.live_sets.specs.declared.locations.Location.TheVariants.{Register, Cell, Cells}
 
--- for each of the first ids of a pool the registers below 16 that its expression reads, under any setting
+-- for each of the first ids of a pool the registers below 16 that its expression reads, under any
+-- setting
 abbrev pub AreReads : List Node → List ℕ → Type 0
 AreReads pool sets = (id setting r : ℕ) → id < length sets → r < 16 → regs_of (slice_index sets id) r ≡ term_reads setting (term_at pool id) (register r)
 
@@ -17,7 +18,7 @@ abbrev pub AreSeen : List Node → ℕ → Location → List Bool → Type 0
 AreSeen pool setting location flags = (id : ℕ) → id < length flags → slice_index_or flags id false ≡ term_reads setting (term_at pool id) location
 
 -- a location as the code tells it
-abbrev pub told_location : CodeLocation → Location
-told_location (Register id) = register id
-told_location (Cell address) = cell_at address
-told_location Cells = some_cell
+abbrev pub read_location : CodeLocation → Location
+read_location (Register id) = register id
+read_location (Cell address) = cell_at address
+read_location Cells = some_cell

@@ -18,8 +18,8 @@ use sym_expr::Pool;
 use transfer_set::Patterns;
 use word_fit::Group;
 
-/// The registers that are live before a group, where `live` are live after it. `sets` has the registers that the pool's expressions read, as
-/// `reads_table` gives them.
+/// The registers that are live before a group, where `live` are live after it. `sets` has the
+/// registers that the pool's expressions read, as `reads_table` gives them.
 pub fn live_between(
     checked: &Checked,
     patterns: &Patterns,
@@ -51,8 +51,8 @@ fn blank(alloc: Global, groups: &[Group]) -> Result<Items<RegSet>, NoMemory>
     Ok(sets)
 }
 
-/// For each group the registers that are live after it, where `after` are live after the last. `sets` has the registers that the pool's
-/// expressions read, as `reads_table` gives them.
+/// For each group the registers that are live after it, where `after` are live after the last.
+/// `sets` has the registers that the pool's expressions read, as `reads_table` gives them.
 pub fn live_with(
     alloc: Global,
     checked: &Checked,
@@ -85,9 +85,11 @@ pub fn live_with(
     Ok(lives)
 }
 
-/// For each group the registers that are live after it, where `after` are live after the last: those that a later group reads before another
-/// writes them, and those of `after` that no later group writes. Sets of registers have bit `r` for the register of number `r`. The table's
-/// patterns are the netlist's, and its ids are the pool's, as `law_of_lists` says of a table over a book. Want of memory is the only refusal.
+/// For each group the registers that are live after it, where `after` are live after the last:
+/// those that a later group reads before another writes them, and those of `after` that no later
+/// group writes. Sets of registers have bit `r` for the register of number `r`. The table's
+/// patterns are the netlist's, and its ids are the pool's, as `law_of_lists` says of a table over a
+/// book. Want of memory is the only refusal.
 pub fn live(
     alloc: Global,
     checked: &Checked,

@@ -3,11 +3,11 @@
 ghost use Rattle.std.specs.Prelude.{◌≡◌, ◌<◌, ◌≤◌, true, false, length, MatchOption};
 ghost use Rattle.rec_bits.specs.Operators.{sext_of};
 ghost use Rattle.net_model.specs.Meaning.{mean};
-ghost use Rattle.net_model.specs.Symbolic.{blank};
+ghost use Rattle.net_model.specs.Symbolic.{no_state};
 ghost use Rattle.sym_expr.specs.Pools.{term_at};
 ghost use Rattle.form_model.specs.Shapes.{is_field, is_shape};
 ghost use Rattle.form_model.specs.Effects.{may_see, location_at};
-ghost use Rattle.live_sets.specs.Reading.{told_location};
+ghost use Rattle.live_sets.specs.Reading.{read_location};
 
 use rec_bits::slice;
 use sym_expr::{ExprId, Node, Pool};
@@ -41,7 +41,7 @@ fn wide_sext(value: u64, from: u8, to: u8) -> u128
 fn field_value(pool: &Pool, id: ExprId, setting: u64) -> Option<u64>
     requires { id < length pool.now }
     ensures { MatchOption result (is_field (term_at pool.now id) ≡ false)
-        (λ value. (is_field (term_at pool.now id) ≡ true) × (mean (term_at pool.now id) blank setting ≡ value)) }
+        (λ value. (is_field (term_at pool.now id) ≡ true) × (mean (term_at pool.now id) no_state setting ≡ value)) }
 {
     match pool.node(id) {
         Node::Word(_) => Some(setting),
@@ -57,7 +57,7 @@ fn field_value(pool: &Pool, id: ExprId, setting: u64) -> Option<u64>
 fn shape_value(pool: &Pool, id: ExprId, setting: u64) -> Option<u128>
     requires { id < length pool.now }
     ensures { MatchOption result (is_shape (term_at pool.now id) ≡ false)
-        (λ value. (is_shape (term_at pool.now id) ≡ true) × (mean (term_at pool.now id) blank setting ≡ value)) }
+        (λ value. (is_shape (term_at pool.now id) ≡ true) × (mean (term_at pool.now id) no_state setting ≡ value)) }
 {
     match pool.node(id) {
         Node::Const { value, .. } => Some(u128::from(value)),
@@ -79,7 +79,7 @@ fn shape_value(pool: &Pool, id: ExprId, setting: u64) -> Option<u128>
 // The cell at an address, where a setting settles it.
 pub(crate) fn cell_at(pool: &Pool, addr: ExprId, setting: u64) -> Location
     requires { addr < length pool.now }
-    ensures { told_location result ≡ location_at setting (term_at pool.now addr) }
+    ensures { read_location result ≡ location_at setting (term_at pool.now addr) }
 {
     match shape_value(pool, addr, setting) {
         Some(value) => Location::Cell(value),
@@ -89,7 +89,7 @@ pub(crate) fn cell_at(pool: &Pool, addr: ExprId, setting: u64) -> Location
 
 // Whether a read at the first location may see a write at the second.
 pub(crate) fn may_see(read: Location, written: Location) -> bool
-    ensures { result ≡ may_see (told_location read) (told_location written) }
+    ensures { result ≡ may_see (read_location read) (read_location written) }
 {
     match (read, written) {
         (_, Location::Register(_)) => false,

@@ -5,7 +5,7 @@ ghost use Rattle.std.specs.List.{slice_index_or};
 ghost use Rattle.sym_expr.specs.Pools.{term_at};
 ghost use Rattle.form_model.specs.Effects.{register, term_reads};
 ghost use Rattle.form_model.specs.Live.{regs_of};
-ghost use Rattle.live_sets.specs.Reading.{AreReads, AreSeen, told_location};
+ghost use Rattle.live_sets.specs.Reading.{AreReads, AreSeen, read_location};
 
 use crate::locations::{Location, cell_at, may_see};
 use crate::regs::{none, one, union};
@@ -71,8 +71,8 @@ pub(crate) fn flag_at(flags: &[bool], id: ExprId) -> bool
 fn node_sees(pool: &Pool, setting: u64, location: Location, flags: &[bool], id: ExprId) -> bool
     requires within { id < length pool.now }
     requires long { length flags.now ≡ id }
-    requires seen { AreSeen pool.now setting (told_location location) flags.now }
-    ensures { result ≡ term_reads setting (term_at pool.now id) (told_location location) }
+    requires seen { AreSeen pool.now setting (read_location location) flags.now }
+    ensures { result ≡ term_reads setting (term_at pool.now id) (read_location location) }
 {
     match pool.node(id) {
         Node::Word(_) | Node::Const { .. } => false,
@@ -94,7 +94,7 @@ pub(crate) fn seen_table(
     location: Location,
 ) -> Result<Items<bool>, NoMemory>
     ensures long { IfOk result (λ flags. length flags ≡ length pool.now) }
-    ensures seen { IfOk result (λ flags. AreSeen pool.now setting (told_location location) flags) }
+    ensures seen { IfOk result (λ flags. AreSeen pool.now setting (read_location location) flags) }
 {
     let mut flags = Items::new(alloc);
     for id in 0..pool.len() {

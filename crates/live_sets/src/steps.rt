@@ -5,8 +5,8 @@ ghost use Rattle.sym_expr.specs.declared.pool.Node.{Node};
 ghost use Rattle.form_model.specs.Effects.{reads, register, same_destination, location_of, term_reads, writes};
 ghost use Rattle.form_model.specs.Live.{group_reads, group_writes, regs_of};
 ghost use Rattle.word_fit.specs.Steps.{step_operation};
-ghost use Rattle.live_sets.specs.Listed.{IsListed, IsNumbered};
-ghost use Rattle.live_sets.specs.Reading.{AreReads, told_location};
+ghost use Rattle.live_sets.specs.Listed.{IsListed, HasRowIds};
+ghost use Rattle.live_sets.specs.Reading.{AreReads, read_location};
 
 use crate::locations::{Location, cell_at};
 use crate::reads::{flag_at, seen_table, set_at};
@@ -21,7 +21,7 @@ use word_fit::{Written, stores_memory, written_by};
 
 // The registers that a step reads.
 fn step_reads(patterns: &Patterns, _pool: &Pool, sets: &[RegSet], step: Step) -> RegSet
-    requires numbered { All (IsNumbered _pool.now) patterns.now.rows }
+    requires numbered { All (HasRowIds _pool.now) patterns.now.rows }
     requires long { length sets.now ≡ length _pool.now }
     requires reads { AreReads _pool.now sets.now }
     ensures { (r : ℕ) → r < 16 → regs_of result r ≡ reads (step_operation _pool.now patterns.now step) (register r) }
@@ -45,7 +45,7 @@ fn step_writes(patterns: &Patterns, step: Step) -> RegSet
 
 // The registers that a group reads.
 pub(crate) fn reads_of(patterns: &Patterns, pool: &Pool, sets: &[RegSet], group: &[Step]) -> RegSet
-    requires numbered { All (IsNumbered pool.now) patterns.now.rows }
+    requires numbered { All (HasRowIds pool.now) patterns.now.rows }
     requires long { length sets.now ≡ length pool.now }
     requires reads { AreReads pool.now sets.now }
     ensures { (r : ℕ) → r < 16 → regs_of result r ≡ group_reads (step_operation pool.now patterns.now) group.now r }
@@ -69,10 +69,11 @@ pub(crate) fn writes_of(patterns: &Patterns, group: &[Step]) -> RegSet
     }
 }
 
-// The location that a step writes. A pattern that isn't of the table stands for one that keeps the first storage.
+// The location that a step writes. A pattern that isn't of the table stands for one that keeps the
+// first storage.
 fn location_of_step(patterns: &Patterns, pool: &Pool, step: Step) -> Location
-    requires { All (IsNumbered pool.now) patterns.now.rows }
-    ensures { told_location result ≡ location_of (step_operation pool.now patterns.now step) }
+    requires { All (HasRowIds pool.now) patterns.now.rows }
+    ensures { read_location result ≡ location_of (step_operation pool.now patterns.now step) }
 {
     match patterns.storage_of(step.pattern) {
         None => Location::Register(0),
@@ -91,8 +92,8 @@ fn sees(
     reader: Step,
     location: Location,
 ) -> Result<bool, NoMemory>
-    requires { All (IsNumbered pool.now) patterns.now.rows }
-    ensures { IfOk result (λ seen. seen ≡ reads (step_operation pool.now patterns.now reader) (told_location location)) }
+    requires { All (HasRowIds pool.now) patterns.now.rows }
+    ensures { IfOk result (λ seen. seen ≡ reads (step_operation pool.now patterns.now reader) (read_location location)) }
 {
     let flags = seen_table(alloc, pool, reader.setting, location)?;
     match patterns.expr_of(reader.pattern) {
@@ -104,8 +105,9 @@ fn sees(
     }
 }
 
-/// Whether the first step may read what the second one writes. A read and a write of the memory at addresses that their settings settle, to
-/// two different numbers, don't count. `sets` has the registers that the pool's expressions read, as `reads_table` gives them.
+/// Whether the first step may read what the second one writes. A read and a write of the memory at
+/// addresses that their settings settle, to two different numbers, don't count. `sets` has the
+/// registers that the pool's expressions read, as `reads_table` gives them.
 pub fn touches(
     alloc: Global,
     checked: &Checked,
@@ -118,7 +120,8 @@ pub fn touches(
     requires listed { IsListed checked.now.netlist pool.now patterns.now }
     requires long { length sets.now ≡ length pool.now }
     requires reads { AreReads pool.now sets.now }
-    ensures { IfOk result (λ read. read ≡ reads (step_operation pool.now patterns.now reader) (location_of (step_operation pool.now patterns.now writer))) }
+    ensures { IfOk result (λ read.
+        read ≡ reads (step_operation pool.now patterns.now reader) (location_of (step_operation pool.now patterns.now writer))) }
 {
     let _netlist = checked.netlist();
     match location_of_step(patterns, pool, writer) {
@@ -130,7 +133,8 @@ pub fn touches(
     }
 }
 
-// The storage of a step. A pattern that isn't of the table stands for one that keeps the first storage.
+// The storage of a step. A pattern that isn't of the table stands for one that keeps the first
+// storage.
 fn storage_of(patterns: &Patterns, step: Step) -> u32
     ensures { (pool : List Node) → result ≡ (step_operation pool patterns.now step).storage }
 {
@@ -142,7 +146,8 @@ fn storage_of(patterns: &Patterns, step: Step) -> u32
 
 /// Whether two steps have one destination: a register, or the memory.
 pub fn shares(patterns: &Patterns, left: Step, right: Step) -> bool
-    ensures { (pool : List Node) → result ≡ same_destination (step_operation pool patterns.now left) (step_operation pool patterns.now right) }
+    ensures { (pool : List Node) →
+        result ≡ same_destination (step_operation pool patterns.now left) (step_operation pool patterns.now right) }
 {
     if stores_memory(patterns, left) {
         stores_memory(patterns, right)

@@ -6,8 +6,8 @@ use Rattle.std.proofs.lemmas.List.{length-set, length_push}
 use Rattle.net_model.specs.Depends.{Among, Depends, direct, via}
 use Rattle.rec_bits.proofs.Lists.{all_weaker}
 use Rattle.net_model.proofs.Acyclic.{all_among}
-use Rattle.net_check.specs.Graphs.{named_in}
-use Rattle.net_check.specs.Components.{mark_at, MetAt, IsDone, Reaches, Uncut, SeenFrom, IsSearch, IsMerged, IsIndexed, IsComplete, IsCompleting, Rising, Later, work}
+use Rattle.net_check.specs.Inner.Graphs.{named_in}
+use Rattle.net_check.specs.Inner.Components.{mark_at, MetAt, IsDone, Reaches, Uncut, SeenFrom, IsSearch, IsMerged, IsIndexed, IsComplete, IsCompleting, Rising, Later, work}
 use Rattle.net_check.specs.declared.cycle.Mark.{Mark}
 use Rattle.net_check.specs.declared.cycle.Mark.TheVariants.{New, Met, Done}
 use Rattle.net_check.specs.declared.cycle.Search.{Search}

@@ -3,9 +3,9 @@ use Rattle.std.proofs.Common.{◌≡◌, ◌≢◌, ℕ, ◌<◌, ◌⊎◌, inl
 use Rattle.std.specs.List.{AllByRecursion}
 use Rattle.std.proofs.lemmas.List.{length-replicate, get_or_past}
 use Rattle.std.proofs.lemmas.Bool.{cases_lt}
-use Rattle.net_model.specs.Order.{place_of}
-use Rattle.net_check.specs.Graphs.{named_in}
-use Rattle.net_check.specs.Walk.{stage_at, unplaced, IsWalk, Later, IsOrdering}
+use Rattle.net_model.specs.Order.{position_of}
+use Rattle.net_check.specs.Inner.Graphs.{named_in}
+use Rattle.net_check.specs.Inner.Walk.{stage_at, unplaced, IsWalk, Later, IsOrdering}
 use Rattle.net_check.specs.declared.walk.Stage.{Stage}
 use Rattle.net_check.specs.declared.walk.Stage.TheVariants.{New, Open, Placed}
 use Rattle.net_check.proofs.Walks.{opened, among_last, among_old, none_unplaced, set_cases}
@@ -69,7 +69,7 @@ module _ (graph : List (List ℕ)) (stages : List Stage) (path order : List ℕ)
   all_placed : (m : ℕ) → m < length graph → stage_at stages m ≡ Placed
   all_placed m l = is_placed m (stage_at stages m) refl l
 
-  falls_at : (m : ℕ) → AllByRecursion (λ d. place_of order d < place_of order m) (named_in graph m)
+  falls_at : (m : ℕ) → AllByRecursion (λ d. position_of order d < position_of order m) (named_in graph m)
   falls_at m = elim (cases_lt m (length graph)) [
     | inl l ↦ w.falls m (all_placed m l)
     | inr g ↦ rw (get_or_past graph m [] g) tt

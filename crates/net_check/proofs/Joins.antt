@@ -5,8 +5,8 @@ use Rattle.std.proofs.lemmas.Bool.{cases_lt, cases_eq}
 use Rattle.std.proofs.lemmas.List.{length-set}
 use Rattle.net_model.specs.Depends.{Among, direct}
 use Rattle.rec_bits.proofs.Lists.{all_weaker}
-use Rattle.net_check.specs.Graphs.{named_in}
-use Rattle.net_check.specs.Components.{mark_at, MetAt, IsDone, Reaches, Uncut, SeenFrom, IsSearch, IsMerged, Later, work}
+use Rattle.net_check.specs.Inner.Graphs.{named_in}
+use Rattle.net_check.specs.Inner.Components.{mark_at, MetAt, IsDone, Reaches, Uncut, SeenFrom, IsSearch, IsMerged, Later, work}
 use Rattle.net_check.specs.declared.cycle.Mark.{Mark}
 use Rattle.net_check.specs.declared.cycle.Mark.TheVariants.{New, Met, Done}
 use Rattle.net_check.proofs.Walks.{among_last, among_parts, take_more, take_short}

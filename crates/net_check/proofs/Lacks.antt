@@ -6,8 +6,9 @@ use Rattle.net_model.specs.declared.hardware.Code.{Code}
 use Rattle.net_model.specs.declared.hardware.Storage.{Storage}
 use Rattle.net_model.specs.declared.hardware.Storage.TheVariants.{Register, Memory}
 use Rattle.net_model.specs.Nets.{counter_of, counter_width, storage_bits}
-use Rattle.net_model.specs.CheckedRules.{IsWidth, StorageKeeps, IsCounter, IsReached, HasCounter, HasSizes, IsWellFormed, memory_count, code_size, memory_addr_width}
-use Rattle.net_check.specs.Roles.{lone_from, IsShape}
+use Rattle.net_model.specs.CheckedRules.{StorageKeeps, IsCounter, IsAddressed, HasCounter, HasSizes, IsWellFormed, memory_count, code_size, memory_addr_width}
+use Rattle.rec_bits.specs.Operators.{IsWidth}
+use Rattle.net_check.specs.Inner.Roles.{lone_from, IsShape}
 use Rattle.net_check.specs.declared.role.Shape.{Shape}
 
 some_met : (s t : Shape) (storages : List Storage) → lone_from (Some s) storages ≡ Some t → (memory_count storages ≡ 0) × (t ≡ s)
@@ -63,8 +64,8 @@ addr_wide netlist [] h e = absurd (omega arith)
 addr_wide netlist (Register name width input when ∷ storages) h e = addr_wide netlist storages h.1 e
 addr_wide netlist (Memory name width size addr_width value addr when ∷ storages) h e = h.0.1
 
-reached_as : (a b m n : ℕ) → a ≡ b → m ≡ n → IsReached a m → IsReached b n
-reached_as a b m n e f h = subst (λ k. IsReached k n) e (subst (λ k. IsReached a k) f h)
+reached_as : (a b m n : ℕ) → a ≡ b → m ≡ n → IsAddressed a m → IsAddressed b n
+reached_as a b m n e f h = subst (λ k. IsAddressed k n) e (subst (λ k. IsAddressed a k) f h)
 
 -- what is found of a netlist with one code and one memory
 module _ (netlist : Netlist) (formed : IsWellFormed netlist) (code : Code) (one : length netlist.codes ≡ 1) (is : code ≡ get_or netlist.codes 0 code) (memory : Shape) (lone : lone_from None netlist.storages ≡ Some memory) where
@@ -90,10 +91,10 @@ module _ (netlist : Netlist) (formed : IsWellFormed netlist) (code : Code) (one 
     bits_are : counter_width netlist ≡ bits
     bits_are = ap (λ n. storage_bits (slice_get netlist.storages n)) named_counter ∙ counter.1
 
-    pub sizes_are : HasSizes netlist → IsReached code.words bits × IsReached memory.size memory.addr_width
+    pub sizes_are : HasSizes netlist → IsAddressed code.words bits × IsAddressed memory.size memory.addr_width
     sizes_are h =
         (reached_as _ _ _ _ (size_is netlist.codes code one is) bits_are h.0, reached_as _ _ _ _ shape.size shape.addr_width h.1)
 
-    pub sizes_of : IsReached code.words bits × IsReached memory.size memory.addr_width → HasSizes netlist
+    pub sizes_of : IsAddressed code.words bits × IsAddressed memory.size memory.addr_width → HasSizes netlist
     sizes_of h =
         (reached_as _ _ _ _ (sym (size_is netlist.codes code one is)) (sym bits_are) h.0, reached_as _ _ _ _ (sym shape.size) (sym shape.addr_width) h.1)

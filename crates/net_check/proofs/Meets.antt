@@ -5,8 +5,8 @@ use Rattle.std.proofs.lemmas.Bool.{cases_lt, cases_eq}
 use Rattle.std.proofs.lemmas.List.{length-set, length_push, get_or_push}
 use Rattle.net_model.specs.Depends.{Among}
 use Rattle.rec_bits.proofs.Lists.{all_weaker}
-use Rattle.net_check.specs.Graphs.{named_in}
-use Rattle.net_check.specs.Components.{mark_at, MetAt, IsDone, Reaches, Uncut, SeenFrom, Climbs, IsSearch, Later, work}
+use Rattle.net_check.specs.Inner.Graphs.{named_in}
+use Rattle.net_check.specs.Inner.Components.{mark_at, MetAt, IsDone, Reaches, Uncut, SeenFrom, Climbs, IsSearch, Later, work}
 use Rattle.net_check.specs.declared.cycle.Mark.{Mark}
 use Rattle.net_check.specs.declared.cycle.Mark.TheVariants.{New, Met, Done}
 use Rattle.net_check.proofs.Walks.{among_old, among_last, among_parts}

@@ -12,10 +12,10 @@ use Rattle.net_model.specs.declared.hardware.Gate.TheVariants.{Word, Reg, Read, 
 use Rattle.net_model.specs.Nets.{width_at, row_nets, driver_nets, gate_nets, nets_of}
 use Rattle.net_model.specs.Widths.{RowsFit, RestFits, DriversFit}
 use Rattle.net_model.specs.Depends.{IsLeastOnCycle, named_by}
-use Rattle.net_model.specs.Order.{place_of, IsOrder}
+use Rattle.net_model.specs.Order.{position_of, IsOrder}
 use Rattle.net_model.specs.CheckedRules.{ReadKeeps, GateKeeps, NetKeeps, IsWellFormed}
-use Rattle.net_check.specs.Graphs.{named_in, InRange}
-use Rattle.net_check.specs.Walk.{IsOrdering}
+use Rattle.net_check.specs.Inner.Graphs.{named_in, InRange}
+use Rattle.net_check.specs.Inner.Walk.{IsOrdering}
 
 abbrev pub lists_of : List Net → List (List ℕ)
 lists_of nets = map (λ (net : Net). gate_nets net.gate) nets
@@ -83,7 +83,7 @@ module _ (netlist : Netlist) where
       long = o.long ∙ same_length;
       nets = λ i h. omega (arith, o.nets i h, same_length);
       places = λ n h. o.places n (omega (arith, h, same_length));
-      falls = λ n. subst (λ (ns : List ℕ). AllByRecursion (λ m. place_of order m < place_of order n) ns) (ap (λ (f : ℕ → List ℕ). f n) (named_is netlist graph e)) (o.falls n);
+      falls = λ n. subst (λ (ns : List ℕ). AllByRecursion (λ m. position_of order m < position_of order n) ns) (ap (λ (f : ℕ → List ℕ). f n) (named_is netlist graph e)) (o.falls n);
     }
 
     pub least_is : (n : ℕ) → IsLeastOnCycle (named_in graph) n → IsLeastOnCycle (named_by netlist) n

@@ -2,8 +2,8 @@
 use Rattle.std.proofs.Common.{◌≡◌, ◌≢◌, false, ℕ, ◌<◌, List, [], ◌∷◌, length, replicate, slice_index, refl, sym, ap, ◌∙◌, subst, arith, zero, suc}
 use Rattle.std.proofs.lemmas.List.{get_or-set_same}
 use Rattle.net_model.specs.Depends.{Among, Depends, direct, via}
-use Rattle.net_check.specs.Graphs.{named_in}
-use Rattle.net_check.specs.Components.{mark_at, on_cycle, IsDone, Reaches, IsSearch, IsMet, IsTold}
+use Rattle.net_check.specs.Inner.Graphs.{named_in}
+use Rattle.net_check.specs.Inner.Components.{mark_at, on_cycle, IsDone, Reaches, IsSearch, IsMet, AreMarked}
 use Rattle.net_check.specs.declared.cycle.Mark.{Mark}
 use Rattle.net_check.specs.declared.cycle.Mark.TheVariants.{New, Met, Done}
 use Rattle.net_check.specs.declared.cycle.Search.{Search}
@@ -26,7 +26,7 @@ module _ (graph : List (List ℕ)) (marks : List Mark) (met starts path : List �
   by_mark m (Done told) e h = record { told = told; is = e }
   by_mark m (Met i k) e h = absurd (none_met i (w.back m i (record { place = k; is = e })).0)
 
-  pub partition_of : ((m : ℕ) → m < length graph → mark_at marks m ≢ New) → IsTold graph marks
+  pub partition_of : ((m : ℕ) → m < length graph → mark_at marks m ≢ New) → AreMarked graph marks
   partition_of h = record {
     long = w.long;
     all = λ m l. by_mark m (mark_at marks m) refl (h m l);
@@ -48,7 +48,7 @@ depends_inside : (graph : List (List ℕ)) (a b : ℕ) → Depends (named_in gra
 depends_inside graph a b (direct h) = inside_of graph a b h
 depends_inside graph a b (via {b = c} h d) = inside_of graph a c h
 
-module _ (graph : List (List ℕ)) (marks : List Mark) (p : IsTold graph marks) where
+module _ (graph : List (List ℕ)) (marks : List Mark) (p : AreMarked graph marks) where
   pub lies_off : (m : ℕ) → on_cycle (mark_at marks m) ≡ false → Depends (named_in graph) m m → ⊥
   lies_off m e d =
       let k : IsDone marks m = p.all m (depends_inside graph m m d) in

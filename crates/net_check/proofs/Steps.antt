@@ -3,12 +3,12 @@ use Rattle.std.proofs.Common.{slice_set, slice_get, slice_index, inl, inr, if◌
 use Rattle.std.specs.List.{AllByRecursion}
 use Rattle.std.proofs.lemmas.Bool.{cases_eq, eq-eqb, ne_eqb}
 use Rattle.std.proofs.lemmas.List.{get_or-set_same, get_or-set_other, length-set, length_push, get_or_push}
-use Rattle.net_model.specs.Order.{place_of}
+use Rattle.net_model.specs.Order.{position_of}
 use Rattle.net_model.specs.Depends.{Depends}
 use Rattle.rec_bits.proofs.Lists.{all_weaker}
 use Rattle.net_model.specs.Depends.{Among}
-use Rattle.net_check.specs.Graphs.{named_in, InRange}
-use Rattle.net_check.specs.Walk.{stage_at, IsWalk, GoesOn}
+use Rattle.net_check.specs.Inner.Graphs.{named_in, InRange}
+use Rattle.net_check.specs.Inner.Walk.{stage_at, IsWalk, GoesOn}
 use Rattle.net_check.specs.declared.walk.Stage.{Stage}
 use Rattle.net_check.specs.declared.walk.Stage.TheVariants.{New, Open, Placed}
 use Rattle.net_check.specs.declared.walk.Walk.{Walk}
@@ -19,25 +19,25 @@ pick_old : (b : Bool) (p q l : ℕ) → (p < l → q ≡ p) → (if b then 0 els
 pick_old true p q l f h = refl
 pick_old false p q l f h = ap (λ (k : ℕ). k + 1) (f (omega arith))
 
-pub place_old : (xs : List ℕ) (x m : ℕ) → place_of xs m < length xs → place_of (xs ++ x ∷ []) m ≡ place_of xs m
+pub place_old : (xs : List ℕ) (x m : ℕ) → position_of xs m < length xs → position_of (xs ++ x ∷ []) m ≡ position_of xs m
 place_old [] x m h = absurd (omega arith)
-place_old (y ∷ ys) x m h = pick_old (y == m) (place_of ys m) (place_of (ys ++ x ∷ []) m) (length ys) (place_old ys x m) h
+place_old (y ∷ ys) x m h = pick_old (y == m) (position_of ys m) (position_of (ys ++ x ∷ []) m) (length ys) (place_old ys x m) h
 
 pick_end : (b : Bool) (p q l : ℕ) → ((if b then 0 else (p + 1)) < suc l → ⊥) → ((p < l → ⊥) → q ≡ l) → (if b then 0 else (q + 1)) ≡ suc l
 pick_end true p q l h f = absurd (h (omega arith))
 pick_end false p q l h f = let k : q ≡ l = f (λ i. h (omega arith)) in omega arith
 
-pub place_end : (xs : List ℕ) (x : ℕ) → (place_of xs x < length xs → ⊥) → place_of (xs ++ x ∷ []) x ≡ length xs
+pub place_end : (xs : List ℕ) (x : ℕ) → (position_of xs x < length xs → ⊥) → position_of (xs ++ x ∷ []) x ≡ length xs
 place_end [] x h = rw (eq-eqb x x refl) refl
-place_end (y ∷ ys) x h = pick_end (y == x) (place_of ys x) (place_of (ys ++ x ∷ []) x) (length ys) h (place_end ys x)
+place_end (y ∷ ys) x h = pick_end (y == x) (position_of ys x) (position_of (ys ++ x ∷ []) x) (length ys) h (place_end ys x)
 
 pick_other : (b : Bool) (p q l : ℕ) → (q < l + 1 → p < l) → (if b then 0 else (q + 1)) < suc l + 1 → (if b then 0 else (p + 1)) < suc l
 pick_other true p q l f h = omega arith
 pick_other false p q l f h = let k : p < l = f (omega arith) in omega arith
 
-pub place_other : (xs : List ℕ) (x m : ℕ) → (x ≡ m → ⊥) → place_of (xs ++ x ∷ []) m < length xs + 1 → place_of xs m < length xs
+pub place_other : (xs : List ℕ) (x m : ℕ) → (x ≡ m → ⊥) → position_of (xs ++ x ∷ []) m < length xs + 1 → position_of xs m < length xs
 place_other [] x m ne h = absurd (let k = rw (ne_eqb x m ne) at h in omega arith)
-place_other (y ∷ ys) x m ne h = pick_other (y == m) (place_of ys m) (place_of (ys ++ x ∷ []) m) (length ys) (place_other ys x m ne) h
+place_other (y ∷ ys) x m ne h = pick_other (y == m) (position_of ys m) (position_of (ys ++ x ∷ []) m) (length ys) (place_other ys x m ne) h
 
 pub index_old : (xs : List ℕ) (x i : ℕ) → i < length xs → slice_index (xs ++ x ∷ []) i ≡ slice_index xs i
 index_old [] x i h = absurd (omega arith)
@@ -116,7 +116,7 @@ module _ (graph : List (List ℕ)) (range : InRange graph) (old : Walk) (top : �
       in_stages : top < length old.stages
       in_stages = omega (arith, inside, w.long)
 
-      absent : place_of old.order top < length old.order → ⊥
+      absent : position_of old.order top < length old.order → ⊥
       absent h = open_not_placed (w.first top h)
 
       all_done : AllByRecursion (λ d. stage_at old.stages d ≡ Placed) (named_in graph top)
@@ -128,33 +128,33 @@ module _ (graph : List (List ℕ)) (range : InRange graph) (old : Walk) (top : �
       forth : (m : ℕ) → stage_at old.stages m ≡ Placed → stage_at (slice_set old.stages top Placed) m ≡ Placed
       forth m h = elim (set_cases old.stages top m Placed in_stages) [ inl e ↦ e.1 | inr e ↦ e.1 ∙ h ]
 
-      at_end : place_of (old.order ++ top ∷ []) top ≡ length old.order
+      at_end : position_of (old.order ++ top ∷ []) top ≡ length old.order
       at_end = place_end old.order top absent
 
-      still : (m : ℕ) → stage_at old.stages m ≡ Placed → place_of (old.order ++ top ∷ []) m ≡ place_of old.order m
+      still : (m : ℕ) → stage_at old.stages m ≡ Placed → position_of (old.order ++ top ∷ []) m ≡ position_of old.order m
       still m h = place_old old.order top m (w.placed m h)
 
       longer : length (old.order ++ top ∷ []) ≡ length old.order + 1
       longer = length_push old.order top
 
-      placed : (m : ℕ) → stage_at (slice_set old.stages top Placed) m ≡ Placed → place_of (old.order ++ top ∷ []) m < length (old.order ++ top ∷ [])
+      placed : (m : ℕ) → stage_at (slice_set old.stages top Placed) m ≡ Placed → position_of (old.order ++ top ∷ []) m < length (old.order ++ top ∷ [])
       placed m h = elim (cases_eq m top) [
         | inl e ↦ rw (e, at_end, longer) (omega arith)
         | inr ne ↦ let d : stage_at old.stages m ≡ Placed = sym (back m ne) ∙ h in omega (arith, still m d, w.placed m d, longer)
       ]
 
-      first : (m : ℕ) → place_of (old.order ++ top ∷ []) m < length (old.order ++ top ∷ []) → stage_at (slice_set old.stages top Placed) m ≡ Placed
+      first : (m : ℕ) → position_of (old.order ++ top ∷ []) m < length (old.order ++ top ∷ []) → stage_at (slice_set old.stages top Placed) m ≡ Placed
       first m h = elim (cases_eq m top) [
         | inl e ↦ subst (λ (x : ℕ). stage_at (slice_set old.stages top Placed) x ≡ Placed) (sym e) (get_or-set_same old.stages top Placed New in_stages)
         | inr ne ↦ back m ne ∙ w.first m (place_other old.order top m (λ e. ne (sym e)) (omega (arith, h, longer)))
       ]
 
       falls : (m : ℕ) → stage_at (slice_set old.stages top Placed) m ≡ Placed
-          → AllByRecursion (λ d. place_of (old.order ++ top ∷ []) d < place_of (old.order ++ top ∷ []) m) (named_in graph m)
+          → AllByRecursion (λ d. position_of (old.order ++ top ∷ []) d < position_of (old.order ++ top ∷ []) m) (named_in graph m)
       falls m h = elim (cases_eq m top) [
         | inl e ↦ rw e (all_weaker _ _ (λ d g. omega (arith, still d g, w.placed d g, at_end)) _ all_done)
         | inr ne ↦ let d : stage_at old.stages m ≡ Placed = sym (back m ne) ∙ h in
-            all_weaker _ _ (λ x g. let l : place_of old.order x < length old.order = omega (arith, g, w.placed m d) in
+            all_weaker _ _ (λ x g. let l : position_of old.order x < length old.order = omega (arith, g, w.placed m d) in
             omega (arith, place_old old.order top x l, still m d, g)) _ (w.falls m d)
       ]
 

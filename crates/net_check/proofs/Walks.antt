@@ -5,8 +5,8 @@ use Rattle.std.proofs.lemmas.Bool.{cases_eq}
 use Rattle.std.proofs.lemmas.List.{get_or-set_same, get_or-set_other, length-set}
 use Rattle.rec_bits.proofs.Lists.{all_weaker}
 use Rattle.net_model.specs.Depends.{Among, Depends, direct, via}
-use Rattle.net_check.specs.Graphs.{named_in}
-use Rattle.net_check.specs.Walk.{stage_at, Linked, unplaced, IsWalk, left, work}
+use Rattle.net_check.specs.Inner.Graphs.{named_in}
+use Rattle.net_check.specs.Inner.Walk.{stage_at, Linked, unplaced, IsWalk, left, work}
 use Rattle.net_check.specs.declared.walk.Stage.{Stage}
 use Rattle.net_check.specs.declared.walk.Stage.TheVariants.{New, Open, Placed}
 

@@ -3,7 +3,7 @@ use Rattle.std.proofs.Common.{lit≤, lit<, refl, ℕ, zero, suc, ◌<◌, ◌�
 use Rattle.std.specs.List.{AllByRecursion}
 use Rattle.net_model.specs.declared.fault.NetFault.TheVariants.{Cycle, Enable, WideSelect}
 use Rattle.net_model.specs.Nets.{nets_of}
-use Rattle.net_model.specs.Order.{place_of}
+use Rattle.net_model.specs.Order.{position_of}
 use Rattle.net_model.specs.Depends.{Among, Depends, direct, via, named_by, IsAcyclic}
 use Rattle.net_model.specs.CheckedRules.{HasRoles, KeepsRules}
 use Rattle.net_model.specs.NetFaults.{FaultOf}
@@ -55,7 +55,7 @@ module _ (enable : ℕ) where
   order_nets (suc (suc (suc (suc (suc zero))))) h = lit< tt
   order_nets (suc (suc (suc (suc (suc (suc i)))))) h = absurd (omega arith)
 
-  order_places : (n : ℕ) → n < 6 → place_of plain_order n < 6
+  order_places : (n : ℕ) → n < 6 → position_of plain_order n < 6
   order_places zero h = lit< tt
   order_places (suc zero) h = lit< tt
   order_places (suc (suc zero)) h = lit< tt
@@ -64,7 +64,7 @@ module _ (enable : ℕ) where
   order_places (suc (suc (suc (suc (suc zero))))) h = lit< tt
   order_places (suc (suc (suc (suc (suc (suc i)))))) h = absurd (omega arith)
 
-  order_falls : (n : ℕ) → AllByRecursion (λ m. place_of plain_order m < place_of plain_order n) (nets_of (slice_get (small 1 enable).nets n))
+  order_falls : (n : ℕ) → AllByRecursion (λ m. position_of plain_order m < position_of plain_order n) (nets_of (slice_get (small 1 enable).nets n))
   order_falls zero = tt
   order_falls (suc zero) = tt
   order_falls (suc (suc zero)) = (lit< tt, tt)

@@ -8,7 +8,7 @@ ghost use Rattle.net_model.specs.Control.{enables, selectors};
 ghost use Rattle.net_model.specs.NetFaults.{FaultOf, failing, name_at};
 ghost use Rattle.net_model.specs.Nets.{width_at};
 ghost use Rattle.net_model.specs.Order.{IsOrder};
-ghost use Rattle.net_check.specs.Control.{HasFlags, KeepsControl, passes};
+ghost use Rattle.net_check.specs.Inner.Control.{HasFlags, KeepsControl, passes};
 
 use net_model::{NetFault, Netlist, Property, flags_of, is_set};
 use rec_bits::{Items, NoMemory};

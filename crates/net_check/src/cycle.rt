@@ -1,10 +1,10 @@
-// The least net that lies on a cycle. The strongly connected components of the nets are found by a path-based search: it joins the
-// components on its path that it meets again.
+// The least net that lies on a cycle. The strongly connected components of the nets are found by a
+// path-based search: it joins the components on its path that it meets again.
 
 ghost use Rattle.std.specs.Prelude.{◌≡◌, ℕ, ◌+◌, ◌<◌, ◌≤◌, ◌^◌, ◌↔◌, ◌⊎◌, [], ◌∷◌, ◌++◌, IfOk, IsTrue, MatchOption, OnOk, length, replicate};
 ghost use Rattle.net_model.specs.Depends.{Among, Depends, IsLeastOnCycle};
-ghost use Rattle.net_check.specs.Graphs.{InRange, named_in};
-ghost use Rattle.net_check.specs.Components.{GoesOn, IsComplete, IsIndexed, IsMerged, IsMet, IsSearch, IsTold, IsRooted, MetAt, Rising, mark_at, on_cycle};
+ghost use Rattle.net_check.specs.Inner.Graphs.{InRange, named_in};
+ghost use Rattle.net_check.specs.Inner.Components.{GoesOn, IsComplete, IsIndexed, IsMerged, IsMet, IsSearch, AreMarked, IsRooted, MetAt, Rising, mark_at, on_cycle};
 
 use crate::graph::named_at;
 use crate::stack::Stack;
@@ -21,7 +21,8 @@ pub(crate) enum Mark {
     Done(bool),
 }
 
-// The marks of all nets, the nets whose component isn't complete, the indices among them at which components begin, and the nets that are open.
+// The marks of all nets, the nets whose component isn't complete, the indices among them at which
+// components begin, and the nets that are open.
 #[derive(Drop)]
 pub(crate) struct Search {
     pub marks: Items<Mark>,
@@ -50,7 +51,8 @@ fn is_named(named: &[u32], net: u32) -> bool
     false
 }
 
-// Whether a complete component, which begins with this net at an index of so many nets, lies on a cycle.
+// Whether a complete component, which begins with this net at an index of so many nets, lies on a
+// cycle.
 fn is_cyclic(graph: &[Items<u32>], met: usize, top: u32, index: usize) -> bool
     requires { index < met }
     ensures { IsTrue result ↔ ((index + 1 < met) ⊎ Among top (named_in graph.now top)) }
@@ -98,7 +100,8 @@ fn complete(graph: &[Items<u32>], search: &mut Search, index: usize, told: bool)
     }
 }
 
-// Leaves a net of which all that it names was seen; where its component begins with it, the component is complete.
+// Leaves a net of which all that it names was seen; where its component begins with it, the
+// component is complete.
 fn leave(graph: &[Items<u32>], search: &mut Search, top: u32, index: usize) -> Result<(), NoMemory>
     requires kept { IsSearch graph.now search.old.marks search.old.met search.old.starts (search.old.path ++ top ∷ []) }
     requires here { (place : ℕ) × (mark_at search.old.marks top ≡ Mark.Met index place) × (length (named_in graph.now top) ≤ place) }
@@ -172,7 +175,7 @@ fn new_marks(alloc: Global, nets: usize) -> Result<Items<Mark>, NoMemory>
 fn search_all(alloc: Global, graph: &[Items<u32>]) -> Result<Items<Mark>, NoMemory>
     requires range { InRange graph.now }
     requires short { length graph.now < 2 ^ 32 }
-    ensures { IfOk result (IsTold graph.now) }
+    ensures { IfOk result (AreMarked graph.now) }
 {
     let marks = new_marks(alloc, graph.len())?;
     let mut search = Search {

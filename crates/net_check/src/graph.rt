@@ -2,7 +2,7 @@
 
 ghost use Rattle.std.specs.Prelude.{◌≡◌, IfOk, map};
 ghost use Rattle.net_model.specs.Nets.{gate_nets};
-ghost use Rattle.net_check.specs.Graphs.{named_in};
+ghost use Rattle.net_check.specs.Inner.Graphs.{named_in};
 
 use net_model::Net;
 use rec_bits::{Items, NoMemory};

@@ -7,9 +7,9 @@
 //! refuses exactly where one is broken (`refused`: `FaultOf`), but for want of memory.
 //!
 //! Invariant: the walk that orders the nets keeps its own path, of which each open net names the
-//! next, and every placed net stands behind all that it names (`specs/Walk`). The search for cycles
-//! keeps, for the nets that it has met, at which of them components begin (`specs/Components`).
-//! Neither recurses, so no netlist exhausts the stack.
+//! next, and every placed net stands behind all that it names (`specs/Inner/Walk`). The search for
+//! cycles keeps, for the nets that it has met, at which of them components begin
+//! (`specs/Inner/Components`). Neither recurses, so no netlist exhausts the stack.
 //!
 //! Files:
 //!
@@ -20,9 +20,9 @@
 //! - `role`: N6; the first part that the netlist lacks.
 //! - `control`: N7 to N9, on the nets in control places.
 //! - `rules`: the rules in their order, and `check`.
-//! - `specs/`: no public contract cites a file here, since the rules are
-//!   `net_model/specs/CheckedRules` and `NetFaults`; `Walk`, `Components`, `Graphs`, `Roles` and
-//!   `Control` mirror the loops, and `Worked` has two small netlists.
+//! - `specs/Inner/`: `Walk`, `Components`, `Graphs`, `Roles` and `Control`, which go with the
+//!   loops. Public contracts cite no file here, since the rules are `net_model/specs/CheckedRules`
+//!   and `NetFaults`; `specs/Worked` has two small netlists.
 //! - `proofs/`: `Walks`, `Steps`, `Ends` for the walk, `Meets`, `Joins`, `Closes`, `Marks`,
 //!   `SearchEnds` for the search, `Broken` and `Lacks` for the other rules.
 #![tactic(auto)]

@@ -1,10 +1,10 @@
 // The parts that each processor has.
 
 ghost use Rattle.std.specs.Prelude.{◌≡◌, ◌≤◌, ◌↔◌, IsTrue, MatchOption, None, slice_get};
-ghost use Rattle.net_model.specs.CheckedRules.{HasRoles, IsCounter, IsReached, IsWellFormed};
+ghost use Rattle.net_model.specs.CheckedRules.{HasRoles, IsCounter, IsAddressed, IsWellFormed};
 ghost use Rattle.net_model.specs.NetFaults.{LacksRole};
 ghost use Rattle.net_model.specs.Nets.{storage_bits};
-ghost use Rattle.net_check.specs.Roles.{lone_from};
+ghost use Rattle.net_check.specs.Inner.Roles.{lone_from};
 
 use net_model::{Netlist, Role, Storage};
 use rec_bits::mask;
@@ -51,7 +51,8 @@ fn lone_memory(storages: &[Storage]) -> Option<Shape>
 
 // The width of a program counter, or None where the storage of this number can't be one.
 fn counter_bits(netlist: &Netlist, id: u32) -> Option<u8>
-    ensures { MatchOption result (¬ IsCounter (slice_get netlist.now.storages id)) (λ bits. IsCounter (slice_get netlist.now.storages id) × (storage_bits (slice_get netlist.now.storages id) ≡ bits)) }
+    ensures { MatchOption result (¬ IsCounter (slice_get netlist.now.storages id)) (λ bits.
+        IsCounter (slice_get netlist.now.storages id) × (storage_bits (slice_get netlist.now.storages id) ≡ bits)) }
 {
     match netlist.storage(id) {
         Some(
@@ -69,7 +70,7 @@ fn counter_bits(netlist: &Netlist, id: u32) -> Option<u8>
 fn is_reached(size: u32, bits: u8) -> bool
     requires low { 1 ≤ bits }
     requires high { bits ≤ 64 }
-    ensures { IsTrue result ↔ IsReached size bits }
+    ensures { IsTrue result ↔ IsAddressed size bits }
 {
     size >= LEAST_SIZE && u64::from(size - LEAST_SIZE) <= mask(bits)
 }
@@ -80,7 +81,7 @@ fn are_reached(words: u32, bits: u8, memory: Shape) -> bool
     requires high { bits ≤ 64 }
     requires addr_low { 1 ≤ memory.addr_width }
     requires addr_high { memory.addr_width ≤ 64 }
-    ensures { IsTrue result ↔ (IsReached words bits × IsReached memory.size memory.addr_width) }
+    ensures { IsTrue result ↔ (IsAddressed words bits × IsAddressed memory.size memory.addr_width) }
 {
     is_reached(words, bits) && is_reached(memory.size, memory.addr_width)
 }

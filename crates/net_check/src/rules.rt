@@ -52,19 +52,21 @@ fn checked_order(alloc: Global, netlist: &Netlist) -> Result<Items<u32>, CheckFa
     Ok(order)
 }
 
-/// Accepts a netlist that keeps N5 to N9, with an order of its nets in which each stands behind those that it depends on. The netlist
-/// has to keep N1 to N4 and N11.
+/// Accepts a netlist that keeps N5 to N9, with an order of its nets in which each stands behind
+/// those that it depends on. The netlist has to keep N1 to N4 and N11.
 ///
 /// # Errors
 ///
-/// The first of the rules N5 to N9 that is broken, in this order. N5, N7, N8 and N9 come with the offset of a name: N5 with that of
-/// the item of the least-numbered net that lies on a cycle, the others with the least one of the items of the nets that stand in a
-/// control place and break the rule. N6 comes with the first part that is lacking. The netlist is given up. `Memory` is want of
+/// The first of the rules N5 to N9 that is broken, in this order. N5, N7, N8 and N9 come with the
+/// offset of a name: N5 with that of the item of the least-numbered net that lies on a cycle, the
+/// others with the least one of the items of the nets that stand in a control place and break the
+/// rule. N6 comes with the first part that is lacking. The netlist is given up. `Memory` is want of
 /// memory.
 pub fn check(alloc: Global, netlist: Netlist) -> Result<Checked, CheckFault>
     requires { IsWellFormed netlist }
     ensures found { MatchResult result (Accepts netlist) (Refuses netlist) }
-    ensures accepted { (order : List ℕ) → KeepsRules netlist order → MatchResult result (λ _. Unit {0}) (λ cause. cause ≡ CheckFault.Memory) }
+    ensures accepted { (order : List ℕ) → KeepsRules netlist order →
+        MatchResult result (λ _. Unit {0}) (λ cause. cause ≡ CheckFault.Memory) }
     ensures refused { (fault : NetFault) → FaultOf netlist fault → MatchResult result (λ _. ⊥) (IsFaultOrMemory fault) }
 {
     let order = checked_order(alloc, &netlist)?;

@@ -1,8 +1,9 @@
-// The nets in an order in which each comes after those that it names, by a walk that goes to the named ones first.
+// The nets in an order in which each comes after those that it names, by a walk that goes to the
+// named ones first.
 
 ghost use Rattle.std.specs.Prelude.{◌≡◌, ◌<◌, ◌^◌, [], ◌∷◌, ◌++◌, length, replicate, IfOk};
-ghost use Rattle.net_check.specs.Graphs.{InRange};
-ghost use Rattle.net_check.specs.Walk.{IsSorted, IsWalk, Stepped, Walked, stage_at};
+ghost use Rattle.net_check.specs.Inner.Graphs.{InRange};
+ghost use Rattle.net_check.specs.Inner.Walk.{IsSorted, IsWalk, Stepped, Walked, stage_at};
 
 use crate::graph::named_at;
 use crate::stack::Stack;
@@ -17,7 +18,8 @@ pub(crate) enum Stage {
     Placed,
 }
 
-// The stage of each net, the open nets from the first to the last, each of which names the next, and the nets that are placed.
+// The stage of each net, the open nets from the first to the last, each of which names the next,
+// and the nets that are placed.
 #[derive(Drop)]
 pub(crate) struct Walk {
     pub stages: Items<Stage>,

@@ -31,7 +31,7 @@ use Rattle.src_trees.specs.Lowered.{Work}
 use Rattle.src_trees.proofs.LowerLemmas.{in_few}
 use Rattle.src_trees.proofs.Parts.{works_in_length}
 use Rattle.branch_fix.specs.Bounds.{bound_of, control_words, program_bound, sum_of}
-use Rattle.branch_fix.specs.Costs.{AreWithin, block_costs}
+use Rattle.branch_fix.specs.Costs.{SizesWithin, block_costs}
 use Rattle.branch_fix.specs.Laid.{IsLaid, Outline}
 use Rattle.branch_fix.specs.declared.laid.Item.{Item}
 use Rattle.branch_fix.specs.declared.laid.Item.TheVariants.{Group, Jump}
@@ -46,14 +46,14 @@ use Rattle.right_code.proofs.OneBound.{bound_one}
 use Rattle.right_code.proofs.Right.{jump_words_of, right_image}
 use Rattle.net_code.specs.declared.views.CoveredProgram.{CoveredProgram}
 use Rattle.net_code.specs.declared.views.Machine.{Machine}
-use Rattle.net_code.specs.Coded.{AreItemWords, HasWord, IsBlockCode}
-use Rattle.net_code.specs.Covering.{IsCovering, machine_netlist, machine_patterns}
-use Rattle.net_code.specs.Imaged.{ArePlaces, IsImageMade, IsLengthFault, IsNear, IsTaskImage, OfTask}
-use Rattle.net_code.specs.Refusals.{HasJumps, IsBeyondReach, IsCodeFault, IsCoverable, IsJumpless, IsReached, IsStepless, IsTooLong}
-use Rattle.net_code.specs.Uncovered.{IsUncovered}
+use Rattle.net_code.specs.Inner.Coded.{AreItemWords, HasWord, IsBlockCode}
+use Rattle.net_code.specs.Inner.Covering.{IsCovering, machine_netlist, machine_patterns}
+use Rattle.net_code.specs.Inner.Imaged.{ArePlaces, IsImageMade, IsLengthFault, IsNear, IsTaskImage, OfTask}
+use Rattle.net_code.specs.Refusals.{HasJumps, IsBeyondReach, IsCodeFault, IsCoverable, IsJumpless, IsReached, IsStepless, IsImageTooLong}
+use Rattle.net_code.specs.Inner.Uncovered.{IsUncovered}
 use Rattle.net_code.specs.declared.fault.CodeFault.{CodeFault}
 use Rattle.net_code.specs.declared.fault.CodeFault.TheVariants.{NoStep, NoJump, NoCover, NoReach, ImageFull, Memory}
-use Rattle.net_code.specs.Views.{choices_in, stock_of, works_in}
+use Rattle.net_code.specs.Inner.Views.{choices_in, stock_of, works_in}
 use Rattle.net_code.proofs.Fitting.{image_fitting}
 use Rattle.net_code.proofs.Frames.{are, chosen, covered, forms, of_program, of_task, tests}
 use Rattle.net_code.proofs.Lengths.{code_within}
@@ -117,7 +117,7 @@ module _ (machine : Machine) (program : CoveredProgram) (task : Task) (c : IsCov
         subst (λ f. sum_of (sizes blocks) + control_words f ≤ bound_of f (map (λ (j : JobCover). j.cost) program.covers.now)) (sym c.flow)
         (subst (λ cs. sum_of (sizes blocks) + control_words (program_flow task.listing) ≤ bound_of (program_flow task.listing) cs) (sym c.costs)
         (bound_is task.listing (job_costs (works_in program) (choices_in program)) (sizes blocks) (costs_many ∙ works_in_length (task_memory task) (acts_of task.listing.body))
-        (subst (λ f. AreWithin (sizes blocks) (block_costs f (job_costs (works_in program) (choices_in program)) f 0)) c.flow
+        (subst (λ f. SizesWithin (sizes blocks) (block_costs f (job_costs (works_in program) (choices_in program)) f 0)) c.flow
         (code_within (stock_of program) (works_in program) (choices_in program) c.chosen covered_there (machine_netlist machine) patterns program.flow.now blocks branches (tests machine program task c) code))))
 
     module _ (laid : Laid) (most bound : ℕ) (is : IsLaid (flow_outline rules reach (sizes blocks) branches most bound program.flow.now) laid)
@@ -178,7 +178,7 @@ module _ (machine : Machine) (program : CoveredProgram) (task : Task) (c : IsCov
 
   -- an image is longer than the code
   pub too_long : (bound : ℕ) → bound ≡ bound_of program.flow.now (map (λ (j : JobCover). j.cost) program.covers.now) → (image : Image) → IsImageMade program image task
-      → (len size : ℕ) → len ≡ length image.words → size ≡ code_size (machine_netlist machine).codes → size < len → IsTooLong len size bound task
+      → (len size : ℕ) → len ≡ length image.words → size ≡ code_size (machine_netlist machine).codes → size < len → IsImageTooLong len size bound task
   too_long bound e image made len size long room above =
       let words : length (words_of image) ≡ length image.words = length-map image.words (λ (w : Word). w.word) in
       let own = made.made in

@@ -8,14 +8,14 @@ use Rattle.form_model.specs.Covers.{Choice, Stock}
 use Rattle.form_model.specs.Live.{no_regs}
 use Rattle.form_model.specs.declared.flow.Flow.{Flow}
 use Rattle.form_model.specs.declared.flow.Flow.TheVariants.{Assign, Test, Jump, End}
-use Rattle.src_trees.specs.Blocks.{IsBlock, continues, is_assign, jobs_at}
+use Rattle.src_trees.specs.Blocks.{IsAssignBlock, continues, is_assign, jobs_at}
 use Rattle.src_trees.specs.Lowered.{Work}
-use Rattle.branch_fix.specs.Parts.{given}
+use Rattle.branch_fix.specs.Parts.{branch_or_zero}
 use Rattle.right_code.specs.Images.{choices_at}
 use Rattle.right_code.specs.Jobs.{jobs_steps}
 use Rattle.net_code.specs.declared.blocks.PackedBlock.{PackedBlock}
-use Rattle.net_code.specs.Coded.{IsBlockCode, IsPackedBlock, IsTestCode, block_at, no_block}
-use Rattle.net_code.specs.Places.{blocks_before, place_blocks, place_tests, tests_before}
+use Rattle.net_code.specs.Inner.Coded.{IsBlockCode, IsPackedBlock, IsTestCode, block_at, no_block}
+use Rattle.net_code.specs.Inner.Places.{blocks_before, place_blocks, place_tests, tests_before}
 
 -- ---- lists
 
@@ -79,13 +79,13 @@ module _ (flow : List Flow) where
   assign_counts (Some (Jump to)) b a e = absurd cc
   assign_counts (Some End) b a e = absurd cc
 
-  pub block_begins : (at n : ℕ) → IsBlock flow at n → place_blocks (slice_get flow at) (continues flow at) ≡ 1
+  pub block_begins : (at n : ℕ) → IsAssignBlock flow at n → place_blocks (slice_get flow at) (continues flow at) ≡ 1
   block_begins at n block =
       let a : is_assign (slice_get flow at) ≡ true = ap (λ (k : ℕ). is_assign (slice_get flow k)) (let z : at ≡ at + 0 = omega arith in z) ∙ block.assigns 0 (omega (arith, block.some)) in
       assign_counts (slice_get flow at) (continues flow at) a block.first
 
   -- a place begins one block at most
-  pub block_one : (at n m : ℕ) → IsBlock flow at n → IsBlock flow at m → n ≡ m
+  pub block_one : (at n m : ℕ) → IsAssignBlock flow at n → IsAssignBlock flow at m → n ≡ m
   block_one at n m a b = elim (cases_lt n m) [
     | inl lt ↦ absurd (true_false (continues flow (at + n)) (b.inner n lt (omega (arith, a.some))) a.last)
     | inr le ↦ elim (cases_lt m n) [
@@ -131,7 +131,7 @@ module _ (netlist : Netlist) (patterns : List Pattern) (stock : Stock) (flow : L
   }
 
   -- a block of assignments
-  pub run_more : (upto n : ℕ) (blocks : List PackedBlock) (branches : List (ℕ × ℕ)) (new : PackedBlock) → Coded upto blocks branches → IsBlock flow upto n → place_tests (slice_get flow upto) ≡ 0
+  pub run_more : (upto n : ℕ) (blocks : List PackedBlock) (branches : List (ℕ × ℕ)) (new : PackedBlock) → Coded upto blocks branches → IsAssignBlock flow upto n → place_tests (slice_get flow upto) ≡ 0
       → IsPackedBlock netlist patterns (jobs_steps stock (jobs_at flow works upto n) (choices_at flow choices upto n)) no_regs new → Coded (upto + 1) (blocks ++ new ∷ []) branches
   run_more upto n blocks branches new h block t least = record {
     long = let e = ap (blocks_before flow) (add-one upto) in let l = length-append blocks (new ∷ []) in omega (arith, h.long, begins, e, l);
@@ -143,7 +143,7 @@ module _ (netlist : Netlist) (patterns : List Pattern) (stock : Stock) (flow : L
       | inr le ↦ here at m (omega arith) other
     ];
     tests = λ at tree one none lt there job choice w c. elim (cases_lt at upto) [
-      | inl before ↦ subst (λ ws. IsTestCode netlist patterns stock job choice ws (given (slice_get branches (tests_before flow at))))
+      | inl before ↦ subst (λ ws. IsTestCode netlist patterns stock job choice ws (branch_or_zero (slice_get branches (tests_before flow at))))
           (sym (word_kept blocks new no_block (blocks_before flow at) (omega (arith, h.long, block_counted flow at upto before (ap (λ o. place_blocks o (continues flow at)) there)))))
           (h.tests at tree one none before there job choice w c)
       | inr le ↦ absurd (let e : at ≡ upto = omega arith in let c : place_tests (slice_get flow at) ≡ 1 = ap place_tests there in let d = ap (λ k. place_tests (slice_get flow k)) e in omega (arith, t, c, d))
@@ -156,10 +156,10 @@ module _ (netlist : Netlist) (patterns : List Pattern) (stock : Stock) (flow : L
       last : block_at (blocks ++ new ∷ []) (blocks_before flow upto) ≡ new
       last = word_last blocks new no_block (blocks_before flow upto) (sym h.long)
 
-      here : (at m : ℕ) → at ≡ upto → IsBlock flow at m
+      here : (at m : ℕ) → at ≡ upto → IsAssignBlock flow at m
           → IsPackedBlock netlist patterns (jobs_steps stock (jobs_at flow works at m) (choices_at flow choices at m)) no_regs (block_at (blocks ++ new ∷ []) (blocks_before flow at))
       here at m e other =
-          let other_there : IsBlock flow upto m = subst (λ k. IsBlock flow k m) e other in
+          let other_there : IsAssignBlock flow upto m = subst (λ k. IsAssignBlock flow k m) e other in
           let same : n ≡ m = block_one flow upto n m block other_there in
           let mine : IsPackedBlock netlist patterns (jobs_steps stock (jobs_at flow works upto m) (choices_at flow choices upto m)) no_regs (block_at (blocks ++ new ∷ []) (blocks_before flow upto)) =
           subst (λ k. IsPackedBlock netlist patterns (jobs_steps stock (jobs_at flow works upto k) (choices_at flow choices upto k)) no_regs (block_at (blocks ++ new ∷ []) (blocks_before flow upto))) same
@@ -180,9 +180,9 @@ module _ (netlist : Netlist) (patterns : List Pattern) (stock : Stock) (flow : L
       | inr le ↦ absurd (no_run at m (omega arith) other)
     ];
     tests = λ at other a b lt place k d e f. elim (cases_lt at upto) [
-      | inl before ↦ subst (λ ws. IsTestCode netlist patterns stock k d ws (given (slice_get (branches ++ branch ∷ []) (tests_before flow at))))
+      | inl before ↦ subst (λ ws. IsTestCode netlist patterns stock k d ws (branch_or_zero (slice_get (branches ++ branch ∷ []) (tests_before flow at))))
           (sym (word_kept blocks new no_block (blocks_before flow at) (omega (arith, h.long, block_counted flow at upto before (ap (λ o. place_blocks o (continues flow at)) place)))))
-          (subst (λ o. IsTestCode netlist patterns stock k d (block_at blocks (blocks_before flow at)) (given o))
+          (subst (λ o. IsTestCode netlist patterns stock k d (block_at blocks (blocks_before flow at)) (branch_or_zero o))
           (sym (get_kept branches branch (tests_before flow at) (omega (arith, h.many, test_counted flow at upto before (ap place_tests place)))))
           (h.tests at other a b before place k d e f))
       | inr le ↦ here at other a b (omega arith) place k d e f
@@ -195,7 +195,7 @@ module _ (netlist : Netlist) (patterns : List Pattern) (stock : Stock) (flow : L
       tests_here : place_tests (slice_get flow upto) ≡ 1
       tests_here = ap place_tests there
 
-      no_run : (at m : ℕ) → at ≡ upto → IsBlock flow at m → ⊥
+      no_run : (at m : ℕ) → at ≡ upto → IsAssignBlock flow at m → ⊥
       no_run at m e block =
           let a : is_assign (slice_get flow at) ≡ true = ap (λ (k : ℕ). is_assign (slice_get flow k)) (let z : at ≡ at + 0 = omega arith in z) ∙ block.assigns 0 (omega (arith, block.some)) in
           let t : is_assign (slice_get flow at) ≡ false = ap (λ k. is_assign (slice_get flow k)) e ∙ ap is_assign there in
@@ -204,8 +204,8 @@ module _ (netlist : Netlist) (patterns : List Pattern) (stock : Stock) (flow : L
       last : block_at (blocks ++ new ∷ []) (blocks_before flow upto) ≡ new
       last = word_last blocks new no_block (blocks_before flow upto) (sym h.long)
 
-      last_branch : given (slice_get (branches ++ branch ∷ []) (tests_before flow upto)) ≡ branch
-      last_branch = ap given (get_last branches branch (tests_before flow upto) (sym h.many))
+      last_branch : branch_or_zero (slice_get (branches ++ branch ∷ []) (tests_before flow upto)) ≡ branch
+      last_branch = ap branch_or_zero (get_last branches branch (tests_before flow upto) (sym h.many))
 
       test_tree : Flow → ℕ
       test_tree (Test t a b) = t
@@ -214,7 +214,7 @@ module _ (netlist : Netlist) (patterns : List Pattern) (stock : Stock) (flow : L
       test_tree End = 0
 
       here : (at other a b : ℕ) → at ≡ upto → slice_get flow at ≡ Some (Test other a b) → (k : Work) (d : Choice) → slice_get works other ≡ Some k → slice_get choices other ≡ Some d
-          → IsTestCode netlist patterns stock k d (block_at (blocks ++ new ∷ []) (blocks_before flow at)) (given (slice_get (branches ++ branch ∷ []) (tests_before flow at)))
+          → IsTestCode netlist patterns stock k d (block_at (blocks ++ new ∷ []) (blocks_before flow at)) (branch_or_zero (slice_get (branches ++ branch ∷ []) (tests_before flow at)))
       here at other a b e place k d kw dc =
           let place_there : slice_get flow upto ≡ Some (Test other a b) = ap (slice_get flow) (sym e) ∙ place in
           let some : Some (Test tree one none) ≡ Some (Test other a b) = sym there ∙ place_there in
@@ -222,9 +222,9 @@ module _ (netlist : Netlist) (patterns : List Pattern) (stock : Stock) (flow : L
           let trees : tree ≡ other = ap test_tree flows in
           let jobs : job ≡ k = (let p : Some job ≡ Some k = sym w ∙ ap (slice_get works) trees ∙ kw in cc) in
           let covers : choice ≡ d = (let p : Some choice ≡ Some d = sym c ∙ ap (slice_get choices) trees ∙ dc in cc) in
-          let mine : IsTestCode netlist patterns stock job choice (block_at (blocks ++ new ∷ []) (blocks_before flow upto)) (given (slice_get (branches ++ branch ∷ []) (tests_before flow upto))) =
-          subst (λ ws. IsTestCode netlist patterns stock job choice ws (given (slice_get (branches ++ branch ∷ []) (tests_before flow upto)))) (sym last)
+          let mine : IsTestCode netlist patterns stock job choice (block_at (blocks ++ new ∷ []) (blocks_before flow upto)) (branch_or_zero (slice_get (branches ++ branch ∷ []) (tests_before flow upto))) =
+          subst (λ ws. IsTestCode netlist patterns stock job choice ws (branch_or_zero (slice_get (branches ++ branch ∷ []) (tests_before flow upto)))) (sym last)
           (subst (IsTestCode netlist patterns stock job choice new) (sym last_branch) code) in
-          subst (λ n. IsTestCode netlist patterns stock k d (block_at (blocks ++ new ∷ []) (blocks_before flow n)) (given (slice_get (branches ++ branch ∷ []) (tests_before flow n)))) (sym e)
-          (subst (λ x. IsTestCode netlist patterns stock k x (block_at (blocks ++ new ∷ []) (blocks_before flow upto)) (given (slice_get (branches ++ branch ∷ []) (tests_before flow upto)))) covers
-          (subst (λ x. IsTestCode netlist patterns stock x choice (block_at (blocks ++ new ∷ []) (blocks_before flow upto)) (given (slice_get (branches ++ branch ∷ []) (tests_before flow upto)))) jobs mine))
+          subst (λ n. IsTestCode netlist patterns stock k d (block_at (blocks ++ new ∷ []) (blocks_before flow n)) (branch_or_zero (slice_get (branches ++ branch ∷ []) (tests_before flow n)))) (sym e)
+          (subst (λ x. IsTestCode netlist patterns stock k x (block_at (blocks ++ new ∷ []) (blocks_before flow upto)) (branch_or_zero (slice_get (branches ++ branch ∷ []) (tests_before flow upto)))) covers
+          (subst (λ x. IsTestCode netlist patterns stock x choice (block_at (blocks ++ new ∷ []) (blocks_before flow upto)) (branch_or_zero (slice_get (branches ++ branch ∷ []) (tests_before flow upto)))) jobs mine))

@@ -18,12 +18,13 @@ use Rattle.form_set.specs.Listing.{AreForms}
 use Rattle.emit_seq.specs.Spares.{wanted}
 use Rattle.emit_seq.proofs.Opened.{opened_plan}
 use Rattle.live_sets.proofs.Bits.{regs_of_none, regs_of_one, regs_of_or, regs_of_past}
-use Rattle.right_code.specs.Forks.{IsBranchForm, plan_rule}
+use Rattle.right_code.specs.Forks.{plan_rule}
+use Rattle.right_code.specs.Inner.Forks.{IsBranchForm}
 use Rattle.right_code.specs.Tasks.{IsChecked, Task, task_stock}
 use Rattle.right_code.proofs.Known.{known_of}
 use Rattle.right_code.proofs.Layouts.{plan_goal}
 use Rattle.right_code.proofs.Turns.{fork_form}
-use Rattle.net_code.specs.Registers.{one_register, term_registers}
+use Rattle.net_code.specs.Inner.Registers.{one_register, term_registers}
 
 neither : (a b : Bool) → a ≡ false → b ≡ false → (a || b) ≡ false
 neither a b e f = ap (λ x. x || b) e ∙ f

@@ -7,7 +7,7 @@ use Rattle.net_model.specs.declared.hardware.Netlist.{Netlist}
 use Rattle.net_model.specs.Patterns.{ArePatterns, IsPattern, Pattern}
 use Rattle.form_model.specs.declared.forms.Form.{Form}
 use Rattle.form_model.specs.Rules.{Kind, kind_of, rules_of}
-use Rattle.form_set.specs.Promises.{all_rules, is_control, is_no_jump, no_jumps, only_control}
+use Rattle.form_set.specs.Promises.{all_rules, is_control_goal, is_no_jump, no_jumps, only_control}
 
 module _ (netlist : Netlist) (patterns : List Pattern) (are : ArePatterns netlist patterns) (P : Pattern → Type 0) where
   -- what no pattern of the list has, no pattern of the netlist has
@@ -25,8 +25,8 @@ asked_of_rules : (q : Kind → Bool) (fs : List Form) → list_all (λ (f : Form
 asked_of_rules q [] = refl
 asked_of_rules q (f ∷ fs) = ap (λ (b : Bool). q (kind_of f.goal) && b) (asked_of_rules q fs)
 
-pub control_of_list : (fs : List Form) → list_all (λ (f : Form). is_control (kind_of f.goal)) fs ≡ only_control (rules_of fs)
-control_of_list fs = asked_of_rules is_control fs
+pub control_of_list : (fs : List Form) → list_all (λ (f : Form). is_control_goal (kind_of f.goal)) fs ≡ only_control (rules_of fs)
+control_of_list fs = asked_of_rules is_control_goal fs
 
 pub jumps_of_list : (fs : List Form) → list_all (λ (f : Form). is_no_jump (kind_of f.goal)) fs ≡ no_jumps (rules_of fs)
 jumps_of_list fs = asked_of_rules is_no_jump fs

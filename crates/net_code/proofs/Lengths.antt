@@ -9,16 +9,16 @@ use Rattle.form_model.specs.declared.flow.Flow.TheVariants.{Assign, Test, Jump, 
 use Rattle.form_model.specs.Covers.{Choice, Stock, job_cost}
 use Rattle.form_model.specs.Live.{singles}
 use Rattle.form_model.specs.Steps.{cover_steps}
-use Rattle.src_trees.specs.Blocks.{job_at, job_of, jobs_at}
+use Rattle.src_trees.specs.Blocks.{job_at, job_list, jobs_at}
 use Rattle.src_trees.specs.Lowered.{Work}
 use Rattle.emit_seq.proofs.Counted.{steps_cost}
-use Rattle.branch_fix.specs.Costs.{AreWithin, block_costs}
+use Rattle.branch_fix.specs.Costs.{SizesWithin, block_costs}
 use Rattle.right_code.specs.Covered.{AllChosen, job_costs}
-use Rattle.right_code.specs.Images.{choice_at, choice_of, choices_at}
+use Rattle.right_code.specs.Images.{choice_at, choices_of, choices_at}
 use Rattle.right_code.specs.Jobs.{IsCovered, job_steps, jobs_steps, tree_or_none}
 use Rattle.right_code.proofs.Tasks.{AreTests, tests_get}
-use Rattle.net_code.specs.Coded.{IsBlockCode}
-use Rattle.net_code.specs.Places.{blocks_before}
+use Rattle.net_code.specs.Inner.Coded.{IsBlockCode}
+use Rattle.net_code.specs.Inner.Places.{blocks_before}
 use Rattle.net_code.proofs.Making.{sizes, sizes_at}
 use Rattle.net_code.specs.declared.blocks.PackedBlock.{PackedBlock}
 use Rattle.net_code.proofs.Sizes.{place_cost, run_cost, run_more, sizes_within}
@@ -72,7 +72,7 @@ module _ (stock : Stock) where
     no_work (w ∷ works) (c ∷ choices) (suc k) choice h e f = no_work works choices k choice h.1 e f
 
     -- the job of a number has a cover, or there is neither
-    tree_even : (k : ℕ) (o : Option Work) (p : Option Choice) → slice_get works k ≡ o → slice_get choices k ≡ p → length (job_of o) ≡ length (choice_of p)
+    tree_even : (k : ℕ) (o : Option Work) (p : Option Choice) → slice_get works k ≡ o → slice_get choices k ≡ p → length (job_list o) ≡ length (choices_of p)
     tree_even k None None e f = refl
     tree_even k None (Some choice) e f = absurd (no_work works choices k choice chosen e f)
     tree_even k (Some job) None e f = absurd (no_choice works choices k job chosen e f)
@@ -94,7 +94,7 @@ module _ (stock : Stock) where
         let b = length-append (choices_at flow choices at n) (choice_at choices (slice_get flow (at + n))) in
         omega (arith, h, p, a, b)
 
-    tree_long : (k : ℕ) (o : Option Work) (p : Option Choice) → slice_get works k ≡ o → slice_get choices k ≡ p → length (jobs_steps stock (job_of o) (choice_of p)) ≡ slice_index (job_costs works choices) k
+    tree_long : (k : ℕ) (o : Option Work) (p : Option Choice) → slice_get works k ≡ o → slice_get choices k ≡ p → length (jobs_steps stock (job_list o) (choices_of p)) ≡ slice_index (job_costs works choices) k
     tree_long k None None e f = sym (cost_past works choices k e)
     tree_long k None (Some choice) e f = sym (cost_past works choices k e)
     tree_long k (Some job) None e f = absurd (no_choice works choices k job chosen e f)
@@ -121,7 +121,7 @@ module _ (stock : Stock) where
 
     -- no block has more words than it costs
     pub code_within : (netlist : Netlist) (patterns : List Pattern) (flow : List Flow) (blocks : List PackedBlock) (branches : List (ℕ × ℕ)) → AreTests works flow
-        → IsBlockCode netlist patterns stock flow works choices (length flow) blocks branches → AreWithin (sizes blocks) (block_costs flow (job_costs works choices) flow 0)
+        → IsBlockCode netlist patterns stock flow works choices (length flow) blocks branches → SizesWithin (sizes blocks) (block_costs flow (job_costs works choices) flow 0)
     code_within netlist patterns flow blocks branches tests code =
         sizes_within flow (job_costs works choices) (sizes blocks) (length-map blocks (λ (block : PackedBlock). length block.words) ∙ code.long)
         (λ at n lt block.

@@ -13,8 +13,8 @@ use Rattle.branch_fix.specs.declared.laid.Item.{Item}
 use Rattle.src_trees.specs.Lowered.{Work}
 use Rattle.right_code.specs.Covered.{AllChosen, HasCover, IsFirstBare, job_costs, numbered}
 use Rattle.net_code.specs.declared.blocks.PackedBlock.{PackedBlock}
-use Rattle.net_code.specs.Coded.{AreItemWords, IsWordOf}
-use Rattle.net_code.specs.Uncovered.{IsOneBare, IsUncovered}
+use Rattle.net_code.specs.Inner.Coded.{AreItemWords, IsWordOf}
+use Rattle.net_code.specs.Inner.Uncovered.{IsOneBare, IsUncovered}
 use Rattle.net_code.specs.declared.fault.CodeFault.{CodeFault}
 use Rattle.net_code.specs.declared.fault.CodeFault.TheVariants.{NoStep, NoJump, NoCover, NoReach, ImageFull, Memory}
 

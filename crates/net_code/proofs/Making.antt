@@ -8,19 +8,19 @@ use Rattle.form_model.specs.Covers.{Choice, Stock}
 use Rattle.form_model.specs.Rules.{Rule}
 use Rattle.form_model.specs.declared.flow.Flow.{Flow}
 use Rattle.form_model.specs.declared.flow.Flow.TheVariants.{Assign, Test as Tested, Jump as Jumped, End as Ended}
-use Rattle.src_trees.specs.Blocks.{IsBlock, continues, jobs_at}
+use Rattle.src_trees.specs.Blocks.{IsAssignBlock, continues, jobs_at}
 use Rattle.src_trees.specs.Lowered.{Work}
 use Rattle.branch_fix.specs.declared.laid.Item.{Item}
 use Rattle.branch_fix.specs.declared.part.Fork.{Fork}
 use Rattle.branch_fix.specs.declared.part.Part.{Part}
 use Rattle.branch_fix.specs.declared.part.Part.TheVariants.{Block, Inner, Test, Jump, End}
-use Rattle.branch_fix.specs.Parts.{fork_to, given, part_for, parts_of, rule_at_one}
-use Rattle.branch_fix.specs.Rounds.{IsSettled}
+use Rattle.branch_fix.specs.Parts.{fork_to, branch_or_zero, part_for, parts_of, rule_at_one}
+use Rattle.branch_fix.specs.Rounds.{IsFixpoint}
 use Rattle.right_code.specs.Images.{AreBlockWords, AreTestWords, IsBranchOf, choices_at}
 use Rattle.right_code.specs.Words.{IsItemWord, ListItems, StandItems}
 use Rattle.net_code.specs.declared.blocks.PackedBlock.{PackedBlock}
-use Rattle.net_code.specs.Coded.{AreItemWords, IsBlockCode, groups_at, words_at}
-use Rattle.net_code.specs.Places.{blocks_before, tests_before}
+use Rattle.net_code.specs.Inner.Coded.{AreItemWords, IsBlockCode, groups_at, words_at}
+use Rattle.net_code.specs.Inner.Places.{blocks_before, tests_before}
 use Rattle.net_code.proofs.Places.{settled_part, shortened}
 
 -- ---- words in their order
@@ -115,11 +115,11 @@ pub record IsTestThere (flow : List Flow) (sizes : List ℕ) (forks : List (ℕ 
   pub place : slice_get flow at ≡ Some (Tested f.tree when_one when_zero)
   pub number : f.block ≡ blocks_before flow at
   pub words : f.words ≡ slice_index sizes (blocks_before flow at)
-  pub form : f.form ≡ (given (slice_get forks (tests_before flow at))).0
-  pub setting : f.setting ≡ (given (slice_get forks (tests_before flow at))).1
+  pub form : f.form ≡ (branch_or_zero (slice_get forks (tests_before flow at))).0
+  pub setting : f.setting ≡ (branch_or_zero (slice_get forks (tests_before flow at))).1
   pub within : at < length flow
 
-module _ (rules : List Rule) (flow : List Flow) (sizes : List ℕ) (forks : List (ℕ × ℕ)) (parts : List Part) (settled : IsSettled rules (parts_of rules flow sizes forks) parts) where
+module _ (rules : List Rule) (flow : List Flow) (sizes : List ℕ) (forks : List (ℕ × ℕ)) (parts : List Part) (settled : IsFixpoint rules (parts_of rules flow sizes forks) parts) where
   pub block_there : (at block size : ℕ) → slice_get parts at ≡ Some (Block block size) → IsBlockThere flow sizes at block size
   block_there at block size e =
       let h = settled_part rules flow sizes forks parts settled at (Block block size) e in
@@ -142,7 +142,7 @@ module _ (rules : List Rule) (flow : List Flow) (sizes : List ℕ) (forks : List
 
       go : (f : Flow) → slice_get flow at ≡ Some f → Block block size ≡ shortened (part_for rules flow sizes forks f at (blocks_before flow at) (tests_before flow at)) → IsBlockThere flow sizes at block size
       go (Assign tree) place e = by (continues flow at) e (slice_get_within flow at (Assign tree) place)
-      go (Tested tree one none) place e = absurd (no_fork (rule_at_one (slice_get rules (given (slice_get forks (tests_before flow at))).0)) tree (given (slice_get forks (tests_before flow at))).0 (given (slice_get forks (tests_before flow at))).1 one none e)
+      go (Tested tree one none) place e = absurd (no_fork (rule_at_one (slice_get rules (branch_or_zero (slice_get forks (tests_before flow at))).0)) tree (branch_or_zero (slice_get forks (tests_before flow at))).0 (branch_or_zero (slice_get forks (tests_before flow at))).1 one none e)
       go (Jumped to) place e = absurd (true_false (ap is_run e))
       go Ended place e = absurd (true_false (ap is_run e))
 
@@ -160,8 +160,8 @@ module _ (rules : List Rule) (flow : List Flow) (sizes : List ℕ) (forks : List
 
       by : (b : Bool) (tree one zero : ℕ) → slice_get flow at ≡ Some (Tested tree one zero)
           → Test (record f { long = false }) ≡ shortened (if b
-          then fork_to tree (blocks_before flow at) (slice_index sizes (blocks_before flow at)) (given (slice_get forks (tests_before flow at))).0 (given (slice_get forks (tests_before flow at))).1 at one zero
-          else fork_to tree (blocks_before flow at) (slice_index sizes (blocks_before flow at)) (given (slice_get forks (tests_before flow at))).0 (given (slice_get forks (tests_before flow at))).1 at zero one)
+          then fork_to tree (blocks_before flow at) (slice_index sizes (blocks_before flow at)) (branch_or_zero (slice_get forks (tests_before flow at))).0 (branch_or_zero (slice_get forks (tests_before flow at))).1 at one zero
+          else fork_to tree (blocks_before flow at) (slice_index sizes (blocks_before flow at)) (branch_or_zero (slice_get forks (tests_before flow at))).0 (branch_or_zero (slice_get forks (tests_before flow at))).1 at zero one)
           → IsTestThere flow sizes forks at f
       by true tree one none place e = record {
         when_one = one;
@@ -186,7 +186,7 @@ module _ (rules : List Rule) (flow : List Flow) (sizes : List ℕ) (forks : List
 
       go : (g : Flow) → slice_get flow at ≡ Some g → Test (record f { long = false }) ≡ shortened (part_for rules flow sizes forks g at (blocks_before flow at) (tests_before flow at)) → IsTestThere flow sizes forks at f
       go (Assign tree) place e = absurd (no_run (continues flow at) e)
-      go (Tested tree one none) place e = by (rule_at_one (slice_get rules (given (slice_get forks (tests_before flow at))).0)) tree one none place e
+      go (Tested tree one none) place e = by (rule_at_one (slice_get rules (branch_or_zero (slice_get forks (tests_before flow at))).0)) tree one none place e
       go (Jumped to) place e = absurd (true_false (ap is_fork e))
       go Ended place e = absurd (true_false (ap is_fork e))
 
@@ -194,8 +194,8 @@ module _ (rules : List Rule) (flow : List Flow) (sizes : List ℕ) (forks : List
 
 module _ (netlist : Netlist) (patterns : List Pattern) (stock : Stock) (flow : List Flow) (works : List Work) (choices : List Choice) (blocks : List PackedBlock) (branches : List (ℕ × ℕ))
     (code : IsBlockCode netlist patterns stock flow works choices (length flow) blocks branches) (parts : List Part)
-    (settled : IsSettled stock.rules (parts_of stock.rules flow (sizes blocks) branches) parts) where
-  pub blocks_made : (at n block size : ℕ) → IsBlock flow at n → slice_get parts at ≡ Some (Block block size)
+    (settled : IsFixpoint stock.rules (parts_of stock.rules flow (sizes blocks) branches) parts) where
+  pub blocks_made : (at n block size : ℕ) → IsAssignBlock flow at n → slice_get parts at ≡ Some (Block block size)
       → AreBlockWords netlist patterns stock (jobs_at flow works at n) (choices_at flow choices at n) (groups_at blocks block) (words_at blocks block) size
   blocks_made at n block size run e =
       let t = block_there stock.rules flow (sizes blocks) branches parts settled at block size e in
@@ -218,7 +218,7 @@ module _ (netlist : Netlist) (patterns : List Pattern) (stock : Stock) (flow : L
 -- the branches of the layout are those of the covers
 module _ (stock : Stock) (flow : List Flow) (works : List Work) (choices : List Choice) (netlist : Netlist) (patterns : List Pattern) (blocks : List PackedBlock) (branches : List (ℕ × ℕ))
     (code : IsBlockCode netlist patterns stock flow works choices (length flow) blocks branches) (parts : List Part)
-    (settled : IsSettled stock.rules (parts_of stock.rules flow (sizes blocks) branches) parts) where
+    (settled : IsFixpoint stock.rules (parts_of stock.rules flow (sizes blocks) branches) parts) where
   pub branches_made : (at : ℕ) (f : Fork) → slice_get parts at ≡ Some (Test f) → (job : Work) → slice_get works f.tree ≡ Some job → (choice : Choice) → slice_get choices f.tree ≡ Some choice
       → IsBranchOf stock job choice f
   branches_made at f e job w choice c = (tests_made netlist patterns stock flow works choices blocks branches code parts settled at f e job w choice c).branch

@@ -6,7 +6,7 @@ use Rattle.net_model.specs.declared.hardware.Storage.{Storage}
 use Rattle.net_model.specs.declared.hardware.Storage.TheVariants.{Register, Memory}
 use Rattle.net_model.specs.CheckedRules.{HasFewCells, KeepsRules, memory_addr_width}
 use Rattle.net_model.specs.Nets.{memory_id, memory_size}
-use Rattle.net_code.specs.Memories.{storage_addr_bits}
+use Rattle.net_code.specs.Inner.Memories.{storage_addr_bits}
 
 pub addresses_found : (storages : List Storage) → storage_addr_bits (slice_get storages (memory_id storages)) ≡ memory_addr_width storages
 addresses_found [] = refl

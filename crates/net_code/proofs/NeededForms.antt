@@ -6,7 +6,7 @@ use Rattle.net_model.specs.Patterns.{ArePatterns, Pattern}
 use Rattle.form_model.specs.declared.forms.Form.{Form}
 use Rattle.form_model.specs.Rules.{kind_of, rules_of}
 use Rattle.form_set.specs.Listing.{AreForms, IsJump, IsPlain}
-use Rattle.form_set.specs.Promises.{is_control, is_no_jump}
+use Rattle.form_set.specs.Promises.{is_control_goal, is_no_jump}
 use Rattle.form_set.proofs.NoForms.{no_jump, no_step}
 use Rattle.net_code.specs.declared.fault.CodeFault.{CodeFault}
 use Rattle.net_code.specs.declared.fault.CodeFault.TheVariants.{NoStep, NoJump, NoCover, NoReach, ImageFull, Memory}
@@ -17,9 +17,9 @@ both : (b : Bool) → b ≡ true → b ≡ false → ⊥
 both b e f = cc
 
 module _ (netlist : Netlist) (patterns : List Pattern) (are : ArePatterns netlist patterns) (list : List Form) (reach : ℕ) (forms : AreForms netlist patterns (rules_of list) reach) where
-  pub some_step : list_all (λ (form : Form). is_control (kind_of form.goal)) list ≡ false → IsStepless netlist → ⊥
+  pub some_step : list_all (λ (form : Form). is_control_goal (kind_of form.goal)) list ≡ false → IsStepless netlist → ⊥
   some_step lacks none =
-      both (list_all (λ (form : Form). is_control (kind_of form.goal)) list)
+      both (list_all (λ (form : Form). is_control_goal (kind_of form.goal)) list)
       (control_of_list list ∙ (no_step netlist reach 0 patterns (rules_of list) forms.list).1 (none_of_list netlist patterns are (IsPlain netlist) none)) lacks
 
   pub some_jump : list_all (λ (form : Form). is_no_jump (kind_of form.goal)) list ≡ false → IsJumpless netlist → ⊥

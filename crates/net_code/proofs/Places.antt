@@ -6,11 +6,11 @@ use Rattle.form_model.specs.Rules.{Rule}
 use Rattle.src_trees.specs.Blocks.{continues}
 use Rattle.branch_fix.specs.declared.part.Part.{Part}
 use Rattle.branch_fix.specs.declared.part.Part.TheVariants.{Block, Inner, Test, Jump, End}
-use Rattle.branch_fix.specs.Parts.{blocks_in, fork_to, given, part_for, parts_from, parts_of, rule_at_one, tests_in}
-use Rattle.branch_fix.specs.Rounds.{IsSettled, round, rounds, widened_from}
+use Rattle.branch_fix.specs.Parts.{blocks_in, fork_to, branch_or_zero, part_for, parts_from, parts_of, rule_at_one, tests_in}
+use Rattle.branch_fix.specs.Rounds.{IsFixpoint, round, rounds, widened_from}
 use Rattle.branch_fix.specs.Parts.{room, starts}
 use Rattle.branch_fix.proofs.Laying.{parts_step}
-use Rattle.net_code.specs.Places.{blocks_before, place_blocks, place_tests, tests_before}
+use Rattle.net_code.specs.Inner.Places.{blocks_before, place_blocks, place_tests, tests_before}
 
 module _ (rules : List Rule) (flow : List Flow) (sizes : List ℕ) (forks : List (ℕ × ℕ)) where
   -- a part counts as its place does
@@ -33,14 +33,14 @@ module _ (rules : List Rule) (flow : List Flow) (sizes : List ℕ) (forks : List
   part_blocks : (f : Flow) (at block test : ℕ) → blocks_in (part_for rules flow sizes forks f at block test) ≡ place_blocks (Some f) (continues flow at)
   part_blocks (Assign tree) at block test = block_count (continues flow at) block (slice_index sizes block)
   part_blocks (Tested tree one none) at block test =
-      fork_blocks (rule_at_one (slice_get rules (given (slice_get forks test)).0)) tree block (slice_index sizes block) (given (slice_get forks test)).0 (given (slice_get forks test)).1 at one none
+      fork_blocks (rule_at_one (slice_get rules (branch_or_zero (slice_get forks test)).0)) tree block (slice_index sizes block) (branch_or_zero (slice_get forks test)).0 (branch_or_zero (slice_get forks test)).1 at one none
   part_blocks (Jumped to) at block test = refl
   part_blocks Ended at block test = refl
 
   part_tests : (f : Flow) (at block test : ℕ) → tests_in (part_for rules flow sizes forks f at block test) ≡ place_tests (Some f)
   part_tests (Assign tree) at block test = block_none (continues flow at) block (slice_index sizes block)
   part_tests (Tested tree one none) at block test =
-      fork_tests (rule_at_one (slice_get rules (given (slice_get forks test)).0)) tree block (slice_index sizes block) (given (slice_get forks test)).0 (given (slice_get forks test)).1 at one none
+      fork_tests (rule_at_one (slice_get rules (branch_or_zero (slice_get forks test)).0)) tree block (slice_index sizes block) (branch_or_zero (slice_get forks test)).0 (branch_or_zero (slice_get forks test)).1 at one none
   part_tests (Jumped to) at block test = refl
   part_tests Ended at block test = refl
 
@@ -110,7 +110,7 @@ before_rounds (y ∷ first) [] e at p there = absurd cc
 before_rounds (y ∷ first) (x ∷ last) e zero p there = let same : x ≡ p = cc in let one : shortened x ≡ shortened y = cc in (y, refl, ap shortened (sym same) ∙ one)
 before_rounds (y ∷ first) (x ∷ last) e (suc at) p there = let rest : map shortened last ≡ map shortened first = cc in before_rounds first last rest at p there
 
-module _ (rules : List Rule) (flow : List Flow) (sizes : List ℕ) (forks : List (ℕ × ℕ)) (parts : List Part) (settled : IsSettled rules (parts_of rules flow sizes forks) parts) where
+module _ (rules : List Rule) (flow : List Flow) (sizes : List ℕ) (forks : List (ℕ × ℕ)) (parts : List Part) (settled : IsFixpoint rules (parts_of rules flow sizes forks) parts) where
   -- what stands at a place of the settled parts, but for the length of its branch
   pub settled_part : (at : ℕ) (p : Part) → slice_get parts at ≡ Some p → (q : Part) × IsPartOf rules flow sizes forks at q × (shortened p ≡ shortened q)
   settled_part at p there =

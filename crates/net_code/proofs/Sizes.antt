@@ -2,9 +2,9 @@
 use Rattle.std.proofs.Common.{◌≡◌, ℕ, zero, suc, ◌+◌, ◌-◌, ◌<◌, ◌≤◌, Bool, true, false, ◌&&◌, nat_lt, not, List, [], ◌∷◌, drop, Option, Some, None, length, slice_get, slice_index, refl, sym, ap, subst, ◌∙◌, add-one, arith}
 use Rattle.form_model.specs.declared.flow.Flow.{Flow}
 use Rattle.form_model.specs.declared.flow.Flow.TheVariants.{Assign, Test, Jump, End}
-use Rattle.src_trees.specs.Blocks.{IsBlock, continues, is_assign, is_entered}
-use Rattle.branch_fix.specs.Costs.{AreWithin, block_costs, joined}
-use Rattle.net_code.specs.Places.{blocks_before, place_blocks}
+use Rattle.src_trees.specs.Blocks.{IsAssignBlock, continues, is_assign, is_entered}
+use Rattle.branch_fix.specs.Costs.{SizesWithin, block_costs, joined}
+use Rattle.net_code.specs.Inner.Places.{blocks_before, place_blocks}
 use Rattle.net_code.proofs.Coding.{block_counted}
 
 -- ---- lists
@@ -63,7 +63,7 @@ continued_assign flow at e = by (nat_lt 0 at) (is_assign (slice_get flow (at - 1
     by false b c d e = absurd cc
 
 module _ (flow : List Flow) (costs sizes : List ℕ) (long : length sizes ≡ blocks_before flow (length flow))
-    (runs : (at n : ℕ) → at < length flow → IsBlock flow at n → slice_index sizes (blocks_before flow at) ≤ run_cost flow costs at n)
+    (runs : (at n : ℕ) → at < length flow → IsAssignBlock flow at n → slice_index sizes (blocks_before flow at) ≤ run_cost flow costs at n)
     (tests : (at tree when_one when_zero : ℕ) → at < length flow → slice_get flow at ≡ Some (Test tree when_one when_zero) → slice_index sizes (blocks_before flow at) ≤ slice_index costs tree) where
   -- the sizes of the blocks behind a place
   abbrev behind : ℕ → List ℕ
@@ -80,7 +80,7 @@ module _ (flow : List Flow) (costs sizes : List ℕ) (long : length sizes ≡ bl
     assigns : (k : ℕ) → k < count → is_assign (slice_get flow (at + k)) ≡ true
     inner : (k : ℕ) → k < count → 0 < k → continues flow (at + k) ≡ true
     last : continues flow (at + count) ≡ false
-    within : AreWithin (behind (at + 1)) more
+    within : SizesWithin (behind (at + 1)) more
 
   -- the list from a place on
   record IsFrom (rest : List Flow) (at : ℕ) : Type 0 where
@@ -115,7 +115,7 @@ module _ (flow : List Flow) (costs sizes : List ℕ) (long : length sizes ≡ bl
 
   -- both, of the rest of a flow
   record IsKept (rest : List Flow) (at : ℕ) : Type 0 where
-    whole : continues flow at ≡ false → AreWithin (behind at) (block_costs flow costs rest at)
+    whole : continues flow at ≡ false → SizesWithin (behind at) (block_costs flow costs rest at)
     run : (tree : ℕ) (later : List Flow) → rest ≡ Assign tree ∷ later → IsRest rest at
 
   -- an assignment that ends its block
@@ -145,7 +145,7 @@ module _ (flow : List Flow) (costs sizes : List ℕ) (long : length sizes ≡ bl
     assigns = assigns;
     inner = inner;
     last = ap (continues flow) (let z : at + suc r.count ≡ at + 1 + r.count = omega arith in z) ∙ r.last;
-    within = subst (λ xs. AreWithin xs r.more) (sym (same_behind (at + 1) none)) r.within;
+    within = subst (λ xs. SizesWithin xs r.more) (sym (same_behind (at + 1) none)) r.within;
   }
     where
       assigns : (k : ℕ) → k < suc r.count → is_assign (slice_get flow (at + k)) ≡ true
@@ -190,52 +190,52 @@ module _ (flow : List Flow) (costs sizes : List ℕ) (long : length sizes ≡ bl
       r : IsRest (Assign tree ∷ rest) at
       r = goes_on tree rest at h later (continues flow (at + 1)) refl
 
-      whole : continues flow at ≡ false → AreWithin (behind at) (block_costs flow costs (Assign tree ∷ rest) at)
+      whole : continues flow at ≡ false → SizesWithin (behind at) (block_costs flow costs (Assign tree ∷ rest) at)
       whole c =
           let place = here (Assign tree) rest at h in
           let lt = inside (Assign tree) rest at h in
-          let block : IsBlock flow at r.count = record { some = r.some; assigns = r.assigns; first = c; inner = r.inner; last = r.last } in
+          let block : IsAssignBlock flow at r.count = record { some = r.some; assigns = r.assigns; first = c; inner = r.inner; last = r.last } in
           let one : place_blocks (slice_get flow at) (continues flow at) ≡ 1 = (λ j. place_blocks (place j) (c j)) in
           let size = runs at r.count lt block in
           let sum = r.sum in
-          subst (λ xs. AreWithin xs (block_costs flow costs (Assign tree ∷ rest) at)) (sym (begun at lt one))
-          (subst (AreWithin (slice_index sizes (blocks_before flow at) ∷ behind (at + 1))) (sym r.are) (omega (arith, size, sum), r.within))
+          subst (λ xs. SizesWithin xs (block_costs flow costs (Assign tree ∷ rest) at)) (sym (begun at lt one))
+          (subst (SizesWithin (slice_index sizes (blocks_before flow at) ∷ behind (at + 1))) (sym r.are) (omega (arith, size, sum), r.within))
 
   test_kept : (tree when_one when_zero : ℕ) (rest : List Flow) (at : ℕ) → IsFrom (Test tree when_one when_zero ∷ rest) at → IsKept rest (at + 1) → IsKept (Test tree when_one when_zero ∷ rest) at
   test_kept tree when_one when_zero rest at h later = record { whole = whole; run = λ other before e. absurd cc }
     where
-      whole : continues flow at ≡ false → AreWithin (behind at) (block_costs flow costs (Test tree when_one when_zero ∷ rest) at)
+      whole : continues flow at ≡ false → SizesWithin (behind at) (block_costs flow costs (Test tree when_one when_zero ∷ rest) at)
       whole c =
           let place = here (Test tree when_one when_zero) rest at h in
           let lt = inside (Test tree when_one when_zero) rest at h in
           let one : place_blocks (slice_get flow at) (continues flow at) ≡ 1 = ap (λ o. place_blocks o (continues flow at)) place in
           let size = tests at tree when_one when_zero lt place in
-          subst (λ xs. AreWithin xs (block_costs flow costs (Test tree when_one when_zero ∷ rest) at)) (sym (begun at lt one))
+          subst (λ xs. SizesWithin xs (block_costs flow costs (Test tree when_one when_zero ∷ rest) at)) (sym (begun at lt one))
           (omega (arith, size), later.whole (not_continued flow at (ap is_assign place)))
 
   kept : (rest : List Flow) (at : ℕ) → IsFrom rest at → IsKept rest at
   kept [] at h = record {
     whole = λ c. (let t = h.total in let e : at ≡ length flow = omega (arith, t) in
-        subst (λ xs. AreWithin xs []) (sym (drop_all sizes (blocks_before flow at) (ap (blocks_before flow) e ∙ sym long))) tt);
+        subst (λ xs. SizesWithin xs []) (sym (drop_all sizes (blocks_before flow at) (ap (blocks_before flow) e ∙ sym long))) tt);
     run = λ tree later e. absurd cc;
   }
   kept (Assign tree ∷ rest) at h = assign_kept tree rest at h (kept rest (at + 1) (next_from (Assign tree) rest at h))
   kept (Test tree when_one when_zero ∷ rest) at h = test_kept tree when_one when_zero rest at h (kept rest (at + 1) (next_from (Test tree when_one when_zero) rest at h))
   kept (Jump to ∷ rest) at h = record {
     whole = λ c. (let place = here (Jump to) rest at h in
-        subst (λ xs. AreWithin xs (block_costs flow costs rest (at + 1))) (sym (same_behind at (ap (λ o. place_blocks o (continues flow at)) place)))
+        subst (λ xs. SizesWithin xs (block_costs flow costs rest (at + 1))) (sym (same_behind at (ap (λ o. place_blocks o (continues flow at)) place)))
         ((kept rest (at + 1) (next_from (Jump to) rest at h)).whole (not_continued flow at (ap is_assign place))));
     run = λ tree later e. absurd cc;
   }
   kept (End ∷ rest) at h = record {
     whole = λ c. (let place = here End rest at h in
-        subst (λ xs. AreWithin xs (block_costs flow costs rest (at + 1))) (sym (same_behind at (ap (λ o. place_blocks o (continues flow at)) place)))
+        subst (λ xs. SizesWithin xs (block_costs flow costs rest (at + 1))) (sym (same_behind at (ap (λ o. place_blocks o (continues flow at)) place)))
         ((kept rest (at + 1) (next_from End rest at h)).whole (not_continued flow at (ap is_assign place))));
     run = λ tree later e. absurd cc;
   }
 
   -- no block has more words than it costs
-  pub sizes_within : AreWithin sizes (block_costs flow costs flow 0)
+  pub sizes_within : SizesWithin sizes (block_costs flow costs flow 0)
   sizes_within =
       let nothing_before : continues flow 0 ≡ false = refl in
       (kept flow 0 (record { stand = λ j. ap (slice_get flow) (let z : j ≡ 0 + j = omega arith in z); total = omega arith })).whole nothing_before

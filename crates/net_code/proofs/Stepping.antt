@@ -7,9 +7,9 @@ use Rattle.form_model.specs.Steps.{cover_steps}
 use Rattle.form_model.specs.declared.flow.Flow.{Flow}
 use Rattle.form_model.specs.declared.flow.Flow.TheVariants.{Assign, Test, Jump, End}
 use Rattle.form_model.specs.declared.forms.Step.{Step}
-use Rattle.src_trees.specs.Blocks.{IsBlock, continues, is_assign, is_entered, job_at, job_of, jobs_at}
+use Rattle.src_trees.specs.Blocks.{IsAssignBlock, continues, is_assign, is_entered, job_at, job_list, jobs_at}
 use Rattle.src_trees.specs.Lowered.{Work}
-use Rattle.right_code.specs.Images.{choice_at, choice_of, choices_at}
+use Rattle.right_code.specs.Images.{choice_at, choices_of, choices_at}
 use Rattle.right_code.specs.Jobs.{job_steps, jobs_steps, tree_or_none}
 
 -- ---- one job
@@ -21,26 +21,26 @@ module _ (stock : Stock) where
 
   -- no job of this number, or no cover
   pub jobless : (works : List Work) (choices : List Choice) (tree : ℕ) (steps : List Step) → length works ≤ tree
-      → steps ≡ steps ++ jobs_steps stock (job_of (slice_get works tree)) (choice_of (slice_get choices tree))
+      → steps ≡ steps ++ jobs_steps stock (job_list (slice_get works tree)) (choices_of (slice_get choices tree))
   jobless works choices tree steps le =
-      sym (append-nil steps) ∙ ap (λ (o : Option Work). steps ++ jobs_steps stock (job_of o) (choice_of (slice_get choices tree))) (sym (slice_get_past works tree le))
+      sym (append-nil steps) ∙ ap (λ (o : Option Work). steps ++ jobs_steps stock (job_list o) (choices_of (slice_get choices tree))) (sym (slice_get_past works tree le))
 
   pub coverless : (works : List Work) (choices : List Choice) (tree : ℕ) (steps : List Step) → length choices ≤ tree
-      → steps ≡ steps ++ jobs_steps stock (job_of (slice_get works tree)) (choice_of (slice_get choices tree))
+      → steps ≡ steps ++ jobs_steps stock (job_list (slice_get works tree)) (choices_of (slice_get choices tree))
   coverless works choices tree steps le =
       sym (append-nil steps)
-      ∙ ap (λ (more : List Step). steps ++ more) (sym (no_choices (job_of (slice_get works tree))))
-      ∙ ap (λ (o : Option Choice). steps ++ jobs_steps stock (job_of (slice_get works tree)) (choice_of o)) (sym (slice_get_past choices tree le))
+      ∙ ap (λ (more : List Step). steps ++ more) (sym (no_choices (job_list (slice_get works tree))))
+      ∙ ap (λ (o : Option Choice). steps ++ jobs_steps stock (job_list (slice_get works tree)) (choices_of o)) (sym (slice_get_past choices tree le))
 
   -- the steps of the cover of a job
   pub covered_steps : (works : List Work) (choices : List Choice) (k : ℕ) (job : Work) (choice : Choice) (tree : Term) (steps : List Step) → slice_get works k ≡ Some job → slice_get choices k ≡ Some choice
       → slice_get job.trees choice.which ≡ Some tree → steps ≡ cover_steps stock job.destination tree choice.plan
-      → steps ≡ jobs_steps stock (job_of (slice_get works k)) (choice_of (slice_get choices k))
+      → steps ≡ jobs_steps stock (job_list (slice_get works k)) (choices_of (slice_get choices k))
   covered_steps works choices k job choice tree steps has covers used are =
       are ∙ ap (λ (o : Option Term). cover_steps stock job.destination (tree_or_none o) choice.plan) (sym used)
       ∙ sym (append-nil (job_steps stock job choice))
-      ∙ ap (λ (o : Option Work). jobs_steps stock (job_of o) (choice ∷ [])) (sym has)
-      ∙ ap (λ (o : Option Choice). jobs_steps stock (job_of (slice_get works k)) (choice_of o)) (sym covers)
+      ∙ ap (λ (o : Option Work). jobs_steps stock (job_list o) (choice ∷ [])) (sym has)
+      ∙ ap (λ (o : Option Choice). jobs_steps stock (job_list (slice_get works k)) (choices_of o)) (sym covers)
 
   -- where no assignment stands there are no steps
   pub placeless : (works : List Work) (choices : List Choice) (flow : List Flow) (at : ℕ) (steps : List Step) → length flow ≤ at
@@ -68,7 +68,7 @@ module _ (stock : Stock) where
       ap (λ (more : List Step). job_steps stock x c ++ more) (steps_on xs ys cs ds (omega arith))
       ∙ sym (append_assoc (job_steps stock x c) (jobs_steps stock xs cs) (jobs_steps stock ys ds))
 
-  even_at : (works : List Work) (choices : List Choice) (k : ℕ) → length choices ≡ length works → length (choice_of (slice_get choices k)) ≡ length (job_of (slice_get works k))
+  even_at : (works : List Work) (choices : List Choice) (k : ℕ) → length choices ≡ length works → length (choices_of (slice_get choices k)) ≡ length (job_list (slice_get works k))
   even_at [] [] k e = refl
   even_at [] (c ∷ choices) k e = absurd (omega arith)
   even_at (x ∷ works) [] k e = absurd (omega arith)
@@ -121,7 +121,7 @@ none_behind flow at le =
     no_third (nat_lt 0 at) (is_assign (slice_get flow (at - 1))) (is_assign (slice_get flow at)) (not (is_entered flow at)) (ap is_assign (slice_get_past flow at le))
 
 pub block_here : (flow : List Flow) (at behind : ℕ) → at < behind → continues flow at ≡ false → is_assign (slice_get flow at) ≡ true → ((k : ℕ) → at < k → k < behind → continues flow k ≡ true)
-    → continues flow behind ≡ false → IsBlock flow at (behind - at)
+    → continues flow behind ≡ false → IsAssignBlock flow at (behind - at)
 block_here flow at behind lt begins assigns inner last =
     record {
       some = omega arith;

@@ -1,9 +1,2 @@
-pub mod Coded
-pub mod Covering
-pub mod Imaged
-pub mod Memories
-pub mod Places
 pub mod Refusals
-pub mod Registers
-pub mod Uncovered
-pub mod Views
+pub mod Inner

@@ -3,7 +3,7 @@ use Rattle.std.specs.Prelude.{ℕ, ◌≡◌, ◌≤◌, ◌<◌, length, List, 
 use Rattle.std.specs.List.{list_all}
 use Rattle.form_model.specs.declared.forms.Form.{Form}
 use Rattle.form_model.specs.Rules.{kind_of}
-use Rattle.form_set.specs.Promises.{is_control, is_no_jump}
+use Rattle.form_set.specs.Promises.{is_control_goal, is_no_jump}
 use Rattle.net_model.specs.CheckedRules.{code_size}
 use Rattle.net_model.specs.declared.hardware.Netlist.{Netlist}
 use Rattle.net_model.specs.Patterns.{IsPattern, Pattern}
@@ -19,7 +19,8 @@ use Rattle.net_code.specs.declared.fault.CodeFault.TheVariants.{NoStep, NoJump, 
 
 -- ---- what a netlist or a program lacks
 
--- no pattern of the netlist gives a form that is no jump and no branch; so there is none in the list of its forms
+-- no pattern of the netlist gives a form that is no jump and no branch; so there is none in the
+-- list of its forms
 abbrev pub IsStepless : Netlist → Type 0
 IsStepless netlist = (pattern : Pattern) → IsPattern netlist pattern → IsPlain netlist pattern → ⊥
 
@@ -32,8 +33,9 @@ pub record IsBeyondReach (bound reach : ℕ) (task : Task) : Type 0 where
   pub has : HasBound task bound reach
   pub beyond : reach < bound
 
--- there is an image made for the task which is longer than the code, and so is the bound; these are the numbers
-pub record IsTooLong (len size bound : ℕ) (task : Task) : Type 0 where
+-- there is an image made for the task which is longer than the code, and so is the bound; these are
+-- the numbers
+pub record IsImageTooLong (len size bound : ℕ) (task : Task) : Type 0 where
   pub image : Image
   pub made : IsMadeFor task image
   pub long : len ≡ length (words_of image)
@@ -72,9 +74,9 @@ IsFormless netlist _ = ⊥
 
 -- the kinds of which a list has forms
 abbrev pub IsKindsFault : List Form → CodeFault → Type 0
-IsKindsFault list NoStep = list_all (λ (form : Form). is_control (kind_of form.goal)) list ≡ true
+IsKindsFault list NoStep = list_all (λ (form : Form). is_control_goal (kind_of form.goal)) list ≡ true
 IsKindsFault list NoJump =
-    (list_all (λ (form : Form). is_control (kind_of form.goal)) list ≡ false) × (list_all (λ (form : Form). is_no_jump (kind_of form.goal)) list ≡ true)
+    (list_all (λ (form : Form). is_control_goal (kind_of form.goal)) list ≡ false) × (list_all (λ (form : Form). is_no_jump (kind_of form.goal)) list ≡ true)
 IsKindsFault list _ = ⊥
 
 -- ---- when each refusal comes; nothing is said where memory ran out
@@ -84,5 +86,5 @@ IsCodeFault task NoStep = IsStepless task.netlist
 IsCodeFault task NoJump = HasSteps task × IsJumpless task.netlist
 IsCodeFault task (NoCover number) = HasJumps task × HasBareTree number task
 IsCodeFault task (NoReach bound reach) = IsCoverable task × IsBeyondReach bound reach task
-IsCodeFault task (ImageFull len size bound) = IsReached task × IsTooLong len size bound task
+IsCodeFault task (ImageFull len size bound) = IsReached task × IsImageTooLong len size bound task
 IsCodeFault task Memory = Unit {0}

@@ -8,15 +8,15 @@ ghost use Rattle.branch_fix.specs.Entered.{marked};
 ghost use Rattle.cover.specs.Best.{choice_of};
 ghost use Rattle.form_model.specs.Live.{no_regs, regs_of, singles};
 ghost use Rattle.block_words.specs.Words.{HaveWords};
-ghost use Rattle.src_trees.specs.Blocks.{IsBlock, continues, is_assign, jobs_at};
+ghost use Rattle.src_trees.specs.Blocks.{IsAssignBlock, continues, is_assign, jobs_at};
 ghost use Rattle.src_trees.specs.Jobs.{work_of};
 ghost use Rattle.transfer_set.specs.Ready.{IsReady};
 ghost use Rattle.right_code.specs.Images.{choices_at};
 ghost use Rattle.right_code.specs.Jobs.{jobs_steps};
-ghost use Rattle.net_code.specs.Coded.{IsBlockCode, IsOnce, IsPackedBlock, IsTestCode};
-ghost use Rattle.net_code.specs.Covering.{IsCovered, machine_netlist, machine_patterns};
-ghost use Rattle.net_code.specs.Registers.{form_registers};
-ghost use Rattle.net_code.specs.Views.{IsTestAt, IsTestJob, choices_in, stock_of, works_in};
+ghost use Rattle.net_code.specs.Inner.Coded.{IsBlockCode, IsOnce, IsPackedBlock, IsTestCode};
+ghost use Rattle.net_code.specs.Inner.Covering.{IsCovered, machine_netlist, machine_patterns};
+ghost use Rattle.net_code.specs.Inner.Registers.{form_registers};
+ghost use Rattle.net_code.specs.Inner.Views.{IsTestAt, IsTestJob, choices_in, stock_of, works_in};
 
 use crate::registers::registers;
 use crate::steps::{block_length, block_steps};
@@ -39,8 +39,8 @@ pub(crate) struct PackedBlock {
     pub words: Items<u64>,
 }
 
-/// The blocks of a flow, a test's operands among them, and for each test its branch form, by its place in the list of forms, and the setting of
-/// its condition's bits.
+/// The blocks of a flow, a test's operands among them, and for each test its branch form, by its
+/// place in the list of forms, and the setting of its condition's bits.
 #[derive(Drop)]
 pub(crate) struct BlockCode {
     pub blocks: Vec<PackedBlock>,
@@ -94,7 +94,7 @@ fn run_block(
 ) -> Result<PackedBlock, NoMemory>
     requires ready { IsReady (machine_netlist machine.now) book.old machine.now.pool.now machine.now.patterns.now }
     requires covering { IsCovered machine.now program.now }
-    requires block { IsBlock program.now.flow.now at count }
+    requires block { IsAssignBlock program.now.flow.now at count }
     requires within { at + count ≤ length program.now.flow.now }
     ensures grows { Extends book.old book.new }
     ensures ready { IsReady (machine_netlist machine.now) book.new machine.now.pool.now machine.now.patterns.now }
@@ -131,7 +131,8 @@ fn test_block(
     requires job { IsTestJob program.now (work_of job.now) (choice_of chosen.now) }
     ensures grows { Extends book.old book.new }
     ensures ready { IsReady (machine_netlist machine.now) book.new machine.now.pool.now machine.now.patterns.now }
-    ensures code { IfOk result (λ made. IsTestCode (machine_netlist machine.now) (machine_patterns machine.now) (stock_of program.now) (work_of job.now) (choice_of chosen.now) made.0 (chosen.now.cover.form, made.1)) }
+    ensures code { IfOk result (λ made.
+        IsTestCode (machine_netlist machine.now) (machine_patterns machine.now) (stock_of program.now) (work_of job.now) (choice_of chosen.now) made.0 (chosen.now.cover.form, made.1)) }
     ensures once { IfOk result (λ made. IsOnce made.0) }
 {
     let emitted = emit(
@@ -253,7 +254,8 @@ pub(crate) fn block_code(
     ensures grows { Extends book.old book.new }
     ensures ready { IsReady (machine_netlist machine.now) book.new machine.now.pool.now machine.now.patterns.now }
     ensures once { IfOk result (λ code. AllByRecursion IsOnce code.blocks.items) }
-    ensures code { IfOk result (λ code. IsBlockCode (machine_netlist machine.now) (machine_patterns machine.now) (stock_of program.now) program.now.flow.now (works_in program.now) (choices_in program.now) (length program.now.flow.now) code.blocks.items code.branches.items) }
+    ensures code { IfOk result (λ code.
+        IsBlockCode (machine_netlist machine.now) (machine_patterns machine.now) (stock_of program.now) program.now.flow.now (works_in program.now) (choices_in program.now) (length program.now.flow.now) code.blocks.items code.branches.items) }
 {
     let entered = entered(alloc, program.flow)?;
     let mut code = BlockCode {

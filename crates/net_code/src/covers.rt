@@ -8,7 +8,7 @@ ghost use Rattle.cover.specs.declared.covers.JobCover.{JobCover as TheCover};
 ghost use Rattle.form_model.specs.Covers.{HasNoCover, IsChosen, job_cost};
 ghost use Rattle.src_trees.specs.Jobs.{work_of, works_of};
 ghost use Rattle.right_code.specs.Covered.{AllChosen, job_costs, numbered};
-ghost use Rattle.net_code.specs.Uncovered.{IsOneBare, IsUncovered};
+ghost use Rattle.net_code.specs.Inner.Uncovered.{IsOneBare, IsUncovered};
 
 use crate::fault::CodeFault;
 use cover::{CoverFault, JobCover, cover};
@@ -36,8 +36,9 @@ fn cover_one(
     }
 }
 
-/// The chosen cover of each job, in their order, where so many temporary cells are used. `NoCover` comes exactly where a job has no orderly
-/// cover, with the number of the first; `Memory` is want of memory.
+/// The chosen cover of each job, in their order, where so many temporary cells are used. `NoCover`
+/// comes exactly where a job has no orderly cover, with the number of the first; `Memory` is want
+/// of memory.
 pub(crate) fn covers_of(
     alloc: Global,
     forms: &Forms,

@@ -21,7 +21,8 @@ pub enum CodeFault {
     /// They cover all, and the code may have more words than a jump reaches: `bound` words.
     #[error("the code may have {bound} words, and jumps reach {reach}")]
     NoReach { bound: u64, reach: u64 },
-    /// Jumps reach far enough, and the code has more words than there is room for: `len` words, where it might have `bound`.
+    /// Jumps reach far enough, and the code has more words than there is room for: `len` words,
+    /// where it might have `bound`.
     #[error("the code has {len} words, and there is room for {size}")]
     ImageFull { len: u64, size: u64, bound: u64 },
     /// Want of memory.

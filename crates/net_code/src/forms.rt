@@ -7,9 +7,9 @@ ghost use Rattle.net_model.specs.Patterns.{ArePatterns};
 ghost use Rattle.form_model.specs.declared.forms.Form.{Form as TheForm};
 ghost use Rattle.form_model.specs.Rules.{kind_of, rules_of};
 ghost use Rattle.form_set.specs.Listing.{AreForms};
-ghost use Rattle.form_set.specs.Promises.{is_control, is_no_jump};
+ghost use Rattle.form_set.specs.Promises.{is_control_goal, is_no_jump};
 ghost use Rattle.transfer_set.specs.Ready.{IsReady};
-ghost use Rattle.transfer_set.specs.Rows.{told_patterns};
+ghost use Rattle.transfer_set.specs.Rows.{row_patterns};
 ghost use Rattle.net_code.specs.Refusals.{IsFormless, IsJumpless, IsKindsFault, IsStepless};
 
 use crate::fault::CodeFault;
@@ -22,7 +22,7 @@ use sym_expr::Pool;
 use transfer_set::Patterns;
 
 fn is_control(form: &Form) -> bool
-    ensures { result ≡ is_control (kind_of form.now.goal) }
+    ensures { result ≡ is_control_goal (kind_of form.now.goal) }
 {
     matches!(form.goal, Goal::Jump { .. } | Goal::Branch { .. })
 }
@@ -34,7 +34,7 @@ fn is_no_jump(form: &Form) -> bool
 }
 
 fn only_control(list: &[Form]) -> bool
-    ensures { result ≡ list_all (λ (form : TheForm). is_control (kind_of form.goal)) list.now }
+    ensures { result ≡ list_all (λ (form : TheForm). is_control_goal (kind_of form.goal)) list.now }
 {
     list.iter().all(|form| is_control(form))
 }
@@ -47,7 +47,7 @@ fn no_jumps(list: &[Form]) -> bool
 
 // Whether there is a form that is no jump and no branch, and a jump.
 fn check_kinds(list: &[Form]) -> Result<(), CodeFault>
-    ensures steps { IfOk result (λ _. list_all (λ (form : TheForm). is_control (kind_of form.goal)) list.now ≡ false) }
+    ensures steps { IfOk result (λ _. list_all (λ (form : TheForm). is_control_goal (kind_of form.goal)) list.now ≡ false) }
     ensures jumps { IfOk result (λ _. list_all (λ (form : TheForm). is_no_jump (kind_of form.goal)) list.now ≡ false) }
     ensures refused { IfErr result (IsKindsFault list.now) }
 {
@@ -69,10 +69,11 @@ pub(crate) fn usable_forms(
     patterns: &Patterns,
 ) -> Result<Forms, CodeFault>
     requires ready { IsReady checked.now.netlist book.old pool.now patterns.now }
-    requires patterns { ArePatterns checked.now.netlist (told_patterns pool.now patterns.now.rows) }
+    requires patterns { ArePatterns checked.now.netlist (row_patterns pool.now patterns.now.rows) }
     ensures grows { Extends book.old book.new }
     ensures ready { IsReady checked.now.netlist book.new pool.now patterns.now }
-    ensures forms { IfOk result (λ forms. AreForms checked.now.netlist (told_patterns pool.now patterns.now.rows) (rules_of forms.list.items) forms.reach) }
+    ensures forms { IfOk result (λ forms.
+        AreForms checked.now.netlist (row_patterns pool.now patterns.now.rows) (rules_of forms.list.items) forms.reach) }
     ensures steps { IfOk result (λ _. ¬ IsStepless checked.now.netlist) }
     ensures jumps { IfOk result (λ _. ¬ IsJumpless checked.now.netlist) }
     ensures refused { IfErr result (IsFormless checked.now.netlist) }

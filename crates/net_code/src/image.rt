@@ -9,15 +9,15 @@ ghost use Rattle.code_model.specs.ImageFits.{CostFits, IsFitting, PlaceFits, lim
 ghost use Rattle.code_model.specs.Layout.{layout_of};
 ghost use Rattle.code_model.specs.Places.{Apart};
 ghost use Rattle.transfer_set.specs.Ready.{IsReady};
-ghost use Rattle.transfer_set.specs.Rows.{told_patterns};
+ghost use Rattle.transfer_set.specs.Rows.{row_patterns};
 ghost use Rattle.branch_fix.specs.Bounds.{bound_of, control_words, sum_of};
 ghost use Rattle.branch_fix.specs.Laid.{IsLaid, outline};
 ghost use Rattle.cover.specs.declared.covers.JobCover.{JobCover as TheCover};
 ghost use Rattle.net_code.specs.declared.blocks.PackedBlock.{PackedBlock as TheBlock};
 ghost use Rattle.right_code.specs.Images.{IsRightImage};
 ghost use Rattle.right_code.specs.Tasks.{IsChecked, read_task};
-ghost use Rattle.net_code.specs.Covering.{machine_netlist};
-ghost use Rattle.net_code.specs.Imaged.{HasTask, IsImageMade, IsLengthFault, IsTaskImage, OfTask};
+ghost use Rattle.net_code.specs.Inner.Covering.{machine_netlist};
+ghost use Rattle.net_code.specs.Inner.Imaged.{HasTask, IsImageMade, IsLengthFault, IsTaskImage, OfTask};
 ghost use Rattle.net_code.specs.Refusals.{IsCodeFault, IsReached};
 
 use crate::blocks::{PackedBlock, block_code};
@@ -51,7 +51,8 @@ fn sizes_of(alloc: Global, blocks: &[PackedBlock]) -> Result<Items<u32>, NoMemor
     Ok(sizes)
 }
 
-// The layout of blocks with these numbers of words and of tests with these branches, where jumps reach as far as the bound.
+// The layout of blocks with these numbers of words and of tests with these branches, where jumps
+// reach as far as the bound.
 fn laid(
     alloc: Global,
     program: &CoveredProgram<'_>,
@@ -113,7 +114,8 @@ fn laid_image(
     })
 }
 
-// The image of a program whose jobs are covered, where jumps reach far enough and the code has room for it.
+// The image of a program whose jobs are covered, where jumps reach far enough and the code has room
+// for it.
 fn covered_image(
     alloc: Global,
     machine: &Machine<'_>,
@@ -148,12 +150,15 @@ fn covered_image(
     let len = image.words.len() as u64;
     let size = u64::from(machine.checked.netlist().code_size());
     if len > size {
+        // as one step, where its parts would be let go one by one
+        drop(image);
         return Err(CodeFault::ImageFull { len, size, bound });
     }
     Ok(image)
 }
 
-/// The image of a program that was checked for the words of the netlist's data memory, whose variables stand at the places of its layout.
+/// The image of a program that was checked for the words of the netlist's data memory, whose
+/// variables stand at the places of its layout.
 pub fn image_of(
     alloc: Global,
     checked: &Checked,
@@ -164,7 +169,7 @@ pub fn image_of(
     places: Places,
 ) -> Result<Image, CodeFault>
     requires ready { IsReady checked.now.netlist book.old pool.now patterns.now }
-    requires patterns { ArePatterns checked.now.netlist (told_patterns pool.now patterns.now.rows) }
+    requires patterns { ArePatterns checked.now.netlist (row_patterns pool.now patterns.now.rows) }
     requires checked { IsChecked checked.now.order (read_task checked.now typed.now) }
     requires places { places ≡ layout_of typed.now.width (listing_of typed.now.program) }
     requires apart { Apart places.temps places.list (memory_size checked.now.netlist.storages) }

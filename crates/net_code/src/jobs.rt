@@ -8,7 +8,7 @@ ghost use Rattle.code_model.specs.Layout.{layout_of, need_of};
 ghost use Rattle.src_trees.specs.Flows.{program_flow};
 ghost use Rattle.src_trees.specs.Jobs.{works_of};
 ghost use Rattle.right_code.specs.Tasks.{read_task, task_works};
-ghost use Rattle.net_code.specs.Memories.{storage_addr_bits};
+ghost use Rattle.net_code.specs.Inner.Memories.{storage_addr_bits};
 
 use code_model::Places;
 use form_model::Blocks;
@@ -28,7 +28,8 @@ fn addr_bits(storage: Option<&Storage>) -> u8
     }
 }
 
-// The number of bits of an address of the data memory. What holds of a checked netlist is said here.
+// The number of bits of an address of the data memory. What holds of a checked netlist is said
+// here.
 fn addr_width(checked: &Checked) -> u8
     ensures width { result ≡ memory_addr_width checked.now.netlist.storages }
     ensures rules { KeepsRules checked.now.netlist checked.now.order }
@@ -36,7 +37,8 @@ fn addr_width(checked: &Checked) -> u8
     addr_bits(checked.netlist().storage(checked.memory()))
 }
 
-/// The flow and the jobs of a program whose variables stand at the places of its layout in the netlist's data memory.
+/// The flow and the jobs of a program whose variables stand at the places of its layout in the
+/// netlist's data memory.
 pub(crate) fn blocks_of(
     alloc: Global,
     checked: &Checked,

@@ -2,7 +2,7 @@
 
 ghost use Rattle.std.specs.Prelude.{◌≡◌};
 ghost use Rattle.net_model.specs.Terms.{term_of};
-ghost use Rattle.net_code.specs.Registers.{one_register, term_registers};
+ghost use Rattle.net_code.specs.Inner.Registers.{one_register, term_registers};
 
 use form_model::RegSet;
 use net_model::Expr;

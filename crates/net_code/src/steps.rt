@@ -3,10 +3,10 @@
 ghost use Rattle.std.specs.Prelude.{◌≡◌, ◌<◌, ◌≤◌, ◌+◌, ◌++◌, IfOk, OnOk, IfSome, Some, length, slice_get, true, false};
 ghost use Rattle.std.proofs.Common.{replicate};
 ghost use Rattle.branch_fix.specs.Entered.{marked};
-ghost use Rattle.src_trees.specs.Blocks.{IsBlock, continues, is_assign, job_at, job_of, jobs_at};
-ghost use Rattle.right_code.specs.Images.{choice_at, choice_of, choices_at};
+ghost use Rattle.src_trees.specs.Blocks.{IsAssignBlock, continues, is_assign, job_at, job_list, jobs_at};
+ghost use Rattle.right_code.specs.Images.{choice_at, choices_of, choices_at};
 ghost use Rattle.right_code.specs.Jobs.{jobs_steps};
-ghost use Rattle.net_code.specs.Views.{choices_in, stock_of, works_in};
+ghost use Rattle.net_code.specs.Inner.Views.{choices_in, stock_of, works_in};
 
 use crate::views::CoveredProgram;
 use branch_fix::continues;
@@ -33,7 +33,7 @@ fn push_job(
     steps: &mut Items<Step>,
 ) -> Result<(), NoMemory>
     ensures { OnOk result (steps.new ≡ steps.old
-        ++ jobs_steps (stock_of program.now) (job_of (slice_get (works_in program.now) tree)) (choice_of (slice_get (choices_in program.now) tree))) }
+        ++ jobs_steps (stock_of program.now) (job_list (slice_get (works_in program.now) tree)) (choices_of (slice_get (choices_in program.now) tree))) }
 {
     let Some(job) = program.jobs.get(tree as usize) else {
         return Ok(());
@@ -53,7 +53,8 @@ fn push_job(
     Ok(())
 }
 
-// Adds the steps of the job at a place of the flow, which are none where no assignment stands there.
+// Adds the steps of the job at a place of the flow, which are none where no assignment stands
+// there.
 fn push_place(
     alloc: Global,
     program: &CoveredProgram<'_>,
@@ -97,7 +98,7 @@ pub(crate) fn block_length(flow: &[Flow], entered: &[bool], at: usize) -> usize
     requires begins { continues flow.now at ≡ false }
     requires assigns { is_assign (slice_get flow.now at) ≡ true }
     requires entered { entered.now ≡ marked flow.now (replicate (length flow.now) false) }
-    ensures block { IsBlock flow.now at result }
+    ensures block { IsAssignBlock flow.now at result }
     ensures within { at + result ≤ length flow.now }
 {
     for place in at + 1..flow.len() {

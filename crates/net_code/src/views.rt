@@ -14,7 +14,8 @@ pub(crate) struct Machine<'a> {
     pub patterns: &'a Patterns,
 }
 
-/// A program with the covers of its jobs, in the order of their numbers, by these forms and with so many temporary cells.
+/// A program with the covers of its jobs, in the order of their numbers, by these forms and with so
+/// many temporary cells.
 #[derive(Clone, Copy)]
 pub(crate) struct CoveredProgram<'a> {
     pub forms: &'a Forms,

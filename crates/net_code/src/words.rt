@@ -6,8 +6,8 @@ ghost use Rattle.bit_bdd.specs.Diagrams.{Extends};
 ghost use Rattle.form_model.specs.Effects.{operation_of};
 ghost use Rattle.transfer_set.specs.Ready.{IsReady};
 ghost use Rattle.word_fit.specs.Fits.{FitsJump, IsLeastFit};
-ghost use Rattle.net_code.specs.Coded.{AreItemWords, HasWord, IsOnce, IsWordOf, groups_at, words_at};
-ghost use Rattle.net_code.specs.Covering.{machine_netlist, machine_patterns};
+ghost use Rattle.net_code.specs.Inner.Coded.{AreItemWords, HasWord, IsOnce, IsWordOf, groups_at, words_at};
+ghost use Rattle.net_code.specs.Inner.Covering.{machine_netlist, machine_patterns};
 
 use crate::blocks::PackedBlock;
 use crate::views::Machine;
@@ -31,7 +31,8 @@ fn word_of_jump(
     requires word { (w : ℕ) × FitsJump (machine_netlist machine.now) w (operation_of (machine_patterns machine.now) step) }
     ensures grows { Extends book.old book.new }
     ensures ready { IsReady (machine_netlist machine.now) book.new machine.now.pool.now machine.now.patterns.now }
-    ensures least { IfOk result (IsLeastFit (λ word. FitsJump (machine_netlist machine.now) word (operation_of (machine_patterns machine.now) step))) }
+    ensures least { IfOk result (IsLeastFit (λ word.
+        FitsJump (machine_netlist machine.now) word (operation_of (machine_patterns machine.now) step))) }
 {
     let found = jump_word(
         alloc,

@@ -14,13 +14,13 @@ use Rattle.right_code.specs.Covered.{HasBareTree}
 use Rattle.right_code.specs.Tasks.{Task, Property, read_task}
 use Rattle.right_code.proofs.Bare.{no_bare, one_bare}
 use Rattle.right_code.proofs.OneBound.{bound_one}
-use Rattle.net_code.specs.Refusals.{HasSteps, HasJumps, IsBeyondReach, IsCodeFault, IsCoverable, IsJumpless, IsReached, IsStepless, IsTooLong}
+use Rattle.net_code.specs.Refusals.{HasSteps, HasJumps, IsBeyondReach, IsCodeFault, IsCoverable, IsJumpless, IsReached, IsStepless, IsImageTooLong}
 use Rattle.net_code.specs.declared.fault.CodeFault.{CodeFault}
 use Rattle.net_code.specs.declared.fault.CodeFault.TheVariants.{NoStep as Stepless, NoJump as Jumpless, NoCover as Uncovered, NoReach as Beyond, ImageFull as Overlong, Memory as CodeMemory}
-use Rattle.net_compile.specs.Code.{IsFull, IsCode, IsTaskFault, IsWithin, HasRoom, FailsWith}
+use Rattle.net_compile.specs.Code.{IsDataFull, IsCode, IsTaskFault, IsWithin, HasRoom, FailsWith}
 use Rattle.net_compile.specs.Compiled.{HasNet, IsCompiled, BreaksSrc, IsCompileFault, IsSrcFault}
-use Rattle.net_compile.specs.Tasks.{IsTask, Holds, data_width}
-use Rattle.net_compile.specs.Told.{code_fault}
+use Rattle.net_compile.specs.Tasks.{IsTask, TaskHolds, data_width}
+use Rattle.net_compile.specs.Inner.Faults.{code_fault}
 use Rattle.net_compile.specs.declared.fault.CompileFault.{CompileFault}
 use Rattle.net_compile.specs.declared.fault.CompileFault.TheVariants.{NetText, Net, SrcText, Src, DataFull, NoStep, NoJump, NoCover, NoReach, ImageFull, Memory}
 
@@ -68,10 +68,10 @@ module _ (net src : List ℕ) where
       (p.src_file.says.only b.listing q.src_file.says.text)
 
   -- what holds of it, and what else does, holds of the same task
-  pub together : (P Q : Property) (G : Type 0) → ((task : Task) → P task → Q task → G) → Holds net src P → Holds net src Q → G
+  pub together : (P Q : Property) (G : Type 0) → ((task : Task) → P task → Q task → G) → TaskHolds net src P → TaskHolds net src Q → G
   together P Q G f a b = f a.task a.holds (subst Q (one_task b.task a.task b.is a.is) b.holds)
 
-  pub has_net : (P : Property) → Holds net src P → HasNet net
+  pub has_net : (P : Property) → TaskHolds net src P → HasNet net
   has_net P h = record { entries = h.is.entries; file = h.is.net_file }
 
   -- a program breaks one rule first, and none where it keeps them
@@ -80,61 +80,61 @@ module _ (net src : List ℕ) where
       one_broken_rule src (data_width a.entries) fault later a.breaks
       (subst (λ e. BreaksSrcRule src (data_width e) later) (b.net_file.file.says.only a.entries a.net_file.file.says.text) b.breaks)
 
-  pub none_broken : (P : Property) (fault : SrcFault) → Holds net src P → BreaksSrc net src fault → ⊥
+  pub none_broken : (P : Property) (fault : SrcFault) → TaskHolds net src P → BreaksSrc net src fault → ⊥
   none_broken P fault h b =
       let e : b.entries ≡ h.is.entries = b.net_file.file.says.only h.is.entries h.is.net_file.file.says.text in
       no_broken_rule src h.task.width h.task.listing fault h.is.src_file
       (subst (λ n. BreaksSrcRule src n fault) (ap data_width e ∙ sym h.is.width) b.breaks)
 
   -- what follows from what holds of it holds of it
-  pub weaker : (P Q : Property) → ((task : Task) → P task → Q task) → Holds net src P → Holds net src Q
+  pub weaker : (P Q : Property) → ((task : Task) → P task → Q task) → TaskHolds net src P → TaskHolds net src Q
   weaker P Q f h = record { task = h.task; is = h.is; holds = f h.task h.holds }
 
   -- ---- the refusals exclude each other
 
-  pub one_full : (p q : ℕ × ℕ) → Holds net src (IsFull p.0 p.1) → Holds net src (IsFull q.0 q.1) → p ≡ q
-  one_full (a, b) (c, d) = together (IsFull a b) (IsFull c d) ((a, b) ≡ (c, d)) (λ task x y. let e = x.needs in let f = y.needs in let g = x.has in let h = y.has in cc)
+  pub one_full : (p q : ℕ × ℕ) → TaskHolds net src (IsDataFull p.0 p.1) → TaskHolds net src (IsDataFull q.0 q.1) → p ≡ q
+  one_full (a, b) (c, d) = together (IsDataFull a b) (IsDataFull c d) ((a, b) ≡ (c, d)) (λ task x y. let e = x.needs in let f = y.needs in let g = x.has in let h = y.has in cc)
 
-  pub no_full : (need have : ℕ) → Holds net src HasRoom → Holds net src (IsFull need have) → ⊥
-  no_full need have = together HasRoom (IsFull need have) ⊥ (λ task x y. let a = x.room in let b = y.needs in let c = y.has in let d = y.more in omega arith)
+  pub no_full : (need have : ℕ) → TaskHolds net src HasRoom → TaskHolds net src (IsDataFull need have) → ⊥
+  no_full need have = together HasRoom (IsDataFull need have) ⊥ (λ task x y. let a = x.room in let b = y.needs in let c = y.has in let d = y.more in omega arith)
 
-  pub no_stepless : Holds net src HasSteps → Holds net src (λ task. IsStepless task.netlist) → ⊥
+  pub no_stepless : TaskHolds net src HasSteps → TaskHolds net src (λ task. IsStepless task.netlist) → ⊥
   no_stepless = together HasSteps (λ task. IsStepless task.netlist) ⊥ (λ task x y. x.steps y)
 
-  pub no_jumpless : Holds net src HasJumps → Holds net src (λ task. IsJumpless task.netlist) → ⊥
+  pub no_jumpless : TaskHolds net src HasJumps → TaskHolds net src (λ task. IsJumpless task.netlist) → ⊥
   no_jumpless = together HasJumps (λ task. IsJumpless task.netlist) ⊥ (λ task x y. x.jumps y)
 
-  pub one_uncovered : (number other : ℕ) → Holds net src (HasBareTree number) → Holds net src (HasBareTree other) → number ≡ other
+  pub one_uncovered : (number other : ℕ) → TaskHolds net src (HasBareTree number) → TaskHolds net src (HasBareTree other) → number ≡ other
   one_uncovered number other = together (HasBareTree number) (HasBareTree other) (number ≡ other) (λ task. one_bare task number other)
 
-  pub no_uncovered : (number : ℕ) → Holds net src IsCoverable → Holds net src (HasBareTree number) → ⊥
+  pub no_uncovered : (number : ℕ) → TaskHolds net src IsCoverable → TaskHolds net src (HasBareTree number) → ⊥
   no_uncovered number = together IsCoverable (HasBareTree number) ⊥ (λ task x y. no_bare task number x.covers y)
 
-  pub one_beyond : (p q : ℕ × ℕ) → Holds net src (IsBeyondReach p.0 p.1) → Holds net src (IsBeyondReach q.0 q.1) → p ≡ q
+  pub one_beyond : (p q : ℕ × ℕ) → TaskHolds net src (IsBeyondReach p.0 p.1) → TaskHolds net src (IsBeyondReach q.0 q.1) → p ≡ q
   one_beyond (a, b) (c, d) = together (IsBeyondReach a b) (IsBeyondReach c d) ((a, b) ≡ (c, d)) (λ task x y.
       let e = bound_one task a b c d x.has y.has in let f = e.0 in let g = e.1 in cc)
 
-  pub no_beyond : (bound reach : ℕ) → Holds net src IsReached → Holds net src (IsBeyondReach bound reach) → ⊥
+  pub no_beyond : (bound reach : ℕ) → TaskHolds net src IsReached → TaskHolds net src (IsBeyondReach bound reach) → ⊥
   no_beyond bound reach = together IsReached (IsBeyondReach bound reach) ⊥ (λ task x y.
       let e = bound_one task x.bound x.reach bound reach x.has y.has in let f = e.0 in let g = e.1 in let a = x.within in let b = y.beyond in omega arith)
 
   -- two images that are too long are so for one code, with one bound
-  pub one_limit : (len size bound other room most : ℕ) → Holds net src (IsTooLong len size bound) → Holds net src (IsTooLong other room most) → (size ≡ room) × (bound ≡ most)
-  one_limit len size bound other room most = together (IsTooLong len size bound) (IsTooLong other room most) ((size ≡ room) × (bound ≡ most)) (λ task x y.
+  pub one_limit : (len size bound other room most : ℕ) → TaskHolds net src (IsImageTooLong len size bound) → TaskHolds net src (IsImageTooLong other room most) → (size ≡ room) × (bound ≡ most)
+  one_limit len size bound other room most = together (IsImageTooLong len size bound) (IsImageTooLong other room most) ((size ≡ room) × (bound ≡ most)) (λ task x y.
       let e = bound_one task bound x.reach most y.reach x.has y.has in (x.room ∙ sym y.room, e.0))
 
   -- none is where the bound is within the code
-  pub no_long : (len size bound : ℕ) → Holds net src IsWithin → Holds net src (IsTooLong len size bound) → ⊥
-  no_long len size bound = together IsWithin (IsTooLong len size bound) ⊥ (λ task x y.
+  pub no_long : (len size bound : ℕ) → TaskHolds net src IsWithin → TaskHolds net src (IsImageTooLong len size bound) → ⊥
+  no_long len size bound = together IsWithin (IsImageTooLong len size bound) ⊥ (λ task x y.
       let e = bound_one task x.reached.bound x.reached.reach bound y.reach x.reached.has y.has in
       let f = e.0 in let a = x.small in let b = y.room in let c = y.above in let d = y.most in omega arith)
 
   -- ---- what they leave
 
-  pub room_of_code : (out : List ℕ) → IsCompiled net src out → Holds net src HasRoom
+  pub room_of_code : (out : List ℕ) → IsCompiled net src out → TaskHolds net src HasRoom
   room_of_code out = weaker (IsCode out) HasRoom (λ task x. x.room)
 
-  pub reached_of_code : (out : List ℕ) → IsCompiled net src out → Holds net src IsReached
+  pub reached_of_code : (out : List ℕ) → IsCompiled net src out → TaskHolds net src IsReached
   reached_of_code out = weaker (IsCode out) IsReached (λ task x. x.reached)
 
 -- ---- from what was read to the texts
@@ -152,7 +152,7 @@ module _ (net src : List ℕ) (checked : Ordered) (typed : Typed) (read : IsRout
   }
 
   -- what holds of it holds of them
-  pub holds_of_read : (P : Property) → P (read_task checked typed) → Holds net src P
+  pub holds_of_read : (P : Property) → P (read_task checked typed) → TaskHolds net src P
   holds_of_read P holds = record { task = read_task checked typed; is = is_task; holds = holds }
 
   -- why there is no code, once both were read

@@ -14,7 +14,7 @@ use Rattle.net_compile.specs.declared.fault.CompileFault.{CompileFault}
 use Rattle.net_compile.specs.declared.fault.CompileFault.TheVariants.{DataFull, NoStep, NoJump, NoCover, NoReach, ImageFull, Memory}
 
 -- the program needs more cells than the memory has, and these are the numbers
-pub record IsFull (need have : ℕ) (task : Task) : Type 0 where
+pub record IsDataFull (need have : ℕ) (task : Task) : Type 0 where
   pub needs : need ≡ need_of task.width task.listing
   pub has : have ≡ memory_size task.netlist.storages
   pub more : have < need
@@ -38,8 +38,8 @@ pub record IsCode (out : List ℕ) (task : Task) : Type 0 where
   pub read : IsImageText (limits_of task.netlist) out image
   pub right : IsRightImage task image
 
--- whatever image is made for it, nothing is refused: it has room, a step, a jump, covers of all trees, and the bound of its words is within
--- the reach of the jumps and within the code
+-- whatever image is made for it, nothing is refused: it has room, a step, a jump, covers of all
+-- trees, and the bound of its words is within the reach of the jumps and within the code
 pub record IsWithin (task : Task) : Type 0 where
   pub room : HasRoom task
   pub reached : IsReached task
@@ -47,7 +47,7 @@ pub record IsWithin (task : Task) : Type 0 where
 
 -- when each refusal comes; nothing is said where memory ran out
 abbrev pub IsTaskFault : Task → CompileFault → Type 0
-IsTaskFault task (DataFull need have) = IsFull need have task
+IsTaskFault task (DataFull need have) = IsDataFull need have task
 IsTaskFault task NoStep = HasRoom task × IsCodeFault task Stepless
 IsTaskFault task NoJump = HasRoom task × IsCodeFault task Jumpless
 IsTaskFault task (NoCover number) = HasRoom task × IsCodeFault task (Uncovered number)

@@ -7,7 +7,7 @@ use Rattle.src_model.specs.declared.fault.SrcFault.{SrcFault}
 use Rattle.src_parser.specs.Texts.{IsNoSrcText}
 use Rattle.src_front.specs.Fronts.{BreaksSrcRule}
 use Rattle.net_compile.specs.Code.{IsCode, FailsWith}
-use Rattle.net_compile.specs.Tasks.{Holds, data_width}
+use Rattle.net_compile.specs.Tasks.{TaskHolds, data_width}
 use Rattle.net_compile.specs.declared.fault.CompileFault.{CompileFault}
 use Rattle.net_compile.specs.declared.fault.CompileFault.TheVariants.{NetText, Net, SrcText, Src, Memory}
 
@@ -18,13 +18,15 @@ pub record HasNet (net : List ℕ) : Type 0 where
   pub entries : List Entry
   pub file : IsRoutedFile net entries
 
--- the third bytes are read as an image that is right code for the program of the second on the netlist of the first
+-- the third bytes are read as an image that is right code for the program of the second on the
+-- netlist of the first
 abbrev pub IsCompiled : List ℕ → List ℕ → List ℕ → Type 0
-IsCompiled net src out = Holds net src (IsCode out)
+IsCompiled net src out = TaskHolds net src (IsCode out)
 
 -- ---- refusals
 
--- the first bytes are a netlist's, and this is the first rule that the program of the second breaks for its words
+-- the first bytes are a netlist's, and this is the first rule that the program of the second breaks
+-- for its words
 pub record BreaksSrc (net src : List ℕ) (fault : SrcFault) : Type 0 where
   pub entries : List Entry
   pub net_file : IsRoutedFile net entries
@@ -51,4 +53,4 @@ IsCompileFault net src (Net fault) = BreaksAnyRule net fault
 IsCompileFault net src (SrcText at) = HasNet net × IsNoSrcText src at
 IsCompileFault net src (Src fault) = BreaksSrc net src fault
 IsCompileFault net src Memory = Unit {0}
-IsCompileFault net src fault = Holds net src (FailsWith fault)
+IsCompileFault net src fault = TaskHolds net src (FailsWith fault)

@@ -1,5 +1,5 @@
 pub mod Tasks
 pub mod Code
 pub mod Compiled
-pub mod Told
 pub mod Read
+pub mod Inner

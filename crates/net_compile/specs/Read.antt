@@ -8,7 +8,8 @@ use Rattle.right_code.specs.Tasks.{read_task}
 use Rattle.net_compile.specs.Code.{IsRightFor}
 use Rattle.net_compile.specs.declared.compiler.Compiled.{Compiled}
 
--- the netlist is that of the first bytes, which keeps all rules, the program that of the second for its words, and the image is right code for them
+-- the netlist is that of the first bytes, which keeps all rules, the program that of the second for
+-- its words, and the image is right code for them
 pub record IsCompiledTo (net src : List ℕ) (compiled : Compiled) : Type 0 where
   pub net_file : IsRoutedNet net compiled.checked
   pub src_file : IsSrcFile src compiled.typed.width (listing_of compiled.typed.program)

@@ -11,7 +11,8 @@ use Rattle.right_code.specs.Tasks.{Property, Task}
 abbrev pub data_width : List Entry → ℕ
 data_width entries = memory_width (netlist_of entries).storages
 
--- the first bytes are a netlist's that keeps all rules, the second a program's for its words, and the task is theirs
+-- the first bytes are a netlist's that keeps all rules, the second a program's for its words, and
+-- the task is theirs
 pub record IsTask (net src : List ℕ) (task : Task) : Type 0 where
   pub entries : List Entry
   pub net_file : IsRoutedFile net entries
@@ -20,7 +21,7 @@ pub record IsTask (net src : List ℕ) (task : Task) : Type 0 where
   pub src_file : IsSrcFile src task.width task.listing
 
 -- they are, and this holds of the task
-pub record Holds (net src : List ℕ) (P : Property) : Type 0 where
+pub record TaskHolds (net src : List ℕ) (P : Property) : Type 0 where
   pub task : Task
   pub is : IsTask net src task
   pub holds : P task

@@ -7,7 +7,7 @@ ghost use Rattle.net_model.specs.Nets.{memory_size, memory_width};
 ghost use Rattle.net_model.specs.Patterns.{ArePatterns};
 ghost use Rattle.net_extract.specs.Extraction.{IsExtractedFrom};
 ghost use Rattle.net_extract.specs.Extracts.{IsRoutedNet};
-ghost use Rattle.transfer_set.specs.Rows.{told_patterns};
+ghost use Rattle.transfer_set.specs.Rows.{row_patterns};
 ghost use Rattle.src_model.specs.Rules.{first_fault};
 ghost use Rattle.src_model.specs.Written.{listing_of};
 ghost use Rattle.src_front.specs.Fronts.{AreNamed, IsSrcFile};
@@ -39,7 +39,7 @@ fn netlist(alloc: Global, net: &[u8]) -> Result<(Checked, Extracted), CompileFau
     requires { length net.now < 2 ^ 32 }
     ensures found { IfOk result (λ both. IsRoutedNet net.now both.0) }
     ensures extracted { IfOk result (λ both. IsExtractedFrom both.0.netlist both.1) }
-    ensures patterns { IfOk result (λ both. ArePatterns both.0.netlist (told_patterns both.1.pool both.1.patterns.rows)) }
+    ensures patterns { IfOk result (λ both. ArePatterns both.0.netlist (row_patterns both.1.pool both.1.patterns.rows)) }
     ensures refused { IfErr result (IsNetFault net.now) }
 {
     let both = read_extracted(alloc, net)?;
@@ -91,7 +91,7 @@ fn image(
     places: Places,
 ) -> Result<Image, CompileFault>
     requires extracted { IsExtractedFrom checked.now.netlist extracted.old }
-    requires patterns { ArePatterns checked.now.netlist (told_patterns extracted.old.pool extracted.old.patterns.rows) }
+    requires patterns { ArePatterns checked.now.netlist (row_patterns extracted.old.pool extracted.old.patterns.rows) }
     requires checked { IsChecked checked.now.order (read_task checked.now typed.now) }
     requires places { places ≡ layout_of typed.now.width (listing_of typed.now.program) }
     requires room { HasRoom (read_task checked.now typed.now) }
@@ -132,7 +132,7 @@ fn image_for(
 ) -> Result<Image, CompileFault>
     requires rules { KeepsRules checked.now.netlist checked.now.order }
     requires extracted { IsExtractedFrom checked.now.netlist extracted.old }
-    requires patterns { ArePatterns checked.now.netlist (told_patterns extracted.old.pool extracted.old.patterns.rows) }
+    requires patterns { ArePatterns checked.now.netlist (row_patterns extracted.old.pool extracted.old.patterns.rows) }
     requires width { typed.now.width ≡ memory_width checked.now.netlist.storages }
     requires program { first_fault typed.now.width (listing_of typed.now.program) ≡ None }
     requires few { length typed.now.program.vars < 2 ^ 32 }
@@ -162,7 +162,8 @@ pub fn read_compiled(alloc: Global, net: &[u8], src: &[u8]) -> Result<Compiled, 
     })
 }
 
-/// The text of the image of the program that `src` is, for the netlist that `net` is: right code for it.
+/// The text of the image of the program that `src` is, for the netlist that `net` is: right code
+/// for it.
 pub fn compile(alloc: Global, net: &[u8], src: &[u8]) -> Result<Vec<u8>, CompileFault>
     requires net { length net.now < 2 ^ 32 }
     requires src { length src.now < 2 ^ 32 }

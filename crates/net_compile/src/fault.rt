@@ -15,9 +15,11 @@ use src_model::SrcFault;
 pub enum CompileFault {
     /// The first bytes are no netlist text; the offset at which that shows.
     NetText(u64),
-    /// They are one, and this is the first rule that it breaks: N10, and then N12 or N13, come after all others.
+    /// They are one, and this is the first rule that it breaks: N10, and then N12 or N13, come
+    /// after all others.
     Net(NetFault),
-    /// The first bytes are a netlist's that keeps all rules, and the second are no program text; the offset at which that shows.
+    /// The first bytes are a netlist's that keeps all rules, and the second are no program text;
+    /// the offset at which that shows.
     SrcText(u64),
     /// They are one, and this is the first rule that it breaks for the words of the netlist.
     Src(SrcFault),
@@ -31,7 +33,8 @@ pub enum CompileFault {
     NoCover(u32),
     /// They cover all, and the code may have more words than a jump reaches: `bound` words.
     NoReach { bound: u64, reach: u64 },
-    /// Jumps reach far enough, and the code has more words than there is room for: `len` words, where it might have `bound`.
+    /// Jumps reach far enough, and the code has more words than there is room for: `len` words,
+    /// where it might have `bound`.
     ImageFull { len: u64, size: u64, bound: u64 },
     /// Want of memory.
     Memory,
@@ -51,7 +54,7 @@ impl From<NetRefusal> for CompileFault {
     ghost from_gives = { λ refusal fault. fault ≡ net_fault refusal };
 
     ghost use Rattle.std.specs.Prelude.{◌≡◌};
-    ghost use Rattle.net_compile.specs.Told.{net_fault};
+    ghost use Rattle.net_compile.specs.Inner.Faults.{net_fault};
 
     fn from(refusal: NetRefusal) -> CompileFault {
         match refusal {
@@ -66,7 +69,7 @@ impl From<SrcRefusal> for CompileFault {
     ghost from_gives = { λ refusal fault. fault ≡ src_fault refusal };
 
     ghost use Rattle.std.specs.Prelude.{◌≡◌};
-    ghost use Rattle.net_compile.specs.Told.{src_fault};
+    ghost use Rattle.net_compile.specs.Inner.Faults.{src_fault};
 
     fn from(refusal: SrcRefusal) -> CompileFault {
         match refusal {
@@ -81,7 +84,7 @@ impl From<BindFault> for CompileFault {
     ghost from_gives = { λ refusal fault. fault ≡ bind_fault refusal };
 
     ghost use Rattle.std.specs.Prelude.{◌≡◌};
-    ghost use Rattle.net_compile.specs.Told.{bind_fault};
+    ghost use Rattle.net_compile.specs.Inner.Faults.{bind_fault};
 
     fn from(refusal: BindFault) -> CompileFault {
         match refusal {
@@ -95,7 +98,7 @@ impl From<CodeFault> for CompileFault {
     ghost from_gives = { λ refusal fault. fault ≡ code_fault refusal };
 
     ghost use Rattle.std.specs.Prelude.{◌≡◌};
-    ghost use Rattle.net_compile.specs.Told.{code_fault};
+    ghost use Rattle.net_compile.specs.Inner.Faults.{code_fault};
 
     fn from(refusal: CodeFault) -> CompileFault {
         match refusal {

@@ -11,8 +11,8 @@
 //! - `fault`: why nothing was compiled, and what the fault of a part is told as.
 //! - `compiler`: the parts in their order: the netlist with what is extracted from it, the program,
 //!   its places, the image, the text.
-//! - `specs/`: `Tasks` (what two texts say together), `Code`, `Read`, and `Compiled` but for two of
-//!   its definitions, are cited by public contracts; `Told` is for the proof.
+//! - `specs/`, cited by public contracts: `Tasks` (what two texts say together), `Code`, `Read`,
+//!   `Compiled`. `specs/Inner/`: `Faults`, for the proof.
 //! - `proofs/`: `TaskLemmas`: two texts say one task, and it is that of what was read;
 //!   `FittingLemmas`: the places fit an image's text.
 #![tactic(auto)]

@@ -5,12 +5,12 @@ use Rattle.net_model.specs.declared.hardware.Net.{Net}
 use Rattle.net_model.specs.Written.{Phrase, case, Rows, no_rows, row, Rest, no_rest, rest}
 use Rattle.net_model.specs.TextNames.{Scope}
 use Rattle.net_model.specs.TextWidths.{wide, numbers_fit, Seen, nothing_yet, seen, broken_already, seen_more, seen_first, seen_rows, seen_rest, seen_width, row_seen}
-use Rattle.net_model.specs.Numbering.{count_rows, Site, scope_at}
+use Rattle.net_model.specs.Numbering.{count_rows, NetSite, scope_at}
 use Rattle.net_model.specs.Elaborated.{width_or_none, nets_of_rows, row_pairs}
-use Rattle.net_elab.specs.Emissions.{AllWide, IsWideRest, last_width}
+use Rattle.net_elab.specs.Inner.Emissions.{AllWide, IsWideRest, last_width}
 
 -- the rows so far, and those that are left
-pub record Rowed (site : Site) (at : ℕ) (old : List Net) (all left : Rows) (nets : List Net) (pairs : List (ℕ × ℕ)) (width : ℕ) : Type 0 where
+pub record Rowed (site : NetSite) (at : ℕ) (old : List Net) (all left : Rows) (nets : List Net) (pairs : List (ℕ × ℕ)) (width : ℕ) : Type 0 where
   pub nets_so : nets ++ nets_of_rows site at (length nets) left ≡ old ++ nets_of_rows site at (length old) all
   pub pairs_so : pairs ++ row_pairs site (length nets) left ≡ row_pairs site (length old) all
   pub width_so : last_width (scope_at site) width left ≡ last_width (scope_at site) 0 all

@@ -5,14 +5,14 @@ use Rattle.net_model.specs.declared.hardware.Net.{Net}
 use Rattle.net_model.specs.declared.hardware.Netlist.{Netlist}
 use Rattle.net_model.specs.Written.{Entry, Phrase}
 use Rattle.net_model.specs.TextNames.{Scope}
-use Rattle.net_model.specs.Numbering.{count_drivers, count_items, Site, scope_at}
+use Rattle.net_model.specs.Numbering.{count_drivers, count_items, NetSite, scope_at}
 use Rattle.net_model.specs.Elaborable.{DriverFeeds, ItemKeeps}
-use Rattle.net_model.specs.Elaborated.{driver_nets, driver_pairs, nets_from, storages_from, codes_from}
-use Rattle.net_elab.specs.Emissions.{AllDriversWide}
+use Rattle.net_model.specs.Elaborated.{elaborated_drivers, driver_pairs, nets_from, storages_from, codes_from}
+use Rattle.net_elab.specs.Inner.Emissions.{AllDriversWide}
 
 -- the drivers so far, and those that are left
-pub record Driven (site : Site) (at : ℕ) (all left : List (Phrase × Phrase)) (old nets : List Net) (pairs : List (ℕ × ℕ)) : Type 0 where
-  pub nets_so : nets ++ driver_nets site at (length nets) left ≡ old ++ driver_nets site at (length old) all
+pub record Driven (site : NetSite) (at : ℕ) (all left : List (Phrase × Phrase)) (old nets : List Net) (pairs : List (ℕ × ℕ)) : Type 0 where
+  pub nets_so : nets ++ elaborated_drivers site at (length nets) left ≡ old ++ elaborated_drivers site at (length old) all
   pub pairs_so : pairs ++ driver_pairs site (length nets) left ≡ driver_pairs site (length old) all
   pub long_so : length nets + count_drivers left ≡ length old + count_drivers all
   pub wide_so : AllDriversWide (scope_at site) left

@@ -9,10 +9,10 @@ use Rattle.grammar.specs.declared.words.Ident.{Ident}
 use Rattle.net_model.specs.declared.units.NetExpr.{NetExpr, Case}
 use Rattle.net_model.specs.Written.{Phrase, phrase_of, row_of, rows_of, rest_of, other_of, read, case, Rows, Rest, no_rest, rest}
 use Rattle.net_model.specs.TextWidths.{wide, MemoryWidths, memory_widths, read_width}
-use Rattle.net_model.specs.Numbering.{count_rest, Site, scope_at, memory_at}
+use Rattle.net_model.specs.Numbering.{count_rest, NetSite, scope_at, memory_at}
 use Rattle.net_model.specs.Elaborated.{width_or_none, net_of, plain_net, nets_of_rest, rest_out}
-use Rattle.net_elab.specs.Emissions.{Pushed, Emitted, EmittedRows, EmittedRest}
-use Rattle.net_elab.specs.Found.{IsCells, cell_of}
+use Rattle.net_elab.specs.Inner.Emissions.{Pushed, Emitted, EmittedRows, EmittedRest}
+use Rattle.net_elab.specs.Inner.Found.{IsCells, cell_width_of}
 use Rattle.net_elab.specs.declared.site.Spot.{Spot}
 use Rattle.net_elab.specs.declared.site.Cells.{Cells}
 use Rattle.net_elab.specs.declared.expression.Pairs.{Pairs}
@@ -29,17 +29,17 @@ pick : (b : Bool) (x cell : ℕ) → x ≡ cell → IsSome (if b then Some x els
 pick true x cell e h = ap Some e
 pick false x cell e h = absurd (cc h)
 
-read_is : (m : Option MemoryWidths) (v : Option ℕ) (cell : ℕ) → option_map cell_of m ≡ Some cell → IsSome (read_width m v) → read_width m v ≡ Some cell
+read_is : (m : Option MemoryWidths) (v : Option ℕ) (cell : ℕ) → option_map cell_width_of m ≡ Some cell → IsSome (read_width m v) → read_width m v ≡ Some cell
 read_is None v cell e h = absurd (cc e)
 read_is (Some m) None cell e h = absurd (cc h)
 read_is (Some m) (Some a) cell e h = pick (m.address == a) m.cell cell (let k : m.cell ≡ cell = cc in k) h
 
 -- an own net behind others
-own_net : (site : Site) (at : ℕ) (a : Phrase) (w : Option ℕ) (g : Gate) → wide (scope_at site) a ≡ w → plain_net at (width_or_none w) g ≡ net_of site at a g
+own_net : (site : NetSite) (at : ℕ) (a : Phrase) (w : Option ℕ) (g : Gate) → wide (scope_at site) a ≡ w → plain_net at (width_or_none w) g ≡ net_of site at a g
 own_net site at a w g e = ap (λ (o : Option ℕ). plain_net at (width_or_none o) g) (sym e)
 
-pub read_end : (site : Site) (at : ℕ) (name : Ident) (a : Phrase) (cells : Cells) (old mid new : List Net) (m made : Spot)
-    → IsCells (option_map cell_of (memory_widths (scope_at site) name.name)) (memory_at site name.name) cells
+pub read_end : (site : NetSite) (at : ℕ) (name : Ident) (a : Phrase) (cells : Cells) (old mid new : List Net) (m made : Spot)
+    → IsCells (option_map cell_width_of (memory_widths (scope_at site) name.name)) (memory_at site name.name) cells
     → IsSome (wide (scope_at site) (read name a)) → Emitted site at a old mid m
     → Pushed (Some cells.width) at (gate.Read cells.memory m.net) mid new made → Emitted site at (read name a) old new made
 read_end site at name a cells old mid new m made f h k q =
@@ -62,7 +62,7 @@ case_seen e selector rows other is x ex rs er = ap phrase_of is ∙ phrase_Case 
 four_parts : (old a b c d : List Net) → old ++ a ++ b ++ c ++ d ≡ old ++ (a ++ b ++ c ++ d)
 four_parts old a b c d = simp append_assoc
 
-module _ (site : Site) (at : ℕ) (old : List Net) (selector : Phrase) (rows : Rows) (mid mid2 : List Net) (m : Spot) (p : Pairs)
+module _ (site : NetSite) (at : ℕ) (old : List Net) (selector : Phrase) (rows : Rows) (mid mid2 : List Net) (m : Spot) (p : Pairs)
     (k : Emitted site at selector old mid m) (r : EmittedRows site at rows mid mid2 p) where
   case_end : (other : Rest) (mid3 new : List Net) (out : Option ℕ) (w : Option ℕ) (made : Spot)
       → mid3 ≡ mid2 ++ nets_of_rest site at (length mid2) other → length mid3 ≡ length mid2 + count_rest other → out ≡ rest_out site (length mid2) other

@@ -16,13 +16,14 @@ use Rattle.net_model.specs.Nets.{IsRegister, code_bits, storage_bits}
 use Rattle.net_model.specs.Widths.{DriversFit, HasWidth, WhenFits}
 use Rattle.net_model.specs.CheckedRules.{CodeKeeps, GateKeeps, HasFewCells, IsWellFormed, IsWithinLimits, NetKeeps, StorageKeeps, register_count}
 use Rattle.net_model.specs.Written.{Entry, code, register, memory, net, bus, module_item, part, Phrase}
-use Rattle.net_model.specs.TextNames.{item_named, same_name, Scope, in_text}
+use Rattle.net_model.specs.TextNames.{item_named, Scope, in_text}
+use Rattle.rec_bits.specs.Faults.{same_name}
 use Rattle.net_model.specs.TextWidths.{is_width, ports_of}
 use Rattle.net_model.specs.Elaborable.{DriverFeeds, FeedsIf, IsBound, IsDriven, IsElaborable, IsRegisterItem, ItemKeeps, PortFed, PortKeeps}
 use Rattle.net_model.specs.DriverRules.{covers, covers_binding, covers_driver, covers_if, drives_once}
 use Rattle.net_model.specs.LimitRules.{count_register, count_registers}
-use Rattle.net_model.specs.Numbering.{Site, of_text, scope_at, bound, count, count_equation, count_input, count_inputs, count_outputs, count_item, count_storages, equations_of, storage_named}
-use Rattle.net_model.specs.Elaborated.{bound_out, codes_from, count_codes, driver_nets, driver_pairs, equation_nets, equations_nets, input_nets, inputs_nets, inside, item_codes, item_nets, item_storages, nets_from, nets_if, nets_of, netlist_of, out_if, out_of, output_wire, output_wires, plain_net, storages_from}
+use Rattle.net_model.specs.Numbering.{NetSite, of_text, scope_at, bound, count, count_equation, count_input, count_inputs, count_outputs, count_item, count_storages, equations_of, storage_named}
+use Rattle.net_model.specs.Elaborated.{bound_out, codes_from, count_codes, elaborated_drivers, driver_pairs, equation_nets, equations_nets, input_nets, inputs_nets, inside, item_codes, item_nets, item_storages, nets_from, nets_if, elaborated, netlist_of, out_if, out_of, output_wire, output_wires, plain_net, storages_from}
 use Rattle.net_elab.proofs.Standing.{Stands, stands_left, stands_right, length_equation, length_input, length_items, length_nets}
 use Rattle.net_elab.proofs.ItemNames.{names_differ}
 use Rattle.rec_bits.proofs.Booleans.{and_left, and_right}
@@ -51,7 +52,7 @@ module _ (netlist : Netlist) where
   plain_keeps : (at width : ℕ) (g : Gate) → IsTrue (is_width width) → GateKeeps netlist width g → AllByRecursion Keeps (plain_net at width g ∷ [])
   plain_keeps at width g r k = ((width_range width r, k), tt)
 
-  module _ (site : Site) (sound : SiteSound netlist site) where
+  module _ (site : NetSite) (sound : SiteSound netlist site) where
     -- a `when`
     when_keeps : (at start : ℕ) (when : Option Phrase) → FeedsIf (scope_at site) 1 when → IsTrue (covers_if (scope_at site) when) → Stands netlist.nets start (nets_if site at start when)
         → AllByRecursion Keeps (nets_if site at start when)
@@ -75,11 +76,11 @@ module _ (netlist : Netlist) where
     -- ---- drivers
 
     drivers_keep : (at start w : ℕ) (drivers : List (Phrase × Phrase)) → AllByRecursion (DriverFeeds (scope_at site) w) drivers → IsTrue (list_all (covers_driver (scope_at site)) drivers)
-        → Stands netlist.nets start (driver_nets site at start drivers) → AllByRecursion Keeps (driver_nets site at start drivers) × DriversFit netlist w (driver_pairs site start drivers)
+        → Stands netlist.nets start (elaborated_drivers site at start drivers) → AllByRecursion Keeps (elaborated_drivers site at start drivers) × DriversFit netlist w (driver_pairs site start drivers)
     drivers_keep at start w [] f c k = (tt, tt)
     drivers_keep at start w (d ∷ drivers) f c k =
-        let xs = nets_of site at start d.0 in
-        let ys = nets_of site at (start + count d.0) d.1 in
+        let xs = elaborated site at start d.0 in
+        let ys = elaborated site at (start + count d.0) d.1 in
         let l = stands_left netlist.nets start (xs ++ ys) _ k in
         let lx = stands_left netlist.nets start xs ys l in
         let ly = stands_right netlist.nets start (start + count d.0) xs ys (ap (λ (n : ℕ). start + n) (length_nets site at start d.0)) l in
@@ -178,7 +179,7 @@ module _ (text : List Entry) (keep : IsElaborable text) where
       }
   item_formed (register name width input when) start storage number k d l =
       let ns = (netlist_of text).nets in
-      let xs = nets_of (of_text text) name.at start input in
+      let xs = elaborated (of_text text) name.at start input in
       let ys = nets_if (of_text text) name.at (start + count input) when in
       let s = l.storages_there.0 in
       let lxy = stands_left ns start (xs ++ ys) _ l.nets_there in
@@ -201,8 +202,8 @@ module _ (text : List Entry) (keep : IsElaborable text) where
       }
   item_formed (memory name width size addr_width value addr when) start storage number k d l =
       let ns = (netlist_of text).nets in
-      let xs = nets_of (of_text text) name.at start value in
-      let ys = nets_of (of_text text) name.at (start + count value) addr in
+      let xs = elaborated (of_text text) name.at start value in
+      let ys = elaborated (of_text text) name.at (start + count value) addr in
       let zs = nets_if (of_text text) name.at (start + count value + count addr) when in
       let lxy = stands_left ns start (xs ++ ys) zs l.nets_there in
       let lx = stands_left ns start xs ys lxy in
@@ -233,7 +234,7 @@ module _ (text : List Entry) (keep : IsElaborable text) where
         codes_keep = tt;
       }
   item_formed (net name width value) start storage number k d l =
-      let xs = nets_of (of_text text) name.at start value in
+      let xs = elaborated (of_text text) name.at start value in
       let lx = stands_left (netlist_of text).nets start xs _ l.nets_there in
       let sound = text_sound text keep in
       record {
@@ -243,7 +244,7 @@ module _ (text : List Entry) (keep : IsElaborable text) where
         codes_keep = tt;
       }
   item_formed (bus name width drivers) start storage number k d l =
-      let xs = driver_nets (of_text text) name.at start drivers in
+      let xs = elaborated_drivers (of_text text) name.at start drivers in
       let r = drivers_keep (netlist_of text) (of_text text) (text_sound text keep) name.at start width drivers k.1 d (stands_left (netlist_of text).nets start xs _ l.nets_there) in
       record {
         nets_keep = all_append Kept xs _ r.0 (plain_keeps (netlist_of text) name.at width (gate.Bus (driver_pairs (of_text text) start drivers)) k.0 r.1);

@@ -5,7 +5,8 @@ use Rattle.std.specs.List.{AllByRecursion, IsDistinct}
 use Rattle.net_model.specs.declared.hardware.Code.{Code}
 use Rattle.net_model.specs.CheckedRules.{NamesDiffer, storage_name}
 use Rattle.net_model.specs.Written.{Entry, code, register, memory, net, bus, module_item, part}
-use Rattle.net_model.specs.TextNames.{own_name, same_name}
+use Rattle.net_model.specs.TextNames.{own_name}
+use Rattle.rec_bits.specs.Faults.{same_name}
 use Rattle.net_model.specs.Elaborable.{item_names}
 use Rattle.net_model.specs.NameRules.{is_among}
 use Rattle.net_model.specs.DriverRules.{names_new}

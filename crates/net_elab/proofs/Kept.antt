@@ -12,12 +12,13 @@ use Rattle.net_model.specs.declared.hardware.Net.{Net}
 use Rattle.net_model.specs.declared.hardware.Gate.{Gate}
 use Rattle.net_model.specs.declared.hardware.Gate.TheVariants as gate
 use Rattle.net_model.specs.Widths.{HasWidth, RowsFit, RestFits}
-use Rattle.net_model.specs.CheckedRules.{IsWidth, ReadKeeps, GateKeeps, NetKeeps, IsWhole}
+use Rattle.net_model.specs.CheckedRules.{ReadKeeps, GateKeeps, NetKeeps, IsWhole}
+use Rattle.rec_bits.specs.Operators.{IsWidth}
 use Rattle.net_model.specs.Written.{Phrase, named, const, un, bin, cat, slice, zext, sext, read, case, Rows, no_rows, row, Rest, no_rest, rest}
 use Rattle.net_model.specs.TextWidths.{wide, is_width, is_below, named_width, memory_widths, MemoryWidths, sliced, paired, joined_width, extended, read_width, numbers_fit}
 use Rattle.net_model.specs.DriverRules.{covers, covers_rows, covers_rest, is_covered}
-use Rattle.net_model.specs.Numbering.{Site, scope_at, count, count_rows, count_rest, net_named, memory_at}
-use Rattle.net_model.specs.Elaborated.{width_or_none, net_of, nets_of, nets_of_rows, nets_of_rest, out_of, row_pairs, rest_out}
+use Rattle.net_model.specs.Numbering.{NetSite, scope_at, count, count_rows, count_rest, net_named, memory_at}
+use Rattle.net_model.specs.Elaborated.{width_or_none, net_of, elaborated, nets_of_rows, nets_of_rest, out_of, row_pairs, rest_out}
 use Rattle.rec_bits.proofs.Booleans.{and_left, and_right}
 use Rattle.net_elab.proofs.Cases.{RowsHave, RestHas, case_has, no_arms}
 use Rattle.net_elab.proofs.Standing.{Stands, stands_left, stands_right, has_at, length_nets, length_rows, length_rest}
@@ -150,14 +151,14 @@ result_range Sar v r = r
 -- ---- where an expression stands
 
 -- names stand for nets and memories of their widths
-pub record SiteSound (netlist : Netlist) (site : Site) : Type 0 where
+pub record SiteSound (netlist : Netlist) (site : NetSite) : Type 0 where
   pub named_has : (name : List ℕ) (field : Option Ident) (w : ℕ) → named_width (scope_at site) name field ≡ Some w → HasWidth netlist (net_named site name field) w
   pub named_range : (name : List ℕ) (field : Option Ident) (w : ℕ) → named_width (scope_at site) name field ≡ Some w → IsWidth w
   pub cells_read : (name : List ℕ) (m : MemoryWidths) → memory_widths (scope_at site) name ≡ Some m → (addr : ℕ) → HasWidth netlist addr m.address
       → ReadKeeps netlist m.cell addr (slice_get netlist.storages (memory_at site name))
   pub cells_range : (name : List ℕ) (m : MemoryWidths) → memory_widths (scope_at site) name ≡ Some m → IsWidth m.cell
 
-module _ (netlist : Netlist) (site : Site) (sound : SiteSound netlist site) where
+module _ (netlist : Netlist) (site : NetSite) (sound : SiteSound netlist site) where
   abbrev pub Keeps : Net → Type 0
   Keeps net = NetKeeps netlist (Some net)
 
@@ -194,20 +195,20 @@ module _ (netlist : Netlist) (site : Site) (sound : SiteSound netlist site) wher
 
   -- ---- the net that has the value has the width
 
-  length_two : (at start : ℕ) (a b : Phrase) → length (nets_of site at start a ++ nets_of site at (start + count a) b) ≡ count a + count b
-  length_two at start a b = omega (arith, length-append (nets_of site at start a) (nets_of site at (start + count a) b), length_nets site at start a, length_nets site at (start + count a) b)
+  length_two : (at start : ℕ) (a b : Phrase) → length (elaborated site at start a ++ elaborated site at (start + count a) b) ≡ count a + count b
+  length_two at start a b = omega (arith, length-append (elaborated site at start a) (elaborated site at (start + count a) b), length_nets site at start a, length_nets site at (start + count a) b)
 
-  length_pair : (at start : ℕ) (selector : Phrase) (rows : Rows) → length (nets_of site at start selector ++ nets_of_rows site at (start + count selector) rows) ≡ count selector + count_rows rows
+  length_pair : (at start : ℕ) (selector : Phrase) (rows : Rows) → length (elaborated site at start selector ++ nets_of_rows site at (start + count selector) rows) ≡ count selector + count_rows rows
   length_pair at start selector rows =
-      omega (arith, length-append (nets_of site at start selector) (nets_of_rows site at (start + count selector) rows), length_nets site at start selector, length_rows site at (start + count selector) rows)
+      omega (arith, length-append (elaborated site at start selector) (nets_of_rows site at (start + count selector) rows), length_nets site at start selector, length_rows site at (start + count selector) rows)
 
   length_three : (at start : ℕ) (selector : Phrase) (rows : Rows) (other : Rest)
-      → length (nets_of site at start selector ++ nets_of_rows site at (start + count selector) rows ++ nets_of_rest site at (start + count selector + count_rows rows) other)
+      → length (elaborated site at start selector ++ nets_of_rows site at (start + count selector) rows ++ nets_of_rest site at (start + count selector + count_rows rows) other)
       ≡ count selector + count_rows rows + count_rest other
   length_three at start selector rows other =
       omega (
         arith,
-        length-append (nets_of site at start selector ++ nets_of_rows site at (start + count selector) rows) (nets_of_rest site at (start + count selector + count_rows rows) other),
+        length-append (elaborated site at start selector ++ nets_of_rows site at (start + count selector) rows) (nets_of_rest site at (start + count selector + count_rows rows) other),
         length_pair at start selector rows,
         length_rest site at (start + count selector + count_rows rows) other,
       )
@@ -216,44 +217,44 @@ module _ (netlist : Netlist) (site : Site) (sound : SiteSound netlist site) wher
       → Stands netlist.nets start (pre ++ net_of site at a g ∷ []) → HasWidth netlist n w
   own_at at start pre a g n w e h k = has_at netlist n (net_of site at a g) w (stands_right netlist.nets start n pre _ e k).0 (ap width_or_none h)
 
-  pub out_has : (at start : ℕ) (a : Phrase) (w : ℕ) → wide (scope_at site) a ≡ Some w → Stands netlist.nets start (nets_of site at start a) → HasWidth netlist (out_of site start a) w
+  pub out_has : (at start : ℕ) (a : Phrase) (w : ℕ) → wide (scope_at site) a ≡ Some w → Stands netlist.nets start (elaborated site at start a) → HasWidth netlist (out_of site start a) w
   out_has at start (named name field None) w h k = sound.named_has name.name field w h
   out_has at start (named name field (Some bits)) w h k = own_at at start [] (named name field (Some bits)) _ _ w (omega arith) h k
   out_has at start (const value width) w h k = own_at at start [] (const value width) _ _ w (omega arith) h k
-  out_has at start (un op a) w h k = own_at at start (nets_of site at start a) (un op a) _ _ w (omega (arith, length_nets site at start a)) h k
+  out_has at start (un op a) w h k = own_at at start (elaborated site at start a) (un op a) _ _ w (omega (arith, length_nets site at start a)) h k
   out_has at start (bin op a b) w h k =
-      own_at at start (nets_of site at start a ++ nets_of site at (start + count a) b) (bin op a b) _ _ w
+      own_at at start (elaborated site at start a ++ elaborated site at (start + count a) b) (bin op a b) _ _ w
       (omega (arith, length_two at start a b)) h k
   out_has at start (cat a b) w h k =
-      own_at at start (nets_of site at start a ++ nets_of site at (start + count a) b) (cat a b) _ _ w
+      own_at at start (elaborated site at start a ++ elaborated site at (start + count a) b) (cat a b) _ _ w
       (omega (arith, length_two at start a b)) h k
-  out_has at start (slice a hi lo) w h k = own_at at start (nets_of site at start a) (slice a hi lo) _ _ w (omega (arith, length_nets site at start a)) h k
-  out_has at start (zext a width) w h k = own_at at start (nets_of site at start a) (zext a width) _ _ w (omega (arith, length_nets site at start a)) h k
-  out_has at start (sext a width) w h k = own_at at start (nets_of site at start a) (sext a width) _ _ w (omega (arith, length_nets site at start a)) h k
-  out_has at start (read name a) w h k = own_at at start (nets_of site at start a) (read name a) _ _ w (omega (arith, length_nets site at start a)) h k
+  out_has at start (slice a hi lo) w h k = own_at at start (elaborated site at start a) (slice a hi lo) _ _ w (omega (arith, length_nets site at start a)) h k
+  out_has at start (zext a width) w h k = own_at at start (elaborated site at start a) (zext a width) _ _ w (omega (arith, length_nets site at start a)) h k
+  out_has at start (sext a width) w h k = own_at at start (elaborated site at start a) (sext a width) _ _ w (omega (arith, length_nets site at start a)) h k
+  out_has at start (read name a) w h k = own_at at start (elaborated site at start a) (read name a) _ _ w (omega (arith, length_nets site at start a)) h k
   out_has at start (case selector rows other) w h k =
       own_at at start
-      (nets_of site at start selector ++ nets_of_rows site at (start + count selector) rows ++ nets_of_rest site at (start + count selector + count_rows rows) other)
+      (elaborated site at start selector ++ nets_of_rows site at (start + count selector) rows ++ nets_of_rest site at (start + count selector + count_rows rows) other)
       (case selector rows other) _ _ w (omega (arith, length_three at start selector rows other)) h k
 
   -- ---- the parts of an expression stand where they are numbered
 
-  two_stand : (at start : ℕ) (a b : Phrase) (behind : List Net) → Stands netlist.nets start (nets_of site at start a ++ nets_of site at (start + count a) b ++ behind)
-      → Stands netlist.nets start (nets_of site at start a) × Stands netlist.nets (start + count a) (nets_of site at (start + count a) b)
+  two_stand : (at start : ℕ) (a b : Phrase) (behind : List Net) → Stands netlist.nets start (elaborated site at start a ++ elaborated site at (start + count a) b ++ behind)
+      → Stands netlist.nets start (elaborated site at start a) × Stands netlist.nets (start + count a) (elaborated site at (start + count a) b)
   two_stand at start a b behind k =
-      let l = stands_left netlist.nets start (nets_of site at start a ++ nets_of site at (start + count a) b) behind k in (
-        stands_left netlist.nets start (nets_of site at start a) _ l,
-        stands_right netlist.nets start (start + count a) (nets_of site at start a) _ (omega (arith, length_nets site at start a)) l,
+      let l = stands_left netlist.nets start (elaborated site at start a ++ elaborated site at (start + count a) b) behind k in (
+        stands_left netlist.nets start (elaborated site at start a) _ l,
+        stands_right netlist.nets start (start + count a) (elaborated site at start a) _ (omega (arith, length_nets site at start a)) l,
       )
 
   three_stand : (at start : ℕ) (selector : Phrase) (rows : Rows) (other : Rest) (behind : List Net)
       → Stands netlist.nets start
-      (nets_of site at start selector ++ nets_of_rows site at (start + count selector) rows
+      (elaborated site at start selector ++ nets_of_rows site at (start + count selector) rows
       ++ nets_of_rest site at (start + count selector + count_rows rows) other ++ behind)
-      → Stands netlist.nets start (nets_of site at start selector) × Stands netlist.nets (start + count selector) (nets_of_rows site at (start + count selector) rows)
+      → Stands netlist.nets start (elaborated site at start selector) × Stands netlist.nets (start + count selector) (nets_of_rows site at (start + count selector) rows)
       × Stands netlist.nets (start + count selector + count_rows rows) (nets_of_rest site at (start + count selector + count_rows rows) other)
   three_stand at start selector rows other behind k =
-      let xs = nets_of site at start selector in
+      let xs = elaborated site at start selector in
       let ys = nets_of_rows site at (start + count selector) rows in
       let zs = nets_of_rest site at (start + count selector + count_rows rows) other in
       let l = stands_left netlist.nets start (xs ++ ys ++ zs) behind k in
@@ -280,7 +281,7 @@ module _ (netlist : Netlist) (site : Site) (sound : SiteSound netlist site) wher
       pairs_fit key w (out_of site start a) numbers (row_pairs site (start + count a) rows) h.0
       (out_has at start a w h.1 (stands_left netlist.nets start _ _ k))
       (rows_fit at (start + count a) key w rows h.2
-      (stands_right netlist.nets start (start + count a) (nets_of site at start a) _ (omega (arith, length_nets site at start a)) k))
+      (stands_right netlist.nets start (start + count a) (elaborated site at start a) _ (omega (arith, length_nets site at start a)) k))
 
   rest_fits : (at start w : ℕ) (other : Rest) → RestHas (scope_at site) w other → Stands netlist.nets start (nets_of_rest site at start other) → RestFits netlist w (rest_out site start other)
   rest_fits at start w no_rest h k = tt
@@ -294,8 +295,8 @@ module _ (netlist : Netlist) (site : Site) (sound : SiteSound netlist site) wher
       ((subst IsWidth e r, subst (λ (n : ℕ). GateKeeps netlist n g) e k), tt)
 
   mutual
-    pub keeps : (at start : ℕ) (a : Phrase) (w : ℕ) → wide (scope_at site) a ≡ Some w → IsTrue (covers (scope_at site) a) → Stands netlist.nets start (nets_of site at start a)
-        → AllByRecursion Keeps (nets_of site at start a)
+    pub keeps : (at start : ℕ) (a : Phrase) (w : ℕ) → wide (scope_at site) a ≡ Some w → IsTrue (covers (scope_at site) a) → Stands netlist.nets start (elaborated site at start a)
+        → AllByRecursion Keeps (elaborated site at start a)
     keeps at start (named name field None) w h c k = tt
     keeps at start (named name field (Some bits)) w h c k =
         let p = sliced_has bits.0 bits.1 (named_width (scope_at site) name.name field) w h in
@@ -305,16 +306,16 @@ module _ (netlist : Netlist) (site : Site) (sound : SiteSound netlist site) wher
     keeps at start (const value width) w h c k =
         own_keeps at w (const value width) (gate.Const value) h (wide_range (const value width) w h) ((const_has value width w h).below)
     keeps at start (un op a) w h c k =
-        let l = stands_left netlist.nets start (nets_of site at start a) _ k in
-        all_append Keeps (nets_of site at start a) _ (keeps at start a w h c l)
+        let l = stands_left netlist.nets start (elaborated site at start a) _ k in
+        all_append Keeps (elaborated site at start a) _ (keeps at start a w h c l)
         (own_keeps at w (un op a) (gate.Un op (out_of site start a)) h (wide_range (un op a) w h) (out_has at start a w h l))
     keeps at start (bin op a b) w h c k =
         let p = paired_has op (wide (scope_at site) a) (wide (scope_at site) b) w h in
         let l = two_stand at start a b _ k in
         let x = out_has at start a p.both p.left_is l.0 in
         let y = out_has at (start + count a) b p.both p.right_is l.1 in
-        all_append Keeps (nets_of site at start a ++ nets_of site at (start + count a) b) _
-        (all_append Keeps (nets_of site at start a) _
+        all_append Keeps (elaborated site at start a ++ elaborated site at (start + count a) b) _
+        (all_append Keeps (elaborated site at start a) _
         (keeps at start a p.both p.left_is (and_left _ _ c) l.0) (keeps at (start + count a) b p.both p.right_is (and_right _ _ c) l.1))
         (own_keeps at w (bin op a b) (gate.Bin op (out_of site start a) (out_of site (start + count a) b)) h (wide_range (bin op a b) w h)
         (x.0, rw (x.1) y, rw (x.1) (p.width_is)))
@@ -323,36 +324,36 @@ module _ (netlist : Netlist) (site : Site) (sound : SiteSound netlist site) wher
         let l = two_stand at start a b _ k in
         let x = out_has at start a p.left p.left_is l.0 in
         let y = out_has at (start + count a) b p.right p.right_is l.1 in
-        all_append Keeps (nets_of site at start a ++ nets_of site at (start + count a) b) _
-        (all_append Keeps (nets_of site at start a) _
+        all_append Keeps (elaborated site at start a ++ elaborated site at (start + count a) b) _
+        (all_append Keeps (elaborated site at start a) _
         (keeps at start a p.left p.left_is (and_left _ _ c) l.0) (keeps at (start + count a) b p.right p.right_is (and_right _ _ c) l.1))
         (own_keeps at w (cat a b) (gate.Cat (out_of site start a) (out_of site (start + count a) b)) h (wide_range (cat a b) w h)
         (x.0, y.0, rw (x.1, y.1) (p.width_is)))
     keeps at start (slice a hi lo) w h c k =
         let p = sliced_has hi lo (wide (scope_at site) a) w h in
-        let l = stands_left netlist.nets start (nets_of site at start a) _ k in
+        let l = stands_left netlist.nets start (elaborated site at start a) _ k in
         let o = out_has at start a p.of p.of_is l in
-        all_append Keeps (nets_of site at start a) _ (keeps at start a p.of p.of_is c l)
+        all_append Keeps (elaborated site at start a) _ (keeps at start a p.of p.of_is c l)
         (own_keeps at w (slice a hi lo) (gate.Slice (out_of site start a) hi lo) h (wide_range (slice a hi lo) w h)
         (o.0, p.down, rw (o.1) p.within, p.width_is))
     keeps at start (zext a width) w h c k =
         let p = extended_has width (wide (scope_at site) a) w h in
-        let l = stands_left netlist.nets start (nets_of site at start a) _ k in
+        let l = stands_left netlist.nets start (elaborated site at start a) _ k in
         let o = out_has at start a p.inner p.inner_is l in
-        all_append Keeps (nets_of site at start a) _ (keeps at start a p.inner p.inner_is c l)
+        all_append Keeps (elaborated site at start a) _ (keeps at start a p.inner p.inner_is c l)
         (own_keeps at w (zext a width) (gate.Zext (out_of site start a)) h p.range (o.0, rw (o.1) p.wider))
     keeps at start (sext a width) w h c k =
         let p = extended_has width (wide (scope_at site) a) w h in
-        let l = stands_left netlist.nets start (nets_of site at start a) _ k in
+        let l = stands_left netlist.nets start (elaborated site at start a) _ k in
         let o = out_has at start a p.inner p.inner_is l in
-        all_append Keeps (nets_of site at start a) _ (keeps at start a p.inner p.inner_is c l)
+        all_append Keeps (elaborated site at start a) _ (keeps at start a p.inner p.inner_is c l)
         (own_keeps at w (sext a width) (gate.Sext (out_of site start a)) h p.range (o.0, rw (o.1) p.wider))
     keeps at start (read name a) w h c k =
         let p = read_has (memory_widths (scope_at site) name.name) (wide (scope_at site) a) w h in
-        let l = stands_left netlist.nets start (nets_of site at start a) _ k in
+        let l = stands_left netlist.nets start (elaborated site at start a) _ k in
         let o = out_has at start a p.found.address p.address_is l in
         let r = sound.cells_read name.name p.found p.found_is (out_of site start a) o in
-        all_append Keeps (nets_of site at start a) _ (keeps at start a p.found.address p.address_is c l)
+        all_append Keeps (elaborated site at start a) _ (keeps at start a p.found.address p.address_is c l)
         (own_keeps at w (read name a) (gate.Read (memory_at site name.name) (out_of site start a)) h (wide_range (read name a) w h)
         (subst (λ (n : ℕ). ReadKeeps netlist n (out_of site start a) (slice_get netlist.storages (memory_at site name.name))) p.width_is r))
     keeps at start (case selector rows other) w h c k =
@@ -365,7 +366,7 @@ module _ (netlist : Netlist) (site : Site) (sound : SiteSound netlist site) wher
         let inner = and_left (covers (scope_at site) selector && covers_rows (scope_at site) rows) _ front in
         all_append Keeps _ _
         (all_append Keeps _ _
-        (all_append Keeps (nets_of site at start selector) _
+        (all_append Keeps (elaborated site at start selector) _
         (keeps at start selector p.key p.selector_is (and_left (covers (scope_at site) selector) _ inner) l.0)
         (rows_keep at (start + count selector) rows p.key w p.rows_have (and_right (covers (scope_at site) selector) _ inner) l.1))
         (rest_keeps at (start + count selector + count_rows rows) other w p.rest_has (and_right (covers (scope_at site) selector && covers_rows (scope_at site) rows) _ front) l.2))
@@ -386,10 +387,10 @@ module _ (netlist : Netlist) (site : Site) (sound : SiteSound netlist site) wher
         → AllByRecursion Keeps (nets_of_rows site at start rows)
     rows_keep at start no_rows key w h c k = tt
     rows_keep at start (row numbers a rows) key w h c k =
-        all_append Keeps (nets_of site at start a) _
-        (keeps at start a w h.1 (and_left _ _ c) (stands_left netlist.nets start (nets_of site at start a) _ k))
+        all_append Keeps (elaborated site at start a) _
+        (keeps at start a w h.1 (and_left _ _ c) (stands_left netlist.nets start (elaborated site at start a) _ k))
         (rows_keep at (start + count a) rows key w h.2 (and_right _ _ c)
-        (stands_right netlist.nets start (start + count a) (nets_of site at start a) _ (omega (arith, length_nets site at start a)) k))
+        (stands_right netlist.nets start (start + count a) (elaborated site at start a) _ (omega (arith, length_nets site at start a)) k))
 
     rest_keeps : (at start : ℕ) (other : Rest) (w : ℕ) → RestHas (scope_at site) w other → IsTrue (covers_rest (scope_at site) other) → Stands netlist.nets start (nets_of_rest site at start other)
         → AllByRecursion Keeps (nets_of_rest site at start other)

@@ -7,8 +7,9 @@ use Rattle.net_model.specs.declared.hardware.Net.{Net}
 use Rattle.net_model.specs.declared.hardware.Gate.{Gate}
 use Rattle.net_model.specs.Widths.{HasWidth}
 use Rattle.net_model.specs.Written.{Entry, Phrase}
-use Rattle.net_model.specs.TextNames.{same_name, is_port, port_named}
-use Rattle.net_model.specs.Numbering.{Site, bound, count_if, count_input, count_output, count_equation, count_item, count_storages, item_wires, last_nets, port_place, port_wires, storage_numbers, wires_from}
+use Rattle.net_model.specs.TextNames.{is_port, port_named}
+use Rattle.rec_bits.specs.Faults.{same_name}
+use Rattle.net_model.specs.Numbering.{NetSite, bound, count_if, count_input, count_output, count_equation, count_item, count_storages, item_wires, last_nets, port_place, port_wires, storage_numbers, wires_from}
 use Rattle.net_model.specs.Elaborated.{codes_from, count_codes, input_nets, inputs_nets, item_codes, item_nets, item_storages, nets_from, nets_if, output_wire, output_wires, plain_net, storages_from}
 use Rattle.net_elab.proofs.Standing.{Stands, stands_left, stands_right, has_at, length_if, length_input, length_output, length_item, length_stored, length_coded}
 
@@ -117,7 +118,7 @@ stands_else all start b xs ys e h = subst (λ (c : Bool). Stands all start (if c
 pub stands_then : {A : Type 0} (all : List A) (start : ℕ) (b : Bool) (xs ys : List A) → b ≡ true → Stands all start (if b then xs else ys) → Stands all start xs
 stands_then all start b xs ys e h = subst (λ (c : Bool). Stands all start (if c then xs else ys)) e h
 
-module _ (netlist : Netlist) (site : Site) (at : ℕ) where
+module _ (netlist : Netlist) (site : NetSite) (at : ℕ) where
   input_at : (start wire : ℕ) (links : List (Ident × Phrase)) (q : Port) → q.output ≡ false → Stands netlist.nets start (input_nets site at start links q)
       → HasWidth netlist (if q.output then wire else start + count_input links q - 1) q.width
   input_at start wire links q e k =

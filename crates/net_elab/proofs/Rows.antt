@@ -7,7 +7,7 @@ use Rattle.net_model.specs.declared.units.NetExpr.{NetExpr, Case}
 use Rattle.net_model.specs.Written.{row, phrase_of, row_of, rows_of, rest_of, other_of}
 use Rattle.net_model.specs.Numbering.{count, count_rows, count_rest}
 use Rattle.net_model.proofs.Cases.{Row, phrase_Case}
-use Rattle.net_model.specs.Nodes.{nodes, nodes_rows, nodes_rest}
+use Rattle.net_model.specs.Inner.Nodes.{nodes, nodes_rows, nodes_rest}
 
 -- how many nodes and nets a case has
 pub case_nodes : (e : NetExpr) (sel : Box NetExpr Global) (rows : Vec Row Global) (other : Option (Box NetExpr Global)) → e ≡ Case sel rows other

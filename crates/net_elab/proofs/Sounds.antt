@@ -6,14 +6,15 @@ use Rattle.net_model.specs.declared.units.Port.{Port}
 use Rattle.net_model.specs.declared.hardware.Netlist.{Netlist}
 use Rattle.net_model.specs.declared.hardware.Gate.TheVariants as gate
 use Rattle.net_model.specs.Widths.{HasWidth}
-use Rattle.net_model.specs.CheckedRules.{IsWidth, ReadKeeps}
+use Rattle.net_model.specs.CheckedRules.{ReadKeeps}
+use Rattle.rec_bits.specs.Operators.{IsWidth}
 use Rattle.net_model.specs.Written.{Entry, code, register, memory, net, bus, module_item, part, Phrase}
 use Rattle.net_model.specs.TextNames.{place_named, item_named, port_named, in_module}
 use Rattle.net_model.specs.TextWidths.{MemoryWidths, field_width, input_width, memory_of, part_ports, ports_of, port_width, value_width}
 use Rattle.net_model.specs.Elaborable.{IsDriven, IsElaborable, ItemKeeps, PortFed, PortKeeps}
 use Rattle.net_model.specs.DriverRules.{covers_binding, drives_once}
-use Rattle.net_model.specs.Numbering.{Site, of_text, count, count_inputs, count_outputs, count_item, equations_of, item_net, item_wires, list_or_none, port_place, port_wires, storage_named, wires_named}
-use Rattle.net_model.specs.Elaborated.{codes_from, driver_nets, equations_nets, inputs_nets, inside, nets_from, nets_if, nets_of, netlist_of, out_of, output_wires, part_nets, storages_from}
+use Rattle.net_model.specs.Numbering.{NetSite, of_text, count, count_inputs, count_outputs, count_item, equations_of, item_net, item_wires, list_or_none, port_place, port_wires, storage_named, wires_named}
+use Rattle.net_model.specs.Elaborated.{codes_from, elaborated_drivers, equations_nets, inputs_nets, inside, nets_from, nets_if, elaborated, netlist_of, out_of, output_wires, part_nets, storages_from}
 use Rattle.net_elab.proofs.Standing.{Stands, stands_left, stands_right, stands_self, length_drivers, length_if, length_inputs, length_nets, length_outputs}
 use Rattle.rec_bits.proofs.Booleans.{and_right}
 use Rattle.net_elab.proofs.Kept.{SiteSound, width_range}
@@ -76,7 +77,7 @@ port_is (Some p) w h = record { port = p; is = refl; width_is = (let s : p.width
 
 -- ---- inside a part
 
-pub inside_sound : (netlist : Netlist) (at start : ℕ) (site : Site) (links : List (Ident × Phrase)) (ports : List Port) → AllByRecursion PortKeeps ports
+pub inside_sound : (netlist : Netlist) (at start : ℕ) (site : NetSite) (links : List (Ident × Phrase)) (ports : List Port) → AllByRecursion PortKeeps ports
     → Stands netlist.nets start (inputs_nets site at start links ports) → SiteSound netlist (inside start links ports)
 inside_sound netlist at start site links ports keep k = record {
   named_has = λ name field w h. has name field w h;
@@ -115,7 +116,7 @@ item_out netlist text (code name bits size counter) w start storage number h l =
     subst (λ (n : ℕ). HasWidth netlist (start + 1 - 1) n) (let s : bits ≡ w = cc in s)
     (plain_at netlist start (start + 1 - 1) [] name.at bits (gate.Word number) (omega arith) l.nets_there)
 item_out netlist text (register name width input when) w start storage number h l =
-    let xs = nets_of (of_text text) name.at start input in
+    let xs = elaborated (of_text text) name.at start input in
     let ys = nets_if (of_text text) name.at (start + count input) when in
     subst (λ (n : ℕ). HasWidth netlist (start + count_item text (register name width input when) - 1) n) (let s : width ≡ w = cc in s)
     (plain_at netlist start _ (xs ++ ys) name.at width (gate.Reg storage)
@@ -123,11 +124,11 @@ item_out netlist text (register name width input when) w start storage number h 
 item_out netlist text (memory name width size addr_width value addr when) w start storage number h l = absurd (cc h)
 item_out netlist text (net name width value) w start storage number h l =
     subst (λ (n : ℕ). HasWidth netlist (start + count_item text (net name width value) - 1) n) (let s : width ≡ w = cc in s)
-    (plain_at netlist start _ (nets_of (of_text text) name.at start value) name.at width (gate.Wire (out_of (of_text text) start value))
+    (plain_at netlist start _ (elaborated (of_text text) name.at start value) name.at width (gate.Wire (out_of (of_text text) start value))
     (omega (arith, length_nets (of_text text) name.at start value)) l.nets_there)
 item_out netlist text (bus name width drivers) w start storage number h l =
     subst (λ (n : ℕ). HasWidth netlist (start + count_item text (bus name width drivers) - 1) n) (let s : width ≡ w = cc in s)
-    (plain_at netlist start _ (driver_nets (of_text text) name.at start drivers) name.at width _
+    (plain_at netlist start _ (elaborated_drivers (of_text text) name.at start drivers) name.at width _
     (omega (arith, length_drivers (of_text text) name.at start drivers)) l.nets_there)
 item_out netlist text (module_item name ports equations) w start storage number h l = absurd (cc h)
 item_out netlist text (part name of links) w start storage number h l = absurd (cc h)

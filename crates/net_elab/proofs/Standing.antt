@@ -10,8 +10,8 @@ use Rattle.net_model.specs.Widths.{HasWidth}
 use Rattle.net_model.specs.Written.{Entry, code, register, memory, net, bus, module_item, part, Phrase, named, const, un, bin, cat, slice, zext, sext, read, case, Rows, no_rows, row, Rest, no_rest, rest}
 use Rattle.net_model.specs.TextNames.{item_named}
 use Rattle.net_model.specs.TextWidths.{ports_of}
-use Rattle.net_model.specs.Numbering.{Site, of_text, count, count_rows, count_rest, count_if, count_drivers, count_input, count_inputs, count_output, count_outputs, count_equation, count_equations, count_part, count_item, count_items, count_storages, bound, equations_of}
-use Rattle.net_model.specs.Elaborated.{nets_of, nets_of_rows, nets_of_rest, nets_if, driver_nets, input_nets, inputs_nets, output_wire, output_wires, equation_nets, equations_nets, inside, part_nets, item_nets, item_storages, item_codes, count_codes, nets_from}
+use Rattle.net_model.specs.Numbering.{NetSite, of_text, count, count_rows, count_rest, count_if, count_drivers, count_input, count_inputs, count_output, count_outputs, count_equation, count_equations, count_part, count_item, count_items, count_storages, bound, equations_of}
+use Rattle.net_model.specs.Elaborated.{elaborated, nets_of_rows, nets_of_rest, nets_if, elaborated_drivers, input_nets, inputs_nets, output_wire, output_wires, equation_nets, equations_nets, inside, part_nets, item_nets, item_storages, item_codes, count_codes, nets_from}
 
 -- the items stand in the list one behind the other, from this place on
 abbrev pub Stands : {A : Type 0} → List A → ℕ → List A → Type 0
@@ -56,19 +56,19 @@ len_if : (b : Bool) (xs ys : List Net) (m n : ℕ) → length xs ≡ m → lengt
 len_if true xs ys m n h k = h
 len_if false xs ys m n h k = k
 
-module _ (site : Site) (at : ℕ) where
+module _ (site : NetSite) (at : ℕ) where
   mutual
-    pub length_nets : (start : ℕ) (a : Phrase) → length (nets_of site at start a) ≡ count a
+    pub length_nets : (start : ℕ) (a : Phrase) → length (elaborated site at start a) ≡ count a
     length_nets start (named name field None) = refl
     length_nets start (named name field (Some bits)) = refl
     length_nets start (const value width) = refl
-    length_nets start (un op a) = len1 (nets_of site at start a) _ (length_nets start a)
+    length_nets start (un op a) = len1 (elaborated site at start a) _ (length_nets start a)
     length_nets start (bin op a b) = len1 _ _ (len0 _ _ (length_nets start a) (length_nets (start + count a) b))
     length_nets start (cat a b) = len1 _ _ (len0 _ _ (length_nets start a) (length_nets (start + count a) b))
-    length_nets start (slice a hi lo) = len1 (nets_of site at start a) _ (length_nets start a)
-    length_nets start (zext a width) = len1 (nets_of site at start a) _ (length_nets start a)
-    length_nets start (sext a width) = len1 (nets_of site at start a) _ (length_nets start a)
-    length_nets start (read name a) = len1 (nets_of site at start a) _ (length_nets start a)
+    length_nets start (slice a hi lo) = len1 (elaborated site at start a) _ (length_nets start a)
+    length_nets start (zext a width) = len1 (elaborated site at start a) _ (length_nets start a)
+    length_nets start (sext a width) = len1 (elaborated site at start a) _ (length_nets start a)
+    length_nets start (read name a) = len1 (elaborated site at start a) _ (length_nets start a)
     length_nets start (case selector rows other) =
         len1 _ _ (len0 _ _ (len0 _ _ (length_nets start selector) (length_rows (start + count selector) rows)) (length_rest (start + count selector + count_rows rows) other))
 
@@ -84,7 +84,7 @@ module _ (site : Site) (at : ℕ) where
   length_if start None = refl
   length_if start (Some a) = length_nets start a
 
-  pub length_drivers : (start : ℕ) (drivers : List (Phrase × Phrase)) → length (driver_nets site at start drivers) ≡ count_drivers drivers
+  pub length_drivers : (start : ℕ) (drivers : List (Phrase × Phrase)) → length (elaborated_drivers site at start drivers) ≡ count_drivers drivers
   length_drivers start [] = refl
   length_drivers start (driver ∷ drivers) =
       len0 _ _ (len0 _ _ (length_nets start driver.0) (length_nets (start + count driver.0) driver.1)) (length_drivers (start + count driver.0 + count driver.1) drivers)
@@ -123,9 +123,9 @@ module _ (text : List Entry) where
   length_item start storage number (memory name width size addr_width value addr when) =
       len0 _ _ (len0 _ _ (length_nets (of_text text) name.at start value) (length_nets (of_text text) name.at (start + count value) addr))
       (length_if (of_text text) name.at (start + count value + count addr) when)
-  length_item start storage number (net name width value) = len1 (nets_of (of_text text) name.at start value) _ (length_nets (of_text text) name.at start value)
+  length_item start storage number (net name width value) = len1 (elaborated (of_text text) name.at start value) _ (length_nets (of_text text) name.at start value)
   length_item start storage number (bus name width drivers) =
-      len1 (driver_nets (of_text text) name.at start drivers) _ (length_drivers (of_text text) name.at start drivers)
+      len1 (elaborated_drivers (of_text text) name.at start drivers) _ (length_drivers (of_text text) name.at start drivers)
   length_item start storage number (module_item name ports equations) = refl
   length_item start storage number (part name of links) =
       length_part name.at start links (ports_of (item_named text of.name)) (equations_of (item_named text of.name))

@@ -1,3 +1,1 @@
-pub mod Emissions
-pub mod Found
-pub mod Sites
+pub mod Inner

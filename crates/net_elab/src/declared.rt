@@ -7,7 +7,7 @@ ghost use Rattle.net_model.specs.Numbering.{count_item, equations_of};
 ghost use Rattle.net_model.specs.TextNames.{item_named, place_named};
 ghost use Rattle.net_model.specs.TextWidths.{part_ports, ports_of, value_width};
 ghost use Rattle.net_model.specs.Written.{binding_of, entry_of};
-ghost use Rattle.net_elab.specs.Found.{ModuleKeeps, cell_width};
+ghost use Rattle.net_elab.specs.Inner.Found.{ModuleKeeps, cell_width};
 
 use crate::count::{count_drivers, count_if, count_nets, count_part};
 use net_model::{Ident, NetExpr, Port, Unit, Units};
@@ -27,7 +27,7 @@ impl<'a> Model for Declared<'a> {
     ghost use Rattle.std.specs.Coded.{codes};
     ghost use Rattle.net_model.specs.contracts.units.NetExpr as e;
     ghost use Rattle.net_model.specs.declared.units.Unit.{Unit as Item};
-    ghost use Rattle.net_elab.specs.Found.{IsDeclared};
+    ghost use Rattle.net_elab.specs.Inner.Found.{IsDeclared};
 
     ghost Value = { List Item };
 

@@ -5,8 +5,8 @@ ghost use Rattle.net_model.specs.declared.hardware.Gate.TheVariants.{Slice};
 ghost use Rattle.net_model.specs.Numbering.{count, count_if, count_rest, count_rows, net_named, scope_at};
 ghost use Rattle.net_model.specs.TextWidths.{named_width, sliced, wide};
 ghost use Rattle.net_model.specs.Written.{case, named, other_of, phrase_of, rest_of, row_of, rows_of};
-ghost use Rattle.net_elab.specs.Emissions.{AllWide, Emitted, EmittedIf, EmittedRest, EmittedRows, IsWideIf, IsWideRest, Pushed};
-ghost use Rattle.net_elab.specs.Sites.{site_of};
+ghost use Rattle.net_elab.specs.Inner.Emissions.{AllWide, Emitted, EmittedIf, EmittedRest, EmittedRows, IsWideIf, IsWideRest, Pushed};
+ghost use Rattle.net_elab.specs.Inner.Sites.{site_of};
 
 use crate::site::{Site, Spot};
 use net_model::{Gate, Ident, Net, NetExpr};

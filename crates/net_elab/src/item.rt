@@ -4,8 +4,8 @@ ghost use Rattle.std.specs.Prelude.{◌≡◌, ◌+◌, ◌<◌, ◌^◌, IfOk, 
 ghost use Rattle.net_model.specs.Elaborable.{ItemKeeps};
 ghost use Rattle.net_model.specs.Numbering.{count_drivers, scope_at};
 ghost use Rattle.net_model.specs.Written.{binding_of, bus, code, driver_of, entry_of, memory, net, part, phrase_of, register, when_of};
-ghost use Rattle.net_elab.specs.Emissions.{AllDriversWide, EmittedDrivers, HasRoom, ItemDone};
-ghost use Rattle.net_elab.specs.Sites.{site_of};
+ghost use Rattle.net_elab.specs.Inner.Emissions.{AllDriversWide, EmittedDrivers, HasRoom, ItemDone};
+ghost use Rattle.net_elab.specs.Inner.Sites.{site_of};
 
 use crate::expression::{emit, emit_if, push_net};
 use crate::part::emit_part;

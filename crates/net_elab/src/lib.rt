@@ -6,7 +6,7 @@
 //!
 //! Invariant: nets are numbered before any is made (`IsNumbered`), so that a name may stand for a
 //! net that comes later. What is emitted for an expression stands at the end of the list of nets,
-//! inner nets first, as many as were counted for it (`specs/Emissions`).
+//! inner nets first, as many as were counted for it (`specs/Inner/Emissions`).
 //!
 //! Files:
 //!
@@ -17,9 +17,9 @@
 //! - `site`: what names stand for where an expression stands: among the items, or in a part.
 //! - `expression`, `part`, `item`: the nets of expressions, of the parts of modules, and of items.
 //! - `whole`: `elaborate`, item by item.
-//! - `specs/`: no public contract cites a file here, since the netlist of a text is defined in
-//!   `net_model/specs/Elaborated`; `Emissions`, `Found` and `Sites` mirror what is emitted and
-//!   found.
+//! - `specs/Inner/`: `Emissions`, `Found` and `Sites`, which go with what is emitted and found.
+//!   Public contracts cite no file here, since the netlist of a text is defined in
+//!   `net_model/specs/Elaborated`.
 //! - `proofs/`: `Emits`, `Parts` and `Drivers` for what the parts of an expression, a part and a
 //!   bus give together, `Scans` and `Standing` for numbers, `Formed`, `Kept` and `Sounds` for the
 //!   rules.

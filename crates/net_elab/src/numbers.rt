@@ -3,7 +3,7 @@
 ghost use Rattle.std.specs.Prelude.{◌≡◌, ◌+◌, ◌<◌, ◌^◌, ◌++◌, ◌∷◌, [], IfOk, OnOk, if◌then◌else◌, length, map, slice_get, slice_index};
 ghost use Rattle.net_model.specs.Numbering.{count_input, count_inputs, count_item, count_output, count_outputs, count_storages, item_wires, last_nets, list_or_none, port_wires, storage_numbers, wires_from};
 ghost use Rattle.net_model.specs.Written.{binding_of, entry_of};
-ghost use Rattle.net_elab.specs.Found.{IsNumbered};
+ghost use Rattle.net_elab.specs.Inner.Found.{IsNumbered};
 
 use crate::count::{count_input, count_inputs, count_output};
 use crate::declared::Declared;
@@ -35,7 +35,8 @@ fn port_wire(port: &Port, input: u32, output: u32) -> u32
     if port.output { output } else { input }
 }
 
-/// The wires of a part's ports, where the nets of its inputs and the wires of its outputs begin at these numbers.
+/// The wires of a part's ports, where the nets of its inputs and the wires of its outputs begin at
+/// these numbers.
 pub fn port_wires(
     alloc: Global,
     start: u32,

@@ -8,8 +8,8 @@ ghost use Rattle.net_model.specs.Numbering.{bound, count, count_equation, count_
 ghost use Rattle.net_model.specs.TextNames.{in_module, in_text};
 ghost use Rattle.net_model.specs.TextWidths.{wide};
 ghost use Rattle.net_model.specs.Written.{binding_of, entry_of, phrase_of};
-ghost use Rattle.net_elab.specs.Emissions.{Grown, IsWideIf};
-ghost use Rattle.net_elab.specs.Sites.{site_of};
+ghost use Rattle.net_elab.specs.Inner.Emissions.{Grown, IsWideIf};
+ghost use Rattle.net_elab.specs.Inner.Sites.{site_of};
 
 use crate::count::{bound, count_equation, count_inputs, count_nets, count_outputs};
 use crate::expression::{emit_if, push_net};

@@ -7,8 +7,8 @@ ghost use Rattle.net_model.specs.Numbering.{item_net, memory_at, net_named, port
 ghost use Rattle.net_model.specs.TextNames.{item_named, port_named};
 ghost use Rattle.net_model.specs.TextWidths.{field_width, input_width, memory_widths, named_width, part_ports, port_width, value_width};
 ghost use Rattle.net_model.specs.Written.{entry_of};
-ghost use Rattle.net_elab.specs.Found.{IsCells, IsSpot, cell_of, cell_width, field_of};
-ghost use Rattle.net_elab.specs.Sites.{site_of};
+ghost use Rattle.net_elab.specs.Inner.Found.{IsCells, IsSpot, cell_width_of, cell_width, field_of};
+ghost use Rattle.net_elab.specs.Inner.Sites.{site_of};
 
 use crate::declared::Declared;
 use crate::numbers::{Numbers, list_at, number_at, numbered};
@@ -44,7 +44,7 @@ impl<'a> Model for Text<'a> {
     ghost use Rattle.net_model.specs.contracts.units.NetExpr as e;
     ghost use Rattle.net_model.specs.declared.units.Unit.{Unit as Item};
     ghost use Rattle.net_model.specs.Written.{entry_of};
-    ghost use Rattle.net_elab.specs.Found.{IsNumbered};
+    ghost use Rattle.net_elab.specs.Inner.Found.{IsNumbered};
 
     ghost Value = { List Item };
 
@@ -125,7 +125,8 @@ impl<'a> Text<'a> {
     }
 }
 
-/// The place of the first port of a direction and a name, and the number of ports where there is none.
+/// The place of the first port of a direction and a name, and the number of ports where there is
+/// none.
 fn port_place(output: bool, ports: &[Port], name: &Name) -> usize
     ensures { result ≡ port_place output ports.now name.now }
 {
@@ -223,7 +224,7 @@ impl<'a> Site<'a> {
     /// The memory of a name.
     pub fn cells(&self, name: &Name) -> Option<Cells>
         ensures { MatchOption result (memory_widths (scope_at (site_of self.now)) name.now ≡ None)
-            (λ cells. IsCells (option_map cell_of (memory_widths (scope_at (site_of self.now)) name.now)) (memory_at (site_of self.now) name.now) cells) }
+            (λ cells. IsCells (option_map cell_width_of (memory_widths (scope_at (site_of self.now)) name.now)) (memory_at (site_of self.now) name.now) cells) }
     {
         match self {
             Site::Top(text) => text.cells(name),

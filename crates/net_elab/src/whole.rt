@@ -30,7 +30,8 @@ fn emit_items(alloc: Global, text: &Text) -> Result<Netlist, NoMemory>
     Ok(netlist)
 }
 
-/// The netlist that the items of a text say, where they keep the rules of names, widths, drivers and limits. `names` are the items'.
+/// The netlist that the items of a text say, where they keep the rules of names, widths, drivers
+/// and limits. `names` are the items'.
 pub fn elaborate(alloc: Global, units: &Units, names: &Names) -> Result<Netlist, NoMemory>
     requires names { names.now ≡ units.now.items }
     requires keeps { IsElaborable (map entry_of units.now.items) }

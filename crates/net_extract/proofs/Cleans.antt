@@ -1,4 +1,5 @@
--- Control that is told has a word without clash, and its set of such words is right for as long as the book grows.
+-- Control that is told has a word without clash, and its set of such words is right for as long as
+-- the book grows.
 use Rattle.net_model.specs.declared.hardware.Netlist.{Netlist}
 use Rattle.bit_bdd.specs.Diagrams.{Diagrams, Extends}
 use Rattle.ctl_bdd.specs.declared.ControlBits.{ControlBits}

@@ -1,4 +1,5 @@
--- A text of a netlist that keeps N10, N12 and N13 keeps all rules, and the patterns of that netlist are those of the text.
+-- A text of a netlist that keeps N10, N12 and N13 keeps all rules, and the patterns of that netlist
+-- are those of the text.
 use Rattle.std.proofs.Common.{◌≡◌, ℕ, List, subst, sym}
 use Rattle.bit_bdd.specs.Diagrams.{Diagrams}
 use Rattle.net_model.specs.declared.hardware.Netlist.{Netlist}
@@ -9,14 +10,14 @@ use Rattle.net_model.specs.Written.{Entry}
 use Rattle.net_front.specs.Fronts.{IsCheckedOf, IsNetFile}
 use Rattle.sym_expr.specs.declared.pool.Node.{Node}
 use Rattle.transfer_set.specs.PatternsText.{IsPatternsText}
-use Rattle.transfer_set.specs.Rows.{told_patterns}
+use Rattle.transfer_set.specs.Rows.{row_patterns}
 use Rattle.transfer_set.specs.Tables.{IsPatternTable, Table}
 use Rattle.transfer_set.specs.TextMarks.{HasPlainNames}
 use Rattle.net_extract.specs.Extracts.{IsExtracted, IsRouted, IsRoutedNet}
 use Rattle.net_extract.proofs.PlainNames.{plain_names}
 
 -- a text's names leave no choice of the order
-pub patterns_of_text : (bytes : List ℕ) (entries : List Entry) → IsNetFile bytes entries → (checked : Ordered) → IsCheckedOf entries checked → (book : Diagrams) (pool : List Node) (table : Table) → IsPatternTable checked.netlist book pool table → ArePatterns checked.netlist (told_patterns pool table.rows)
+pub patterns_of_text : (bytes : List ℕ) (entries : List Entry) → IsNetFile bytes entries → (checked : Ordered) → IsCheckedOf entries checked → (book : Diagrams) (pool : List Node) (table : Table) → IsPatternTable checked.netlist book pool table → ArePatterns checked.netlist (row_patterns pool table.rows)
 patterns_of_text bytes entries file checked of book pool table is = is.patterns (subst HasPlainNames (sym of.netlist) (plain_names bytes entries file.says))
 
 pub routed_net : (bytes : List ℕ) (entries : List Entry) → IsNetFile bytes entries → (checked : Ordered) → IsCheckedOf entries checked → IsRouted checked.netlist → IsRoutedNet bytes checked

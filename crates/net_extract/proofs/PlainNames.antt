@@ -11,7 +11,7 @@ use Rattle.lexing.specs.Laws.{IsKind, IsTokenOf}
 use Rattle.lexing.proofs.TokenLaws.{are_tokens}
 use Rattle.net_lexer.specs.Netlists.{netlists, net_tokens}
 use Rattle.grammar.specs.declared.words.Ident.{Ident}
-use Rattle.net_model.specs.Grammar.{Lexed, Word, IsItem, IsSized, IsText, ItemBehind, ItemByWord}
+use Rattle.net_model.specs.Grammar.{Lexed, Word, IsItem, IsSized, IsItems, ItemBehind, ItemByWord}
 use Rattle.grammar.specs.declared.words.Word.TheVariants.{Name as Named, Symbol as Shows, Key as Keyed, Other}
 use Rattle.net_model.specs.declared.words.Key.TheVariants.{Item, Operator as Operates}
 use Rattle.net_model.specs.declared.words.ItemWord.{ItemWord}
@@ -24,9 +24,9 @@ use Rattle.net_model.specs.TextNames.{own_name}
 use Rattle.net_model.specs.Texts.{first_name, name_in}
 use Rattle.net_model.specs.Written.{Entry, code, register, memory}
 use Rattle.net_front.specs.Fronts.{SaysNet}
-use Rattle.net_parser.specs.Texts.{words_of}
+use Rattle.net_parser.specs.Texts.{net_lexed}
 use Rattle.net_parser.specs.Words.{binary_of, form_of, item_of, reserved_of, sign_of, sign_word, symbol_of, unary_of}
-use Rattle.lexing.specs.Words.{lexed_of, or_else, word_of}
+use Rattle.lexing.specs.Words.{lexed_of, or_word, word_of}
 use Rattle.transfer_set.specs.TextMarks.{HasPlainNames, Plain, is_mark}
 
 -- ---- bytes
@@ -63,16 +63,16 @@ PlainToken token = PlainWord token.word
 abbrev ArePlain : List Lexed → Type 0
 ArePlain = AllByRecursion PlainToken
 
-plain_else : {A : Type 0} (make : A → Word) → ((a : A) → PlainWord (make a)) → (found : Option A) (next : Word) → PlainWord next → PlainWord (or_else make found next)
+plain_else : {A : Type 0} (make : A → Word) → ((a : A) → PlainWord (make a)) → (found : Option A) (next : Word) → PlainWord next → PlainWord (or_word make found next)
 plain_else make each None next plain = plain
 plain_else make each (Some a) next plain = each a
 
 plain_reserved : (text : List ℕ) → PlainWord (reserved_of text)
 plain_reserved text =
-    let symbols = or_else Shows (symbol_of text) Other in
-    let forms = or_else (λ form. Keyed (Operates form)) (form_of text) symbols in
-    let binaries = or_else (λ op. Keyed (Operates (Binary op))) (binary_of text) forms in
-    let unaries = or_else (λ op. Keyed (Operates (Unary op))) (unary_of text) binaries in
+    let symbols = or_word Shows (symbol_of text) Other in
+    let forms = or_word (λ form. Keyed (Operates form)) (form_of text) symbols in
+    let binaries = or_word (λ op. Keyed (Operates (Binary op))) (binary_of text) forms in
+    let unaries = or_word (λ op. Keyed (Operates (Unary op))) (unary_of text) binaries in
     plain_else (λ item. Keyed (Item item)) (λ word. tt) (item_of text) unaries
     (plain_else (λ op. Keyed (Operates (Unary op))) (λ op. tt) (unary_of text) binaries
     (plain_else (λ op. Keyed (Operates (Binary op))) (λ op. tt) (binary_of text) forms
@@ -85,9 +85,9 @@ plain_word Number n bytes is = tt
 plain_word Sign n bytes is = plain_else Shows (λ s. tt) (sign_of (take n bytes)) Other tt
 plain_word Bad n bytes is = tt
 
-plain_words : (bytes : List ℕ) → ArePlain (words_of bytes)
+plain_words : (bytes : List ℕ) → ArePlain (net_lexed bytes)
 plain_words bytes =
-    recursion_from_All PlainToken (words_of bytes)
+    recursion_from_All PlainToken (net_lexed bytes)
     (All-map PlainToken (lexed_of reserved_of sign_word bytes) (net_tokens bytes)
     (All-weaker (IsTokenOf netlists bytes) (λ token. PlainToken (lexed_of reserved_of sign_word bytes token))
     (λ token is. plain_word token.kind token.len (drop token.at bytes) is.kind)
@@ -148,7 +148,7 @@ plain_items ts entries plain (some {us = us} {b = b} {zs = zs} {w = w} is rest) 
     let both = plain_parts us zs plain in
     (plain_item us b both.0 is, plain_items zs w both.1 rest)
 
-plain_text : (ts : List Lexed) (entries : List Entry) → ArePlain ts → IsText ts entries → AllByRecursion PlainEntry entries
+plain_text : (ts : List Lexed) (entries : List Entry) → ArePlain ts → IsItems ts entries → AllByRecursion PlainEntry entries
 plain_text ts entries plain is =
     let rest = is.second in
     subst (AllByRecursion PlainEntry) (sym rest.second.same) (
@@ -176,5 +176,5 @@ plain_code text (entry ∷ entries) plain = plain_code text entries plain.1
 -- the names of a text that is read have no marks
 pub plain_names : (bytes : List ℕ) (entries : List Entry) → SaysNet bytes entries → HasPlainNames (netlist_of entries)
 plain_names bytes entries says =
-    let plain = plain_text (words_of bytes) entries (plain_words bytes) says.text.spelled in
+    let plain = plain_text (net_lexed bytes) entries (plain_words bytes) says.text.spelled in
     record { storages = plain_storages entries 0 entries plain; code = plain_code entries entries plain }

@@ -16,7 +16,7 @@ use Rattle.net_front.specs.Fronts.{BreaksRule, IsCheckedOf, IsNetFile}
 use Rattle.net_front.specs.declared.front.NetRefusal.{NetRefusal}
 use Rattle.net_front.specs.declared.front.NetRefusal.TheVariants.{Text, Fault, Memory}
 use Rattle.transfer_set.specs.PatternsText.{IsPatternsText}
-use Rattle.route_trace.specs.Limits.{IsRefusal, KeepsLimits}
+use Rattle.route_trace.specs.Limits.{IsRouteFault, KeepsLimits}
 use Rattle.route_trace.specs.declared.RouteFault.TheVariants.{PatternLarge as RouteLarge, TooMany as RoutesMany}
 
 -- ---- N10, N12 and N13
@@ -36,8 +36,8 @@ pub record NamesNet (netlist : Netlist) (offset : ℕ) (Refuses : ℕ → Type 0
 -- the netlist breaks N10; it keeps N10 and breaks N12 or N13
 abbrev pub BreaksRoutes : Netlist → NetFault → Type 0
 BreaksRoutes netlist AlwaysClash = ClashesAlways netlist
-BreaksRoutes netlist (PatternLarge offset) = NamesNet netlist offset (λ net. IsRefusal netlist (RouteLarge net))
-BreaksRoutes netlist (TooMany offset) = NamesNet netlist offset (λ net. IsRefusal netlist (RoutesMany net))
+BreaksRoutes netlist (PatternLarge offset) = NamesNet netlist offset (λ net. IsRouteFault netlist (RouteLarge net))
+BreaksRoutes netlist (TooMany offset) = NamesNet netlist offset (λ net. IsRouteFault netlist (RoutesMany net))
 BreaksRoutes netlist _ = ⊥
 
 -- the netlist keeps them
@@ -57,7 +57,8 @@ pub record IsRoutedFile (bytes : List ℕ) (entries : List Entry) : Type 0 where
   pub file : IsNetFile bytes entries
   pub routed : IsRouted (netlist_of entries)
 
--- the bytes are a netlist text whose items keep N1 to N9 and N11, and this is what they break of N10, N12 and N13
+-- the bytes are a netlist text whose items keep N1 to N9 and N11, and this is what they break of
+-- N10, N12 and N13
 pub record BreaksRouteRule (bytes : List ℕ) (fault : NetFault) : Type 0 where
   pub entries : List Entry
   pub file : IsNetFile bytes entries

@@ -1,4 +1,5 @@
-//! The patterns of a netlist that keeps N10, N12 and N13, over a book of its words and a pool that are lent.
+//! The patterns of a netlist that keeps N10, N12 and N13, over a book of its words and a pool that
+//! are lent.
 
 ghost use Rattle.std.specs.Prelude.{◌≡◌, IfOk, IfErr};
 ghost use Rattle.bit_bdd.specs.Diagrams.{Extends};

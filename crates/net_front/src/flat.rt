@@ -10,7 +10,8 @@ use net_names::Names;
 use net_rules::first_fault;
 use std::alloc::Global;
 
-/// Why items have no netlist: the first rule of N1, N2, N3, N4 and N11 that they break, or want of memory.
+/// Why items have no netlist: the first rule of N1, N2, N3, N4 and N11 that they break, or want of
+/// memory.
 pub type NetFault2 = CheckFault;
 
 // The netlist of the items, by their names.
@@ -27,9 +28,10 @@ fn flatten_by(alloc: Global, units: &Units, names: &Names) -> Result<Netlist, Ne
     Ok(netlist)
 }
 
-/// The netlist that the items say, with their nets in the items' order, where they keep N1 to N4 and N11. `Fault` comes exactly where they
-/// break one of these rules, with the first in the order N1, N2, N3, N4, N11, and with the least offset at which it is broken, or the
-/// numbers of N11. `Memory` is want of memory.
+/// The netlist that the items say, with their nets in the items' order, where they keep N1 to N4
+/// and N11. `Fault` comes exactly where they break one of these rules, with the first in the order
+/// N1, N2, N3, N4, N11, and with the least offset at which it is broken, or the numbers of N11.
+/// `Memory` is want of memory.
 pub fn flatten(alloc: Global, units: &Units) -> Result<Netlist, NetFault2>
     requires { length units.now.items < 2 ^ 32 }
     ensures found { IfOk result (IsElaboratedOf (map entry_of units.now.items)) }

@@ -81,9 +81,11 @@ fn checked(alloc: Global, units: &Units) -> Result<Checked, NetRefusal>
     Ok(checked)
 }
 
-/// The items of a netlist's text, which keep the rules, and their netlist. `Text` comes exactly where the bytes are no netlist text, with
-/// the offset of the first token such that those before it begin some text and with it they don't, or the length of the bytes where all of
-/// them begin one. `Fault` comes exactly where they are one that breaks a rule, with the first. `Memory` is want of memory.
+/// The items of a netlist's text, which keep the rules, and their netlist. `Text` comes exactly
+/// where the bytes are no netlist text, with the offset of the first token such that those before
+/// it begin some text and with it they don't, or the length of the bytes where all of them begin
+/// one. `Fault` comes exactly where they are one that breaks a rule, with the first. `Memory` is
+/// want of memory.
 pub fn read_net(alloc: Global, bytes: &[u8]) -> Result<(Units, Checked), NetRefusal>
     requires { length bytes.now < 2 ^ 32 }
     ensures found { IfOk result (λ read. IsNetFile bytes.now (map entry_of read.0.items)) }

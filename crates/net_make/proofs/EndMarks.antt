@@ -10,7 +10,7 @@ use Rattle.code_model.specs.declared.image.Image.{Image}
 use Rattle.code_model.specs.declared.image.Mark.{Mark}
 use Rattle.code_model.specs.ImageFits.{AreMarksAfter, HasNumber}
 use Rattle.code_model.specs.Places.{checkpoint_of, label_at, words_of}
-use Rattle.net_make.specs.Marks.{end_address}
+use Rattle.net_make.specs.Inner.Marks.{end_address}
 use Rattle.net_make.specs.Stops.{IsAtEnd, RunsOn, StandsAt, StopsAt}
 use Rattle.net_make.proofs.Shown.{runs_likewise, stops_likewise}
 

@@ -7,20 +7,20 @@ use Rattle.src_model.specs.declared.checkpoint.Checkpoint.{Checkpoint}
 use Rattle.src_model.specs.declared.checkpoint.Checkpoint.TheVariants.{At, End}
 use Rattle.code_model.specs.declared.image.Image.{Image}
 use Rattle.code_model.specs.Places.{words_of}
-use Rattle.code_model.specs.Machine.{Entry, Traced, Shows, Clashes, after, before, label_in, mtrace, seen, store_in}
+use Rattle.code_model.specs.Machine.{TraceEntry, Traced, Shows, Clashes, after_clock, before, label_in, mtrace, with_checkpoint, store_in}
 use Rattle.net_make.specs.Stops.{IsAtEnd, RunsOn, StopsAt}
 
 -- what is shown behind a checkpoint
 record IsShown (trace : Traced) : Type 0 where
-  entries : List Entry
+  entries : List TraceEntry
   shows : trace ≡ Shows entries
 
-behind : (entry : Entry) (later : Traced) (es : List Entry) → before entry later ≡ Shows es → IsShown later
+behind : (entry : TraceEntry) (later : Traced) (es : List TraceEntry) → before entry later ≡ Shows es → IsShown later
 behind entry (Shows entries) es e = record { entries = entries; shows = refl }
 behind entry Clashes es e = absurd (cc)
 
 -- the end, or what comes later is shown
-at_label : (o : Option Checkpoint) (cycle : ℕ) (cells : List ℕ) (later : Traced) (es : List Entry) → seen o cycle cells later ≡ Shows es → (o ≡ Some End) ⊎ IsShown later
+at_label : (o : Option Checkpoint) (cycle : ℕ) (cells : List ℕ) (later : Traced) (es : List TraceEntry) → with_checkpoint o cycle cells later ≡ Shows es → (o ≡ Some End) ⊎ IsShown later
 at_label None cycle cells later es e = inr (record { entries = es; shows = e })
 at_label (Some (At tree)) cycle cells later es e = inr (behind _ later es e)
 at_label (Some End) cycle cells later es e = inl refl
@@ -31,19 +31,19 @@ module _ (netlist : Netlist) (image : Image) where
     clocked : clock netlist (words_of image) s ≡ Next next
     shown : IsShown (later next)
 
-  leads : (s : State) (later : State → Traced) (o : Outcome) → clock netlist (words_of image) s ≡ o → IsShown (after later o) → Leads s later
+  leads : (s : State) (later : State → Traced) (o : Outcome) → clock netlist (words_of image) s ≡ o → IsShown (after_clock later o) → Leads s later
   leads s later (Next t) is h = record { next = t; clocked = is; shown = h }
   leads s later (Clash bus) is h = absurd (let e = h.shows in cc)
 
-  pub shown_runs : (n k N : ℕ) (s : State) (cycle : ℕ) (es : List Entry) → N ≡ n + k → mtrace netlist image s cycle N ≡ Shows es → RunsOn netlist (words_of image) (IsAtEnd netlist image) n s
+  pub shown_runs : (n k N : ℕ) (s : State) (cycle : ℕ) (es : List TraceEntry) → N ≡ n + k → mtrace netlist image s cycle N ≡ Shows es → RunsOn netlist (words_of image) (IsAtEnd netlist image) n s
   unfolding RunsOn
   shown_runs zero k N s cycle es e p = tt
   shown_runs (suc n) k zero s cycle es e p = absurd (omega arith)
   shown_runs (suc n) k (suc N) s cycle es e p =
       by_label (λ t es q. shown_runs n k N t (cycle + 1) es (omega arith) q) (at_label (label_in netlist image s) cycle (store_in image s) _ es p)
     where
-      by_label : ((t : State) (es : List Entry) → mtrace netlist image t (cycle + 1) N ≡ Shows es → RunsOn netlist (words_of image) (IsAtEnd netlist image) n t) →
-          (label_in netlist image s ≡ Some End) ⊎ IsShown (after (λ (t : State). mtrace netlist image t (cycle + 1) N) (clock netlist (words_of image) s)) → RunsOn netlist (words_of image) (IsAtEnd netlist image) (suc n) s
+      by_label : ((t : State) (es : List TraceEntry) → mtrace netlist image t (cycle + 1) N ≡ Shows es → RunsOn netlist (words_of image) (IsAtEnd netlist image) n t) →
+          (label_in netlist image s ≡ Some End) ⊎ IsShown (after_clock (λ (t : State). mtrace netlist image t (cycle + 1) N) (clock netlist (words_of image) s)) → RunsOn netlist (words_of image) (IsAtEnd netlist image) (suc n) s
       by_label ih (inl is) = inl is
       by_label ih (inr shown) =
           let l : Leads s (λ (t : State). mtrace netlist image t (cycle + 1) N) = leads s _ (clock netlist (words_of image) s) refl shown in

@@ -1,7 +1,6 @@
-pub mod Zeros
-pub mod Marks
 pub mod Stops
 pub mod Summary
-pub mod Told
+pub mod Summing
 pub mod Summaries
 pub mod Worked
+pub mod Inner

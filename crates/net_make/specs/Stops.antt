@@ -7,8 +7,8 @@ use Rattle.src_model.specs.declared.checkpoint.Checkpoint.TheVariants.{End}
 use Rattle.code_model.specs.declared.image.Image.{Image}
 use Rattle.code_model.specs.Machine.{label_in}
 
--- after so many clocks, none of which clashes, the netlist is in such a state for the first time; where it is in none within `most` clocks, these
--- are all of them
+-- after so many clocks, none of which clashes, the netlist is in such a state for the first time;
+-- where it is in none within `most` clocks, these are all of them
 pub record StopsAt (netlist : Netlist) (words : List ℕ) (Is : State → Type 0) (start : State) (most clocks : ℕ) (last : State) : Type 0 where
   pub within : clocks ≤ most
   pub reached : run netlist words start clocks ≡ Reached last

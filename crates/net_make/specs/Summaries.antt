@@ -3,17 +3,17 @@ use Rattle.std.specs.Prelude.{ℕ, List}
 use Rattle.code_model.specs.declared.image.Image.{Image}
 use Rattle.right_code.specs.Tasks.{Task}
 use Rattle.net_compile.specs.Code.{IsRightFor}
-use Rattle.net_compile.specs.Tasks.{Holds}
+use Rattle.net_compile.specs.Tasks.{TaskHolds}
 use Rattle.job_gen.specs.NetText.{net_text}
 use Rattle.job_gen.specs.SrcText.{src_text}
-use Rattle.net_make.specs.Told.{TellsOf}
+use Rattle.net_make.specs.Summing.{ShowsSummary}
 
 -- what is told of a task, for some right code of it
 pub record IsSummaryOf (number : ℕ) (text : List ℕ) (task : Task) : Type 0 where
   pub image : Image
   pub right : IsRightFor image task
-  pub told : TellsOf number task image text
+  pub shown : ShowsSummary number task image text
 
 -- what is told of the netlist and the program of a number
 abbrev pub IsSummary : ℕ → List ℕ → Type 0
-IsSummary number text = Holds (net_text number) (src_text number) (IsSummaryOf number text)
+IsSummary number text = TaskHolds (net_text number) (src_text number) (IsSummaryOf number text)

@@ -5,8 +5,8 @@ use Rattle.std.specs.List.{concat, flat_map}
 use Rattle.code_model.specs.declared.image.Place.{Place}
 
 -- make N, words COUNT, cycles C, checkpoints K
-abbrev pub head_text : ℕ → ℕ → ℕ → ℕ → List ℕ
-head_text number words cycles checkpoints = concat (
+abbrev pub summary_head : ℕ → ℕ → ℕ → ℕ → List ℕ
+summary_head number words cycles checkpoints = concat (
     codes "make " ∷ decimal number ∷ codes "\nwords " ∷ decimal words ∷ codes "\ncycles " ∷ decimal cycles
     ∷ codes "\ncheckpoints " ∷ decimal checkpoints ∷ codes "\n" ∷ [])
 
@@ -17,4 +17,4 @@ variable_line cells place = concat (place.name ∷ codes "=" ∷ decimal (slice_
 -- the head, a line for each variable, and done
 abbrev pub summary_text : ℕ → ℕ → ℕ → ℕ → List Place → List ℕ → List ℕ
 summary_text number words cycles checkpoints places cells = concat (
-    head_text number words cycles checkpoints ∷ flat_map (variable_line cells) places ∷ codes "done\n" ∷ [])
+    summary_head number words cycles checkpoints ∷ flat_map (variable_line cells) places ∷ codes "done\n" ∷ [])

@@ -3,7 +3,7 @@
 ghost use Rattle.std.specs.Prelude.{◌≡◌, ◌++◌, IfOk, OnOk, length, replicate};
 ghost use Rattle.src_model.specs.Trace.{strace};
 ghost use Rattle.src_model.specs.Written.{listing_of};
-ghost use Rattle.net_make.specs.Zeros.{zeros};
+ghost use Rattle.src_model.specs.Meaning.{zeros};
 
 use rec_bits::{Items, NoMemory};
 use src_eval::Runner;
@@ -30,9 +30,11 @@ fn zeros(alloc: Global, vars: &[Var]) -> Result<Items<u64>, NoMemory>
     Ok(cells)
 }
 
-// How many checkpoints the program passes where its variables are 0 at first, the end included, or `most` where there are more.
+// How many checkpoints the program passes where its variables are 0 at first, the end included, or
+// `most` where there are more.
 pub(crate) fn count_checkpoints(alloc: Global, typed: &Typed, most: u32) -> Result<u32, NoMemory>
-    ensures { IfOk result (λ count. count ≡ length (strace typed.now.width (listing_of typed.now.program) (zeros typed.now.program.vars) most)) }
+    ensures { IfOk result (λ count.
+        count ≡ length (strace typed.now.width (listing_of typed.now.program) (zeros typed.now.program.vars) most)) }
 {
     let store = Store {
         cells: zeros(alloc, typed.program().vars.as_slice())?,

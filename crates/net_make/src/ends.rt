@@ -17,7 +17,8 @@ use rec_bits::{Items, NoMemory, ParseFault};
 use state_text::read_state;
 use std::alloc::Global;
 
-// Clocks until the program counter stands at an address, or `most` times where it doesn't, and tells how many clocks that took.
+// Clocks until the program counter stands at an address, or `most` times where it doesn't, and
+// tells how many clocks that took.
 fn clock_to(sim: &mut Sim<'_>, address: Option<u64>, most: u32) -> u32
     requires { RunsOn sim.old.netlist sim.old.words (StandsAt sim.old.netlist address) most sim.old.state }
     ensures netlist { sim.new.netlist ≡ sim.old.netlist }
@@ -58,8 +59,8 @@ pub(crate) fn blank(alloc: Global, checked: &Checked) -> Result<State, NoMemory>
     }
 }
 
-// Clocks the netlist on an image's words up to the end mark, or `most` times where it doesn't come to it; how many clocks that took, and
-// what they left.
+// Clocks the netlist on an image's words up to the end mark, or `most` times where it doesn't come
+// to it; how many clocks that took, and what they left.
 pub(crate) fn run_image<'a>(
     alloc: Global,
     checked: &'a Checked,
@@ -71,7 +72,8 @@ pub(crate) fn run_image<'a>(
     requires marks { AreMarksAfter None image.now.marks }
     requires start { IsState checked.now.netlist start }
     requires clean { RunsOn checked.now.netlist (words_of image.now) (IsAtEnd checked.now.netlist image.now) most start }
-    ensures { IfOk result (λ ended. StopsAt checked.now.netlist (words_of image.now) (IsAtEnd checked.now.netlist image.now) start most ended.0 ended.1.state) }
+    ensures { IfOk result (λ ended.
+        StopsAt checked.now.netlist (words_of image.now) (IsAtEnd checked.now.netlist image.now) start most ended.0 ended.1.state) }
 {
     let words = words_of(alloc, image)?;
     let mut sim = Sim::new(alloc, checked, words, start)?;

@@ -1,7 +1,7 @@
 //! Made-up runs: a netlist and a program of a number, compiled and clocked, and what is told of
 //! that.
 //!
-//! Promise: `make` gives the summary of a number (`told`: `IsSummary`): for some image that is
+//! Promise: `make` gives the summary of a number (`summary`: `IsSummary`): for some image that is
 //! right code for its two texts, the number of words, the clocks from zeros to the end mark, the
 //! checkpoints that the program passes, and what the memory holds then. Otherwise it tells what
 //! refuses the two texts (`refused`: `IsCompileFault`).
@@ -15,10 +15,10 @@
 //! - `ends`: from nothing but zeros to the end mark, or to the greatest number of clocks.
 //! - `counting`: how many checkpoints the evaluator passes from zeros.
 //! - `summary`: the text of a summary.
-//! - `telling`: from an image to what is told of it.
+//! - `summing`: from an image to what is told of it.
 //! - `making`: from a number to its summary: `make`.
-//! - `specs/`: `Summaries`, `Told`, `Summary`, `Zeros`, and of `Stops` where a run ends, are cited
-//!   by public contracts; `Marks` and the rest of `Stops` are for the loop; `Worked` is computed.
+//! - `specs/`, cited by public contracts: `Summaries`, `Summing`, `Summary`, and `Stops`, where a
+//!   run ends; `Worked` is computed. `specs/Inner/`: `Marks`, for the loop.
 //! - `proofs/`: `RightRuns` and `Shown`: right code doesn't clash before its end mark; `EndMarks`,
 //!   `Clocks` and `Blank`.
 #![tactic(auto)]
@@ -28,6 +28,6 @@ mod ends;
 mod making;
 mod marks;
 mod summary;
-mod telling;
+mod summing;
 
 pub use making::make;

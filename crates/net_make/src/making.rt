@@ -6,20 +6,21 @@ ghost use Rattle.job_gen.specs.SrcText.{src_text};
 ghost use Rattle.net_compile.specs.Compiled.{IsCompileFault};
 ghost use Rattle.net_make.specs.Summaries.{IsSummary};
 
-use crate::telling::told;
+use crate::summing::summarize;
 use net_compile::{CompileFault, read_compiled};
 use std::alloc::Global;
 
-/// The summary of a number from 1 to 1,000: its netlist and its program are made and compiled, and the netlist is clocked on the words from
-/// nothing but zeros up to the end mark, which never clashes. A refusal is that of the two texts.
+/// The summary of a number from 1 to 1,000: its netlist and its program are made and compiled, and
+/// the netlist is clocked on the words from nothing but zeros up to the end mark, which never
+/// clashes. A refusal is that of the two texts.
 pub fn make(alloc: Global, number: u32) -> Result<Vec<u8>, CompileFault>
     requires { number ≤ 1000 }
-    ensures told { IfOk result (λ text. IsSummary number text.items) }
+    ensures summary { IfOk result (λ text. IsSummary number text.items) }
     ensures refused { IfErr result (IsCompileFault (net_text number) (src_text number)) }
 {
     let net = job_gen::netlist(alloc, u64::from(number))?;
     let src = job_gen::program(alloc, u64::from(number))?;
     let made = read_compiled(alloc, &net, &src)?;
-    let text = told(alloc, number, &made.checked, &made.typed, &made.image)?;
+    let text = summarize(alloc, number, &made.checked, &made.typed, &made.image)?;
     Ok(text)
 }

@@ -1,7 +1,7 @@
 //! The mark of the end.
 
 ghost use Rattle.std.specs.Prelude.{◌≡◌};
-ghost use Rattle.net_make.specs.Marks.{end_address};
+ghost use Rattle.net_make.specs.Inner.Marks.{end_address};
 
 use code_model::Mark;
 

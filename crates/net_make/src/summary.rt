@@ -2,7 +2,7 @@
 
 ghost use Rattle.std.specs.Prelude.{◌≡◌, ◌++◌, IfOk, OnOk, codes, slice_index, string_bytes};
 ghost use Rattle.std.specs.List.{flat_map};
-ghost use Rattle.net_make.specs.Summary.{head_text, summary_text, variable_line};
+ghost use Rattle.net_make.specs.Summary.{summary_head, summary_text, variable_line};
 
 use code_model::Place;
 use cycle_sim::Sim;
@@ -18,7 +18,7 @@ pub(crate) fn head_lines(
     cycles: u32,
     checkpoints: u32,
 ) -> Result<String, NoMemory>
-    ensures { IfOk result (λ lines. string_bytes lines ≡ head_text number words cycles checkpoints) }
+    ensures { IfOk result (λ lines. string_bytes lines ≡ summary_head number words cycles checkpoints) }
 {
     Ok(format!(in alloc;
         "make {number}\nwords {words}\ncycles {cycles}\ncheckpoints {checkpoints}\n"
@@ -57,7 +57,8 @@ fn put_variables(out: &mut Vec<u8>, places: &[Place], sim: &Sim<'_>) -> Result<(
 
 // The head of a summary, the variables at these places, and the end.
 pub(crate) fn summary(head: String, places: &[Place], sim: &Sim<'_>) -> Result<Vec<u8>, NoMemory>
-    ensures { IfOk result (λ text. text.items ≡ string_bytes head ++ (flat_map (variable_line sim.now.state.cells) places.now ++ codes "done\n")) }
+    ensures { IfOk result (λ text.
+        text.items ≡ string_bytes head ++ (flat_map (variable_line sim.now.state.cells) places.now ++ codes "done\n")) }
 {
     let mut text = head.into_bytes();
     put_variables(&mut text, places, sim)?;

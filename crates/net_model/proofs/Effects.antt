@@ -8,7 +8,7 @@ use Rattle.net_model.specs.Nets.{IsRegister, memory_id}
 use Rattle.net_model.specs.Value.{value_of}
 use Rattle.net_model.specs.Widths.{IsTyped, WordFits, ValuesFit, IsState}
 use Rattle.net_model.specs.Clock.{clash_in, enabled_count, gate_clashes, is_enabled, next_reg, next_regs, next_cells, next_state, outcome_of, step, word_at}
-use Rattle.net_model.specs.Symbolic.{blank, is_static, sym_of}
+use Rattle.net_model.specs.Symbolic.{no_state, is_static, sym_of}
 use Rattle.net_model.specs.Meaning.{mean}
 use Rattle.net_model.specs.Control.{AllPass, gate_enables, storage_enables, IsSound}
 use Rattle.net_model.specs.Transfers.{same_reg, storage_move, transfer_of, IsClean, Moved, reg_moved, cells_moved}
@@ -116,7 +116,7 @@ next_is_state netlist s i t h w =
       };
     }
 
-option_move_is : (netlist : Netlist) (i id : ℕ) (o : Option Storage) → option_move (sym_of netlist i) (value_of netlist blank i) o id ≡ transfer_of netlist i id o
+option_move_is : (netlist : Netlist) (i id : ℕ) (o : Option Storage) → option_move (sym_of netlist i) (value_of netlist no_state i) o id ≡ transfer_of netlist i id o
 option_move_is netlist i id None = refl
 option_move_is netlist i id (Some storage) = refl
 
@@ -125,18 +125,18 @@ pub moved : (netlist : Netlist) (words : List ℕ) (i : ℕ) (s : State) → IsS
 moved netlist words i s sound h clean e =
     let v : ℕ → ℕ = value_of netlist s i in
     let means : (m : ℕ) → mean (sym_of netlist i m) s i ≡ value_of netlist s i m = λ m. value_is_mean netlist s i sound.typed sound.controlled h.fits clean.fits m in
-    let static : (m : ℕ) → is_static netlist m ≡ true → value_of netlist blank i m ≡ value_of netlist s i m = λ m q. static_value netlist blank s i (length netlist.nets) m q in
+    let static : (m : ℕ) → is_static netlist m ≡ true → value_of netlist no_state i m ≡ value_of netlist s i m = λ m q. static_value netlist no_state s i (length netlist.nets) m q in
     record {
       next = next_state v netlist s;
       clocked =
           ap (step netlist s) e
-          ∙ ap (outcome_of v netlist s) (sym (clash_same netlist (value_of netlist blank i) (value_of netlist s i) static netlist.nets sound.controlled.enables) ∙ clean.clean);
+          ∙ ap (outcome_of v netlist s) (sym (clash_same netlist (value_of netlist no_state i) (value_of netlist s i) static netlist.nets sound.controlled.enables) ∙ clean.clean);
       state = next_is_state netlist s i sound.typed h clean.fits;
       regs = λ id r.
           reg_after v netlist.storages s.regs id h.regs
-          ∙ reg_law netlist s i (sym_of netlist i) (value_of netlist blank i) v means static (slice_get netlist.storages id) id r (λ storage at. gathered_at (λ n. is_static netlist n ≡ true) storage_enables netlist.storages id storage at sound.storages)
+          ∙ reg_law netlist s i (sym_of netlist i) (value_of netlist no_state i) v means static (slice_get netlist.storages id) id r (λ storage at. gathered_at (λ n. is_static netlist n ≡ true) storage_enables netlist.storages id storage at sound.storages)
           ∙ ap (λ (m : Move). reg_moved m s i id) (option_move_is netlist i id (slice_get netlist.storages id));
       cells =
-          cells_law netlist s i (sym_of netlist i) (value_of netlist blank i) v means static netlist.storages (memory_id netlist.storages) (gather_all (λ n. is_static netlist n ≡ true) storage_enables netlist.storages sound.storages)
+          cells_law netlist s i (sym_of netlist i) (value_of netlist no_state i) v means static netlist.storages (memory_id netlist.storages) (gather_all (λ n. is_static netlist n ≡ true) storage_enables netlist.storages sound.storages)
           ∙ ap (λ (m : Move). cells_moved m s i) (option_move_is netlist i (memory_id netlist.storages) (slice_get netlist.storages (memory_id netlist.storages)));
     }

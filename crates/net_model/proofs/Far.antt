@@ -11,7 +11,7 @@ use Rattle.net_model.specs.Nets.{storage_bits}
 use Rattle.net_model.specs.Widths.{GateFits, NetFits, IsTyped}
 use Rattle.net_model.specs.Terms.{Term, word, reg, const, read, un, bin, slice, cat, zext, sext, select, term_width, Move, keep, write, write_at}
 use Rattle.net_model.specs.Value.{value_within, value_of}
-use Rattle.net_model.specs.Symbolic.{sliced, blank, is_static, case_term, bus_term, gate_term, net_term, sym_within, sym_of}
+use Rattle.net_model.specs.Symbolic.{sliced, no_state, is_static, case_term, bus_term, gate_term, net_term, sym_within, sym_of}
 use Rattle.net_model.specs.Clock.{is_enabled}
 use Rattle.net_model.specs.Transfers.{same_reg, storage_move, transfer_of, move_at}
 use Rattle.net_model.specs.Occurs.{occurs, move_occurs}
@@ -75,7 +75,7 @@ module _ (r : ℕ) where
     sym_far : (i : ℕ) → ((n : ℕ) → NetFits netlist (slice_get netlist.nets n)) → (k n : ℕ) → occurs r (sym_within k netlist i n) ≡ false
     sym_far i nets zero n = refl
     sym_far i nets (suc k) n =
-        net_far (sym_within k netlist i) (value_within k netlist blank i) (is_static netlist) (sym_far i nets k) (slice_get netlist.nets n) (nets n)
+        net_far (sym_within k netlist i) (value_within k netlist no_state i) (is_static netlist) (sym_far i nets k) (slice_get netlist.nets n) (nets n)
 
     choose : (b : Bool) (m n : Move) → move_occurs r m ≡ false → move_occurs r n ≡ false → move_occurs r (cond b m n) ≡ false
     choose true m n h k = h
@@ -93,4 +93,4 @@ module _ (r : ℕ) where
       where
         by : (o : Option Storage) → move_occurs r (transfer_of netlist i id o) ≡ false
         by None = refl
-        by (Some storage) = storage_far (sym_of netlist i) (value_of netlist blank i) id (sym_far i typed.nets (length netlist.nets)) storage
+        by (Some storage) = storage_far (sym_of netlist i) (value_of netlist no_state i) id (sym_far i typed.nets (length netlist.nets)) storage

@@ -13,14 +13,17 @@ use Rattle.net_model.specs.declared.fault.NetKind.TheVariants.{Nets, Registers, 
 use Rattle.grammar.specs.declared.words.Ident.{Ident}
 use Rattle.net_model.specs.declared.units.Port.{Port}
 use Rattle.net_model.specs.Written.{Entry, code, register, memory, net, bus, module_item, part, Phrase}
-use Rattle.net_model.specs.TextNames.{same_name, own_name, place_named, item_named, is_port, port_named, Scope, in_text, in_module}
+use Rattle.net_model.specs.TextNames.{own_name, place_named, item_named, is_port, port_named, Scope, in_text, in_module}
+use Rattle.rec_bits.specs.Faults.{same_name}
 use Rattle.net_model.specs.TextWidths.{wide, is_width, port_width, ports_of}
 use Rattle.net_model.specs.NameRules.{is_among, repeated, port_name, repeated_ports, duplicates, is_register, unknown_in_item, unknowns}
 use Rattle.net_model.specs.WidthRules.{has_width, feeds, enables, driver_feeds, binding_feeds, feeds_port, port_keeps, widths_fit, misfit, misfits}
 use Rattle.net_model.specs.DriverRules.{names_new, is_driven, drives_once, binding_name, covers_binding, is_driven_item, undriven, undrivens}
-use Rattle.net_model.specs.LimitRules.{count_registers, cells_of, words_of, greatest, over, or_else, limit_fault}
+use Rattle.net_model.specs.LimitRules.{count_registers, cells_of, words_of, greatest, over, limit_fault}
+use Rattle.rec_bits.specs.Faults.{or_else}
 use Rattle.rec_bits.specs.Counts.{capped}
-use Rattle.net_model.specs.TextRules.{fault_at, first_fault}
+use Rattle.net_model.specs.TextRules.{first_fault}
+use Rattle.rec_bits.specs.Faults.{fault_at}
 use Rattle.net_model.specs.Numbering.{bound, count_items}
 use Rattle.net_model.specs.Elaborable.{Feeds, FeedsIf, DriverFeeds, IsBound, PortFed, PortKeeps, IsRegisterItem, ItemKeeps, item_names, IsDriven, IsElaborable}
 

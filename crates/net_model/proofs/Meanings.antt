@@ -10,7 +10,7 @@ use Rattle.net_model.specs.Terms.{Term, slice, select, term_width}
 use Rattle.net_model.specs.Nets.{width_at, net_width, gate_nets}
 use Rattle.net_model.specs.Value.{case_value, bus_value, gate_value, net_value, value_within, value_of}
 use Rattle.net_model.specs.Widths.{RowsFit, RestFits, DriversFit, GateFits, NetFits, IsTyped, StateFits, WordFits}
-use Rattle.net_model.specs.Symbolic.{sliced, reads_state, all_of, gate_static, net_static, static_within, is_static, blank, case_term, bus_term, gate_term, net_term, sym_within, sym_of}
+use Rattle.net_model.specs.Symbolic.{sliced, reads_state, all_nets, gate_static, net_static, static_within, is_static, no_state, case_term, bus_term, gate_term, net_term, sym_within, sym_of}
 use Rattle.net_model.specs.Meaning.{mean}
 use Rattle.net_model.specs.Control.{AllPass, is_selector, GateControlled, IsControlled}
 use Rattle.net_model.proofs.GateControls.{gate_controlled, is_bit}
@@ -113,14 +113,14 @@ module _ (netlist : Netlist) (t : ℕ → Term) (u : ℕ → ℕ) (f : ℕ → B
 pub width_is : (netlist : Netlist) (i : ℕ) → IsTyped netlist → (k n : ℕ) → term_width (sym_within k netlist i n) ≡ width_at netlist n
 width_is netlist i t zero n = refl
 width_is netlist i t (suc k) n =
-    net_tree_width netlist (sym_within k netlist i) (value_within k netlist blank i) (is_static netlist) (width_is netlist i t k) (slice_get netlist.nets n) (t.nets n)
+    net_tree_width netlist (sym_within k netlist i) (value_within k netlist no_state i) (is_static netlist) (width_is netlist i t k) (slice_get netlist.nets n) (t.nets n)
 
 -- ---- static nets
 
 module _ (f : ℕ → Bool) (v w : ℕ → ℕ) (h : (m : ℕ) → f m ≡ true → v m ≡ w m) where
-  all_agree : (ms : List ℕ) → all_of f ms ≡ true → Agree v w ms
+  all_agree : (ms : List ℕ) → all_nets f ms ≡ true → Agree v w ms
   all_agree [] e = tt
-  all_agree (m ∷ ms) e = let p : (f m ≡ true) × (all_of f ms ≡ true) = both (f m) (all_of f ms) e in (h m p.0, all_agree ms p.1)
+  all_agree (m ∷ ms) e = let p : (f m ≡ true) × (all_nets f ms ≡ true) = both (f m) (all_nets f ms) e in (h m p.0, all_agree ms p.1)
 
   static_gate : (netlist : Netlist) (s r : State) (i width : ℕ) (gate : Gate) → gate_static f gate ≡ true → gate_value v netlist s i width gate ≡ gate_value w netlist r i width gate
   static_gate netlist s r i width (Reg id) e = cc
@@ -137,17 +137,17 @@ static_value netlist s r i (suc k) n e =
     static_net (static_within k netlist) (value_within k netlist s i) (value_within k netlist r i) (static_value netlist s r i k) netlist s r i (slice_get netlist.nets n) e
 
 module _ (f g : ℕ → Bool) (h : (m : ℕ) → f m ≡ true → g m ≡ true) where
-  all_of_weaker : (ms : List ℕ) → all_of f ms ≡ true → all_of g ms ≡ true
+  all_of_weaker : (ms : List ℕ) → all_nets f ms ≡ true → all_nets g ms ≡ true
   all_of_weaker [] e = refl
   all_of_weaker (m ∷ ms) e =
-      let p : (f m ≡ true) × (all_of f ms ≡ true) = both (f m) (all_of f ms) e in
+      let p : (f m ≡ true) × (all_nets f ms ≡ true) = both (f m) (all_nets f ms) e in
       rw (h m p.0) (all_of_weaker ms p.1)
 
   static_weaker : (net : Option Net) → net_static f net ≡ true → net_static g net ≡ true
   static_weaker None e = refl
   static_weaker (Some net) e = by_reads (reads_state net.gate) e
     where
-      by_reads : (b : Bool) → cond b false (all_of f (gate_nets net.gate)) ≡ true → cond b false (all_of g (gate_nets net.gate)) ≡ true
+      by_reads : (b : Bool) → cond b false (all_nets f (gate_nets net.gate)) ≡ true → cond b false (all_nets g (gate_nets net.gate)) ≡ true
       by_reads true e = e
       by_reads false e = all_of_weaker (gate_nets net.gate) e
 
@@ -217,10 +217,10 @@ module _ (netlist : Netlist) (s : State) (i : ℕ) (t : ℕ → Term) (u v : ℕ
 pub law_within : (netlist : Netlist) (s : State) (i : ℕ) → IsTyped netlist → IsControlled netlist → StateFits netlist s → WordFits netlist i → (k d : ℕ) → k + d ≡ length netlist.nets → (n : ℕ) → mean (sym_within k netlist i n) s i ≡ value_within k netlist s i n
 law_within netlist s i t c f w zero d e n = refl
 law_within netlist s i t c f w (suc k) d e n =
-    net_law netlist s i (sym_within k netlist i) (value_within k netlist blank i) (value_within k netlist s i)
+    net_law netlist s i (sym_within k netlist i) (value_within k netlist no_state i) (value_within k netlist s i)
     (law_within netlist s i t c f w k (suc d) (omega arith))
     (width_is netlist i t k)
-    (λ m q. static_value netlist blank s i k m (static_far netlist (suc d) k m (subst (λ j. static_within j netlist m ≡ true) (let z : length netlist.nets ≡ k + suc d = omega arith in z) q)))
+    (λ m q. static_value netlist no_state s i k m (static_far netlist (suc d) k m (subst (λ j. static_within j netlist m ≡ true) (let z : length netlist.nets ≡ k + suc d = omega arith in z) q)))
     (value_fits netlist s i t f w k)
     (slice_get netlist.nets n) (t.nets n) (gate_controlled netlist c n)
 

@@ -8,7 +8,8 @@ use Rattle.net_model.specs.declared.hardware.Storage.TheVariants.{Register, Memo
 use Rattle.net_model.specs.Nets.{memory_id, memory_size, memory_width, storage_bits, storage_cells}
 use Rattle.net_model.specs.declared.states.State.{State}
 use Rattle.net_model.specs.Widths.{IsState}
-use Rattle.net_model.specs.CheckedRules.{HasFewCells, IsWidth, StorageKeeps, memory_count, KeepsRules}
+use Rattle.net_model.specs.CheckedRules.{HasFewCells, StorageKeeps, memory_count, KeepsRules}
+use Rattle.rec_bits.specs.Operators.{IsWidth}
 
 pub memory_found : (storages : List Storage) → storage_cells (slice_get storages (memory_id storages)) ≡ memory_size storages
 memory_found [] = refl

@@ -10,19 +10,19 @@ use Rattle.net_model.specs.declared.states.State.{State}
 use Rattle.net_model.specs.Nets.{width_at, nets_of}
 use Rattle.net_model.specs.Value.{gate_value, net_value, value_within, value_of}
 use Rattle.net_model.specs.Widths.{IsTyped, StateFits, WordFits, ValuesFit}
-use Rattle.net_model.specs.Order.{place_of, IsOrder}
+use Rattle.net_model.specs.Order.{position_of, IsOrder}
 use Rattle.net_model.proofs.Agree.{same_net}
 use Rattle.net_model.proofs.Fits.{value_fits}
 
 module _ (netlist : Netlist) (s : State) (word : ℕ) (order : List ℕ) (o : IsOrder netlist order) where
   -- more depth than a net's place changes nothing
-  pub stable : (b j k n : ℕ) → place_of order n < b → b ≤ j → b ≤ k → value_within j netlist s word n ≡ value_within k netlist s word n
+  pub stable : (b j k n : ℕ) → position_of order n < b → b ≤ j → b ≤ k → value_within j netlist s word n ≡ value_within k netlist s word n
   stable zero j k n h p q = absurd (omega arith)
   stable (suc b) zero k n h p q = absurd (omega arith)
   stable (suc b) (suc j) zero n h p q = absurd (omega arith)
   stable (suc b) (suc j) (suc k) n h p q =
       same_net (value_within j netlist s word) (value_within k netlist s word) netlist s word (slice_get netlist.nets n)
-      (all_weaker (λ m. place_of order m < place_of order n) (λ m. value_within j netlist s word m ≡ value_within k netlist s word m)
+      (all_weaker (λ m. position_of order m < position_of order n) (λ m. value_within j netlist s word m ≡ value_within k netlist s word m)
       (λ m lt. stable b j k m (omega (arith, lt, h)) (omega (arith, p)) (omega (arith, q)))
       (nets_of (slice_get netlist.nets n)) (o.falls n))
 
@@ -39,26 +39,26 @@ lowest : (b : Bool) (k : ℕ) → b ≡ true → cond b 0 k ≤ 0
 lowest true k e = omega arith
 lowest false k e = cc
 
-pub place_at : (order : List ℕ) (i : ℕ) → i < length order → place_of order (slice_index order i) ≤ i
+pub place_at : (order : List ℕ) (i : ℕ) → i < length order → position_of order (slice_index order i) ≤ i
 place_at [] i h = absurd (omega arith)
-place_at (x ∷ xs) zero h = lowest (x == x) (place_of xs x + 1) (eq-eqb x x refl)
+place_at (x ∷ xs) zero h = lowest (x == x) (position_of xs x + 1) (eq-eqb x x refl)
 place_at (x ∷ xs) (suc i) h =
-    upper (x == slice_index xs i) (place_of xs (slice_index xs i)) i (place_at xs i (omega arith))
+    upper (x == slice_index xs i) (position_of xs (slice_index xs i)) i (place_at xs i (omega arith))
 
-pub at_place : (order : List ℕ) (m : ℕ) → place_of order m < length order → slice_index order (place_of order m) ≡ m
+pub at_place : (order : List ℕ) (m : ℕ) → position_of order m < length order → slice_index order (position_of order m) ≡ m
 at_place [] m h = absurd (omega arith)
 at_place (x ∷ xs) m h =
-    elim (cases_eq x m) as (λ _. slice_index (x ∷ xs) (place_of (x ∷ xs) m) ≡ m) [
+    elim (cases_eq x m) as (λ _. slice_index (x ∷ xs) (position_of (x ∷ xs) m) ≡ m) [
       | inl e ↦
-          let q : place_of (x ∷ xs) m ≡ 0 = ap (λ b. cond b 0 (place_of xs m + 1)) (eq-eqb x m e) in
+          let q : position_of (x ∷ xs) m ≡ 0 = ap (λ b. cond b 0 (position_of xs m + 1)) (eq-eqb x m e) in
           subst (λ k. slice_index (x ∷ xs) k ≡ m) (sym q) e
       | inr n ↦
-          let q : place_of (x ∷ xs) m ≡ suc (place_of xs m) = ap (λ b. cond b 0 (place_of xs m + 1)) (ne_eqb x m n) ∙ add-one (place_of xs m) in
+          let q : position_of (x ∷ xs) m ≡ suc (position_of xs m) = ap (λ b. cond b 0 (position_of xs m + 1)) (ne_eqb x m n) ∙ add-one (position_of xs m) in
           subst (λ k. slice_index (x ∷ xs) k ≡ m) (sym q) (at_place xs m (omega (arith, q, h)))
     ]
 
 -- one more net of the order
-pub one_more : (netlist : Netlist) (order : List ℕ) → IsOrder netlist order → {A : Type 0} (P : ℕ → A → Type 0) (values : List A) (d x : A) (i : ℕ) → i < length order → length values ≡ length netlist.nets → ((m : ℕ) → place_of order m < i → P m (get_or values m d)) → P (slice_index order i) x → (m : ℕ) → place_of order m < i + 1 → P m (get_or (slice_set values (slice_index order i) x) m d)
+pub one_more : (netlist : Netlist) (order : List ℕ) → IsOrder netlist order → {A : Type 0} (P : ℕ → A → Type 0) (values : List A) (d x : A) (i : ℕ) → i < length order → length values ≡ length netlist.nets → ((m : ℕ) → position_of order m < i → P m (get_or values m d)) → P (slice_index order i) x → (m : ℕ) → position_of order m < i + 1 → P m (get_or (slice_set values (slice_index order i) x) m d)
 one_more netlist order o P values d x i lt long before here m h =
     elim (cases_eq m (slice_index order i)) as (λ _. P m (get_or (slice_set values (slice_index order i) x) m d)) [
       | inl q ↦
@@ -67,25 +67,25 @@ one_more netlist order o P values d x i lt long before here m h =
           (subst (P (slice_index order i)) (sym (get_or-set_same values (slice_index order i) x d within)) here)
       | inr q ↦
           subst (P m) (sym (get_or-set_other values (slice_index order i) m x d q))
-          (before m (elim (cases_eq (place_of order m) i) as (λ _. place_of order m < i) [
+          (before m (elim (cases_eq (position_of order m) i) as (λ _. position_of order m < i) [
             | inl p ↦ absurd (q (sym (at_place order m (omega (arith, p, lt))) ∙ ap (slice_index order) p))
             | inr p ↦ omega (arith, p, h)
           ]))
     ]
 
-module _ (netlist : Netlist) (s : State) (word : ℕ) (order : List ℕ) (o : IsOrder netlist order) (values : List ℕ) (i : ℕ) (within : i < length order) (done : (m : ℕ) → place_of order m < i → slice_index values m ≡ value_of netlist s word m) where
+module _ (netlist : Netlist) (s : State) (word : ℕ) (order : List ℕ) (o : IsOrder netlist order) (values : List ℕ) (i : ℕ) (within : i < length order) (done : (m : ℕ) → position_of order m < i → slice_index values m ≡ value_of netlist s word m) where
   -- the gate of the next net in order, at the values so far
   pub next_value : net_value (slice_index values) netlist s word (slice_get netlist.nets (slice_index order i)) ≡ value_of netlist s word (slice_index order i)
   next_value =
       let n : ℕ = slice_index order i in
       same_net (slice_index values) (value_of netlist s word) netlist s word (slice_get netlist.nets n)
-      (all_weaker (λ m. place_of order m < place_of order n) (λ m. slice_index values m ≡ value_of netlist s word m)
+      (all_weaker (λ m. position_of order m < position_of order n) (λ m. slice_index values m ≡ value_of netlist s word m)
       (λ m lt. done m (omega (arith, lt, place_at order i within)))
       (nets_of (slice_get netlist.nets n)) (o.falls n))
       ∙ sym (value_is netlist s word order o n (o.nets i within))
 
   -- one more net is done
-  pub more_done : (x : ℕ) → length values ≡ length netlist.nets → x ≡ value_of netlist s word (slice_index order i) → (m : ℕ) → place_of order m < i + 1 → slice_index (slice_set values (slice_index order i) x) m ≡ value_of netlist s word m
+  pub more_done : (x : ℕ) → length values ≡ length netlist.nets → x ≡ value_of netlist s word (slice_index order i) → (m : ℕ) → position_of order m < i + 1 → slice_index (slice_set values (slice_index order i) x) m ≡ value_of netlist s word m
   more_done x long e = one_more netlist order o (λ (m v : ℕ). v ≡ value_of netlist s word m) values 0 x i within long done e
 
 -- no value past the nets
@@ -94,7 +94,7 @@ past_zero netlist s word zero n e = refl
 past_zero netlist s word (suc k) n e = ap (net_value (value_within k netlist s word) netlist s word) e
 
 -- all nets are done
-pub all_done : (netlist : Netlist) (s : State) (word : ℕ) (order : List ℕ) → IsOrder netlist order → (values : List ℕ) → length values ≡ length netlist.nets → ((m : ℕ) → place_of order m < length order → slice_index values m ≡ value_of netlist s word m) → (n : ℕ) → slice_index values n ≡ value_of netlist s word n
+pub all_done : (netlist : Netlist) (s : State) (word : ℕ) (order : List ℕ) → IsOrder netlist order → (values : List ℕ) → length values ≡ length netlist.nets → ((m : ℕ) → position_of order m < length order → slice_index values m ≡ value_of netlist s word m) → (n : ℕ) → slice_index values n ≡ value_of netlist s word n
 all_done netlist s word order o values long done n =
     elim (slice_get_cases netlist.nets n).1 as (λ _. slice_index values n ≡ value_of netlist s word n) [
       | inl w ↦ done n (o.places n w.1)
@@ -116,14 +116,14 @@ module _ (netlist : Netlist) (s : State) (word : ℕ) (order : List ℕ) (o : Is
   pub there : slice_get netlist.nets (slice_index order i) ≡ Some net
   there = slice_get_read netlist.nets (length netlist.nets) (slice_index order i) net refl (o.nets i within) is
 
-  pub turn_value : ((m : ℕ) → place_of order m < i → slice_index values m ≡ value_of netlist s word m) → x ≡ value_of netlist s word (slice_index order i)
+  pub turn_value : ((m : ℕ) → position_of order m < i → slice_index values m ≡ value_of netlist s word m) → x ≡ value_of netlist s word (slice_index order i)
   turn_value done =
       e ∙ sym (ap (net_value (slice_index values) netlist s word) there) ∙ next_value netlist s word order o values i within done
 
-  pub turn_done : ((m : ℕ) → place_of order m < i → slice_index values m ≡ value_of netlist s word m) → (m : ℕ) → place_of order m < i + 1 → slice_index (slice_set values (slice_index order i) x) m ≡ value_of netlist s word m
+  pub turn_done : ((m : ℕ) → position_of order m < i → slice_index values m ≡ value_of netlist s word m) → (m : ℕ) → position_of order m < i + 1 → slice_index (slice_set values (slice_index order i) x) m ≡ value_of netlist s word m
   turn_done done = more_done netlist s word order o values i within done x long (turn_value done)
 
-  pub turn_fits : IsTyped netlist → StateFits netlist s → WordFits netlist word → ((m : ℕ) → place_of order m < i → slice_index values m ≡ value_of netlist s word m) → ValuesFit netlist (slice_index values) → ValuesFit netlist (slice_index (slice_set values (slice_index order i) x))
+  pub turn_fits : IsTyped netlist → StateFits netlist s → WordFits netlist word → ((m : ℕ) → position_of order m < i → slice_index values m ≡ value_of netlist s word m) → ValuesFit netlist (slice_index values) → ValuesFit netlist (slice_index (slice_set values (slice_index order i) x))
   turn_fits t f w done fit =
       fits_set netlist values (slice_index order i) x (omega (arith, o.nets i within, long)) fit
       (rw (turn_value done) (value_fits netlist s word t f w (length netlist.nets) (slice_index order i)))

@@ -10,7 +10,7 @@ use Rattle.net_model.specs.Terms.{Term, keep, write, write_at}
 use Rattle.net_model.specs.Nets.{IsMemory, IsRegister, memory_id}
 use Rattle.net_model.specs.Clock.{is_enabled}
 use Rattle.net_model.specs.Value.{value_of}
-use Rattle.net_model.specs.Symbolic.{blank, sym_of}
+use Rattle.net_model.specs.Symbolic.{no_state, sym_of}
 use Rattle.net_model.specs.Transfers.{same_reg, transfer_of}
 
 -- a register is one of the storages
@@ -70,7 +70,7 @@ pub writes_register : (netlist : Netlist) (i id : ℕ) (e : Term) (o : Option St
 writes_register netlist i id e None h = cc
 writes_register netlist i id e (Some (Register name width input when)) h = tt
 writes_register netlist i id e (Some (Memory name width size addr_width value addr when)) h =
-    memory_writes_not (is_enabled (value_of netlist blank i) when) (sym_of netlist i addr) (sym_of netlist i value) e h
+    memory_writes_not (is_enabled (value_of netlist no_state i) when) (sym_of netlist i addr) (sym_of netlist i value) e h
 
 register_stores_not : (a b : Bool) (t u e : Term) → cond a (cond b keep (write t)) keep ≡ write_at u e → ⊥
 register_stores_not true true t u e h = cc
@@ -81,7 +81,7 @@ register_stores_not false b t u e h = cc
 pub stores_memory : (netlist : Netlist) (i id : ℕ) (a e : Term) (o : Option Storage) → transfer_of netlist i id o ≡ write_at a e → IsMemory o
 stores_memory netlist i id a e None h = cc
 stores_memory netlist i id a e (Some (Register name width input when)) h =
-    register_stores_not (is_enabled (value_of netlist blank i) when) (same_reg (sym_of netlist i input) id) (sym_of netlist i input) a e h
+    register_stores_not (is_enabled (value_of netlist no_state i) when) (same_reg (sym_of netlist i input) id) (sym_of netlist i input) a e h
 stores_memory netlist i id a e (Some (Memory name width size addr_width value addr when)) h = tt
 
 -- a pattern's storage is one of the netlist's

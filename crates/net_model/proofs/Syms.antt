@@ -8,10 +8,10 @@ use Rattle.net_model.specs.declared.hardware.Gate.{Gate}
 use Rattle.net_model.specs.declared.hardware.Gate.TheVariants.{Word, Reg, Read, Const, Wire, Un, Bin, Slice, Cat, Zext, Sext, Case, Bus}
 use Rattle.net_model.specs.Value.{value_within, value_of}
 use Rattle.net_model.specs.Nets.{driver_nets, row_nets, gate_nets, nets_of}
-use Rattle.net_model.specs.Order.{place_of, IsOrder}
+use Rattle.net_model.specs.Order.{position_of, IsOrder}
 use Rattle.rec_bits.proofs.Lists.{all_weaker}
 use Rattle.net_model.proofs.Orders.{stable}
-use Rattle.net_model.specs.Symbolic.{sliced, blank, is_static, case_term, bus_term, gate_term, net_term, sym_within, sym_of}
+use Rattle.net_model.specs.Symbolic.{sliced, no_state, is_static, case_term, bus_term, gate_term, net_term, sym_within, sym_of}
 
 -- two terms and values that agree at these nets
 abbrev Same : (ℕ → Term) → (ℕ → Term) → (ℕ → ℕ) → (ℕ → ℕ) → List ℕ → Type 0
@@ -53,17 +53,17 @@ module _ (t t' : ℕ → Term) (u u' : ℕ → ℕ) (f : ℕ → Bool) where
   same_net (Some net) h = same_gate net.width net.gate h
 
 module _ (netlist : Netlist) (word : ℕ) (order : List ℕ) (o : IsOrder netlist order) where
-  still : (b j k n : ℕ) → place_of order n < b → b ≤ j → b ≤ k → sym_within j netlist word n ≡ sym_within k netlist word n
+  still : (b j k n : ℕ) → position_of order n < b → b ≤ j → b ≤ k → sym_within j netlist word n ≡ sym_within k netlist word n
   still zero j k n h p q = absurd (omega arith)
   still (suc b) zero k n h p q = absurd (omega arith)
   still (suc b) (suc j) zero n h p q = absurd (omega arith)
   still (suc b) (suc j) (suc k) n h p q =
-      same_net (sym_within j netlist word) (sym_within k netlist word) (value_within j netlist blank word) (value_within k netlist blank word) (is_static netlist) (slice_get netlist.nets n)
-      (all_weaker (λ m. place_of order m < place_of order n) (λ m. (sym_within j netlist word m ≡ sym_within k netlist word m) × (value_within j netlist blank word m ≡ value_within k netlist blank word m))
-      (λ m lt. (still b j k m (omega (arith, lt, h)) (omega (arith, p)) (omega (arith, q)), stable netlist blank word order o b j k m (omega (arith, lt, h)) (omega (arith, p)) (omega (arith, q))))
+      same_net (sym_within j netlist word) (sym_within k netlist word) (value_within j netlist no_state word) (value_within k netlist no_state word) (is_static netlist) (slice_get netlist.nets n)
+      (all_weaker (λ m. position_of order m < position_of order n) (λ m. (sym_within j netlist word m ≡ sym_within k netlist word m) × (value_within j netlist no_state word m ≡ value_within k netlist no_state word m))
+      (λ m lt. (still b j k m (omega (arith, lt, h)) (omega (arith, p)) (omega (arith, q)), stable netlist no_state word order o b j k m (omega (arith, lt, h)) (omega (arith, p)) (omega (arith, q))))
       (nets_of (slice_get netlist.nets n)) (o.falls n))
 
   -- the equation of each net
-  pub sym_is : (n : ℕ) → n < length netlist.nets → sym_of netlist word n ≡ net_term (sym_of netlist word) (value_of netlist blank word) (is_static netlist) (slice_get netlist.nets n)
+  pub sym_is : (n : ℕ) → n < length netlist.nets → sym_of netlist word n ≡ net_term (sym_of netlist word) (value_of netlist no_state word) (is_static netlist) (slice_get netlist.nets n)
   sym_is n h =
       still (length netlist.nets) (length netlist.nets) (suc (length netlist.nets)) n (omega (arith, o.places n h, o.long)) (omega arith) (omega arith)

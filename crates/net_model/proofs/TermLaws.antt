@@ -1,4 +1,5 @@
--- An expression depends on no other instruction bits than its own, and on no registers but those that occur in it.
+-- An expression depends on no other instruction bits than its own, and on no registers but those
+-- that occur in it.
 use Rattle.std.proofs.Common.{◌≡◌, ℕ, ◌||◌, true, Bool, slice_index, bit_and, bit_or, refl, ap}
 use Rattle.std.proofs.lemmas.Bool.{eq-eqb, or_left, or_right}
 use Rattle.rec_bits.specs.Operators.{apply1_of, slice_of, sext_of}

@@ -7,9 +7,9 @@ use Rattle.std.proofs.lemmas.List.{get_or_past}
 use Rattle.net_model.specs.declared.hardware.Netlist.{Netlist}
 use Rattle.net_model.specs.declared.hardware.Net.{Net}
 use Rattle.net_model.specs.Nets.{gate_nets, nets_of}
-use Rattle.net_model.specs.Symbolic.{reads_state, all_of, net_static, static_within}
+use Rattle.net_model.specs.Symbolic.{reads_state, all_nets, net_static, static_within}
 use Rattle.net_model.specs.CheckedRules.{is_control_gate, net_control, control_within}
-use Rattle.net_model.specs.Order.{place_of, IsOrder}
+use Rattle.net_model.specs.Order.{position_of, IsOrder}
 use Rattle.rec_bits.proofs.Lists.{all_weaker}
 use Rattle.net_model.proofs.Orders.{place_at, one_more}
 use Rattle.net_model.specs.Flags.{flag_at, is_local, has}
@@ -37,7 +37,7 @@ has_within : (p : Property) (netlist : Netlist) (n : ℕ) → has p netlist n �
 has_within Static netlist n = refl
 has_within Control netlist n = refl
 
-same_all : (f g : ℕ → Bool) (ms : List ℕ) → AllByRecursion (λ m. f m ≡ g m) ms → all_of f ms ≡ all_of g ms
+same_all : (f g : ℕ → Bool) (ms : List ℕ) → AllByRecursion (λ m. f m ≡ g m) ms → all_nets f ms ≡ all_nets g ms
 same_all f g [] h = refl
 same_all f g (m ∷ ms) h = rw (h.0, same_all f g ms h.1) refl
 
@@ -51,8 +51,8 @@ by_reads : (b x : Bool) → (not b && x) ≡ (if b then false else x)
 by_reads true x = refl
 by_reads false x = refl
 
-local_step : (p : Property) (f : ℕ → Bool) (net : Net) → (is_local p net.gate && all_of f (gate_nets net.gate)) ≡ step_of p f (Some net)
-local_step Static f net = by_reads (reads_state net.gate) (all_of f (gate_nets net.gate))
+local_step : (p : Property) (f : ℕ → Bool) (net : Net) → (is_local p net.gate && all_nets f (gate_nets net.gate)) ≡ step_of p f (Some net)
+local_step Static f net = by_reads (reads_state net.gate) (all_nets f (gate_nets net.gate))
 local_step Control f net = refl
 
 none_true : (p : Property) (f : ℕ → Bool) → step_of p f None ≡ true
@@ -66,14 +66,14 @@ past_within p netlist (suc k) n e = within_more p k netlist n ∙ ap (step_of p 
 
 module _ (p : Property) (netlist : Netlist) (order : List ℕ) (o : IsOrder netlist order) where
   -- more depth than a net's place changes nothing
-  stable : (b j k n : ℕ) → place_of order n < b → b ≤ j → b ≤ k → within p j netlist n ≡ within p k netlist n
+  stable : (b j k n : ℕ) → position_of order n < b → b ≤ j → b ≤ k → within p j netlist n ≡ within p k netlist n
   stable zero j k n h q r = absurd (omega arith)
   stable (suc b) zero k n h q r = absurd (omega arith)
   stable (suc b) (suc j) zero n h q r = absurd (omega arith)
   stable (suc b) (suc j) (suc k) n h q r =
       within_more p j netlist n
       ∙ same_step p (within p j netlist) (within p k netlist) (slice_get netlist.nets n)
-      (all_weaker (λ m. place_of order m < place_of order n) (λ m. within p j netlist m ≡ within p k netlist m)
+      (all_weaker (λ m. position_of order m < position_of order n) (λ m. within p j netlist m ≡ within p k netlist m)
       (λ m lt. stable b j k m (omega (arith, lt, h)) (omega (arith, q)) (omega (arith, r)))
       (nets_of (slice_get netlist.nets n)) (o.falls n))
       ∙ sym (within_more p k netlist n)
@@ -87,7 +87,7 @@ module _ (p : Property) (netlist : Netlist) (order : List ℕ) (o : IsOrder netl
       ∙ ap (λ (f : ℕ → Bool). step_of p f (slice_get netlist.nets n)) (fun_ext (λ m. sym (has_within p netlist m)))
 
   -- all flags are told
-  pub all_told : (flags : List Bool) → length flags ≡ length netlist.nets → ((m : ℕ) → place_of order m < length order → flag_at flags m ≡ has p netlist m) → flag_at flags ≡ has p netlist
+  pub all_told : (flags : List Bool) → length flags ≡ length netlist.nets → ((m : ℕ) → position_of order m < length order → flag_at flags m ≡ has p netlist m) → flag_at flags ≡ has p netlist
   all_told flags long done = fun_ext (λ n.
       elim (slice_get_cases netlist.nets n).1 as (λ _. flag_at flags n ≡ has p netlist n) [
         | inl w ↦ done n (o.places n w.1)
@@ -95,21 +95,21 @@ module _ (p : Property) (netlist : Netlist) (order : List ℕ) (o : IsOrder netl
       ])
 
   -- one more flag is told
-  module _ (flags : List Bool) (i : ℕ) (inside : i < length order) (long : length flags ≡ length netlist.nets) (done : (m : ℕ) → place_of order m < i → flag_at flags m ≡ has p netlist m) where
+  module _ (flags : List Bool) (i : ℕ) (inside : i < length order) (long : length flags ≡ length netlist.nets) (done : (m : ℕ) → position_of order m < i → flag_at flags m ≡ has p netlist m) where
     next_told : step_of p (flag_at flags) (slice_get netlist.nets (slice_index order i)) ≡ has p netlist (slice_index order i)
     next_told =
         let n : ℕ = slice_index order i in
         same_step p (flag_at flags) (has p netlist) (slice_get netlist.nets n)
-        (all_weaker (λ m. place_of order m < place_of order n) (λ m. flag_at flags m ≡ has p netlist m)
+        (all_weaker (λ m. position_of order m < position_of order n) (λ m. flag_at flags m ≡ has p netlist m)
         (λ m lt. done m (omega (arith, lt, place_at order i inside)))
         (nets_of (slice_get netlist.nets n)) (o.falls n))
         ∙ sym (flag_is n (o.nets i inside))
 
-    more_told : (x : Bool) → x ≡ has p netlist (slice_index order i) → (m : ℕ) → place_of order m < i + 1 → flag_at (slice_set flags (slice_index order i) x) m ≡ has p netlist m
+    more_told : (x : Bool) → x ≡ has p netlist (slice_index order i) → (m : ℕ) → position_of order m < i + 1 → flag_at (slice_set flags (slice_index order i) x) m ≡ has p netlist m
     more_told x e = one_more netlist order o (λ (m : ℕ) (b : Bool). b ≡ has p netlist m) flags true x i inside long done e
 
     -- what one turn over the order does
-    pub turn_told : (net : Net) → net ≡ get_or netlist.nets (slice_index order i) net → (x : Bool) → x ≡ (is_local p net.gate && all_of (flag_at flags) (gate_nets net.gate)) → (m : ℕ) → place_of order m < i + 1 → flag_at (slice_set flags (slice_index order i) x) m ≡ has p netlist m
+    pub turn_told : (net : Net) → net ≡ get_or netlist.nets (slice_index order i) net → (x : Bool) → x ≡ (is_local p net.gate && all_nets (flag_at flags) (gate_nets net.gate)) → (m : ℕ) → position_of order m < i + 1 → flag_at (slice_set flags (slice_index order i) x) m ≡ has p netlist m
     turn_told net is x ex =
         let there : slice_get netlist.nets (slice_index order i) ≡ Some net = slice_get_read netlist.nets (length netlist.nets) (slice_index order i) net refl (o.nets i inside) is in
         more_told x (ex ∙ local_step p (flag_at flags) net ∙ sym (ap (step_of p (flag_at flags)) there) ∙ next_told)

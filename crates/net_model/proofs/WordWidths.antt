@@ -13,7 +13,7 @@ use Rattle.net_model.specs.Nets.{code_bits, word_width}
 use Rattle.net_model.specs.Value.{value_within, value_of}
 use Rattle.net_model.specs.CheckedRules.{CodeKeeps, KeepsRules}
 use Rattle.net_model.specs.Widths.{GateFits, NetFits, IsTyped, WordFits}
-use Rattle.net_model.specs.Symbolic.{sliced, blank, is_static, case_term, bus_term, gate_term, net_term, sym_within, sym_of}
+use Rattle.net_model.specs.Symbolic.{sliced, no_state, is_static, case_term, bus_term, gate_term, net_term, sym_within, sym_of}
 use Rattle.net_model.specs.Clock.{is_enabled}
 use Rattle.net_model.specs.Transfers.{IsClean, same_reg, storage_move, transfer_of, move_at}
 use Rattle.net_model.specs.Fields.{WordFitsTerm, WordFitsMove}
@@ -69,7 +69,7 @@ module _ (netlist : Netlist) (i : ℕ) (fits : WordFits netlist i) (t : ℕ → 
 pub sym_fits : (netlist : Netlist) (i : ℕ) → WordFits netlist i → IsTyped netlist → (k n : ℕ) → WordFitsTerm (sym_within k netlist i n) i
 sym_fits netlist i w t zero n = tt
 sym_fits netlist i w t (suc k) n =
-    net_fits netlist i w (sym_within k netlist i) (value_within k netlist blank i) (is_static netlist) (sym_fits netlist i w t k) (slice_get netlist.nets n) (t.nets n)
+    net_fits netlist i w (sym_within k netlist i) (value_within k netlist no_state i) (is_static netlist) (sym_fits netlist i w t k) (slice_get netlist.nets n) (t.nets n)
 
 -- ---- transfers
 
@@ -89,7 +89,7 @@ move_fits netlist i w t id = by (slice_get netlist.storages id)
   where
     by : (o : Option Storage) → WordFitsMove (transfer_of netlist i id o) i
     by None = tt
-    by (Some storage) = storage_fits (sym_of netlist i) (value_of netlist blank i) i id (sym_fits netlist i w t (length netlist.nets)) storage
+    by (Some storage) = storage_fits (sym_of netlist i) (value_of netlist no_state i) i id (sym_fits netlist i w t (length netlist.nets)) storage
 
 -- ---- words of a lone code
 

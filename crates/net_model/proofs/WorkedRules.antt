@@ -8,7 +8,7 @@ use Rattle.net_model.specs.declared.hardware.Gate.{Gate}
 use Rattle.net_model.specs.declared.hardware.Gate.TheVariants.{Bin, Slice}
 use Rattle.net_model.specs.declared.hardware.Storage.TheVariants.{Register, Memory}
 use Rattle.net_model.specs.Nets.{nets_of}
-use Rattle.net_model.specs.Order.{place_of, IsOrder}
+use Rattle.net_model.specs.Order.{position_of, IsOrder}
 use Rattle.net_model.specs.CheckedRules.{NetKeeps, NamesDiffer, IsWellFormed, HasRoles, IsWhole, row_numbers, KeepsRules}
 use Rattle.net_model.specs.Worked.{a16, b2, s8, ring}
 
@@ -64,8 +64,8 @@ s8_ordered : IsOrder s8 s8_order
 s8_ordered = record {
   long = refl;
   nets = at_below 11 (λ i. slice_index s8_order i < 11) (search rules);
-  places = at_below 11 (λ n. place_of s8_order n < 11) (search rules);
-  falls = at_each (λ n net. AllByRecursion (λ m. place_of s8_order m < place_of s8_order n) (nets_of net)) (λ n. tt) s8.nets (search rules);
+  places = at_below 11 (λ n. position_of s8_order n < 11) (search rules);
+  falls = at_each (λ n net. AllByRecursion (λ m. position_of s8_order m < position_of s8_order n) (nets_of net)) (λ n. tt) s8.nets (search rules);
 }
 
 s8_roles : HasRoles s8
@@ -109,8 +109,8 @@ b2_ordered : IsOrder b2 b2_order
 b2_ordered = record {
   long = refl;
   nets = at_below 12 (λ i. slice_index b2_order i < 12) (search rules);
-  places = at_below 12 (λ n. place_of b2_order n < 12) (search rules);
-  falls = at_each (λ n net. AllByRecursion (λ m. place_of b2_order m < place_of b2_order n) (nets_of net)) (λ n. tt) b2.nets (search rules);
+  places = at_below 12 (λ n. position_of b2_order n < 12) (search rules);
+  falls = at_each (λ n net. AllByRecursion (λ m. position_of b2_order m < position_of b2_order n) (nets_of net)) (λ n. tt) b2.nets (search rules);
 }
 
 pub b2_keeps : KeepsRules b2 b2_order
@@ -176,8 +176,8 @@ a16_ordered : IsOrder a16 a16_order
 a16_ordered = record {
   long = refl;
   nets = at_below 32 (λ i. slice_index a16_order i < 32) (search rules);
-  places = at_below 32 (λ n. place_of a16_order n < 32) (search rules);
-  falls = at_each (λ n net. AllByRecursion (λ m. place_of a16_order m < place_of a16_order n) (nets_of net)) (λ n. tt) a16.nets (search rules);
+  places = at_below 32 (λ n. position_of a16_order n < 32) (search rules);
+  falls = at_each (λ n net. AllByRecursion (λ m. position_of a16_order m < position_of a16_order n) (nets_of net)) (λ n. tt) a16.nets (search rules);
 }
 
 pub a16_keeps : KeepsRules a16 a16_order

@@ -1,5 +1,5 @@
--- The rules that a checked netlist keeps, each said of the netlist alone. The rules N10, N12 and N13 speak of all instruction words
--- and are asked later.
+-- The rules that a checked netlist keeps, each said of the netlist alone. The rules N10, N12 and
+-- N13 speak of all instruction words and are asked later.
 use Rattle.std.specs.Prelude.{ℕ, zero, suc, ◌+◌, ◌^◌, ◌<◌, ◌≤◌, ◌≡◌, ◌++◌, ◌&&◌, ◌||◌, not, nat_eq, List, [], ◌∷◌, length, map, Option, Some, None, slice_get, Bool, true, false, IsTrue}
 use Rattle.std.specs.List.{AllByRecursion, IsDistinct, list_any}
 use Rattle.std.specs.Cmp.Lexicographic.{pointwise}
@@ -14,9 +14,10 @@ use Rattle.net_model.specs.declared.hardware.Gate.{Gate}
 use Rattle.net_model.specs.declared.hardware.Gate.TheVariants.{Word, Reg, Read, Const, Wire, Un, Bin, Slice, Cat, Zext, Sext, Case}
 use Rattle.net_model.specs.Nets.{width_at, gate_nets, IsRegister, counter_of, counter_width, memory_size, memory_width}
 use Rattle.net_model.specs.Widths.{GateFits, HasWidth, StorageFits}
-use Rattle.net_model.specs.Symbolic.{all_of, is_static}
+use Rattle.net_model.specs.Symbolic.{all_nets, is_static}
 use Rattle.net_model.specs.Control.{AllPass, enables, selectors, control_places, is_selector}
 use Rattle.net_model.specs.Order.{IsOrder}
+use Rattle.rec_bits.specs.Operators.{IsWidth}
 
 -- what a checked netlist is seen as
 pub record Ordered : Type 0 where
@@ -30,18 +31,14 @@ storage_name (Register name width input when) = name
 storage_name (Memory name width size addr_width value addr when) = name
 
 -- the names of all storages and codes
-abbrev pub names_of : Netlist → List (List ℕ)
-names_of netlist = map storage_name netlist.storages ++ map (λ (code : Code). code.name) netlist.codes
+abbrev pub storage_names : Netlist → List (List ℕ)
+storage_names netlist = map storage_name netlist.storages ++ map (λ (code : Code). code.name) netlist.codes
 
 -- no two storages or codes have one name
 abbrev pub NamesDiffer : Netlist → Type 0
-NamesDiffer netlist = IsDistinct (pointwise nat_eq) (names_of netlist)
+NamesDiffer netlist = IsDistinct (pointwise nat_eq) (storage_names netlist)
 
 -- ---- N2 to N4: what a number stands for, widths, and the rows of a case
-
--- 1 to 64 bits
-abbrev pub IsWidth : ℕ → Type 0
-IsWidth width = (1 ≤ width) × (width ≤ 64)
 
 -- a read is of a memory: it has the width of the cells, and its address that of the addresses
 abbrev pub ReadKeeps : Netlist → ℕ → ℕ → Option Storage → Type 0
@@ -58,8 +55,8 @@ abbrev pub IsWhole : ℕ → List (ℕ × ℕ) → Option ℕ → Type 0
 IsWhole bits rows None = (k : ℕ) → k < 2 ^ bits → IsTrue (list_any (nat_eq k) (row_numbers rows))
 IsWhole bits rows (Some rest) = Unit {0}
 
--- each number in a gate stands for a net, a code or a storage as its place asks for, the widths fit, and a case has no number twice
--- and a rest or every number
+-- each number in a gate stands for a net, a code or a storage as its place asks for, the widths
+-- fit, and a case has no number twice and a rest or every number
 abbrev pub GateKeeps : Netlist → ℕ → Gate → Type 0
 GateKeeps netlist width (Word code) = (code < length netlist.codes) × GateFits netlist width (Word code)
 GateKeeps netlist width (Reg id) = IsRegister (slice_get netlist.storages id) × GateFits netlist width (Reg id)
@@ -133,8 +130,8 @@ memory_addr_width (Register name width input when ∷ storages) = memory_addr_wi
 memory_addr_width (Memory name width size addr_width value addr when ∷ storages) = addr_width
 
 -- at least 1 and no more than so many bits reach
-abbrev pub IsReached : ℕ → ℕ → Type 0
-IsReached size bits = (1 ≤ size) × (size ≤ 2 ^ bits)
+abbrev pub IsAddressed : ℕ → ℕ → Type 0
+IsAddressed size bits = (1 ≤ size) × (size ≤ 2 ^ bits)
 
 abbrev pub HasOneCode : Netlist → Type 0
 HasOneCode netlist = length netlist.codes ≡ 1
@@ -148,8 +145,8 @@ HasCounter netlist = IsCounter (slice_get netlist.storages (counter_of netlist.c
 -- the program counter reaches all words, and an address all cells
 abbrev pub HasSizes : Netlist → Type 0
 HasSizes netlist =
-    IsReached (code_size netlist.codes) (counter_width netlist)
-    × IsReached (memory_size netlist.storages) (memory_addr_width netlist.storages)
+    IsAddressed (code_size netlist.codes) (counter_width netlist)
+    × IsAddressed (memory_size netlist.storages) (memory_addr_width netlist.storages)
 
 -- a cell can hold an address
 abbrev pub HasAddress : Netlist → Type 0
@@ -191,7 +188,7 @@ is_control_gate _ = false
 -- where f tells of the nets that the gate names
 abbrev pub net_control : (ℕ → Bool) → Option Net → Bool
 net_control f None = true
-net_control f (Some net) = is_control_gate net.gate && all_of f (gate_nets net.gate)
+net_control f (Some net) = is_control_gate net.gate && all_nets f (gate_nets net.gate)
 
 abbrev pub control_within : ℕ → Netlist → ℕ → Bool
 control_within zero netlist n = true

@@ -1,4 +1,5 @@
--- Control places and the nets that stand there: enables depend on the instruction word alone, selectors on it or on one bit.
+-- Control places and the nets that stand there: enables depend on the instruction word alone,
+-- selectors on it or on one bit.
 use Rattle.std.specs.Prelude.{ℕ, ◌≡◌, ◌==◌, ◌||◌, ◌++◌, List, [], ◌∷◌, map, option_to_list, slice_get, Bool, true}
 use Rattle.std.specs.List.{AllByRecursion}
 use Rattle.rec_bits.specs.Faults.{gather}

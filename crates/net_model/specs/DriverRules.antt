@@ -1,4 +1,5 @@
--- The rule of drivers, N4: inputs, outputs and the values of a case's selector each have one expression.
+-- The rule of drivers, N4: inputs, outputs and the values of a case's selector each have one
+-- expression.
 use Rattle.std.specs.Prelude.{ℕ, ◌==◌, ◌&&◌, ◌||◌, ◌^◌, List, [], ◌∷◌, ◌++◌, length, map, Option, Some, None, Bool, true, false, not, nat_eq, is_some}
 use Rattle.std.specs.List.{list_all, list_any}
 use Rattle.rec_bits.specs.Faults.{broken, gather}
@@ -17,11 +18,12 @@ abbrev pub are_new : List ℕ → List ℕ → Bool
 are_new before [] = true
 are_new before (n ∷ numbers) = not (list_any (nat_eq n) before) && are_new (before ++ n ∷ []) numbers
 
-abbrev pub row_numbers : Rows → List ℕ
-row_numbers no_rows = []
-row_numbers (row numbers a rows) = numbers ++ row_numbers rows
+abbrev pub case_numbers : Rows → List ℕ
+case_numbers no_rows = []
+case_numbers (row numbers a rows) = numbers ++ case_numbers rows
 
--- as many numbers as a selector has values: where they fit it and none is there twice, those are all
+-- as many numbers as a selector has values: where they fit it and none is there twice, those are
+-- all
 abbrev pub are_all : Option ℕ → List ℕ → Bool
 are_all None numbers = false
 are_all (Some selector) numbers = length numbers == 2 ^ selector
@@ -32,7 +34,7 @@ is_rest (rest a) = true
 
 -- no number twice, and an `else` or every number
 abbrev pub is_covered : Option ℕ → Rows → Rest → Bool
-is_covered selector rows other = are_new [] (row_numbers rows) && (is_rest other || are_all selector (row_numbers rows))
+is_covered selector rows other = are_new [] (case_numbers rows) && (is_rest other || are_all selector (case_numbers rows))
 
 -- each case in an expression
 abbrev mutual
@@ -104,6 +106,7 @@ is_driven_item text (part name of links) =
 abbrev pub undriven : List Entry → Entry → List ℕ
 undriven text entry = broken (not (is_driven_item text entry)) (own_name entry).at
 
--- N4: an input, an output or a number of a case without an expression or with two; the item is named
+-- N4: an input, an output or a number of a case without an expression or with two; the item is
+-- named
 abbrev pub undrivens : List Entry → List ℕ
 undrivens text = gather (undriven text) text

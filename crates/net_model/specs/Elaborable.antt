@@ -1,4 +1,5 @@
--- Which items of a text have a netlist that keeps the rules: their names, widths, bindings and numbers.
+-- Which items of a text have a netlist that keeps the rules: their names, widths, bindings and
+-- numbers.
 use Rattle.std.specs.Prelude.{ℕ, ◌^◌, ◌<◌, ◌≤◌, ◌≡◌, List, [], length, map, Option, Some, None, Bool, true, false, nat_le, IsTrue}
 use Rattle.std.specs.List.{AllByRecursion}
 use Rattle.grammar.specs.declared.words.Ident.{Ident}

@@ -12,12 +12,12 @@ use Rattle.net_model.specs.declared.hardware.Gate.TheVariants.{Word, Reg, Read, 
 use Rattle.net_model.specs.Written.{Entry, code, register, memory, net, bus, module_item, part, Phrase, named, const, un, bin, cat, slice, zext, sext, read, case, Rows, no_rows, row, Rest, no_rest, rest}
 use Rattle.net_model.specs.TextNames.{item_named}
 use Rattle.net_model.specs.TextWidths.{wide, ports_of}
-use Rattle.net_model.specs.Numbering.{count, count_rows, bound, count_input, count_inputs, count_outputs, count_equation, port_wires, equations_of, count_item, count_storages, Site, of_text, of_part, scope_at, storage_named, memory_at, net_named}
+use Rattle.net_model.specs.Numbering.{count, count_rows, bound, count_input, count_inputs, count_outputs, count_equation, port_wires, equations_of, count_item, count_storages, NetSite, of_text, of_part, scope_at, storage_named, memory_at, net_named}
 
 -- ---- expressions
 
 -- the net that has an expression's value, where the expression's own nets begin at a number
-abbrev pub out_of : Site → ℕ → Phrase → ℕ
+abbrev pub out_of : NetSite → ℕ → Phrase → ℕ
 out_of site start (named name field None) = net_named site name.name field
 out_of site start a = start + count a - 1
 
@@ -26,75 +26,75 @@ width_or_none None = 0
 width_or_none (Some width) = width
 
 -- an expression's own net, of the item whose name has an offset: it has the expression's width
-abbrev pub net_of : Site → ℕ → Phrase → Gate → Net
+abbrev pub net_of : NetSite → ℕ → Phrase → Gate → Net
 net_of site at a gate = record { width = width_or_none (wide (scope_at site) a); name_at = at; gate = gate }
 
 -- the rows of a case, by their numbers
-abbrev pub row_pairs : Site → ℕ → Rows → List (ℕ × ℕ)
+abbrev pub row_pairs : NetSite → ℕ → Rows → List (ℕ × ℕ)
 row_pairs site start no_rows = []
 row_pairs site start (row numbers a rows) =
     map (λ (n : ℕ). (n, out_of site start a)) numbers ++ row_pairs site (start + count a) rows
 
-abbrev pub rest_out : Site → ℕ → Rest → Option ℕ
+abbrev pub rest_out : NetSite → ℕ → Rest → Option ℕ
 rest_out site start no_rest = None
 rest_out site start (rest a) = Some (out_of site start a)
 
 -- the nets of an expression, in the order of writing and inner ones first
 abbrev mutual
-  pub nets_of : Site → ℕ → ℕ → Phrase → List Net
-  nets_of site at start (named name field None) = []
-  nets_of site at start (named name field (Some bits)) =
+  pub elaborated : NetSite → ℕ → ℕ → Phrase → List Net
+  elaborated site at start (named name field None) = []
+  elaborated site at start (named name field (Some bits)) =
       net_of site at (named name field (Some bits)) (Slice (net_named site name.name field) bits.0 bits.1) ∷ []
-  nets_of site at start (const value width) = net_of site at (const value width) (Const value) ∷ []
-  nets_of site at start (un op a) =
-      nets_of site at start a ++ net_of site at (un op a) (Un op (out_of site start a)) ∷ []
-  nets_of site at start (bin op a b) =
-      nets_of site at start a ++ nets_of site at (start + count a) b
+  elaborated site at start (const value width) = net_of site at (const value width) (Const value) ∷ []
+  elaborated site at start (un op a) =
+      elaborated site at start a ++ net_of site at (un op a) (Un op (out_of site start a)) ∷ []
+  elaborated site at start (bin op a b) =
+      elaborated site at start a ++ elaborated site at (start + count a) b
       ++ net_of site at (bin op a b) (Bin op (out_of site start a) (out_of site (start + count a) b)) ∷ []
-  nets_of site at start (cat a b) =
-      nets_of site at start a ++ nets_of site at (start + count a) b
+  elaborated site at start (cat a b) =
+      elaborated site at start a ++ elaborated site at (start + count a) b
       ++ net_of site at (cat a b) (Cat (out_of site start a) (out_of site (start + count a) b)) ∷ []
-  nets_of site at start (slice a hi lo) =
-      nets_of site at start a ++ net_of site at (slice a hi lo) (Slice (out_of site start a) hi lo) ∷ []
-  nets_of site at start (zext a width) =
-      nets_of site at start a ++ net_of site at (zext a width) (Zext (out_of site start a)) ∷ []
-  nets_of site at start (sext a width) =
-      nets_of site at start a ++ net_of site at (sext a width) (Sext (out_of site start a)) ∷ []
-  nets_of site at start (read name a) =
-      nets_of site at start a ++ net_of site at (read name a) (Read (memory_at site name.name) (out_of site start a)) ∷ []
-  nets_of site at start (case selector rows other) =
-      nets_of site at start selector ++ nets_of_rows site at (start + count selector) rows
+  elaborated site at start (slice a hi lo) =
+      elaborated site at start a ++ net_of site at (slice a hi lo) (Slice (out_of site start a) hi lo) ∷ []
+  elaborated site at start (zext a width) =
+      elaborated site at start a ++ net_of site at (zext a width) (Zext (out_of site start a)) ∷ []
+  elaborated site at start (sext a width) =
+      elaborated site at start a ++ net_of site at (sext a width) (Sext (out_of site start a)) ∷ []
+  elaborated site at start (read name a) =
+      elaborated site at start a ++ net_of site at (read name a) (Read (memory_at site name.name) (out_of site start a)) ∷ []
+  elaborated site at start (case selector rows other) =
+      elaborated site at start selector ++ nets_of_rows site at (start + count selector) rows
       ++ nets_of_rest site at (start + count selector + count_rows rows) other
       ++ net_of site at (case selector rows other)
       (Case (out_of site start selector) (row_pairs site (start + count selector) rows)
       (rest_out site (start + count selector + count_rows rows) other))
       ∷ []
 
-  pub nets_of_rows : Site → ℕ → ℕ → Rows → List Net
+  pub nets_of_rows : NetSite → ℕ → ℕ → Rows → List Net
   nets_of_rows site at start no_rows = []
-  nets_of_rows site at start (row numbers a rows) = nets_of site at start a ++ nets_of_rows site at (start + count a) rows
+  nets_of_rows site at start (row numbers a rows) = elaborated site at start a ++ nets_of_rows site at (start + count a) rows
 
-  pub nets_of_rest : Site → ℕ → ℕ → Rest → List Net
+  pub nets_of_rest : NetSite → ℕ → ℕ → Rest → List Net
   nets_of_rest site at start no_rest = []
-  nets_of_rest site at start (rest a) = nets_of site at start a
+  nets_of_rest site at start (rest a) = elaborated site at start a
 
-abbrev pub nets_if : Site → ℕ → ℕ → Option Phrase → List Net
+abbrev pub nets_if : NetSite → ℕ → ℕ → Option Phrase → List Net
 nets_if site at start None = []
-nets_if site at start (Some a) = nets_of site at start a
+nets_if site at start (Some a) = elaborated site at start a
 
-abbrev pub out_if : Site → ℕ → Option Phrase → Option ℕ
+abbrev pub out_if : NetSite → ℕ → Option Phrase → Option ℕ
 out_if site start None = None
 out_if site start (Some a) = Some (out_of site start a)
 
 -- ---- buses
 
-abbrev pub driver_nets : Site → ℕ → ℕ → List (Phrase × Phrase) → List Net
-driver_nets site at start [] = []
-driver_nets site at start (driver ∷ drivers) =
-    nets_of site at start driver.0 ++ nets_of site at (start + count driver.0) driver.1
-    ++ driver_nets site at (start + count driver.0 + count driver.1) drivers
+abbrev pub elaborated_drivers : NetSite → ℕ → ℕ → List (Phrase × Phrase) → List Net
+elaborated_drivers site at start [] = []
+elaborated_drivers site at start (driver ∷ drivers) =
+    elaborated site at start driver.0 ++ elaborated site at (start + count driver.0) driver.1
+    ++ elaborated_drivers site at (start + count driver.0 + count driver.1) drivers
 
-abbrev pub driver_pairs : Site → ℕ → List (Phrase × Phrase) → List (ℕ × ℕ)
+abbrev pub driver_pairs : NetSite → ℕ → List (Phrase × Phrase) → List (ℕ × ℕ)
 driver_pairs site start [] = []
 driver_pairs site start (driver ∷ drivers) =
     (out_of site start driver.0, out_of site (start + count driver.0) driver.1)
@@ -107,42 +107,42 @@ abbrev pub plain_net : ℕ → ℕ → Gate → Net
 plain_net at width gate = record { width = width; name_at = at; gate = gate }
 
 -- what a port's expression gives; a port without an expression has none
-abbrev pub bound_out : Site → ℕ → Option Phrase → ℕ
+abbrev pub bound_out : NetSite → ℕ → Option Phrase → ℕ
 bound_out site start None = 0
 bound_out site start (Some a) = out_of site start a
 
 -- the nets of an input: those of its link, then its wire
-abbrev pub input_nets : Site → ℕ → ℕ → List (Ident × Phrase) → Port → List Net
+abbrev pub input_nets : NetSite → ℕ → ℕ → List (Ident × Phrase) → Port → List Net
 input_nets site at start links port =
     if port.output then []
     else nets_if site at start (bound links port.name.name) ++ plain_net at port.width (Wire (bound_out site start (bound links port.name.name))) ∷ []
 
-abbrev pub inputs_nets : Site → ℕ → ℕ → List (Ident × Phrase) → List Port → List Net
+abbrev pub inputs_nets : NetSite → ℕ → ℕ → List (Ident × Phrase) → List Port → List Net
 inputs_nets site at start links [] = []
 inputs_nets site at start links (port ∷ ports) =
     input_nets site at start links port ++ inputs_nets site at (start + count_input links port) links ports
 
 -- the wire of an output, whose equation's nets begin at a number
-abbrev pub output_wire : Site → ℕ → ℕ → List (Ident × Phrase) → Port → List Net
+abbrev pub output_wire : NetSite → ℕ → ℕ → List (Ident × Phrase) → Port → List Net
 output_wire site at start equations port =
     if port.output then plain_net at port.width (Wire (bound_out site start (bound equations port.name.name))) ∷ [] else []
 
-abbrev pub output_wires : Site → ℕ → ℕ → List (Ident × Phrase) → List Port → List Net
+abbrev pub output_wires : NetSite → ℕ → ℕ → List (Ident × Phrase) → List Port → List Net
 output_wires site at start equations [] = []
 output_wires site at start equations (port ∷ ports) =
     output_wire site at start equations port ++ output_wires site at (start + count_equation equations port) equations ports
 
 -- the nets of an output's equation
-abbrev pub equation_nets : Site → ℕ → ℕ → List (Ident × Phrase) → Port → List Net
+abbrev pub equation_nets : NetSite → ℕ → ℕ → List (Ident × Phrase) → Port → List Net
 equation_nets site at start equations port = if port.output then nets_if site at start (bound equations port.name.name) else []
 
-abbrev pub equations_nets : Site → ℕ → ℕ → List (Ident × Phrase) → List Port → List Net
+abbrev pub equations_nets : NetSite → ℕ → ℕ → List (Ident × Phrase) → List Port → List Net
 equations_nets site at start equations [] = []
 equations_nets site at start equations (port ∷ ports) =
     equation_nets site at start equations port ++ equations_nets site at (start + count_equation equations port) equations ports
 
 -- inside a part the names of the module's inputs stand for their wires
-abbrev pub inside : ℕ → List (Ident × Phrase) → List Port → Site
+abbrev pub inside : ℕ → List (Ident × Phrase) → List Port → NetSite
 inside start links ports = of_part ports (port_wires start (start + count_inputs links ports) links ports)
 
 -- the inputs, then the wires of the outputs, then the equations
@@ -158,15 +158,15 @@ part_nets text at start links ports equations =
 abbrev pub item_nets : List Entry → ℕ → ℕ → ℕ → Entry → List Net
 item_nets text start storage number (code name bits size counter) = plain_net name.at bits (Word number) ∷ []
 item_nets text start storage number (register name width input when) =
-    nets_of (of_text text) name.at start input ++ nets_if (of_text text) name.at (start + count input) when
+    elaborated (of_text text) name.at start input ++ nets_if (of_text text) name.at (start + count input) when
     ++ plain_net name.at width (Reg storage) ∷ []
 item_nets text start storage number (memory name width size addr_width value addr when) =
-    nets_of (of_text text) name.at start value ++ nets_of (of_text text) name.at (start + count value) addr
+    elaborated (of_text text) name.at start value ++ elaborated (of_text text) name.at (start + count value) addr
     ++ nets_if (of_text text) name.at (start + count value + count addr) when
 item_nets text start storage number (net name width value) =
-    nets_of (of_text text) name.at start value ++ plain_net name.at width (Wire (out_of (of_text text) start value)) ∷ []
+    elaborated (of_text text) name.at start value ++ plain_net name.at width (Wire (out_of (of_text text) start value)) ∷ []
 item_nets text start storage number (bus name width drivers) =
-    driver_nets (of_text text) name.at start drivers ++ plain_net name.at width (Bus (driver_pairs (of_text text) start drivers)) ∷ []
+    elaborated_drivers (of_text text) name.at start drivers ++ plain_net name.at width (Bus (driver_pairs (of_text text) start drivers)) ∷ []
 item_nets text start storage number (module_item name ports equations) = []
 item_nets text start storage number (part name of links) =
     part_nets text name.at start links (ports_of (item_named text of.name)) (equations_of (item_named text of.name))

@@ -1,4 +1,5 @@
--- The instruction bits that occur in an expression, as a mask, and words of the width with which it names them.
+-- The instruction bits that occur in an expression, as a mask, and words of the width with which it
+-- names them.
 use Rattle.std.specs.Prelude.{ℕ, ◌+◌, ◌-◌, ◌^◌, ◌<◌, bit_or}
 use Rattle.net_model.specs.Terms.{Term, word, reg, const, read, un, bin, slice, cat, zext, sext, select, Move, keep, write, write_at}
 

@@ -35,16 +35,16 @@ Others X = ListOf (Behind Comma X)
 abbrev pub IsField : List Lexed → Option Ident → Type 0
 IsField = Maybe (Behind Dot IsName)
 
-abbrev pub range_of : ℕ → Option ℕ → ℕ × ℕ
-range_of hi None = (hi, hi)
-range_of hi (Some lo) = (hi, lo)
+abbrev pub slice_ends : ℕ → Option ℕ → ℕ × ℕ
+slice_ends hi None = (hi, hi)
+slice_ends hi (Some lo) = (hi, lo)
 
 -- number [ ':' number ], with the first number in place of a second one that is missing
 abbrev pub IsRange : List Lexed → ℕ × ℕ → Type 0
 IsRange = do
   hi ← IsNumber
   lo ← Maybe (Behind Colon IsNumber)
-  Return (range_of hi lo)
+  Return (slice_ends hi lo)
 
 -- [ '[' number [ ':' number ] ']' ]
 abbrev pub IsBits : List Lexed → Option (ℕ × ℕ) → Type 0
@@ -341,8 +341,8 @@ abbrev pub IsItem : List Lexed → Entry → Type 0
 IsItem = ByWord ItemByWord
 
 -- Item { Item }
-abbrev pub IsText : List Lexed → List Entry → Type 0
-IsText = do
+abbrev pub IsItems : List Lexed → List Entry → Type 0
+IsItems = do
   first ← IsItem
   others ← ListOf IsItem
   Return (first ∷ others)

@@ -15,7 +15,6 @@ pub mod Texts
 pub mod Patterns
 pub mod Worked
 pub mod Written
-pub mod Nodes
 pub mod Grammar
 pub mod TextNames
 pub mod TextWidths
@@ -35,3 +34,4 @@ pub mod Depends
 pub mod Flags
 pub mod NetFaults
 pub mod MemoryText
+pub mod Inner

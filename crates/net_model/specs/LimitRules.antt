@@ -7,6 +7,7 @@ use Rattle.net_model.specs.declared.fault.NetKind.{NetKind}
 use Rattle.net_model.specs.declared.fault.NetKind.TheVariants.{Nets, Registers, Cells, Words}
 use Rattle.net_model.specs.Written.{Entry, code, register, memory}
 use Rattle.net_model.specs.Numbering.{count_items}
+use Rattle.rec_bits.specs.Faults.{or_else}
 
 abbrev pub count_register : Entry → ℕ
 count_register (register name width input when) = 1
@@ -32,10 +33,6 @@ greatest size (e ∷ entries) = max (size e) (greatest size entries)
 -- a count above its bound
 abbrev pub over : NetKind → ℕ → ℕ → Option NetFault
 over kind bound count = if nat_le count bound then None else Some (Limit kind count bound)
-
-abbrev pub or_else : Option NetFault → Option NetFault → Option NetFault
-or_else None later = later
-or_else (Some fault) later = Some fault
 
 -- N11: the nets, the registers, the cells of a memory and the words of a code, in this order
 abbrev pub limit_fault : List Entry → Option NetFault

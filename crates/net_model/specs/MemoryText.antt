@@ -1,5 +1,6 @@
--- What a memory text says of a netlist's state. Each line is REGISTER VALUE or MEMORY ADDRESS VALUE, decimal without leading zeros; a later
--- line for the same place counts. What isn't named is 0, and nothing names the program counter.
+-- What a memory text says of a netlist's state. Each line is REGISTER VALUE or MEMORY ADDRESS
+-- VALUE, decimal without leading zeros; a later line for the same place counts. What isn't named is
+-- 0, and nothing names the program counter.
 use Rattle.std.specs.Prelude.{ℕ, ◌^◌, ◌≡◌, ◌≢◌, ◌<◌, ◌⊎◌, List, [], ◌∷◌, ◌++◌, length, codes, slice_get, slice_set}
 use Rattle.std.proofs.Math.ListN.{replicate}
 use Rattle.std.specs.Fmt.{decimal}
@@ -56,15 +57,15 @@ abbrev pub with_cell : State → ℕ → ℕ → State
 with_cell s address value = record s { cells = slice_set s.cells address value }
 
 -- the line leads from one state to the other, by a register or by a cell
-abbrev pub Leads : Netlist → State → List ℕ → State → Type 0
-Leads netlist s line t =
+abbrev pub SetsLine : Netlist → State → List ℕ → State → Type 0
+SetsLine netlist s line t =
     ((id : ℕ) × (value : ℕ) × SetsRegister netlist line id value × (t ≡ with_register s id value))
     ⊎ ((address : ℕ) × (value : ℕ) × SetsCell netlist line address value × (t ≡ with_cell s address value))
 
 -- the lines, one after the other, do
 abbrev pub AllLead : Netlist → State → List (List ℕ) → State → Type 0
 AllLead netlist s [] t = s ≡ t
-AllLead netlist s (line ∷ lines) t = (next : State) × Leads netlist s line next × AllLead netlist next lines t
+AllLead netlist s (line ∷ lines) t = (next : State) × SetsLine netlist s line next × AllLead netlist next lines t
 
 -- nothing but zeros: an entry for each storage, and the memory's cells
 abbrev pub blank : List Storage → State
@@ -76,7 +77,8 @@ blank storages = record { regs = replicate (length storages) 0; cells = replicat
 pub record IsMemoryText (netlist : Netlist) (bytes : List ℕ) (s : State) : Type 0 where
   pub lead : AllLead netlist (blank netlist.storages) (lines_of bytes) s
 
--- The bytes aren't one: each line before this byte sets something, and the one that begins there sets nothing.
+-- The bytes aren't one: each line before this byte sets something, and the one that begins there
+-- sets nothing.
 pub record IsMemoryFault (netlist : Netlist) (bytes : List ℕ) (at : ℕ) : Type 0 where
   pub before : List (List ℕ)
   pub line : List ℕ

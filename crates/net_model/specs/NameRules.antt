@@ -1,10 +1,12 @@
--- The rules of names: N1, no name stands for two things, and N2, each name that is used stands for something in its place.
+-- The rules of names: N1, no name stands for two things, and N2, each name that is used stands for
+-- something in its place.
 use Rattle.std.specs.Prelude.{ℕ, ◌||◌, if◌then◌else◌, List, [], ◌∷◌, ◌++◌, map, Option, Some, None, Bool, true, false, not, is_some}
 use Rattle.rec_bits.specs.Faults.{broken, gather}
 use Rattle.grammar.specs.declared.words.Ident.{Ident}
 use Rattle.net_model.specs.declared.units.Port.{Port}
 use Rattle.net_model.specs.Written.{Entry, code, register, memory, net, bus, module_item, part, Phrase, named, const, un, bin, cat, slice, zext, sext, read, case, Rows, no_rows, row, Rest, no_rest, rest}
-use Rattle.net_model.specs.TextNames.{own_name, same_name, item_named, port_named, Scope, in_text, in_module}
+use Rattle.net_model.specs.TextNames.{own_name, item_named, port_named, Scope, in_text, in_module}
+use Rattle.rec_bits.specs.Faults.{same_name}
 use Rattle.net_model.specs.TextWidths.{ports_of, part_ports}
 
 -- ---- N1
@@ -25,7 +27,8 @@ abbrev pub repeated_ports : Entry → List ℕ
 repeated_ports (module_item name ports equations) = repeated [] (map port_name ports)
 repeated_ports _ = []
 
--- N1: two items have one name, or two ports of a module, whatever their directions; the later one is named
+-- N1: two items have one name, or two ports of a module, whatever their directions; the later one
+-- is named
 abbrev pub duplicates : List Entry → List ℕ
 duplicates text = repeated [] (map own_name text) ++ gather repeated_ports text
 
@@ -61,7 +64,8 @@ unknown is_known name = broken (not is_known) name.at
 
 -- ---- N2 in an expression
 
--- an output of a part: the part's name is at fault where it is no part, and the output's where the module has no such output
+-- an output of a part: the part's name is at fault where it is no part, and the output's where the
+-- module has no such output
 abbrev pub unknown_output : List Entry → Ident → Ident → List ℕ
 unknown_output text name field =
     if is_part (item_named text name.name)
@@ -110,12 +114,14 @@ unknown_if s (Some a) = unknown_in s a
 abbrev pub unknown_driver : Scope → Phrase × Phrase → List ℕ
 unknown_driver s driver = unknown_in s driver.0 ++ unknown_in s driver.1
 
--- what is bound to a port: the port has to be there, in this direction, and the names in the expression
+-- what is bound to a port: the port has to be there, in this direction, and the names in the
+-- expression
 abbrev pub unknown_binding : Bool → List Port → Scope → Ident × Phrase → List ℕ
 unknown_binding output ports s binding =
     unknown (is_some (port_named output ports binding.0.name)) binding.0 ++ unknown_in s binding.1
 
--- `at` names a register; an equation is for an output of its module; a part is of a module, and its links are to inputs
+-- `at` names a register; an equation is for an output of its module; a part is of a module, and its
+-- links are to inputs
 abbrev pub unknown_in_item : List Entry → Entry → List ℕ
 unknown_in_item text (code name bits size counter) = unknown (is_register (item_named text counter.name)) counter
 unknown_in_item text (register name width input when) = unknown_in (in_text text) input ++ unknown_if (in_text text) when

@@ -1,4 +1,5 @@
--- The fault of a netlist that keeps N1 to N4 and N11: the first rule of N5 to N9 that it breaks, and the least offset at which it does.
+-- The fault of a netlist that keeps N1 to N4 and N11: the first rule of N5 to N9 that it breaks,
+-- and the least offset at which it does.
 use Rattle.std.specs.Prelude.{ℕ, ◌≡◌, if◌then◌else◌, List, [], ◌∷◌, Option, Some, None, slice_get, Bool}
 use Rattle.rec_bits.specs.Faults.{least}
 use Rattle.net_model.specs.declared.hardware.Netlist.{Netlist}

@@ -3,12 +3,14 @@ use Rattle.std.specs.Prelude.{ℕ, ◌+◌, ◌-◌, if◌then◌else◌, List, 
 use Rattle.grammar.specs.declared.words.Ident.{Ident}
 use Rattle.net_model.specs.declared.units.Port.{Port}
 use Rattle.net_model.specs.Written.{Entry, code, register, memory, net, bus, module_item, part, Phrase, named, const, un, bin, cat, slice, zext, sext, read, case, Rows, no_rows, row, Rest, no_rest, rest}
-use Rattle.net_model.specs.TextNames.{same_name, place_named, item_named, is_port, Scope, in_text, in_module}
+use Rattle.net_model.specs.TextNames.{place_named, item_named, is_port, Scope, in_text, in_module}
+use Rattle.rec_bits.specs.Faults.{same_name}
 use Rattle.net_model.specs.TextWidths.{ports_of, part_ports}
 
 -- ---- how many nets
 
--- an expression gives a net for each operator, constant, slice, extension, read and case; a bare name gives none
+-- an expression gives a net for each operator, constant, slice, extension, read and case; a bare
+-- name gives none
 abbrev mutual
   pub count : Phrase → ℕ
   count (named name field None) = 0
@@ -73,15 +75,16 @@ count_equations equations (port ∷ ports) = count_equation equations port + cou
 abbrev pub count_part : List (Ident × Phrase) → List Port → List (Ident × Phrase) → ℕ
 count_part links ports equations = count_inputs links ports + count_outputs ports + count_equations equations ports
 
--- the wires of a part's ports: an input's is its last net, and the outputs' stand one behind the other; the numbers are those of the
--- first net of the inputs and of the first wire of the outputs
+-- the wires of a part's ports: an input's is its last net, and the outputs' stand one behind the
+-- other; the numbers are those of the first net of the inputs and of the first wire of the outputs
 abbrev pub port_wires : ℕ → ℕ → List (Ident × Phrase) → List Port → List ℕ
 port_wires start wire links [] = []
 port_wires start wire links (port ∷ ports) =
     (if port.output then wire else start + count_input links port - 1)
     ∷ port_wires (start + count_input links port) (wire + count_output port) links ports
 
--- the place of the first port of a direction and a name, and the number of ports where there is none
+-- the place of the first port of a direction and a name, and the number of ports where there is
+-- none
 abbrev pub port_place : Bool → List Port → List ℕ → ℕ
 port_place output [] name = 0
 port_place output (port ∷ ports) name = if is_port output name port then 0 else port_place output ports name + 1
@@ -134,12 +137,13 @@ storage_numbers start (e ∷ entries) = start ∷ storage_numbers (start + count
 
 -- ---- what names stand for
 
--- where an expression stands: among the items of the text, or in a part, whose ports have these wires
-pub data Site : Type 0 where
-  of_text : List Entry → Site
-  of_part : List Port → List ℕ → Site
+-- where an expression stands: among the items of the text, or in a part, whose ports have these
+-- wires
+pub data NetSite : Type 0 where
+  of_text : List Entry → NetSite
+  of_part : List Port → List ℕ → NetSite
 
-abbrev pub scope_at : Site → Scope
+abbrev pub scope_at : NetSite → Scope
 scope_at (of_text text) = in_text text
 scope_at (of_part ports wires) = in_module ports
 
@@ -147,7 +151,7 @@ scope_at (of_part ports wires) = in_module ports
 abbrev pub storage_named : List Entry → List ℕ → ℕ
 storage_named text name = slice_index (storage_numbers 0 text) (place_named text name)
 
-abbrev pub memory_at : Site → List ℕ → ℕ
+abbrev pub memory_at : NetSite → List ℕ → ℕ
 memory_at (of_text text) name = storage_named text name
 memory_at (of_part ports wires) name = 0
 
@@ -166,6 +170,6 @@ item_net text name (Some field) =
     slice_index (wires_named text name) (port_place true (part_ports text (item_named text name)) field.name)
 
 -- the net that a name stands for
-abbrev pub net_named : Site → List ℕ → Option Ident → ℕ
+abbrev pub net_named : NetSite → List ℕ → Option Ident → ℕ
 net_named (of_text text) name field = item_net text name field
 net_named (of_part ports wires) name field = slice_index wires (port_place false ports name)

@@ -1,4 +1,5 @@
--- What occurs in an expression and in a transfer: registers, reads of the memory and instruction bits, and how often.
+-- What occurs in an expression and in a transfer: registers, reads of the memory and instruction
+-- bits, and how often.
 use Rattle.std.specs.Prelude.{ℕ, ◌+◌, ◌^◌, ◌≡◌, ◌≤◌, ◌==◌, ◌&&◌, ◌||◌, if◌then◌else◌, nat_le, nat_lt, Bool, true, false, bit_or, slice_index}
 use Rattle.std.specs.Int.{bit_at}
 use Rattle.net_model.specs.declared.states.State.{State}
@@ -104,7 +105,8 @@ move_bit_uses k keep = 0
 move_bit_uses k (write e) = bit_uses k e
 move_bit_uses k (write_at a e) = bit_uses k a + bit_uses k e
 
--- no register but the free ones, which are the bits of a mask, and no instruction bit occurs twice in a transfer, address and value together
+-- no register but the free ones, which are the bits of a mask, and no instruction bit occurs twice
+-- in a transfer, address and value together
 pub record IsLinear (free : ℕ) (move : Move) : Type 0 where
   pub registers : (r : ℕ) → bit_at free r ≡ 0 → move_register_uses r move ≤ 1
   pub bits : (k : ℕ) → move_bit_uses k move ≤ 1

@@ -29,8 +29,8 @@ IsTextBefore (x ∷ xs) [] = ⊥
 IsTextBefore (x ∷ xs) (y ∷ ys) = (x < y) ⊎ ((x ≡ y) × IsTextBefore xs ys)
 
 -- the order of patterns: by storage, and then by the text of the transfer
-abbrev pub IsBefore : Netlist → Pattern → Pattern → Type 0
-IsBefore netlist p q =
+abbrev pub IsPatternBefore : Netlist → Pattern → Pattern → Type 0
+IsPatternBefore netlist p q =
     (p.storage < q.storage)
     ⊎ ((p.storage ≡ q.storage) × IsTextBefore (move_text netlist p.storage p.move) (move_text netlist q.storage q.move))
 
@@ -38,4 +38,4 @@ IsBefore netlist p q =
 pub record ArePatterns (netlist : Netlist) (patterns : List Pattern) : Type 0 where
   pub each : All (IsPattern netlist) patterns
   pub every : (pattern : Pattern) → IsPattern netlist pattern → Contains patterns pattern
-  pub ordered : AllPairs (IsBefore netlist) patterns
+  pub ordered : AllPairs (IsPatternBefore netlist) patterns

@@ -1,4 +1,5 @@
--- The symbolic value of a net under one instruction word: an expression over registers, the memory, constants and the word.
+-- The symbolic value of a net under one instruction word: an expression over registers, the memory,
+-- constants and the word.
 use Rattle.std.specs.Prelude.{ℕ, zero, suc, ◌+◌, ◌==◌, ◌&&◌, if◌then◌else◌, List, [], ◌∷◌, length, Option, Some, None, slice_get, Bool, true, false}
 use Rattle.net_model.specs.declared.hardware.Netlist.{Netlist}
 use Rattle.net_model.specs.declared.hardware.Net.{Net}
@@ -16,13 +17,13 @@ reads_state (Reg id) = true
 reads_state (Read memory addr) = true
 reads_state _ = false
 
-abbrev pub all_of : (ℕ → Bool) → List ℕ → Bool
-all_of f [] = true
-all_of f (m ∷ ms) = f m && all_of f ms
+abbrev pub all_nets : (ℕ → Bool) → List ℕ → Bool
+all_nets f [] = true
+all_nets f (m ∷ ms) = f m && all_nets f ms
 
 -- where f tells of the nets that the gate names
 abbrev pub gate_static : (ℕ → Bool) → Gate → Bool
-gate_static f gate = if reads_state gate then false else all_of f (gate_nets gate)
+gate_static f gate = if reads_state gate then false else all_nets f (gate_nets gate)
 
 abbrev pub net_static : (ℕ → Bool) → Option Net → Bool
 net_static f None = true
@@ -36,8 +37,8 @@ abbrev pub is_static : Netlist → ℕ → Bool
 is_static netlist n = static_within (length netlist.nets) netlist n
 
 -- a state with nothing in it, in which the values of static nets are read
-abbrev pub blank : State
-blank = record { regs = []; cells = [] }
+abbrev pub no_state : State
+no_state = record { regs = []; cells = [] }
 
 -- ---- symbolic values
 
@@ -57,7 +58,8 @@ abbrev pub bus_term : (ℕ → Term) → (ℕ → ℕ) → ℕ → List (ℕ × 
 bus_term t u width [] = const width 0
 bus_term t u width (driver ∷ drivers) = if u driver.1 == 1 then t driver.0 else bus_term t u width drivers
 
--- a gate of this width: t gives the symbolic values of the nets that it names, u the values of static ones, f which are static
+-- a gate of this width: t gives the symbolic values of the nets that it names, u the values of
+-- static ones, f which are static
 abbrev pub gate_term : (ℕ → Term) → (ℕ → ℕ) → (ℕ → Bool) → ℕ → Gate → Term
 gate_term t u f width (Word code) = word width
 gate_term t u f width (Reg id) = reg id width
@@ -82,7 +84,7 @@ net_term t u f (Some net) = gate_term t u f net.width net.gate
 abbrev pub sym_within : ℕ → Netlist → ℕ → ℕ → Term
 sym_within zero netlist i n = const (width_at netlist n) 0
 sym_within (suc k) netlist i n =
-    net_term (sym_within k netlist i) (value_within k netlist blank i) (is_static netlist) (slice_get netlist.nets n)
+    net_term (sym_within k netlist i) (value_within k netlist no_state i) (is_static netlist) (slice_get netlist.nets n)
 
 -- the symbolic value of net n under the word i
 abbrev pub sym_of : Netlist → ℕ → ℕ → Term

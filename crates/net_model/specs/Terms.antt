@@ -1,4 +1,5 @@
--- Expressions and transfers as plain values, without the addresses of boxes. Every definition speaks of these.
+-- Expressions and transfers as plain values, without the addresses of boxes. Every definition
+-- speaks of these.
 use Rattle.std.specs.Prelude.{ℕ, ◌+◌, ◌-◌}
 use Rattle.rec_bits.specs.declared.operator.Op1.{Op1}
 use Rattle.rec_bits.specs.declared.operator.Op2.{Op2}

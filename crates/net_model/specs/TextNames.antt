@@ -1,12 +1,11 @@
--- What the names of a netlist text stand for. Items may be used before they are declared; where several have one name, the first counts.
+-- What the names of a netlist text stand for. Items may be used before they are declared; where
+-- several have one name, the first counts.
 use Rattle.std.specs.Prelude.{ℕ, ◌+◌, ◌&&◌, if◌then◌else◌, nat_eq, List, [], ◌∷◌, Option, Some, None, slice_get, Bool, true, false}
 use Rattle.std.specs.Cmp.Lexicographic.{pointwise}
 use Rattle.grammar.specs.declared.words.Ident.{Ident}
 use Rattle.net_model.specs.declared.units.Port.{Port}
 use Rattle.net_model.specs.Written.{Entry, code, register, memory, net, bus, module_item, part}
-
-abbrev pub same_name : List ℕ → List ℕ → Bool
-same_name = pointwise nat_eq
+use Rattle.rec_bits.specs.Faults.{same_name}
 
 -- ---- items
 

@@ -7,12 +7,9 @@ use Rattle.net_model.specs.Written.{Entry}
 use Rattle.net_model.specs.NameRules.{duplicates, unknowns}
 use Rattle.net_model.specs.WidthRules.{misfits}
 use Rattle.net_model.specs.DriverRules.{undrivens}
-use Rattle.net_model.specs.LimitRules.{or_else, limit_fault}
-
--- the fault of a rule that is broken, at the least of the offsets
-abbrev pub fault_at : (ℕ → NetFault) → Option ℕ → Option NetFault
-fault_at rule None = None
-fault_at rule (Some at) = Some (rule at)
+use Rattle.net_model.specs.LimitRules.{limit_fault}
+use Rattle.rec_bits.specs.Faults.{or_else}
+use Rattle.rec_bits.specs.Faults.{fault_at}
 
 -- the first of the rules N1 to N4 and N11 that is broken
 abbrev pub first_fault : List Entry → Option NetFault

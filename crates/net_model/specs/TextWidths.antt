@@ -1,4 +1,5 @@
--- The widths of the expressions of a netlist text: one partial function is the rule of widths and the width.
+-- The widths of the expressions of a netlist text: one partial function is the rule of widths and
+-- the width.
 use Rattle.std.specs.Prelude.{ℕ, ◌+◌, ◌-◌, ◌==◌, ◌&&◌, ◌^◌, if◌then◌else◌, List, [], ◌∷◌, Option, Some, None, Bool, true, false, nat_le}
 use Rattle.rec_bits.specs.declared.operator.Op2.{Op2}
 use Rattle.rec_bits.specs.Operators.{result_width}

@@ -9,14 +9,15 @@ use Rattle.net_model.specs.Nets.{IsRegister, memory_id, counter_of, counter_widt
 use Rattle.net_model.specs.Value.{value_of}
 use Rattle.net_model.specs.Widths.{IsState, WordFits}
 use Rattle.net_model.specs.Clock.{clock, clash_in, Next, is_enabled}
-use Rattle.net_model.specs.Symbolic.{blank, sym_of}
+use Rattle.net_model.specs.Symbolic.{no_state, sym_of}
 use Rattle.net_model.specs.Meaning.{mean}
 
 -- ---- words without clash
 
--- the first bus that clashes under the word; enables are static, so they are read in the blank state
+-- the first bus that clashes under the word; enables are static, so they are read in the blank
+-- state
 abbrev pub clash_at : Netlist → ℕ → Option ℕ
-clash_at netlist i = clash_in (value_of netlist blank i) netlist.nets
+clash_at netlist i = clash_in (value_of netlist no_state i) netlist.nets
 
 -- a word of the code under which no bus clashes
 pub record IsClean (netlist : Netlist) (i : ℕ) : Type 0 where
@@ -43,7 +44,7 @@ storage_move t u id (Memory name width size addr_width value addr when) =
 
 abbrev pub transfer_of : Netlist → ℕ → ℕ → Option Storage → Move
 transfer_of netlist i id None = keep
-transfer_of netlist i id (Some storage) = storage_move (sym_of netlist i) (value_of netlist blank i) id storage
+transfer_of netlist i id (Some storage) = storage_move (sym_of netlist i) (value_of netlist no_state i) id storage
 
 -- what the storage of this number does under the word i
 abbrev pub move_at : Netlist → ℕ → ℕ → Move

@@ -1,4 +1,5 @@
--- The value of a net in a state under an instruction word, by recursion over the nets that it depends on.
+-- The value of a net in a state under an instruction word, by recursion over the nets that it
+-- depends on.
 use Rattle.std.specs.Prelude.{ℕ, zero, suc, ◌==◌, if◌then◌else◌, List, [], ◌∷◌, length, Option, Some, None, slice_get, slice_index}
 use Rattle.rec_bits.specs.Operators.{apply1_of, apply2_of, slice_of, cat_of, sext_of}
 use Rattle.net_model.specs.declared.hardware.Netlist.{Netlist}
@@ -39,7 +40,8 @@ abbrev pub net_value : (ℕ → ℕ) → Netlist → State → ℕ → Option Ne
 net_value v netlist s word None = 0
 net_value v netlist s word (Some net) = gate_value v netlist s word net.width net.gate
 
--- the value of a net that depends on others through at most so many gates; where nets depend on themselves, it ends with 0
+-- the value of a net that depends on others through at most so many gates; where nets depend on
+-- themselves, it ends with 0
 abbrev pub value_within : ℕ → Netlist → State → ℕ → ℕ → ℕ
 value_within zero netlist s word n = 0
 value_within (suc k) netlist s word n = net_value (value_within k netlist s word) netlist s word (slice_get netlist.nets n)

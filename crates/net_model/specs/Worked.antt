@@ -11,7 +11,7 @@ use Rattle.net_model.specs.declared.states.State.{State}
 use Rattle.net_model.specs.Terms.{word, reg, const, read, bin, slice, select, keep, write, write_at}
 use Rattle.net_model.specs.Value.{value_of}
 use Rattle.net_model.specs.Clock.{clock, step, run, Next, Clash, Reached, Clashed}
-use Rattle.net_model.specs.Symbolic.{blank, sym_of}
+use Rattle.net_model.specs.Symbolic.{no_state, sym_of}
 use Rattle.net_model.specs.Meaning.{mean}
 use Rattle.net_model.specs.Transfers.{move_at, counter_move, memory_move}
 
@@ -31,11 +31,11 @@ s8 = record {
   codes = record { name = codes "I"; bits = 8; words = 16; counter = 0 } ∷ [];
 }
 
--- an accumulator, a memory, an adder and a branch where the accumulator is 0
---   op = I[11:8], f = I[7:0]; ALU of k = op[1:0], a = ACC, b = read(M, f)
---   PC : 8 in case op { 6: f; 7: case eq(ACC, 0#16) { 1: f; 0: add(PC, 1#8); }; else: add(PC, 1#8); }
---   ACC : 16 in case op { 5: zext(f, 16); else: alu.y; } when case op { 1, 2, 3, 5: 1#1; else: 0#1; }
---   M : 16 size 256 addr 8 write ACC at f when eq(op, 4#4)
+-- an accumulator, a memory, an adder and a branch where the accumulator is 0 op = I[11:8], f =
+-- I[7:0]; ALU of k = op[1:0], a = ACC, b = read(M, f) PC : 8 in case op { 6: f; 7: case eq(ACC,
+-- 0#16) { 1: f; 0: add(PC, 1#8); }; else: add(PC, 1#8); } ACC : 16 in case op { 5: zext(f, 16);
+-- else: alu.y; } when case op { 1, 2, 3, 5: 1#1; else: 0#1; } M : 16 size 256 addr 8 write ACC at f
+-- when eq(op, 4#4)
 abbrev pub a16 : Netlist
 a16 = record {
   nets =
@@ -182,5 +182,5 @@ a16_value = refl
 abbrev pub ring : Netlist
 ring = record { nets = net 1 (Un Not 1) ∷ net 1 (Wire 0) ∷ []; storages = []; codes = [] }
 
-pub ring_value : value_of ring blank 0 0 ≡ 1
+pub ring_value : value_of ring no_state 0 0 ≡ 1
 ring_value = refl

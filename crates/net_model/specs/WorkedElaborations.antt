@@ -146,7 +146,8 @@ outputs_items =
     ∷ register (ident (codes "Q")) 4 (output (codes "p") (codes "z")) None
     ∷ []
 
--- the wires of the outputs and the nets of their equations come in the order of the ports, and not of the equations
+-- the wires of the outputs and the nets of their equations come in the order of the ports, and not
+-- of the equations
 pub outputs_elaborated : netlist_of outputs_items ≡ record {
   nets =
       gate_net 4 (Word 0) ∷ gate_net 4 (Wire 0)

@@ -43,7 +43,8 @@ two_ports : first_fault (module_item (ident (codes "D") 7)
     ≡ Some (Duplicate 23)
 two_ports = refl
 
--- N2: a name of nothing, also where its width is wrong too; a memory is no register, and a register no memory
+-- N2: a name of nothing, also where its width is wrong too; a memory is no register, and a register
+-- no memory
 no_such_net : first_fault (net (ident (codes "R") 4) 99 (use_of (codes "Q") 12) ∷ []) ≡ Some (Unknown 12)
 no_such_net = refl
 

@@ -1,4 +1,5 @@
--- Worked expressions and transfers: symbolic values of small gates, steps, what occurs, and what the code's values are seen as.
+-- Worked expressions and transfers: symbolic values of small gates, steps, what occurs, and what
+-- the code's values are seen as.
 use Rattle.std.specs.Prelude.{ℕ, ◌≡◌, refl, [], ◌∷◌, Some, None, codes, true, false}
 use mathlib.Core.Logic.{inl, inr}
 use Rattle.rec_bits.specs.declared.operator.Op2.TheVariants.{Add}
@@ -9,7 +10,7 @@ use Rattle.net_model.specs.declared.hardware.Gate.{Gate}
 use Rattle.net_model.specs.declared.hardware.Gate.TheVariants.{Word, Reg, Const, Bin, Slice, Cat, Sext}
 use Rattle.net_model.specs.Terms.{Term, word, reg, const, read, bin, slice, cat, sext, keep, write, write_at}
 use Rattle.net_model.specs.Value.{value_of}
-use Rattle.net_model.specs.Symbolic.{blank, sliced, sym_of}
+use Rattle.net_model.specs.Symbolic.{no_state, sliced, sym_of}
 use Rattle.net_model.specs.Fields.{fields, move_fields}
 use Rattle.net_model.specs.Occurs.{occurs, has_read, register_uses, bit_uses, move_bit_uses, registers}
 use Rattle.net_model.specs.Transfers.{clash_at, counter_move, move_at, Steps}
@@ -52,7 +53,7 @@ part_of_cat = refl
 pub undriven_symbol : sym_of b2 12 9 ≡ const 2 0
 undriven_symbol = refl
 
-pub undriven_value : value_of b2 blank 12 9 ≡ 0
+pub undriven_value : value_of b2 no_state 12 9 ≡ 0
 undriven_value = refl
 
 -- with one enabled driver it is that driver's

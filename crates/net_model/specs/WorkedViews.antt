@@ -1,4 +1,5 @@
--- What the code's expressions and transfers are seen as: one of each kind, wherever its boxes p, q and r lie.
+-- What the code's expressions and transfers are seen as: one of each kind, wherever its boxes p, q
+-- and r lie.
 use Rattle.std.specs.Prelude.{◌≡◌, refl, Box}
 use Rattle.std.specs.declared.alloc.Global.{Global}
 use Rattle.rec_bits.specs.declared.operator.Op1.TheVariants.{Not}

@@ -2,7 +2,8 @@
 
 ghost use Rattle.std.specs.Prelude.{◌≡◌, ◌<◌, ◌^◌, IfOk, length, option_copied};
 ghost use Rattle.net_model.specs.Nets.{counter_of, memory_id, memory_size, memory_width, storage_bits, storage_cells};
-ghost use Rattle.net_model.specs.CheckedRules.{IsWidth, KeepsRules};
+ghost use Rattle.net_model.specs.CheckedRules.{KeepsRules};
+ghost use Rattle.rec_bits.specs.Operators.{IsWidth};
 ghost use Rattle.net_model.specs.Control.{IsSound};
 ghost use Rattle.net_model.specs.Flags.{flag_at};
 ghost use Rattle.net_model.specs.Symbolic.{is_static};
@@ -13,7 +14,8 @@ use rec_bits::{Items, NoMemory};
 use std::alloc::Global;
 use std::marker::Model;
 
-/// A netlist that keeps the rules N1 to N9 and N11, and an order of its nets in which each stands after those that it depends on.
+/// A netlist that keeps the rules N1 to N9 and N11, and an order of its nets in which each stands
+/// after those that it depends on.
 #[derive(Debug, Drop)]
 pub struct Checked {
     netlist: Netlist,
@@ -57,10 +59,11 @@ impl Checked {
         &self.order
     }
 
-    /// For each net whether it is static: that neither it nor what it depends on reads a register or the memory.
+    /// For each net whether it is static: that neither it nor what it depends on reads a register
+    /// or the memory.
     pub fn static_flags(&self, alloc: Global) -> Result<Items<bool>, NoMemory>
         ensures long { IfOk result (λ flags. length flags ≡ length self.now.netlist.nets) }
-        ensures told { IfOk result (λ flags. flag_at flags ≡ is_static self.now.netlist) }
+        ensures flags { IfOk result (λ flags. flag_at flags ≡ is_static self.now.netlist) }
     {
         let order = self.order.as_slice();
         flags_of(alloc, Property::Static, &self.netlist, order)

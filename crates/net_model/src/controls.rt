@@ -32,7 +32,8 @@ impl Netlist {
         Ok(nets)
     }
 
-    /// The nets of write enables, in order of the storages, then those of bus enables, in order of the nets and of their drivers.
+    /// The nets of write enables, in order of the storages, then those of bus enables, in order of
+    /// the nets and of their drivers.
     pub fn enables(&self, alloc: Global) -> Result<Items<u32>, NoMemory>
         ensures { IfOk result (λ nets. nets ≡ enables self.now) }
     {
@@ -74,7 +75,8 @@ impl Netlist {
 }
 
 impl Gate {
-    // Adds the nets that enable the drivers of a bus, in order of the drivers; any other gate adds none.
+    // Adds the nets that enable the drivers of a bus, in order of the drivers; any other gate adds
+    // none.
     fn push_enables(&self, nets: &mut Items<u32>) -> Result<(), NoMemory>
         ensures { OnOk result (nets.new ≡ nets.old ++ gate_enables self.now) }
     {

@@ -2,8 +2,9 @@
 
 use rec_bits::{Op1, Op2};
 
-/// An expression over registers, the memory, constants and the instruction word. Each tells its own width: in `Word`, `Reg` and
-/// `Read` the last number is the width, in `Zext` and `Sext` the width that is reached.
+/// An expression over registers, the memory, constants and the instruction word. Each tells its own
+/// width: in `Word`, `Reg` and `Read` the last number is the width, in `Zext` and `Sext` the width
+/// that is reached.
 #[derive(Debug, Drop)]
 pub enum Expr {
     Word(u8),

@@ -6,8 +6,8 @@ ghost use Rattle.net_model.specs.declared.fault.CheckFault.{CheckFault};
 use rec_bits::NoMemory;
 use std::alloc::{AllocError, AllocFailed};
 
-/// A broken rule of netlists. A number is the offset of a name in the text: of the name at fault for `Duplicate` and `Unknown`, and
-/// otherwise of the item's name.
+/// A broken rule of netlists. A number is the offset of a name in the text: of the name at fault
+/// for `Duplicate` and `Unknown`, and otherwise of the item's name.
 #[derive(Clone, Copy, Debug, PartialEq, Eq)]
 pub enum NetFault {
     /// N1: a name stands for two things.

@@ -3,7 +3,7 @@
 ghost use Rattle.std.specs.Prelude.{◌≡◌, ◌&&◌, IfOk, length, replicate, true};
 ghost use Rattle.net_model.specs.CheckedRules.{is_control_gate};
 ghost use Rattle.net_model.specs.Order.{IsOrder};
-ghost use Rattle.net_model.specs.Symbolic.{all_of, reads_state};
+ghost use Rattle.net_model.specs.Symbolic.{all_nets, reads_state};
 ghost use Rattle.net_model.specs.Flags.{flag_at, has, is_control_pair, is_local};
 
 use crate::{Gate, Netlist};
@@ -30,7 +30,7 @@ pub fn is_set(flags: &[bool], net: u32) -> bool
 }
 
 fn all_set(flags: &[bool], nets: &[u32]) -> bool
-    ensures { result ≡ all_of (flag_at flags.now) nets.now }
+    ensures { result ≡ all_nets (flag_at flags.now) nets.now }
 {
     for net in nets {
         if !is_set(flags, *net) {
@@ -93,7 +93,7 @@ fn all_flags(alloc: Global, nets: usize) -> Result<Items<bool>, NoMemory>
 }
 
 fn flag_of(property: Property, flags: &[bool], gate: &Gate, named: &[u32]) -> bool
-    ensures { result ≡ (is_local property gate.now && all_of (flag_at flags.now) named.now) }
+    ensures { result ≡ (is_local property gate.now && all_nets (flag_at flags.now) named.now) }
 {
     is_allowed(property, gate) && all_set(flags, named)
 }
@@ -107,7 +107,7 @@ pub fn flags_of(
 ) -> Result<Items<bool>, NoMemory>
     requires { IsOrder netlist.now order.now }
     ensures long { IfOk result (λ flags. length flags ≡ length netlist.now.nets) }
-    ensures told { IfOk result (λ flags. flag_at flags ≡ has property netlist.now) }
+    ensures flags { IfOk result (λ flags. flag_at flags ≡ has property netlist.now) }
 {
     let nets = netlist.nets.as_slice();
     let mut flags = all_flags(alloc, nets.len())?;

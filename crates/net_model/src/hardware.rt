@@ -57,7 +57,8 @@ pub struct Net {
     pub gate: Gate,
 }
 
-/// A register or a memory. What feeds it is named by the numbers of nets; without a `when` it takes its input at each clock.
+/// A register or a memory. What feeds it is named by the numbers of nets; without a `when` it takes
+/// its input at each clock.
 #[derive(Debug, Drop)]
 pub enum Storage {
     Register {
@@ -77,7 +78,8 @@ pub enum Storage {
     },
 }
 
-/// An instruction memory: the bits of a word, how many words there may be, and the storage that counts through them.
+/// An instruction memory: the bits of a word, how many words there may be, and the storage that
+/// counts through them.
 #[derive(Debug, Drop)]
 pub struct Code {
     pub name: Name,

@@ -27,8 +27,8 @@
 //!   `Transfers`, `Patterns`, `Texts`, `Fields`, `Occurs`, `Widths`, `Control`, `MemoryText`; of
 //!   rules and texts, likewise: `Written`, `Grammar`, `TextNames`, `Numbering`, `Elaborated`,
 //!   `Elaborable`, `NameRules`, `TextWidths`, `WidthRules`, `DriverRules`, `LimitRules`,
-//!   `TextRules`, `Depends`, `Order`, `CheckedRules`, `NetFaults`, `Flags`. `Nodes` serves
-//!   recursions; `Worked..` are computed.
+//!   `TextRules`, `Depends`, `Order`, `CheckedRules`, `NetFaults`, `Flags`. `Worked..` are
+//!   computed. `specs/Inner/`: `Nodes`, by which recursions end.
 //! - `proofs/`: `Meanings` and `Syms` carry the law of values, `Effects` and `NextStates` that of
 //!   transfers, `KeptRules` and `KeptTexts` what follows from the rules, `TermLaws` what others
 //!   cite.

@@ -2,7 +2,8 @@
 
 use rec_bits::Items;
 
-/// The values of all storages: an entry for each storage, 0 at a memory's, and the cells of the data memory.
+/// The values of all storages: an entry for each storage, 0 at a memory's, and the cells of the
+/// data memory.
 #[derive(Debug, Drop)]
 pub struct State {
     pub regs: Items<u64>,

@@ -67,8 +67,8 @@ pub struct Port {
 /// An expression.
 #[derive(Debug, Drop)]
 pub enum NetExpr {
-    /// What a name stands for, or an output of the part of that name; of it the bits from the first number down to the second. A bracket
-    /// with one number gives that number twice.
+    /// What a name stands for, or an output of the part of that name; of it the bits from the first
+    /// number down to the second. A bracket with one number gives that number twice.
     Named {
         name: Ident,
         field: Option<Ident>,

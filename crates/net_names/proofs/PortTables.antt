@@ -8,7 +8,8 @@ use Rattle.grammar.specs.declared.words.Ident.{Ident}
 use Rattle.net_model.specs.declared.units.NetExpr.{NetExpr}
 use Rattle.net_model.specs.declared.units.Port.{Port}
 use Rattle.net_model.specs.Written.{Phrase, phrase_of, binding_of}
-use Rattle.net_model.specs.TextNames.{same_name, is_port, port_named}
+use Rattle.net_model.specs.TextNames.{is_port, port_named}
+use Rattle.rec_bits.specs.Faults.{same_name}
 use Rattle.net_model.specs.Numbering.{port_place, bound}
 use Rattle.net_names.specs.Places.{Enters, place_or, HasPlaces, HasPortPlaces, bound_place, item_at}
 use Rattle.net_names.proofs.Tables.{places_next, places_skip}

@@ -4,12 +4,12 @@ use Rattle.std.proofs.lemmas.List.{drop-map}
 use Rattle.std.specs.Cmp.Lexicographic.{bytes_decides}
 use Rattle.std.specs.Map.{lookup}
 use Rattle.rec_bits.proofs.Faults.{drop_item}
-use Rattle.net_model.specs.TextNames.{same_name}
-use Rattle.net_names.specs.Places.{pairs_of, entered, Enters, place_or, HasPlaces}
+use Rattle.rec_bits.specs.Faults.{same_name}
+use Rattle.net_names.specs.Places.{name_pairs, entered, Enters, place_or, HasPlaces}
 
 -- ---- entering a name
 
-pub pairs_lookup : (name : List ℕ) (entries : List (Bor (List ℕ) × ℕ)) → lookup (λ (k : Bor (List ℕ)). same_name name k.now) entries ≡ lookup (same_name name) (pairs_of entries)
+pub pairs_lookup : (name : List ℕ) (entries : List (Bor (List ℕ) × ℕ)) → lookup (λ (k : Bor (List ℕ)). same_name name k.now) entries ≡ lookup (same_name name) (name_pairs entries)
 pairs_lookup name [] = refl
 pairs_lookup name (e ∷ entries) = ap (λ found. cond (same_name name e.0.now) (Some e.1) found) (pairs_lookup name entries)
 

@@ -5,12 +5,12 @@ use Rattle.std.proofs.Common.{Bor}
 use Rattle.grammar.specs.declared.words.Ident.{Ident}
 use Rattle.net_model.specs.declared.units.Port.{Port}
 use Rattle.net_model.specs.Written.{Phrase}
-use Rattle.net_model.specs.TextNames.{same_name}
+use Rattle.rec_bits.specs.Faults.{same_name}
 use Rattle.net_model.specs.Numbering.{port_place}
 
-abbrev pub pairs_of : List (Bor (List ℕ) × ℕ) → List (List ℕ × ℕ)
-pairs_of [] = []
-pairs_of (e ∷ entries) = (e.0.now, e.1) ∷ pairs_of entries
+abbrev pub name_pairs : List (Bor (List ℕ) × ℕ) → List (List ℕ × ℕ)
+name_pairs [] = []
+name_pairs (e ∷ entries) = (e.0.now, e.1) ∷ name_pairs entries
 
 -- the place of a name in a table, with one more name; the first place counts
 abbrev pub entered : Option ℕ → Bool → ℕ → Option ℕ
@@ -26,7 +26,8 @@ abbrev pub place_or : Option ℕ → ℕ → ℕ → ℕ
 place_or None before behind = before + behind
 place_or (Some place) before behind = place
 
--- the table has the first places of the names before, where the places of all names are these, and of those from there on those
+-- the table has the first places of the names before, where the places of all names are these, and
+-- of those from there on those
 pub record HasPlaces (table : List (List ℕ × ℕ)) (before : ℕ) (rest all : List ℕ → ℕ) : Type 0 where
   pub first : (name : List ℕ) → place_or (lookup (same_name name) table) before (rest name) ≡ all name
 

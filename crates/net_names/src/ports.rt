@@ -32,7 +32,8 @@ impl<'a> Model for Ports<'a> {
         HasPortPlaces table.inputs table.outputs table.ports.now (length table.ports.now) × (map lent table.input_ports ≡ inputs_of table.ports.now) };
 }
 
-/// Gives the names of ports their first places, each in the table of its direction. The tables are empty before.
+/// Gives the names of ports their first places, each in the table of its direction. The tables are
+/// empty before.
 fn enter_ports<'a>(
     inputs: &mut Table<'a>,
     outputs: &mut Table<'a>,

@@ -2,7 +2,7 @@
 
 ghost use Rattle.std.specs.Prelude.{◌≡◌, OnErr, OnOk, option_copied};
 ghost use Rattle.std.specs.Map.{lookup};
-ghost use Rattle.net_model.specs.TextNames.{same_name};
+ghost use Rattle.rec_bits.specs.Faults.{same_name};
 ghost use Rattle.net_names.specs.Places.{Enters, item_at};
 
 use indexmap::IndexMap;
@@ -18,11 +18,11 @@ pub struct Table<'a> {
 
 impl<'a> Model for Table<'a> {
     ghost use Rattle.std.specs.Prelude.{ℕ, List};
-    ghost use Rattle.net_names.specs.Places.{pairs_of};
+    ghost use Rattle.net_names.specs.Places.{name_pairs};
 
     ghost Value = { List (List ℕ × ℕ) };
 
-    ghost view = { λ table. pairs_of table.first.entries };
+    ghost view = { λ table. name_pairs table.first.entries };
 }
 
 impl<'a> Table<'a> {

@@ -15,7 +15,7 @@ use Rattle.net_model.specs.declared.units.NetExpr.{NetExpr, Case}
 use Rattle.net_model.specs.Written.{Phrase, case, phrase_of, row_of, rows_of, rest_of, other_of}
 use Rattle.net_model.proofs.Cases.{Row, phrase_Case}
 use Rattle.grammar.specs.Tokens.{Behind, ByWord, IsNumber}
-use Rattle.net_parser.specs.Steps.{HasNoOperator, HasNoNumber, OpensNumber, comma_word, number_word, arms_word, after_list, after_rows, after_arms}
+use Rattle.net_parser.specs.Inner.Steps.{HasNoOperator, HasNoNumber, OpensNumber, comma_word, number_word, arms_word, after_list, after_rows, after_arms}
 use Rattle.grammar.proofs.Tokens.{Shown, begun, there_number, there_behind, there_before, there_word, word_leads}
 use Rattle.net_parser.proofs.Leaves.{there_leaf}
 

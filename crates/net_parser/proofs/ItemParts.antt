@@ -16,7 +16,7 @@ use Rattle.net_model.specs.declared.words.Symbol.{Symbol}
 use Rattle.net_model.specs.declared.words.Symbol.TheVariants.{Semicolon, Comma, In, Out, When}
 use Rattle.net_model.specs.Written.{Phrase, Entry}
 use Rattle.grammar.specs.Tokens.{Behind, Before, ByWord, IsName, BeginsSo}
-use Rattle.net_parser.specs.Steps.{HasNoItem, expr_word, first_word, name_word, when_word, link_word, item_word, after_expr, after_when, after_drivers, after_equations, after_links, after_list, after_items}
+use Rattle.net_parser.specs.Inner.Steps.{HasNoItem, expr_word, first_word, name_word, when_word, link_word, item_word, after_expr, after_when, after_drivers, after_equations, after_links, after_list, after_items}
 use Rattle.grammar.proofs.Tokens.{Shown, begun, there_name, there_number, there_behind, there_before, there_word}
 use Rattle.net_parser.proofs.Expressions.{there_expr}
 

@@ -7,7 +7,7 @@ use Rattle.net_model.specs.Grammar.{Lexed, Word, IsRange, IsBits, LeafBehind, Is
 use Rattle.grammar.specs.declared.words.Word.TheVariants.{Name, Number, Symbol as Shows}
 use Rattle.net_model.specs.declared.words.Symbol.TheVariants.{Dot}
 use Rattle.net_model.specs.Written.{Phrase}
-use Rattle.net_parser.specs.Steps.{dot_word, expr_word, after_field, after_expr}
+use Rattle.net_parser.specs.Inner.Steps.{dot_word, expr_word, after_field, after_expr}
 use Rattle.grammar.proofs.Tokens.{there_number, there_behind, there_word, begun}
 
 pub there_range : There IsRange

@@ -6,7 +6,7 @@ use Rattle.rec_bits.specs.declared.operator.Op1.TheVariants.{Not, Neg}
 use Rattle.rec_bits.specs.declared.operator.Op2.{Op2}
 use Rattle.rec_bits.specs.declared.operator.Op2.TheVariants.{Add, Sub, Mul, And, Or, Xor, Shl, Shr, Sar, Eq, Ltu, Lts}
 use Rattle.lexing.specs.declared.token.Token.{Token}
-use Rattle.lexing.specs.Words.{or_else, lexed_all}
+use Rattle.lexing.specs.Words.{or_word, lexed_all}
 use Rattle.net_model.specs.Grammar.{Lexed, Word}
 use Rattle.grammar.specs.declared.words.Word.TheVariants.{Symbol as Shows, Key as Keyed, Other}
 use Rattle.net_model.specs.declared.words.Key.TheVariants.{Item, Operator as Operates}
@@ -95,14 +95,14 @@ sign_of text =
 
 abbrev pub reserved_of : List ℕ → Word
 reserved_of text =
-    or_else (λ item. Keyed (Item item)) (item_of text) (
-    or_else (λ op. Keyed (Operates (Unary op))) (unary_of text) (
-    or_else (λ op. Keyed (Operates (Binary op))) (binary_of text) (
-    or_else (λ form. Keyed (Operates form)) (form_of text) (
-    or_else Shows (symbol_of text) Other))))
+    or_word (λ item. Keyed (Item item)) (item_of text) (
+    or_word (λ op. Keyed (Operates (Unary op))) (unary_of text) (
+    or_word (λ op. Keyed (Operates (Binary op))) (binary_of text) (
+    or_word (λ form. Keyed (Operates form)) (form_of text) (
+    or_word Shows (symbol_of text) Other))))
 
 abbrev pub sign_word : List ℕ → Word
-sign_word text = or_else Shows (sign_of text) Other
+sign_word text = or_word Shows (sign_of text) Other
 
 -- all tokens of a netlist text, with the words that they are
 abbrev pub net_words : List ℕ → List Token → List Lexed

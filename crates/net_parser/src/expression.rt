@@ -8,7 +8,7 @@ ghost use Rattle.net_model.specs.declared.words.Symbol.TheVariants.{Comma, Right
 ghost use Rattle.net_model.specs.Grammar.{ArmsBehind, IsArms, IsElse, IsExpr, IsOperated, IsPair, IsReading, IsSliced, IsWidened, NumbersBehind, RowBehind, RowsBehind};
 ghost use Rattle.grammar.specs.Tokens.{Before, Behind, ByWord, IsNumber};
 ghost use Rattle.net_model.specs.Written.{other_of, phrase_of, row_of};
-ghost use Rattle.net_parser.specs.Steps.{HasNoNumber, HasNoOperator, OpensNumber, OpensOperator, after_arms, after_expr, after_list, after_rows, expr_word};
+ghost use Rattle.net_parser.specs.Inner.Steps.{HasNoNumber, HasNoOperator, OpensNumber, OpensOperator, after_arms, after_expr, after_list, after_rows, expr_word};
 
 use crate::leaf::leaf;
 use grammar::{Stop, begins_with, expect, front, name_behind, number_behind, number_between};
@@ -237,7 +237,8 @@ type Arms = (Vec<(Vec<u64>, NetExpr)>, Option<Box<NetExpr>>);
 /// Rows and a rest, of which at least one stands there.
 #[cycle(expr)]
 fn arms(alloc: Global, depth: u8, ts: &[Lexed]) -> Result<(Arms, &[Lexed]), Stop>
-    ensures { Gives (λ x. ((map row_of x.0.0.items, other_of x.0.1), x.1.now)) (ByWord (ArmsBehind (IsExpr depth))) after_arms ts.now result }
+    ensures { Gives (λ x.
+        ((map row_of x.0.0.items, other_of x.0.1), x.1.now)) (ByWord (ArmsBehind (IsExpr depth))) after_arms ts.now result }
 {
     if let Some((number, rest)) = number_at(ts) {
         return rows_behind(alloc, number, depth, rest);
@@ -256,7 +257,8 @@ fn rows_behind(
     depth: u8,
     ts: &[Lexed],
 ) -> Result<(Arms, &[Lexed]), Stop>
-    ensures { Gives (λ x. ((map row_of x.0.0.items, other_of x.0.1), x.1.now)) (ArmsBehind (IsExpr depth) (Number number) 0) after_arms ts.now result }
+    ensures { Gives (λ x.
+        ((map row_of x.0.0.items, other_of x.0.1), x.1.now)) (ArmsBehind (IsExpr depth) (Number number) 0) after_arms ts.now result }
 {
     let (first, rest) = row(alloc, number, depth, ts)?;
     let (rows, rest) = rows(alloc, first, depth, rest)?;

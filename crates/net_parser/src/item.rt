@@ -5,9 +5,9 @@ ghost use Rattle.grammar.specs.Reading.{Gives, never};
 ghost use Rattle.net_model.specs.declared.words.ItemWord.TheVariants.{Bus, Code, Memory as Holds, Module, Net, Part, Register};
 ghost use Rattle.net_model.specs.declared.words.Symbol.TheVariants.{At, Semicolon};
 ghost use Rattle.grammar.specs.Tokens.{Before, Behind, IsName};
-ghost use Rattle.net_model.specs.Grammar.{IsFed, IsItem, IsText, IsWrite, ItemBehind};
+ghost use Rattle.net_model.specs.Grammar.{IsFed, IsItem, IsItems, IsWrite, ItemBehind};
 ghost use Rattle.net_model.specs.Written.{entry_of, phrase_of, when_of};
-ghost use Rattle.net_parser.specs.Steps.{HasNoItem, OpensItem, after_items};
+ghost use Rattle.net_parser.specs.Inner.Steps.{HasNoItem, OpensItem, after_items};
 
 use crate::expression::{enclosed, expr_behind};
 use crate::parts::{
@@ -199,7 +199,7 @@ fn item(alloc: Global, ts: &[Lexed]) -> Result<(Unit, &[Lexed]), Stop>
 
 /// The items at the front, one at least.
 pub fn items(alloc: Global, ts: &[Lexed]) -> Result<(Items<Unit>, &[Lexed]), Stop>
-    ensures { Gives (λ x. (map entry_of x.0, x.1.now)) IsText after_items ts.now result }
+    ensures { Gives (λ x. (map entry_of x.0, x.1.now)) IsItems after_items ts.now result }
 {
     let (first, rest) = item(alloc, ts)?;
     let mut items = Items::new(alloc);

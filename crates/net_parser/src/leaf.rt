@@ -5,9 +5,9 @@ ghost use Rattle.grammar.specs.Reading.{Gives, Maybe, never};
 ghost use Rattle.grammar.specs.declared.words.Word.TheVariants.{Name as IsNamed, Number as IsNumbered};
 ghost use Rattle.net_model.specs.declared.words.Symbol.TheVariants.{Colon, LeftBracket, RightBracket};
 ghost use Rattle.grammar.specs.Tokens.{Before, Behind, IsNumber};
-ghost use Rattle.net_model.specs.Grammar.{IsBits, IsField, IsLeaf, IsRange, LeafBehind, range_of};
+ghost use Rattle.net_model.specs.Grammar.{IsBits, IsField, IsLeaf, IsRange, LeafBehind, slice_ends};
 ghost use Rattle.net_model.specs.Written.{phrase_of};
-ghost use Rattle.net_parser.specs.Steps.{after_expr, after_field, after_range};
+ghost use Rattle.net_parser.specs.Inner.Steps.{after_expr, after_field, after_range};
 
 use grammar::{Stop, begins_with, expect, front, name_behind, number, number_behind};
 use net_model::{Ident, Lexed, NetExpr, Symbol, Word};
@@ -40,7 +40,7 @@ fn low_bit(ts: &[Lexed]) -> Result<(Option<u64>, &[Lexed]), Stop>
 
 /// Both numbers of a bracket.
 fn range_from(high: u64, low: Option<u64>) -> (u64, u64)
-    ensures { result ≡ range_of high low }
+    ensures { result ≡ slice_ends high low }
 {
     match low {
         Some(low) => (high, low),

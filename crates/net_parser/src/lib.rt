@@ -2,8 +2,8 @@
 //!
 //! Promise: `read` answers the one list of items that the bytes say (`found`, `only`: `IsNetText`);
 //! where they say none, the offset is that of the first token such that those before it begin some
-//! text and with it they don't, or the text's length (`fault`: `IsReadFault`). `parse` promises the
-//! same of tokens.
+//! text and with it they don't, or the text's length (`fault`: `IsNetTextFault`). `parse` promises
+//! the same of tokens.
 //!
 //! Invariant: every reader in this crate keeps `Reads` and `Fails` of `grammar` for its production
 //! of `net_model/specs/Grammar`, with the tokens that may go on behind it. `depth` is how many
@@ -17,8 +17,8 @@
 //! - `parts`: parts of items: enables, drivers, bindings, equations, links and ports.
 //! - `item`: items, one reader for each kind.
 //! - `whole`, `text`: all items of a list of tokens, and of bytes.
-//! - `specs/`: `Texts` and `Words` are cited by public contracts, together with the grammar in
-//!   `net_model/specs/Grammar`; `Steps` mirrors the readers, part by part.
+//! - `specs/`: `Texts` and `Words`, cited by public contracts together with the grammar in
+//!   `net_model/specs/Grammar`. `specs/Inner/`: `Steps`, which goes with the readers, part by part.
 //! - `proofs/`: `Leaves`, `Expressions` and `ItemParts` by what is read; `TextFaults` for bytes.
 #![tactic(auto)]
 

@@ -6,7 +6,7 @@ ghost use Rattle.net_model.specs.declared.words.Symbol.TheVariants.{LeftBrace, L
 ghost use Rattle.grammar.specs.Tokens.{Before, Behind, BeginsSo};
 ghost use Rattle.net_model.specs.Grammar.{IsBinding, IsBindings, IsDirection, IsDriver, IsDrivers, IsEquation, IsLinks, IsPort, IsPorts, IsSized, IsWhen};
 ghost use Rattle.net_model.specs.Written.{binding_of, driver_of, phrase_of, when_of};
-ghost use Rattle.net_parser.specs.Steps.{after_drivers, after_equations, after_expr, after_links, after_list, after_when, first_word, name_word};
+ghost use Rattle.net_parser.specs.Inner.Steps.{after_drivers, after_equations, after_expr, after_links, after_list, after_when, first_word, name_word};
 
 use crate::expression::{enclosed, expr, expr_behind};
 use grammar::{Stop, begins_with, expect, front, is_symbol, name, number_behind};

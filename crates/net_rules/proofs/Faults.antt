@@ -7,8 +7,10 @@ use Rattle.net_model.specs.Written.{Entry}
 use Rattle.net_model.specs.NameRules.{duplicates, unknowns}
 use Rattle.net_model.specs.WidthRules.{misfits}
 use Rattle.net_model.specs.DriverRules.{undrivens}
-use Rattle.net_model.specs.LimitRules.{or_else, limit_fault}
-use Rattle.net_model.specs.TextRules.{fault_at, first_fault}
+use Rattle.net_model.specs.LimitRules.{limit_fault}
+use Rattle.rec_bits.specs.Faults.{or_else}
+use Rattle.net_model.specs.TextRules.{first_fault}
+use Rattle.rec_bits.specs.Faults.{fault_at}
 
 abbrev chain : Option ℕ → Option ℕ → Option ℕ → Option ℕ → Option NetFault → Option NetFault
 chain d u m v l = or_else (fault_at Duplicate d) (or_else (fault_at Unknown u) (or_else (fault_at Width m) (or_else (fault_at Driver v) l)))

@@ -7,8 +7,8 @@ use Rattle.net_model.specs.Written.{Phrase}
 use Rattle.net_model.specs.DriverRules.{is_driven}
 use Rattle.net_model.specs.Numbering.{bound, count_if, count_inputs}
 use Rattle.net_names.specs.Places.{inputs_of}
-use Rattle.net_rules.specs.Counts.{count_linked}
-use Rattle.net_rules.specs.Modules.{is_bound}
+use Rattle.net_rules.specs.Inner.Counts.{count_linked}
+use Rattle.net_rules.specs.Inner.Modules.{is_bound}
 
 driven_head : (output : Bool) (links : List (Ident × Phrase)) (port : Port) (inputs : List Port) (rest : Bool) → list_all (is_bound links) inputs ≡ rest
     → list_all (is_bound links) (if output then inputs else port ∷ inputs) ≡ ((output || is_bound links port) && rest)

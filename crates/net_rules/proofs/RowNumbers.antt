@@ -3,7 +3,7 @@ use Rattle.std.proofs.Common.{ℕ, ◌≡◌, ◌+◌, ◌^◌, ◌<◌, ◌≤�
 use Rattle.std.specs.List.{list_any}
 use Rattle.std.proofs.Math.Nat.{pow-le-pow_right}
 use Rattle.std.proofs.lemmas.Bool.{ne_eqb}
-use Rattle.net_model.specs.DriverRules.{are_new, row_numbers}
+use Rattle.net_model.specs.DriverRules.{are_new, case_numbers}
 use Rattle.net_model.proofs.Cases.{Row}
 use Rattle.net_rules.proofs.Rows.{seen_rows, rows_item}
 
@@ -29,19 +29,19 @@ are_new_append before (x ∷ xs) ys =
     and_assoc false b c = refl
 
 module _ (rows : List Row) (i : ℕ) (x : Row) (there : i < length rows) (is : x ≡ get_or rows i x) (before : List ℕ) where
-  parts : row_numbers (seen_rows (drop i rows)) ≡ x.0.items ++ row_numbers (seen_rows (drop (i + 1) rows))
-  parts = ap row_numbers (rows_item rows i x there is)
+  parts : case_numbers (seen_rows (drop i rows)) ≡ x.0.items ++ case_numbers (seen_rows (drop (i + 1) rows))
+  parts = ap case_numbers (rows_item rows i x there is)
 
-  split : are_new before (row_numbers (seen_rows (drop i rows))) ≡ (are_new before x.0.items && are_new (before ++ x.0.items) (row_numbers (seen_rows (drop (i + 1) rows))))
-  split = ap (are_new before) parts ∙ are_new_append before x.0.items (row_numbers (seen_rows (drop (i + 1) rows)))
+  split : are_new before (case_numbers (seen_rows (drop i rows))) ≡ (are_new before x.0.items && are_new (before ++ x.0.items) (case_numbers (seen_rows (drop (i + 1) rows))))
+  split = ap (are_new before) parts ∙ are_new_append before x.0.items (case_numbers (seen_rows (drop (i + 1) rows)))
 
   -- a number that is there already
-  pub numbers_stop : (all : Bool) → are_new before x.0.items ≡ false → are_new before (row_numbers (seen_rows (drop i rows))) ≡ all → all ≡ false
-  numbers_stop all old h = sym h ∙ split ∙ ap (λ b. b && are_new (before ++ x.0.items) (row_numbers (seen_rows (drop (i + 1) rows)))) old
+  pub numbers_stop : (all : Bool) → are_new before x.0.items ≡ false → are_new before (case_numbers (seen_rows (drop i rows))) ≡ all → all ≡ false
+  numbers_stop all old h = sym h ∙ split ∙ ap (λ b. b && are_new (before ++ x.0.items) (case_numbers (seen_rows (drop (i + 1) rows)))) old
 
   -- and one row further
-  pub numbers_next : (all : Bool) → are_new before x.0.items ≡ true → are_new before (row_numbers (seen_rows (drop i rows))) ≡ all → are_new (before ++ x.0.items) (row_numbers (seen_rows (drop (i + 1) rows))) ≡ all
-  numbers_next all new h = sym (ap (λ b. b && are_new (before ++ x.0.items) (row_numbers (seen_rows (drop (i + 1) rows)))) new) ∙ sym split ∙ h
+  pub numbers_next : (all : Bool) → are_new before x.0.items ≡ true → are_new before (case_numbers (seen_rows (drop i rows))) ≡ all → are_new (before ++ x.0.items) (case_numbers (seen_rows (drop (i + 1) rows))) ≡ all
+  numbers_next all new h = sym (ap (λ b. b && are_new (before ++ x.0.items) (case_numbers (seen_rows (drop (i + 1) rows)))) new) ∙ sym split ∙ h
 
-  pub numbers_so_far : (all : List ℕ) → before ++ row_numbers (seen_rows (drop i rows)) ≡ all → before ++ x.0.items ++ row_numbers (seen_rows (drop (i + 1) rows)) ≡ all
-  numbers_so_far all h = append_assoc before x.0.items (row_numbers (seen_rows (drop (i + 1) rows))) ∙ ap (λ ns. before ++ ns) (sym parts) ∙ h
+  pub numbers_so_far : (all : List ℕ) → before ++ case_numbers (seen_rows (drop i rows)) ≡ all → before ++ x.0.items ++ case_numbers (seen_rows (drop (i + 1) rows)) ≡ all
+  numbers_so_far all h = append_assoc before x.0.items (case_numbers (seen_rows (drop (i + 1) rows))) ∙ ap (λ ns. before ++ ns) (sym parts) ∙ h

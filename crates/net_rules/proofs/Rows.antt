@@ -6,7 +6,7 @@ use Rattle.rec_bits.proofs.Faults.{drop_item}
 use Rattle.net_model.specs.declared.units.NetExpr.{NetExpr, Case}
 use Rattle.net_model.specs.Written.{case, row, Rows, phrase_of, row_of, rows_of, rest_of, other_of}
 use Rattle.net_model.proofs.Cases.{Row, phrase_Case}
-use Rattle.net_model.specs.Nodes.{nodes, nodes_rows, nodes_rest}
+use Rattle.net_model.specs.Inner.Nodes.{nodes, nodes_rows, nodes_rest}
 
 abbrev pub seen_rows : List Row → Rows
 seen_rows rows = rows_of (map row_of rows)

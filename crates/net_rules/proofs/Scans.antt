@@ -6,10 +6,11 @@ use Rattle.rec_bits.proofs.Faults.{drop_item, least_append, sooner_assoc}
 use Rattle.grammar.specs.declared.words.Ident.{Ident}
 use Rattle.net_model.specs.declared.units.Unit.{Unit as Item}
 use Rattle.net_model.specs.Written.{entry_of}
-use Rattle.net_model.specs.TextNames.{own_name, same_name}
+use Rattle.net_model.specs.TextNames.{own_name}
+use Rattle.rec_bits.specs.Faults.{same_name}
 use Rattle.net_model.specs.NameRules.{is_among, repeated}
 use Rattle.net_names.specs.Places.{entered, Enters}
-use Rattle.net_rules.specs.Scans.{HasSeen, Repeating}
+use Rattle.net_rules.specs.Inner.Scans.{HasSeen, Repeating}
 
 -- ---- repeated names
 

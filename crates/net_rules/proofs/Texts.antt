@@ -4,7 +4,7 @@ use Rattle.std.proofs.lemmas.Option.{slice_get-map}
 use Rattle.net_model.specs.declared.units.Unit.{Unit as Item}
 use Rattle.net_model.specs.Written.{entry_of}
 use Rattle.net_model.specs.TextWidths.{ports_of}
-use Rattle.net_rules.specs.Modules.{item_ports, ports_or_none}
+use Rattle.net_rules.specs.Inner.Modules.{item_ports, ports_or_none}
 
 of_item : (item : Option Item) → ports_or_none (option_map item_ports item) ≡ ports_of (option_map entry_of item)
 of_item None = refl

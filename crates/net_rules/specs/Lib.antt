@@ -1,6 +1,1 @@
-pub mod Modules
-pub mod Scopes
-pub mod Scans
-pub mod Widths
-pub mod Cases
-pub mod Counts
+pub mod Inner

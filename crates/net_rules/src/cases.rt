@@ -1,10 +1,10 @@
 //! N4 in expressions: cases with a number twice, or without a rest though a number is missing.
 
 ghost use Rattle.std.specs.Prelude.{◌≡◌, IfOk, map};
-ghost use Rattle.net_model.specs.DriverRules.{are_all, covers, covers_rest, covers_rows, is_covered, row_numbers};
+ghost use Rattle.net_model.specs.DriverRules.{are_all, covers, covers_rest, covers_rows, is_covered, case_numbers};
 ghost use Rattle.net_model.specs.Written.{other_of, phrase_of, rest_of, row_of, rows_of};
-ghost use Rattle.net_rules.specs.Cases.{is_all};
-ghost use Rattle.net_rules.specs.Scopes.{scope_of};
+ghost use Rattle.net_rules.specs.Inner.Cases.{is_all};
+ghost use Rattle.net_rules.specs.Inner.Scopes.{scope_of};
 
 use crate::numbers::{Numbers, add_all};
 use crate::text::Place;

@@ -7,7 +7,7 @@ ghost use Rattle.net_model.specs.TextNames.{item_named};
 ghost use Rattle.net_model.specs.TextWidths.{ports_of};
 ghost use Rattle.net_model.specs.Written.{binding_of, driver_of, entry_of, other_of, phrase_of, rest_of, row_of, rows_of, when_of};
 ghost use Rattle.net_names.specs.Places.{lent};
-ghost use Rattle.net_rules.specs.Counts.{count_linked, count_part_of, told_module};
+ghost use Rattle.net_rules.specs.Inner.Counts.{count_linked, count_part_of, capped_module};
 
 use crate::text::Text;
 use net_model::{Ident, NetExpr, Port, Unit};
@@ -134,7 +134,7 @@ fn count_equations(equations: &Bindings, ports: &[Port]) -> u64
 
 // The nets that a part has for the outputs of its module.
 fn count_module(alloc: Global, unit: &Unit) -> Result<u64, NoMemory>
-    ensures { IfOk result (λ n. n ≡ told_module unit.now) }
+    ensures { IfOk result (λ n. n ≡ capped_module unit.now) }
 {
     match unit {
         Unit::Module {
@@ -151,7 +151,7 @@ fn count_module(alloc: Global, unit: &Unit) -> Result<u64, NoMemory>
 }
 
 fn count_modules(alloc: Global, units: &[Unit]) -> Result<Items<u64>, NoMemory>
-    ensures { IfOk result (λ counts. counts ≡ map told_module units.now) }
+    ensures { IfOk result (λ counts. counts ≡ map capped_module units.now) }
 {
     let mut counts = Items::new(alloc);
     for unit in units {
@@ -169,7 +169,7 @@ fn count_part(
     owner: &Ident,
     links: &[(Ident, NetExpr)],
 ) -> Result<u64, NoMemory>
-    requires { modules.now ≡ map told_module text.now }
+    requires { modules.now ≡ map capped_module text.now }
     ensures { IfOk result (λ n. n ≡ capped (count_part_of (map entry_of text.now) owner.now (map binding_of links.now))) }
 {
     let links = Bindings::new(alloc, links)?;
@@ -186,7 +186,7 @@ fn count_item(
     modules: &Items<u64>,
     unit: &Unit,
 ) -> Result<u64, NoMemory>
-    requires { modules.now ≡ map told_module text.now }
+    requires { modules.now ≡ map capped_module text.now }
     ensures { IfOk result (λ n. n ≡ capped (count_item (map entry_of text.now) (entry_of unit.now))) }
 {
     match unit {

@@ -8,8 +8,8 @@ ghost use Rattle.net_model.specs.TextNames.{item_named, in_module, in_text};
 ghost use Rattle.net_model.specs.TextWidths.{ports_of};
 ghost use Rattle.net_model.specs.Written.{binding_of, driver_of, entry_of, phrase_of, when_of};
 ghost use Rattle.net_names.specs.Places.{lent};
-ghost use Rattle.net_rules.specs.Modules.{is_bound, item_ports};
-ghost use Rattle.net_rules.specs.Scopes.{scope_of};
+ghost use Rattle.net_rules.specs.Inner.Modules.{is_bound, item_ports};
+ghost use Rattle.net_rules.specs.Inner.Scopes.{scope_of};
 
 use crate::cases::covers;
 use crate::text::{Place, Text};
@@ -54,7 +54,8 @@ fn are_bound(links: &Bindings, inputs: &[&Port]) -> bool
     true
 }
 
-// Whether the inputs of a module are driven. Its outputs, which may be many for each of many parts, aren't looked at.
+// Whether the inputs of a module are driven. Its outputs, which may be many for each of many parts,
+// aren't looked at.
 fn are_inputs_driven(text: &Text, owner: &Name, links: &Bindings) -> bool
     ensures { result ≡
         list_all (is_driven false (map binding_of links.now)) (ports_of (item_named (map entry_of text.now) owner.now)) }
@@ -96,7 +97,8 @@ fn drives_inputs(
     owner: &Name,
     links: &[(Ident, NetExpr)],
 ) -> Result<bool, NoMemory>
-    ensures { IfOk result (λ once. once ≡ drives_once false (ports_of (item_named (map entry_of text.now) owner.now)) (map binding_of links.now)) }
+    ensures { IfOk result (λ once.
+        once ≡ drives_once false (ports_of (item_named (map entry_of text.now) owner.now)) (map binding_of links.now)) }
 {
     let new = are_names_new(alloc, links)?;
     let table = Bindings::new(alloc, links)?;
@@ -159,7 +161,8 @@ fn covers_register(
     input: &NetExpr,
     when: &Option<NetExpr>,
 ) -> Result<bool, NoMemory>
-    ensures { IfOk result (λ covered. covered ≡ (covers (scope_of place.now) (phrase_of input.now) && covers_if (scope_of place.now) (when_of when.now))) }
+    ensures { IfOk result (λ covered.
+        covered ≡ (covers (scope_of place.now) (phrase_of input.now) && covers_if (scope_of place.now) (when_of when.now))) }
 {
     let input = covers(alloc, place, input)?;
     Ok(input & covers_if(alloc, place, when)?)
@@ -172,7 +175,8 @@ fn covers_memory(
     addr: &NetExpr,
     when: &Option<NetExpr>,
 ) -> Result<bool, NoMemory>
-    ensures { IfOk result (λ covered. covered ≡ (covers_driver (scope_of place.now) (driver_of (value.now, addr.now)) && covers_if (scope_of place.now) (when_of when.now))) }
+    ensures { IfOk result (λ covered.
+        covered ≡ (covers_driver (scope_of place.now) (driver_of (value.now, addr.now)) && covers_if (scope_of place.now) (when_of when.now))) }
 {
     let written = covers_two(alloc, place, value, addr)?;
     Ok(written & covers_if(alloc, place, when)?)
@@ -184,7 +188,8 @@ fn covers_module(
     ports: &Ports,
     equations: &[(Ident, NetExpr)],
 ) -> Result<bool, NoMemory>
-    ensures { IfOk result (λ covered. covered ≡ (drives_once true ports.now (map binding_of equations.now) && list_all (covers_binding (in_module ports.now)) (map binding_of equations.now))) }
+    ensures { IfOk result (λ covered.
+        covered ≡ (drives_once true ports.now (map binding_of equations.now) && list_all (covers_binding (in_module ports.now)) (map binding_of equations.now))) }
 {
     let once = drives_outputs(alloc, ports.as_slice(), equations)?;
     Ok(once & covers_bindings(alloc, &Place::Ports(ports), equations)?)
@@ -197,7 +202,8 @@ fn covers_part(
     owner: &Name,
     links: &[(Ident, NetExpr)],
 ) -> Result<bool, NoMemory>
-    ensures { IfOk result (λ covered. covered ≡ (drives_once false (ports_of (item_named (map entry_of text.now) owner.now)) (map binding_of links.now) && list_all (covers_binding (in_text (map entry_of text.now))) (map binding_of links.now))) }
+    ensures { IfOk result (λ covered.
+        covered ≡ (drives_once false (ports_of (item_named (map entry_of text.now) owner.now)) (map binding_of links.now) && list_all (covers_binding (in_text (map entry_of text.now))) (map binding_of links.now))) }
 {
     let once = drives_inputs(alloc, text, owner, links)?;
     Ok(once & covers_bindings(alloc, &Place::Items(text), links)?)
@@ -226,7 +232,8 @@ fn is_driven_item(alloc: Global, text: &Text, ports: &Ports, unit: &Unit) -> Res
     }
 }
 
-/// The least offset of an item in which an input, an output or a number of a case has no expression, or two.
+/// The least offset of an item in which an input, an output or a number of a case has no
+/// expression, or two.
 pub(crate) fn first_undriven(
     alloc: Global,
     text: &Text,

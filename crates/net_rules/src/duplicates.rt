@@ -4,7 +4,8 @@ ghost use Rattle.std.specs.Prelude.{◌≡◌, IfOk, OnOk, [], map, is_some};
 ghost use Rattle.std.specs.Map.{lookup};
 ghost use Rattle.rec_bits.specs.Faults.{broken, gather, least};
 ghost use Rattle.net_model.specs.NameRules.{duplicates, port_name, repeated, repeated_ports};
-ghost use Rattle.net_model.specs.TextNames.{own_name, same_name};
+ghost use Rattle.net_model.specs.TextNames.{own_name};
+ghost use Rattle.rec_bits.specs.Faults.{same_name};
 ghost use Rattle.net_model.specs.Written.{entry_of};
 ghost use Rattle.net_names.specs.Places.{Enters};
 

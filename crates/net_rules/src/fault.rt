@@ -17,8 +17,8 @@ use net_names::Names;
 use rec_bits::NoMemory;
 use std::alloc::Global;
 
-/// The first of the rules N1, N2, N3, N4 and N11 that a text breaks, with the least offset at which it does, or None where the text keeps
-/// them all. The names are those of the text.
+/// The first of the rules N1, N2, N3, N4 and N11 that a text breaks, with the least offset at which
+/// it does, or None where the text keeps them all. The names are those of the text.
 pub fn first_fault(
     alloc: Global,
     units: &Units,

@@ -20,8 +20,8 @@
 //! - `drivers`: N4 in items: inputs and outputs without an expression, or with two.
 //! - `count`: how many nets the items give.
 //! - `limits`: N11, by these counts.
-//! - `specs/`: no public contract cites a file here, since the rules stand in `net_model/specs`;
-//!   `Scans`, `Scopes`, `Modules`, `Widths`, `Cases` and `Counts` mirror the scans.
+//! - `specs/Inner/`: `Scans`, `Scopes`, `Modules`, `Widths`, `Cases` and `Counts`, which go with
+//!   the scans. Public contracts cite no file here, since the rules stand in `net_model/specs`.
 //! - `proofs/`: `Faults` for the order of the rules, `Scans` for one item further, and for the rest
 //!   what the scans look at: `Texts`, `Rows`, `RowNumbers`, `Inputs`, `Bits`, `Counts`.
 #![tactic(auto)]

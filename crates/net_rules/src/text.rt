@@ -3,7 +3,7 @@
 ghost use Rattle.std.specs.Prelude.{◌≡◌, ◌<◌, IfOk, length, map, slice_get, option_copied, option_map, true, false};
 ghost use Rattle.net_model.specs.TextNames.{item_named, place_named, port_named};
 ghost use Rattle.net_model.specs.TextWidths.{ports_of};
-ghost use Rattle.net_rules.specs.Modules.{item_ports, ports_or_none};
+ghost use Rattle.net_rules.specs.Inner.Modules.{item_ports, ports_or_none};
 ghost use Rattle.net_model.specs.Written.{entry_of};
 
 use net_model::{Port, Unit, Units};
@@ -12,7 +12,8 @@ use rec_bits::{Items, Name, NoMemory};
 use std::alloc::Global;
 use std::marker::Model;
 
-/// The items of a text and the ports of its modules, found by their names. Contracts see it as the list of the items.
+/// The items of a text and the ports of its modules, found by their names. Contracts see it as the
+/// list of the items.
 #[derive(Drop)]
 pub(crate) struct Text<'a> {
     names: &'a Names<'a>,
@@ -24,7 +25,7 @@ impl<'a> Model for Text<'a> {
     ghost use Rattle.std.specs.Coded.{codes};
     ghost use Rattle.net_model.specs.contracts.units.NetExpr as e;
     ghost use Rattle.net_model.specs.declared.units.Unit.{Unit as Item};
-    ghost use Rattle.net_rules.specs.Modules.{item_ports};
+    ghost use Rattle.net_rules.specs.Inner.Modules.{item_ports};
 
     ghost Value = { List Item };
 

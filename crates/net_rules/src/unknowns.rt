@@ -6,8 +6,8 @@ ghost use Rattle.net_model.specs.NameRules.{has_value, is_register, is_memory, i
 ghost use Rattle.net_model.specs.TextNames.{item_named, in_module, in_text};
 ghost use Rattle.net_model.specs.TextWidths.{ports_of};
 ghost use Rattle.net_model.specs.Written.{binding_of, driver_of, entry_of, other_of, phrase_of, rest_of, row_of, rows_of, when_of};
-ghost use Rattle.net_rules.specs.Modules.{item_ports};
-ghost use Rattle.net_rules.specs.Scopes.{scope_of};
+ghost use Rattle.net_rules.specs.Inner.Modules.{item_ports};
+ghost use Rattle.net_rules.specs.Inner.Scopes.{scope_of};
 
 use crate::text::{Place, Text};
 use net_model::{Ident, NetExpr, Unit};

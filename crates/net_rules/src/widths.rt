@@ -7,9 +7,9 @@ ghost use Rattle.net_model.specs.TextNames.{item_named, in_module, in_text, port
 ghost use Rattle.net_model.specs.TextWidths.{bits_of, extended, is_below, is_width, joined_width, memory_of, memory_widths, named_width, numbers_fit, paired, port_width, ports_of, read_width, row_seen, seen_first, seen_more, seen_rest, seen_rows, seen_width, sliced, value_width, wide};
 ghost use Rattle.net_model.specs.WidthRules.{binding_feeds, driver_feeds, enables, feeds, feeds_port, has_width, misfit, misfits, port_keeps, widths_fit};
 ghost use Rattle.net_model.specs.Written.{binding_of, driver_of, entry_of, other_of, phrase_of, rest_of, row_of, rows_of, when_of};
-ghost use Rattle.net_rules.specs.Modules.{item_ports};
-ghost use Rattle.net_rules.specs.Scopes.{scope_of};
-ghost use Rattle.net_rules.specs.Widths.{seen_of, widths_of};
+ghost use Rattle.net_rules.specs.Inner.Modules.{item_ports};
+ghost use Rattle.net_rules.specs.Inner.Scopes.{scope_of};
+ghost use Rattle.net_rules.specs.Inner.Widths.{seen_of, widths_of};
 
 use crate::text::{Place, Text};
 use net_model::{Ident, NetExpr, Port, Unit};

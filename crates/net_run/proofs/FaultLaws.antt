@@ -12,7 +12,8 @@ use Rattle.code_model.specs.ImageFits.{CodeFits, limits_of}
 use Rattle.code_model.specs.ImageLines.{IsImageText}
 use Rattle.net_run.proofs.LimitLaws.{words_fit}
 use Rattle.net_model.specs.MemoryText.{IsMemoryText}
-use Rattle.net_run.specs.Runs.{IsLoaded, IsImageFile, IsNetRead, ShowsState, IsEndText, IsEndFault, IsRunFault}
+use Rattle.net_run.specs.Runs.{IsLoaded, IsImageFile, IsNetRead, ShowsState, IsRunFault}
+use Rattle.net_run.specs.Inner.Runs.{IsEndText, IsEndFault}
 use Rattle.net_run.specs.declared.machine.RunFault.{RunFault}
 use Rattle.net_run.specs.declared.machine.RunFault.TheVariants.{NetText, Net, ImageText, MemText, Clash, Memory}
 

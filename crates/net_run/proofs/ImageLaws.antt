@@ -6,10 +6,11 @@ use Rattle.std.proofs.lemmas.Bool.{cases_lt}
 use Rattle.std.proofs.lemmas.List.{append-nil}
 use Rattle.code_model.specs.declared.image.Image.{Image}
 use Rattle.code_model.specs.declared.limits.Limits.{Limits}
-use Rattle.code_model.specs.ImageLines.{IsImageText, IsFault}
+use Rattle.code_model.specs.ImageLines.{IsImageText, IsLineFault}
 use Rattle.image_text.proofs.Whole.{Narrow, text_is_read}
 
--- of two ways to cut a list, what the shorter front lacks of the longer one stands at the front of its rest
+-- of two ways to cut a list, what the shorter front lacks of the longer one stands at the front of
+-- its rest
 pub cut : {A : Type 0} (f r g s : List A) → f ++ r ≡ g ++ s → length f ≤ length g → (m : List A) × (g ≡ f ++ m) × (r ≡ m ++ s)
 cut [] r g s e le = (g, refl, e)
 cut (x ∷ f) r [] s e le = absurd (omega arith)
@@ -21,7 +22,7 @@ cut (x ∷ f) r (y ∷ g) s e le =
 
 module _ (limits : Limits) (bytes : List ℕ) where
   -- a fault isn't behind another one
-  not_behind : (a b : ℕ) (p : IsFault limits bytes a) (q : IsFault limits bytes b) → length p.front < length q.front → ⊥
+  not_behind : (a b : ℕ) (p : IsLineFault limits bytes a) (q : IsLineFault limits bytes b) → length p.front < length q.front → ⊥
   not_behind a b p q lt =
       let m = cut p.front p.rest q.front q.rest (sym p.lines ∙ q.lines) (omega arith) in
       begins m.0 m.1 m.2 (omega (arith, lt, ap length m.1))
@@ -33,7 +34,7 @@ module _ (limits : Limits) (bytes : List ℕ) where
           p.next line (ap (λ (ls : List (List ℕ)). slice_get ls 0) rest)
           (m ++ b.0, b.1, sym (append_assoc (p.front ++ (line ∷ [])) m b.0) ∙ (ap (λ (ls : List (List ℕ)). ls ++ b.0) (append_assoc p.front (line ∷ []) m ∙ sym same) ∙ b.2), b.3)
 
-  same_front : (a b : ℕ) (p : IsFault limits bytes a) (q : IsFault limits bytes b) → length p.front ≡ length q.front → a ≡ b
+  same_front : (a b : ℕ) (p : IsLineFault limits bytes a) (q : IsLineFault limits bytes b) → length p.front ≡ length q.front → a ≡ b
   same_front a b p q same =
       let m = cut p.front p.rest q.front q.rest (sym p.lines ∙ q.lines) (omega arith) in
       sym p.place ∙ (ap (λ (ls : List (List ℕ)). length (concat ls)) (fronts m.0 m.1 (omega (arith, same, ap length m.1, length-append p.front m.0))) ∙ q.place)
@@ -42,7 +43,7 @@ module _ (limits : Limits) (bytes : List ℕ) where
       fronts [] e none = sym (e ∙ append-nil p.front)
       fronts (line ∷ m) e none = absurd (omega arith)
 
-  pub one_fault : (a b : ℕ) → IsFault limits bytes a → IsFault limits bytes b → a ≡ b
+  pub one_fault : (a b : ℕ) → IsLineFault limits bytes a → IsLineFault limits bytes b → a ≡ b
   one_fault a b p q = elim (cases_lt (length p.front) (length q.front)) [
     | inl lt ↦ absurd (not_behind a b p q lt)
     | inr le ↦ elim (cases_lt (length q.front) (length p.front)) [

@@ -11,7 +11,7 @@ use Rattle.net_run.proofs.ImageLaws.{one_fault, one_image}
 use Rattle.net_run.proofs.LimitLaws.{narrow_of}
 use Rattle.net_run.proofs.StateLaws.{no_state_fault, one_state, one_state_fault}
 use Rattle.code_model.specs.ImageFits.{limits_of}
-use Rattle.code_model.specs.ImageLines.{IsImageText, IsFault}
+use Rattle.code_model.specs.ImageLines.{IsImageText, IsLineFault}
 
 -- bytes say one list of items
 one_list : (net : List ℕ) (e f : List Entry) → IsNetFile net e → IsNetFile net f → f ≡ e
@@ -21,11 +21,11 @@ module _ (net image : List ℕ) where
   pub one_image_fault : (a b : ℕ) → IsNoImageFile net image a → IsNoImageFile net image b → a ≡ b
   one_image_fault a b p q =
       one_fault (limits_of (netlist_of p.entries)) image a b p.none
-      (subst (λ e. IsFault (limits_of (netlist_of e)) image b) (one_list net p.entries q.entries p.net_file q.net_file) q.none)
+      (subst (λ e. IsLineFault (limits_of (netlist_of e)) image b) (one_list net p.entries q.entries p.net_file q.net_file) q.none)
 
   pub no_image_fault : (at : ℕ) → IsImageFile net image → IsNoImageFile net image at → ⊥
   no_image_fault at p q =
-      let fault : IsFault (limits_of (netlist_of p.entries)) image at = subst (λ e. IsFault (limits_of (netlist_of e)) image at) (one_list net p.entries q.entries p.net_file q.net_file) q.none in
+      let fault : IsLineFault (limits_of (netlist_of p.entries)) image at = subst (λ e. IsLineFault (limits_of (netlist_of e)) image at) (one_list net p.entries q.entries p.net_file q.net_file) q.none in
       fault.whole p.said p.image_text
 
 pub one_memory_fault : (net memory : List ℕ) (a b : ℕ) → IsNoMemoryFile net memory a → IsNoMemoryFile net memory b → a ≡ b

@@ -8,13 +8,13 @@ use Rattle.text_lines.specs.Lines.{lines_of}
 use Rattle.net_model.specs.declared.hardware.Netlist.{Netlist}
 use Rattle.net_model.specs.declared.states.State.{State}
 use Rattle.net_model.specs.CheckedRules.{KeepsRules}
-use Rattle.net_model.specs.MemoryText.{blank, Leads, AllLead, SetsNothing, IsMemoryText, IsMemoryFault}
-use Rattle.state_text.specs.Settings.{with_setting}
+use Rattle.net_model.specs.MemoryText.{blank, SetsLine, AllLead, SetsNothing, IsMemoryText, IsMemoryFault}
+use Rattle.state_text.specs.Inner.Settings.{with_setting}
 use Rattle.state_text.proofs.Told.{leads_told}
 use Rattle.net_run.proofs.ImageLaws.{cut}
 
 module _ (netlist : Netlist) where
-  no_lead : (s t : State) (line : List ℕ) → SetsNothing netlist line → Leads netlist s line t → ⊥
+  no_lead : (s t : State) (line : List ℕ) → SetsNothing netlist line → SetsLine netlist s line t → ⊥
   no_lead s t line none (inl (id, value, h, e)) = none.no_register id value h
   no_lead s t line none (inr (address, value, h, e)) = none.no_cell address value h
 
@@ -24,7 +24,7 @@ module _ (netlist : Netlist) where
   all_set s (first ∷ before) line behind t (next, leads, more) none = all_set next before line behind t more none
 
   -- a line leads to one state
-  one_lead : (order : List ℕ) → KeepsRules netlist order → (s t u : State) (line : List ℕ) → Leads netlist s line t → Leads netlist s line u → t ≡ u
+  one_lead : (order : List ℕ) → KeepsRules netlist order → (s t u : State) (line : List ℕ) → SetsLine netlist s line t → SetsLine netlist s line u → t ≡ u
   one_lead order rules s t u line p q =
       let a = leads_told netlist order rules s line t p in
       let b = leads_told netlist order rules s line u q in

@@ -10,8 +10,8 @@
 //!
 //! - `clocks`: so many clocks, or the first clash.
 //! - `machine`: from the three texts to the simulator, `run`, and why no state was reached.
-//! - `specs/`: of `Runs` public contracts cite what a run shows and when each refusal comes; its
-//!   definitions on what was read of a part serve the proof.
+//! - `specs/`: `Runs`, what a run shows and when each refusal comes, cited by public contracts.
+//!   `specs/Inner/`: `Runs`, what was read of a part, for the proof.
 //! - `proofs/`: `RunLaws`: the answers exclude each other; `FaultLaws`, `ImageLaws`, `StateLaws`: a
 //!   fault of a text is at one place; `ClockLemmas` and `LimitLaws`.
 #![tactic(auto)]

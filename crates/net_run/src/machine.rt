@@ -7,9 +7,10 @@ ghost use Rattle.net_model.specs.Widths.{IsState, WordFits};
 ghost use Rattle.code_model.specs.Places.{words_of};
 ghost use Rattle.code_model.specs.ImageFits.{limits_of};
 ghost use Rattle.code_model.specs.ImageLines.{IsImageText};
-ghost use Rattle.state_text.specs.Settings.{IsStart};
+ghost use Rattle.state_text.specs.Settings.{IsStartState};
 ghost use Rattle.net_model.specs.MemoryText.{IsMemoryText};
-ghost use Rattle.net_run.specs.Runs.{AreImageWords, IsEndFault, IsEndText, IsImageFault, IsNetFault, IsNetRead, IsRunFault, IsMemoryFaultOf, ShowsState, image_fault, memory_fault};
+ghost use Rattle.net_run.specs.Runs.{AreImageWords, IsNetRead, IsRunFault, ShowsState};
+ghost use Rattle.net_run.specs.Inner.Runs.{IsEndFault, IsEndText, IsImageFault, IsNetFault, IsMemoryFaultOf, image_fault, memory_fault};
 ghost use Rattle.net_run.specs.declared.machine.RunFault.{RunFault};
 
 use crate::clocks::{Clash, clock_all};
@@ -32,7 +33,8 @@ pub enum RunFault {
     ImageText(u64),
     /// The third bytes are no memory text for the netlist; the offset of the line at fault.
     MemText(u64),
-    /// Two drivers of a bus are enabled in this cycle, and in none before. The bus is told by its net, and by the offset of its name.
+    /// Two drivers of a bus are enabled in this cycle, and in none before. The bus is told by its
+    /// net, and by the offset of its name.
     Clash { cycle: u64, bus: u32, at: u64 },
     /// Want of memory.
     Memory,
@@ -50,7 +52,7 @@ impl From<NetRefusal> for RunFault {
     ghost from_gives = { λ refusal fault. fault ≡ net_fault refusal };
 
     ghost use Rattle.std.specs.Prelude.{◌≡◌};
-    ghost use Rattle.net_run.specs.Runs.{net_fault};
+    ghost use Rattle.net_run.specs.Inner.Runs.{net_fault};
 
     fn from(refusal: NetRefusal) -> RunFault {
         match refusal {
@@ -105,7 +107,7 @@ fn image_of(alloc: Global, bytes: &[u8], checked: &Checked) -> Result<Image, Run
 fn start_of(alloc: Global, bytes: &[u8], checked: &Checked) -> Result<State, RunFault>
     requires { length bytes.now < 2 ^ 32 }
     ensures found { IfOk result (IsMemoryText checked.now.netlist bytes.now) }
-    ensures fits { IfOk result (IsStart checked.now.netlist) }
+    ensures fits { IfOk result (IsStartState checked.now.netlist) }
     ensures refused { IfErr result (IsMemoryFaultOf checked.now.netlist bytes.now) }
 {
     let state = state_text::read_state(alloc, bytes, checked).map_err(memory_fault)?;
@@ -160,9 +162,10 @@ fn clocked(
     }
 }
 
-/// The text of the state after so many clocks of the netlist that `net` is, on the words of the image that `image` is, from the state that
-/// `memory` is. Each refusal comes exactly where it is the first that applies, in the order in which they are listed; a clash exactly where
-/// the clock equation clashes in that cycle, below `clocks`, and in none before.
+/// The text of the state after so many clocks of the netlist that `net` is, on the words of the
+/// image that `image` is, from the state that `memory` is. Each refusal comes exactly where it is
+/// the first that applies, in the order in which they are listed; a clash exactly where the clock
+/// equation clashes in that cycle, below `clocks`, and in none before.
 pub fn run(
     alloc: Global,
     net: &[u8],

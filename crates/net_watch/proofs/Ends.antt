@@ -7,7 +7,7 @@ use Rattle.src_model.specs.Ways.{Passed}
 use Rattle.src_model.specs.Written.{Listing}
 use Rattle.code_model.specs.declared.image.Image.{Image}
 use Rattle.code_model.specs.Places.{words_of}
-use Rattle.code_model.specs.Machine.{Entry, Shows, store_in, IsAt}
+use Rattle.code_model.specs.Machine.{TraceEntry, Shows, store_in, IsAt}
 use Rattle.code_model.specs.Right.{passed_of, ShowsSource, TracesRight}
 use Rattle.checkpoint_text.specs.Texts.{is_end}
 use Rattle.net_watch.specs.Ends.{PassesEnd, ReachesEnd, has_passed_end}
@@ -40,5 +40,5 @@ module _ (netlist : Netlist) (image : Image) (width : ℕ) (listing : Listing) (
       let f : reaches.entries ≡ h.entries = cc in
       record {
         count = length h.entries;
-        ended = ap has_passed_end (sym h.passed) ∙ ap (λ (es : List Entry). has_passed_end (passed_of es)) (sym f) ∙ reaches.ended;
+        ended = ap has_passed_end (sym h.passed) ∙ ap (λ (es : List TraceEntry). has_passed_end (passed_of es)) (sym f) ∙ reaches.ended;
       }

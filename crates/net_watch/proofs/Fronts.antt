@@ -1,4 +1,5 @@
--- What right code shows over any number of clocks: a trace over fewer clocks is the front of one over more.
+-- What right code shows over any number of clocks: a trace over fewer clocks is the front of one
+-- over more.
 use Rattle.std.proofs.Common.{ℕ, zero, suc, ◌≡◌, ◌≤◌, ◌+◌, ◌-◌, ◌*◌, List, [], ◌∷◌, length, take, refl, sym, ◌∙◌, ap, subst, arith, inl, inr, Option, Some, None}
 use Rattle.net_model.specs.declared.hardware.Netlist.{Netlist}
 use Rattle.net_model.specs.declared.states.State.{State}
@@ -12,16 +13,16 @@ use Rattle.src_model.proofs.WayLemmas.{IsWhole, finish_whole, finish_steady, fro
 use Rattle.src_model.proofs.TraceLemmas.{in_whole, in_steady}
 use Rattle.code_model.specs.declared.image.Image.{Image}
 use Rattle.code_model.specs.Places.{words_of}
-use Rattle.code_model.specs.Machine.{Entry, Traced, Shows, Clashes, before, seen, after, mtrace, label_in, store_in, IsAt}
+use Rattle.code_model.specs.Machine.{TraceEntry, Traced, Shows, Clashes, before, with_checkpoint, after_clock, mtrace, label_in, store_in, IsAt}
 use Rattle.code_model.specs.Right.{passed_of, ShowsSource, TracesRight}
 
 -- what is shown is the front of these entries
-record IsFront (x : Traced) (es : List Entry) : Type 0 where
-  entries : List Entry
+record IsFront (x : Traced) (es : List TraceEntry) : Type 0 where
+  entries : List TraceEntry
   shows : x ≡ Shows entries
   front : take (length entries) es ≡ entries
 
-before_front : (e : Entry) (x y : Traced) (es : List Entry) → ((ys : List Entry) → y ≡ Shows ys → IsFront x ys) → before e y ≡ Shows es → IsFront (before e x) es
+before_front : (e : TraceEntry) (x y : Traced) (es : List TraceEntry) → ((ys : List TraceEntry) → y ≡ Shows ys → IsFront x ys) → before e y ≡ Shows es → IsFront (before e x) es
 before_front e x Clashes es h p = absurd (cc)
 before_front e x (Shows ys) es h p =
     let f : IsFront x ys = h ys refl in
@@ -29,10 +30,10 @@ before_front e x (Shows ys) es h p =
     record {
       entries = e ∷ f.entries;
       shows = ap (before e) f.shows;
-      front = subst (λ (zs : List Entry). take (length (e ∷ f.entries)) zs ≡ e ∷ f.entries) q (ap (λ (zs : List Entry). e ∷ zs) f.front);
+      front = subst (λ (zs : List TraceEntry). take (length (e ∷ f.entries)) zs ≡ e ∷ f.entries) q (ap (λ (zs : List TraceEntry). e ∷ zs) f.front);
     }
 
-seen_front : (o : Option Checkpoint) (c : ℕ) (cells : List ℕ) (x y : Traced) (es : List Entry) → ((ys : List Entry) → y ≡ Shows ys → IsFront x ys) → seen o c cells y ≡ Shows es → IsFront (seen o c cells x) es
+seen_front : (o : Option Checkpoint) (c : ℕ) (cells : List ℕ) (x y : Traced) (es : List TraceEntry) → ((ys : List TraceEntry) → y ≡ Shows ys → IsFront x ys) → with_checkpoint o c cells y ≡ Shows es → IsFront (with_checkpoint o c cells x) es
 seen_front None c cells x y es h p = h es p
 seen_front (Some (At tree)) c cells x y es h p = before_front _ x y es h p
 seen_front (Some End) c cells x y es h p =
@@ -40,18 +41,18 @@ seen_front (Some End) c cells x y es h p =
     record {
       entries = record { cycle = c; passed = record { label = End; cells = cells } } ∷ [];
       shows = refl;
-      front = subst (λ (zs : List Entry). take 1 zs ≡ record { cycle = c; passed = record { label = End; cells = cells } } ∷ []) q refl;
+      front = subst (λ (zs : List TraceEntry). take 1 zs ≡ record { cycle = c; passed = record { label = End; cells = cells } } ∷ []) q refl;
     }
 
-after_front : (f g : State → Traced) (o : Outcome) (es : List Entry) → ((t : State) (ys : List Entry) → g t ≡ Shows ys → IsFront (f t) ys) → after g o ≡ Shows es → IsFront (after f o) es
+after_front : (f g : State → Traced) (o : Outcome) (es : List TraceEntry) → ((t : State) (ys : List TraceEntry) → g t ≡ Shows ys → IsFront (f t) ys) → after_clock g o ≡ Shows es → IsFront (after_clock f o) es
 after_front f g (Next t) es h p = h t es p
 after_front f g (Clash bus) es h p = absurd (cc)
 
-none_front : (ys : List Entry) → IsFront (Shows []) ys
+none_front : (ys : List TraceEntry) → IsFront (Shows []) ys
 none_front ys = record { entries = []; shows = refl; front = refl }
 
 module _ (netlist : Netlist) (image : Image) where
-  mtrace_front : (n k N : ℕ) (s : State) (c : ℕ) (es : List Entry) → N ≡ n + k → mtrace netlist image s c N ≡ Shows es → IsFront (mtrace netlist image s c n) es
+  mtrace_front : (n k N : ℕ) (s : State) (c : ℕ) (es : List TraceEntry) → N ≡ n + k → mtrace netlist image s c N ≡ Shows es → IsFront (mtrace netlist image s c n) es
   mtrace_front zero k zero s c es e p = seen_front (label_in netlist image s) c (store_in image s) (Shows []) (Shows []) es (λ ys q. none_front ys) p
   mtrace_front zero k (suc N) s c es e p = seen_front (label_in netlist image s) c (store_in image s) (Shows []) _ es (λ ys q. none_front ys) p
   mtrace_front (suc n) k zero s c es e p = absurd (omega arith)
@@ -62,32 +63,32 @@ module _ (netlist : Netlist) (image : Image) where
 
 -- ---- no more entries than states
 
-few_before : (e : Entry) (x : Traced) (n : ℕ) (es : List Entry) → ((xs : List Entry) → x ≡ Shows xs → length xs ≤ n) → before e x ≡ Shows es → length es ≤ n + 1
+few_before : (e : TraceEntry) (x : Traced) (n : ℕ) (es : List TraceEntry) → ((xs : List TraceEntry) → x ≡ Shows xs → length xs ≤ n) → before e x ≡ Shows es → length es ≤ n + 1
 few_before e Clashes n es h p = absurd (cc)
 few_before e (Shows xs) n es h p =
     let q : e ∷ xs ≡ es = cc in
     let le : length xs ≤ n = h xs refl in
-    subst (λ (zs : List Entry). length zs ≤ n + 1) q (omega arith)
+    subst (λ (zs : List TraceEntry). length zs ≤ n + 1) q (omega arith)
 
-few_seen : (o : Option Checkpoint) (c : ℕ) (cells : List ℕ) (x : Traced) (n : ℕ) (es : List Entry) → ((xs : List Entry) → x ≡ Shows xs → length xs ≤ n) → seen o c cells x ≡ Shows es → length es ≤ n + 1
+few_seen : (o : Option Checkpoint) (c : ℕ) (cells : List ℕ) (x : Traced) (n : ℕ) (es : List TraceEntry) → ((xs : List TraceEntry) → x ≡ Shows xs → length xs ≤ n) → with_checkpoint o c cells x ≡ Shows es → length es ≤ n + 1
 few_seen None c cells x n es h p = let le : length es ≤ n = h es p in omega arith
 few_seen (Some (At tree)) c cells x n es h p = few_before _ x n es h p
 few_seen (Some End) c cells x n es h p =
     let q : record { cycle = c; passed = record { label = End; cells = cells } } ∷ [] ≡ es = cc in
-    subst (λ (zs : List Entry). length zs ≤ n + 1) q (omega arith)
+    subst (λ (zs : List TraceEntry). length zs ≤ n + 1) q (omega arith)
 
-few_after : (f : State → Traced) (o : Outcome) (n : ℕ) (es : List Entry) → ((t : State) (xs : List Entry) → f t ≡ Shows xs → length xs ≤ n) → after f o ≡ Shows es → length es ≤ n
+few_after : (f : State → Traced) (o : Outcome) (n : ℕ) (es : List TraceEntry) → ((t : State) (xs : List TraceEntry) → f t ≡ Shows xs → length xs ≤ n) → after_clock f o ≡ Shows es → length es ≤ n
 few_after f (Next t) n es h p = h t es p
 few_after f (Clash bus) n es h p = absurd (cc)
 
 module _ (netlist : Netlist) (image : Image) where
-  few_entries : (n : ℕ) (s : State) (c : ℕ) (es : List Entry) → mtrace netlist image s c n ≡ Shows es → length es ≤ n + 1
+  few_entries : (n : ℕ) (s : State) (c : ℕ) (es : List TraceEntry) → mtrace netlist image s c n ≡ Shows es → length es ≤ n + 1
   few_entries zero s c es p =
       few_seen (label_in netlist image s) c (store_in image s) (Shows []) 0 es (λ xs q. none_few xs q) p
     where
-      none_few : (xs : List Entry) → Shows [] ≡ Shows xs → length xs ≤ 0
+      none_few : (xs : List TraceEntry) → Shows [] ≡ Shows xs → length xs ≤ 0
       none_few [] q = omega arith
-      none_few (x ∷ xs) q = absurd (let z : (let none : List Entry = [] in none) ≡ x ∷ xs = cc in cc)
+      none_few (x ∷ xs) q = absurd (let z : (let none : List TraceEntry = [] in none) ≡ x ∷ xs = cc in cc)
   few_entries (suc n) s c es p =
       let le : length es ≤ (n + 1) + 1 = few_seen (label_in netlist image s) c (store_in image s) _ (n + 1) es
       (λ xs q. few_after (λ (t : State). mtrace netlist image t (c + 1) n) (clock netlist (words_of image) s) (n + 1) xs (λ t zs z. few_entries n t (c + 1) zs z) q) p in
@@ -95,14 +96,14 @@ module _ (netlist : Netlist) (image : Image) where
 
 -- ---- what is shown over any number of clocks
 
-take_passed : (k : ℕ) (es : List Entry) → passed_of (take k es) ≡ take k (passed_of es)
+take_passed : (k : ℕ) (es : List TraceEntry) → passed_of (take k es) ≡ take k (passed_of es)
 take_passed zero es = refl
 take_passed (suc k) [] = refl
 take_passed (suc k) (e ∷ es) = ap (λ (ps : List Passed). e.passed ∷ ps) (take_passed k es)
 
 -- the entries without their cycles are the first checkpoints of the source
 pub record ShowsFirst (netlist : Netlist) (image : Image) (trace : List ℕ → ℕ → List Passed) (s : State) (n : ℕ) : Type 0 where
-  pub entries : List Entry
+  pub entries : List TraceEntry
   pub traced : mtrace netlist image s 0 n ≡ Shows entries
   pub passed : passed_of entries ≡ trace (store_in image s) (length entries)
 
@@ -142,20 +143,20 @@ module _ (netlist : Netlist) (image : Image) (trace : List ℕ → ℕ → List 
       clocks n l w e = subst (λ (x : ℕ). (n + 1) * x ≡ n + ((n + 1) * l + 1)) (sym e) (omega arith)
 
   -- where there are no words, the first two checkpoints are seen at once, so the first is the end
-  shows_at_once : (s : State) (o : Option Checkpoint) (n : ℕ) (es : List Entry) → label_in netlist image s ≡ o → seen o 0 (store_in image s) (Shows []) ≡ Shows es → take 2 (passed_of es) ≡ trace (store_in image s) 2
+  shows_at_once : (s : State) (o : Option Checkpoint) (n : ℕ) (es : List TraceEntry) → label_in netlist image s ≡ o → with_checkpoint o 0 (store_in image s) (Shows []) ≡ Shows es → take 2 (passed_of es) ≡ trace (store_in image s) 2
       → ShowsFirst netlist image trace s n
   shows_at_once s None n es e p first = absurd (no_more es p (subst (IsWhole 2) (sym first) (enough (store_in image s) 2)))
     where
-      no_more : (es : List Entry) → Shows [] ≡ Shows es → IsWhole 2 (take 2 (passed_of es)) → ⊥
+      no_more : (es : List TraceEntry) → Shows [] ≡ Shows es → IsWhole 2 (take 2 (passed_of es)) → ⊥
       no_more [] p (inl two) = omega arith
       no_more [] p (inr ends) = cc
-      no_more (x ∷ xs) p h = (let z : (let none : List Entry = [] in none) ≡ x ∷ xs = cc in cc)
+      no_more (x ∷ xs) p h = (let z : (let none : List TraceEntry = [] in none) ≡ x ∷ xs = cc in cc)
   shows_at_once s (Some (At tree)) n es e p first = absurd (one_more es p (subst (IsWhole 2) (sym first) (enough (store_in image s) 2)))
     where
-      one_more : (es : List Entry) → Shows (record { cycle = 0; passed = record { label = At tree; cells = store_in image s } } ∷ []) ≡ Shows es → IsWhole 2 (take 2 (passed_of es)) → ⊥
+      one_more : (es : List TraceEntry) → Shows (record { cycle = 0; passed = record { label = At tree; cells = store_in image s } } ∷ []) ≡ Shows es → IsWhole 2 (take 2 (passed_of es)) → ⊥
       one_more es p h =
           let q : record { cycle = 0; passed = record { label = At tree; cells = store_in image s } } ∷ [] ≡ es = cc in
-          not_two (subst (λ (xs : List Entry). IsWhole 2 (take 2 (passed_of xs))) (sym q) h)
+          not_two (subst (λ (xs : List TraceEntry). IsWhole 2 (take 2 (passed_of xs))) (sym q) h)
         where
           not_two : IsWhole 2 (record { label = At tree; cells = store_in image s } ∷ []) → ⊥
           not_two (inl two) = omega arith
@@ -165,7 +166,7 @@ module _ (netlist : Netlist) (image : Image) (trace : List ℕ → ℕ → List 
     traced = ended n;
     passed =
         let q : record { cycle = 0; passed = record { label = End; cells = store_in image s } } ∷ [] ≡ es = cc in
-        let two : record { label = End; cells = store_in image s } ∷ [] ≡ trace (store_in image s) 2 = subst (λ (xs : List Entry). take 2 (passed_of xs) ≡ trace (store_in image s) 2) (sym q) first in
+        let two : record { label = End; cells = store_in image s } ∷ [] ≡ trace (store_in image s) 2 = subst (λ (xs : List TraceEntry). take 2 (passed_of xs) ≡ trace (store_in image s) 2) (sym q) first in
         ap (take 1) two ∙ steady (store_in image s) 1 1 2 refl;
   }
     where

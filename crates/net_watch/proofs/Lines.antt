@@ -4,12 +4,12 @@ use Rattle.std.proofs.lemmas.List.{length-drop, length-take}
 use Rattle.src_model.specs.declared.checkpoint.Checkpoint.{Checkpoint}
 use Rattle.src_model.specs.declared.program.Var.{Var as Declared}
 use Rattle.src_model.specs.Meaning.{cell_count}
-use Rattle.checkpoint_text.specs.Rooms.{LabelFits, EntryFits}
-use Rattle.checkpoint_text.specs.Texts.{entry_of, store_from}
+use Rattle.checkpoint_text.specs.Rooms.{CheckpointFits, EntryFits}
+use Rattle.checkpoint_text.specs.Texts.{trace_entry, store_from}
 use Rattle.checkpoint_text.proofs.Rooms.{taken_fits, left_fits}
 
-pub entry_fits : (vars : List Declared) (cycle : ℕ) (label : Checkpoint) (address : ℕ) (cells : List ℕ) → cycle < 2 ^ 32 → LabelFits label → length cells < 2 ^ 32 → ((k : ℕ) → get_or cells k 0 < 2 ^ 64)
-    → EntryFits (entry_of cycle label (store_from vars address cells))
+pub entry_fits : (vars : List Declared) (cycle : ℕ) (label : Checkpoint) (address : ℕ) (cells : List ℕ) → cycle < 2 ^ 32 → CheckpointFits label → length cells < 2 ^ 32 → ((k : ℕ) → get_or cells k 0 < 2 ^ 64)
+    → EntryFits (trace_entry cycle label (store_from vars address cells))
 entry_fits vars cycle label address cells c l few values = record {
   cycle = c;
   label = l;

@@ -16,16 +16,18 @@ use Rattle.code_model.specs.declared.image.Image.{Image}
 use Rattle.code_model.specs.declared.image.Word.{Word}
 use Rattle.code_model.specs.ImageFits.{CodeFits, IsFitting, limits_in, limits_of}
 use Rattle.code_model.specs.Layout.{variables_of}
-use Rattle.code_model.specs.Machine.{Entry, Shows, Traced, mtrace, store_in}
+use Rattle.code_model.specs.Machine.{TraceEntry, Shows, Traced, mtrace, store_in}
 use Rattle.code_model.specs.Places.{Apart, cells_at, cells_of, places_from, words_of}
 use Rattle.code_model.specs.Right.{IsLaidOut}
 use Rattle.code_model.proofs.Stores.{cells_in_row}
 use Rattle.cycle_sim.specs.Shown.{Shown}
-use Rattle.checkpoint_text.specs.Texts.{store_from, zeros}
-use Rattle.net_watch.specs.Ready.{IsReady}
-use Rattle.net_watch.specs.Scenes.{IsScene}
-use Rattle.net_watch.specs.Traces.{IsShown, trace_text}
-use Rattle.net_watch.specs.Watched.{IsTold}
+use Rattle.checkpoint_text.specs.Texts.{store_from}
+use Rattle.src_model.specs.Meaning.{zeros}
+use Rattle.net_watch.specs.Inner.Ready.{IsWatchable}
+use Rattle.net_watch.specs.Inner.Scenes.{IsScene}
+use Rattle.net_watch.specs.Traces.{trace_text}
+use Rattle.net_watch.specs.Inner.Traces.{IsShown}
+use Rattle.net_watch.specs.Watched.{IsTraceText}
 use Rattle.net_watch.proofs.Fronts.{ShowsFirst}
 
 -- ---- words
@@ -73,12 +75,12 @@ store_is netlist image vars address s scene =
 
 -- ---- traces
 
-is_shown : (trace : Traced) (entries : List Entry) → trace ≡ Shows entries → IsShown trace
+is_shown : (trace : Traced) (entries : List TraceEntry) → trace ≡ Shows entries → IsShown trace
 is_shown trace entries e = subst IsShown (sym e) tt
 
 module _ (netlist : Netlist) (image : Image) (trace : List ℕ → ℕ → List Passed) (start : State) (clocks : ℕ) (first : ShowsFirst netlist image trace start clocks)
     (sim : Shown) (vars named : List Declared) (same_netlist : sim.netlist ≡ netlist) (same_state : sim.state ≡ start) (same_vars : named ≡ vars) where
-  pub told_of : IsTold netlist image vars trace start clocks (trace_text named (mtrace sim.netlist image sim.state 0 clocks))
+  pub told_of : IsTraceText netlist image vars trace start clocks (trace_text named (mtrace sim.netlist image sim.state 0 clocks))
   told_of = record {
     entries = first.entries;
     traced = first.traced;
@@ -90,14 +92,14 @@ module _ (netlist : Netlist) (image : Image) (trace : List ℕ → ℕ → List 
         ∙ ap (trace_text vars) first.traced;
   }
 
-  pub ready : (address : ℕ) (told : List ℕ) → sim.words ≡ words_of image → address ≡ image.temps → told ≡ zeros vars → IsState netlist start → IsScene netlist image vars image.temps → IsReady sim image named address told clocks
-  ready address told same_words at untold state scene = record {
+  pub ready : (address : ℕ) (last_cells : List ℕ) → sim.words ≡ words_of image → address ≡ image.temps → last_cells ≡ zeros vars → IsState netlist start → IsScene netlist image vars image.temps → IsWatchable sim image named address last_cells clocks
+  ready address last_cells same_words at fresh state scene = record {
     scene =
         subst (λ (n : Netlist). IsScene n image named address) (sym same_netlist)
         (subst (λ (vs : List Declared). IsScene netlist image vs address) (sym same_vars) (subst (λ (a : ℕ). IsScene netlist image vars a) (sym at) scene));
     state = subst (λ (n : Netlist). IsState n sim.state) (sym same_netlist) (subst (IsState netlist) (sym same_state) state);
     words = same_words;
-    untold = untold ∙ ap zeros (sym same_vars);
+    fresh = fresh ∙ ap zeros (sym same_vars);
     shown =
         subst (λ (n : Netlist). IsShown (mtrace n image sim.state 0 clocks)) (sym same_netlist)
         (subst (λ (s : State). IsShown (mtrace netlist image s 0 clocks)) (sym same_state) (is_shown (mtrace netlist image start 0 clocks) first.entries first.traced));

@@ -4,7 +4,7 @@ use Rattle.net_model.specs.declared.hardware.Netlist.{Netlist}
 use Rattle.net_model.specs.declared.states.State.{State}
 use Rattle.src_model.specs.Ways.{Passed}
 use Rattle.code_model.specs.declared.image.Image.{Image}
-use Rattle.code_model.specs.Machine.{Entry, Shows, mtrace}
+use Rattle.code_model.specs.Machine.{TraceEntry, Shows, mtrace}
 use Rattle.code_model.specs.Right.{passed_of}
 use Rattle.checkpoint_text.specs.Texts.{is_end}
 
@@ -13,10 +13,11 @@ abbrev pub has_passed_end : List Passed → Bool
 has_passed_end [] = false
 has_passed_end (p ∷ ps) = is_end p.label || has_passed_end ps
 
--- over some number of clocks from this state, none of which clashes before, the netlist comes to the end mark
+-- over some number of clocks from this state, none of which clashes before, the netlist comes to
+-- the end mark
 pub record ReachesEnd (netlist : Netlist) (image : Image) (s : State) : Type 0 where
   pub clocks : ℕ
-  pub entries : List Entry
+  pub entries : List TraceEntry
   pub traced : mtrace netlist image s 0 clocks ≡ Shows entries
   pub ended : has_passed_end (passed_of entries) ≡ true
 

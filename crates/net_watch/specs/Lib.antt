@@ -1,6 +1,5 @@
 pub mod Ends
 pub mod Puts
-pub mod Ready
-pub mod Scenes
 pub mod Traces
 pub mod Watched
+pub mod Inner

@@ -4,8 +4,8 @@ use Rattle.rec_io.specs.Causes.{HasCause}
 use Rattle.rec_io.specs.Sink.{SinkState}
 use Rattle.rec_io.specs.Written.{Takes, TakesPrefix}
 
--- where the call succeeds, the sink took this text and no put failed; where it doesn't, the sink took a front of the text, and its count of
--- faults rose
+-- where the call succeeds, the sink took this text and no put failed; where it doesn't, the sink
+-- took a front of the text, and its count of faults rose
 pub record Puts {T E : Type 0} (before now : SinkState) (text : List ℕ) (result : Result T E) : Type 0 where
   pub cause : HasCause before.faults now.faults result
   pub calm : OnOk result (now.faults ≡ before.faults)

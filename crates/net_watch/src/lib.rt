@@ -3,13 +3,13 @@
 //!
 //! Promise: `Watch::new` promises what will be written: the text of the checkpoints that the
 //! netlist shows over so many clocks on right code, which without their cycles are the first of the
-//! source, without a clash (`IsTold`). `run` puts that text, or a front of it where the sink fails
-//! (`Puts`), and takes no memory. `law_of_ends`: the end mark is reached exactly when the source
-//! ends (`ReachesEnd`, `PassesEnd`).
+//! source, without a clash (`IsTraceText`). `run` puts that text, or a front of it where the sink
+//! fails (`Puts`), and takes no memory. `law_of_ends`: the end mark is reached exactly when the
+//! source ends (`ReachesEnd`, `PassesEnd`).
 //!
-//! Invariant: a `Watch` keeps `IsReady`: a simulator with the image's words, whose clocks up to the
-//! end mark don't clash, and nothing told of the variables. A `LineWriter` has room for the longest
-//! line, and the cells as the last line told them.
+//! Invariant: a `Watch` keeps `IsWatchable`: a simulator with the image's words, whose clocks up to
+//! the end mark don't clash, and nothing told of the variables. A `LineWriter` has room for the
+//! longest line, and the cells as the last line told them.
 //!
 //! Files:
 //!
@@ -18,8 +18,8 @@
 //! - `watching`: clocks, and what is seen between them.
 //! - `watch`: `Watch`, as callers see it.
 //! - `laws`: `law_of_ends`.
-//! - `specs/`: `Watched`, `Puts`, `Ends`, and of `Traces` the text of a trace, are cited by public
-//!   contracts; the rest of `Traces`, `Ready` and `Scenes` are for the loop and the invariant.
+//! - `specs/`, cited by public contracts: `Watched`, `Puts`, `Ends`, and `Traces`, the text of a
+//!   trace. `specs/Inner/`: `Traces`, `Ready` and `Scenes`, for the loop and the invariant.
 //! - `proofs/`: `Fronts` and `Starting` carry `new`, `Clocking`, `Seeing`, `Lines`, `Halving` and
 //!   `Putting` carry `run`, `Ends` the law.
 #![tactic(auto)]

@@ -12,7 +12,7 @@ ghost use Rattle.code_model.specs.Places.{words_of};
 ghost use Rattle.code_model.specs.Right.{IsLaidOut, TracesRight};
 ghost use Rattle.checkpoint_text.specs.Texts.{last_line};
 ghost use Rattle.net_watch.specs.Puts.{Puts};
-ghost use Rattle.net_watch.specs.Watched.{IsTold};
+ghost use Rattle.net_watch.specs.Watched.{IsTraceText};
 
 use crate::watching::write_lines;
 use crate::writer::LineWriter;
@@ -25,7 +25,8 @@ use src_model::Typed;
 use std::alloc::Global;
 use std::marker::Model;
 
-/// The text of the checkpoints that a netlist shows of a program. It is made while it is written, and all its room is taken before.
+/// The text of the checkpoints that a netlist shows of a program. It is made while it is written,
+/// and all its room is taken before.
 #[derive(Drop)]
 pub struct Watch<'a> {
     sim: Sim<'a>,
@@ -37,14 +38,14 @@ pub struct Watch<'a> {
 impl<'a> Model for Watch<'a> {
     ghost use Rattle.std.specs.Prelude.{ℕ, List};
     ghost use Rattle.code_model.specs.Machine.{mtrace};
-    ghost use Rattle.net_watch.specs.Ready.{IsReady};
+    ghost use Rattle.net_watch.specs.Inner.Ready.{IsWatchable};
     ghost use Rattle.net_watch.specs.Traces.{trace_text};
 
     ghost Value = { List ℕ };
 
     ghost view = { λ watch. trace_text watch.writer.vars.now (mtrace watch.sim.netlist watch.image.now watch.sim.state 0 watch.clocks) };
 
-    ghost invariant = { λ watch. IsReady watch.sim watch.image.now watch.writer.vars.now watch.writer.address watch.writer.told watch.clocks };
+    ghost invariant = { λ watch. IsWatchable watch.sim watch.image.now watch.writer.vars.now watch.writer.address watch.writer.last_cells watch.clocks };
 }
 
 // The words of an image.
@@ -65,8 +66,9 @@ fn last_line(ended: bool) -> &'static [u8]
 }
 
 impl<'a> Watch<'a> {
-    /// The text of the checkpoints of a program over so many clocks from the state `start`, where `image` is code that traces the program and
-    /// fits the netlist. Nothing more is asked for when the text is written.
+    /// The text of the checkpoints of a program over so many clocks from the state `start`, where
+    /// `image` is code that traces the program and fits the netlist. Nothing more is asked for when
+    /// the text is written.
     pub fn new(
         alloc: Global,
         checked: &'a Checked,
@@ -79,7 +81,8 @@ impl<'a> Watch<'a> {
         requires traces { TracesRight checked.now.netlist image.now (strace typed.now.width (listing_of typed.now.program)) }
         requires fits { IsFitting (limits_of checked.now.netlist) image.now }
         requires start { IsAt checked.now.netlist 0 start }
-        ensures { IfOk result (λ watch. IsTold checked.now.netlist image.now typed.now.program.vars (strace typed.now.width (listing_of typed.now.program)) start clocks watch) }
+        ensures { IfOk result (λ watch.
+            IsTraceText checked.now.netlist image.now typed.now.program.vars (strace typed.now.width (listing_of typed.now.program)) start clocks watch) }
     {
         // the rules that a checked netlist keeps, for the sizes of its memory
         let _netlist = checked.netlist();
@@ -98,7 +101,8 @@ impl<'a> Watch<'a> {
     ///
     /// # Errors
     ///
-    /// `WriteFault` only where the sink's count of faults rose; the sink took a front of the text then, and not all of it.
+    /// `WriteFault` only where the sink's count of faults rose; the sink took a front of the text
+    /// then, and not all of it.
     pub fn run<S: Sink>(self, sink: &mut S) -> Result<(), WriteFault>
         ensures { Puts (S.state sink.old) (S.state sink.new) self.entry result }
     {

@@ -6,8 +6,9 @@ ghost use Rattle.net_model.specs.Widths.{IsState};
 ghost use Rattle.code_model.specs.Machine.{label_in, mtrace, store_in};
 ghost use Rattle.code_model.specs.Places.{words_of};
 ghost use Rattle.net_watch.specs.Puts.{Puts};
-ghost use Rattle.net_watch.specs.Scenes.{IsScene};
-ghost use Rattle.net_watch.specs.Traces.{IsNext, IsShown, ends_at, line_at, told_at, trace_ends, trace_lines};
+ghost use Rattle.net_watch.specs.Inner.Scenes.{IsScene};
+ghost use Rattle.net_watch.specs.Traces.{trace_ends, trace_lines};
+ghost use Rattle.net_watch.specs.Inner.Traces.{IsNext, IsShown, ends_at, line_at, store_after_line};
 
 use crate::marks::label_at;
 use crate::writer::LineWriter;
@@ -30,7 +31,8 @@ fn step(sim: &mut Sim<'_>)
     }
 }
 
-// Looks at the simulator's state: puts its line where it stands at a mark, and tells whether that is the end.
+// Looks at the simulator's state: puts its line where it stands at a mark, and tells whether that
+// is the end.
 fn look<S: Sink>(
     image: &Image,
     sim: &Sim<'_>,
@@ -40,8 +42,8 @@ fn look<S: Sink>(
 ) -> Result<bool, WriteFault>
     requires scene { IsScene sim.now.netlist image.now writer.old.vars.now writer.old.address }
     requires state { IsState sim.now.netlist sim.now.state }
-    ensures puts { Puts (S.state sink.old) (S.state sink.new) (line_at writer.old.vars.now writer.old.told (label_in sim.now.netlist image.now sim.now.state) cycle (store_in image.now sim.now.state)) result }
-    ensures told { OnOk result (writer.new.told ≡ told_at (label_in sim.now.netlist image.now sim.now.state) writer.old.told (store_in image.now sim.now.state)) }
+    ensures puts { Puts (S.state sink.old) (S.state sink.new) (line_at writer.old.vars.now writer.old.last_cells (label_in sim.now.netlist image.now sim.now.state) cycle (store_in image.now sim.now.state)) result }
+    ensures last_cells { OnOk result (writer.new.last_cells ≡ store_after_line (label_in sim.now.netlist image.now sim.now.state) writer.old.last_cells (store_in image.now sim.now.state)) }
     ensures ended { IfOk result (λ ended. ended ≡ ends_at (label_in sim.now.netlist image.now sim.now.state)) }
     ensures vars { writer.new.vars.now ≡ writer.old.vars.now }
     ensures address { writer.new.address ≡ writer.old.address }
@@ -55,7 +57,8 @@ fn look<S: Sink>(
     }
 }
 
-/// Puts the lines of the states after 0, 1, and so on clocks, up to the end mark or so many clocks, and tells whether the end mark was seen.
+/// Puts the lines of the states after 0, 1, and so on clocks, up to the end mark or so many clocks,
+/// and tells whether the end mark was seen.
 pub(crate) fn write_lines<S: Sink>(
     image: &Image,
     sim: &mut Sim<'_>,
@@ -67,7 +70,7 @@ pub(crate) fn write_lines<S: Sink>(
     requires state { IsState sim.old.netlist sim.old.state }
     requires words { sim.old.words ≡ words_of image.now }
     requires shown { IsShown (mtrace sim.old.netlist image.now sim.old.state 0 clocks) }
-    ensures puts { Puts (S.state sink.old) (S.state sink.new) (trace_lines writer.old.vars.now writer.old.told (mtrace sim.old.netlist image.now sim.old.state 0 clocks)) result }
+    ensures puts { Puts (S.state sink.old) (S.state sink.new) (trace_lines writer.old.vars.now writer.old.last_cells (mtrace sim.old.netlist image.now sim.old.state 0 clocks)) result }
     ensures ended { IfOk result (λ ended. ended ≡ trace_ends (mtrace sim.old.netlist image.now sim.old.state 0 clocks)) }
 {
     for cycle in 0..clocks {

@@ -2,8 +2,9 @@
 
 ghost use Rattle.std.specs.Prelude.{◌≡◌, ◌+◌, ◌<◌, ◌≤◌, ◌^◌, ℕ, OnOk, IfOk, drop, length, slice_index, take, vec_capacity};
 ghost use Rattle.src_model.specs.Meaning.{cell_count};
-ghost use Rattle.checkpoint_text.specs.Rooms.{LabelFits, line_room};
-ghost use Rattle.checkpoint_text.specs.Texts.{checkpoint_line, entry_of, store_from, zeros};
+ghost use Rattle.checkpoint_text.specs.Rooms.{CheckpointFits, line_room};
+ghost use Rattle.checkpoint_text.specs.Texts.{checkpoint_line, trace_entry, store_from};
+ghost use Rattle.src_model.specs.Meaning.{zeros};
 ghost use Rattle.net_watch.specs.Puts.{Puts};
 
 use checkpoint_text::{line_room, write_line};
@@ -20,9 +21,9 @@ pub(crate) struct LineWriter<'a> {
     /// The address of the first of their cells; the others stand behind it in a row.
     pub address: u32,
     /// Their cells as the last line told them, and zeros before the first.
-    pub told: Items<u64>,
+    pub last_cells: Items<u64>,
     pub line: Vec<u8>,
-    ghost whole: { length told ≡ cell_count vars.now },
+    ghost whole: { length last_cells ≡ cell_count vars.now },
     ghost room: { line_room vars.now ≤ vec_capacity line },
 }
 
@@ -39,14 +40,14 @@ fn cell_count(vars: &[Var]) -> usize
 }
 
 // Copies cells, the first of which has this address.
-fn copy_cells(told: &mut Items<u64>, address: u32, sim: &Sim<'_>)
-    requires within { address + length told.old ≤ length sim.now.state.cells }
+fn copy_cells(last_cells: &mut Items<u64>, address: u32, sim: &Sim<'_>)
+    requires within { address + length last_cells.old ≤ length sim.now.state.cells }
     requires few { length sim.now.state.cells < 2 ^ 32 }
-    ensures { told.new ≡ take (length told.old) (drop address sim.now.state.cells) }
+    ensures { last_cells.new ≡ take (length last_cells.old) (drop address sim.now.state.cells) }
 {
-    for index in 0..told.len() {
+    for index in 0..last_cells.len() {
         let value = sim.cell(address + index as u32).unwrap_or(0);
-        told.set(index, value);
+        last_cells.set(index, value);
     }
 }
 
@@ -56,14 +57,14 @@ impl<'a> LineWriter<'a> {
         requires { cell_count vars.now < 2 ^ 32 }
         ensures vars { IfOk result (λ writer. writer.vars.now ≡ vars.now) }
         ensures address { IfOk result (λ writer. writer.address ≡ address) }
-        ensures told { IfOk result (λ writer. writer.told ≡ zeros vars.now) }
+        ensures last_cells { IfOk result (λ writer. writer.last_cells ≡ zeros vars.now) }
     {
-        let told = zeros(alloc, cell_count(vars))?;
+        let last_cells = zeros(alloc, cell_count(vars))?;
         let line = line_room(alloc, vars)?;
         Ok(LineWriter {
             vars,
             address,
-            told,
+            last_cells,
             line,
         })
     }
@@ -73,18 +74,18 @@ impl<'a> LineWriter<'a> {
         requires within { self.old.address + cell_count self.old.vars.now ≤ length sim.now.state.cells }
         requires few { length sim.now.state.cells < 2 ^ 32 }
         requires values { (cell : ℕ) → slice_index sim.now.state.cells cell < 2 ^ 64 }
-        requires label { LabelFits label }
-        ensures line { self.new.line.items ≡ checkpoint_line self.old.vars.now self.old.told (entry_of cycle label (store_from self.old.vars.now self.old.address sim.now.state.cells)) }
+        requires label { CheckpointFits label }
+        ensures line { self.new.line.items ≡ checkpoint_line self.old.vars.now self.old.last_cells (trace_entry cycle label (store_from self.old.vars.now self.old.address sim.now.state.cells)) }
         ensures vars { self.new.vars.now ≡ self.old.vars.now }
         ensures address { self.new.address ≡ self.old.address }
-        ensures told { self.new.told ≡ self.old.told }
+        ensures last_cells { self.new.last_cells ≡ self.old.last_cells }
     {
         self.line.clear();
-        let told = self.told.as_slice();
+        let last_cells = self.last_cells.as_slice();
         match write_line(
             &mut self.line,
             self.vars,
-            told,
+            last_cells,
             cycle,
             label,
             self.address,
@@ -106,15 +107,15 @@ impl<'a> LineWriter<'a> {
         requires within { self.old.address + cell_count self.old.vars.now ≤ length sim.now.state.cells }
         requires few { length sim.now.state.cells < 2 ^ 32 }
         requires values { (cell : ℕ) → slice_index sim.now.state.cells cell < 2 ^ 64 }
-        requires label { LabelFits label }
-        ensures puts { Puts (S.state sink.old) (S.state sink.new) (checkpoint_line self.old.vars.now self.old.told (entry_of cycle label (store_from self.old.vars.now self.old.address sim.now.state.cells))) result }
-        ensures told { OnOk result (self.new.told ≡ store_from self.old.vars.now self.old.address sim.now.state.cells) }
+        requires label { CheckpointFits label }
+        ensures puts { Puts (S.state sink.old) (S.state sink.new) (checkpoint_line self.old.vars.now self.old.last_cells (trace_entry cycle label (store_from self.old.vars.now self.old.address sim.now.state.cells))) result }
+        ensures last_cells { OnOk result (self.new.last_cells ≡ store_from self.old.vars.now self.old.address sim.now.state.cells) }
         ensures vars { self.new.vars.now ≡ self.old.vars.now }
         ensures address { self.new.address ≡ self.old.address }
     {
         self.set_line(cycle, label, sim);
         put_all(sink, &self.line)?;
-        copy_cells(&mut self.told, self.address, sim);
+        copy_cells(&mut self.last_cells, self.address, sim);
         Ok(())
     }
 }

@@ -3,7 +3,7 @@
 ghost use Rattle.std.specs.Prelude.{◌≡◌, ℕ, ◌^◌, ◌<◌, ◌≤◌, ◌&&◌, ◌==◌, true, false, min, length, IfOk};
 ghost use Rattle.std.specs.Int.{bit_at};
 ghost use Rattle.bit_bdd.specs.Diagrams.{Extends, has_word};
-ghost use Rattle.nop_synth.specs.Wanted.{AllBelow, all_hold, bit_agrees, has_field, has_fields};
+ghost use Rattle.nop_synth.specs.Inner.Wanted.{AllBelow, all_hold, bit_agrees, has_field, has_fields};
 
 use bit_bdd::{Book, SetId};
 use rec_bits::NoMemory;
@@ -45,7 +45,8 @@ fn with_bit(
     requires few { bit < 64 }
     ensures grows { Extends book.old book.new }
     ensures within { IfOk result (λ id. id < length book.new.nodes) }
-    ensures words { IfOk result (λ id. (word : ℕ) → has_word book.new id word ≡ (has_word book.old set word && (bit_at word bit == bit_at value bit))) }
+    ensures words { IfOk result (λ id.
+        (word : ℕ) → has_word book.new id word ≡ (has_word book.old set word && (bit_at word bit == bit_at value bit))) }
 {
     let right = like(alloc, book, bit, value)?;
     let both = book.and(alloc, set, right)?;
@@ -76,7 +77,8 @@ fn narrowed(
     requires few { bit < 64 }
     ensures grows { Extends book.old book.new }
     ensures within { IfOk result (λ id. id < length book.new.nodes) }
-    ensures words { IfOk result (λ id. (word : ℕ) → word < 2 ^ width → has_word book.new id word ≡ (has_word book.old set word && bit_agrees mask value word bit)) }
+    ensures words { IfOk result (λ id. (word : ℕ) → word < 2 ^ width →
+        has_word book.new id word ≡ (has_word book.old set word && bit_agrees mask value word bit)) }
 {
     if asks(mask, bit, width) {
         let some = with_bit(alloc, book, set, bit, value)?;
@@ -103,7 +105,8 @@ fn with_bits(
     requires set { set < length book.old.nodes }
     ensures grows { Extends book.old book.new }
     ensures within { IfOk result (λ id. id < length book.new.nodes) }
-    ensures words { IfOk result (λ id. (word : ℕ) → word < 2 ^ width → has_word book.new id word ≡ (has_word book.old set word && has_field mask value word)) }
+    ensures words { IfOk result (λ id. (word : ℕ) → word < 2 ^ width →
+        has_word book.new id word ≡ (has_word book.old set word && has_field mask value word)) }
 {
     let mut left = set;
     for bit in 0..64u8 {
@@ -124,7 +127,8 @@ fn with_fields(
     requires set { set < length book.old.nodes }
     ensures grows { Extends book.old book.new }
     ensures within { IfOk result (λ id. id < length book.new.nodes) }
-    ensures words { IfOk result (λ id. (word : ℕ) → word < 2 ^ width → has_word book.new id word ≡ (has_word book.old set word && has_fields fields.now word)) }
+    ensures words { IfOk result (λ id. (word : ℕ) → word < 2 ^ width →
+        has_word book.new id word ≡ (has_word book.old set word && has_fields fields.now word)) }
 {
     let mut left = set;
     for field in fields {
@@ -139,7 +143,8 @@ fn all_in(alloc: Global, book: &mut Book, set: SetId, sets: &[SetId]) -> Result<
     requires sets { AllBelow book.old sets.now }
     ensures grows { Extends book.old book.new }
     ensures within { IfOk result (λ id. id < length book.new.nodes) }
-    ensures words { IfOk result (λ id. (word : ℕ) → has_word book.new id word ≡ (has_word book.old set word && all_hold book.old sets.now word)) }
+    ensures words { IfOk result (λ id.
+        (word : ℕ) → has_word book.new id word ≡ (has_word book.old set word && all_hold book.old sets.now word)) }
 {
     let mut left = set;
     for other in sets {

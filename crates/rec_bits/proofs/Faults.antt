@@ -39,7 +39,8 @@ pub gather_end : {A : Type 0} (f : A → List ℕ) (xs : List A) (i : ℕ) (foun
     → sooner found (least (gather f (drop i xs))) ≡ all → found ≡ all
 gather_end f xs i found all h k = sym (sooner_none found) ∙ ap (λ (l : List _). sooner found (least (gather f l))) (sym (drop_all i xs h)) ∙ k
 
--- what the least is: nothing of an empty list alone, and otherwise an offset of the list that none lies below
+-- what the least is: nothing of an empty list alone, and otherwise an offset of the list that none
+-- lies below
 abbrev pub Among : ℕ → List ℕ → Type 0
 Among n [] = ⊥
 Among n (x ∷ xs) = (n ≡ x) ⊎ Among n xs

@@ -1,5 +1,7 @@
--- Rules of a text: a rule is the list of the offsets at which it is broken, and what is named is the least of them.
-use Rattle.std.specs.Prelude.{ℕ, min, Bool, true, false, List, [], ◌∷◌, ◌++◌, Option, Some, None}
+-- Rules of a text: a rule is the list of the offsets at which it is broken, and what is named is
+-- the least of them.
+use Rattle.std.specs.Prelude.{ℕ, min, Bool, true, false, List, [], ◌∷◌, ◌++◌, Option, Some, None, nat_eq}
+use Rattle.std.specs.Cmp.Lexicographic.{pointwise}
 
 -- the lesser of two offsets that may be absent
 abbrev pub sooner : Option ℕ → Option ℕ → Option ℕ
@@ -21,3 +23,17 @@ gather f (x ∷ xs) = f x ++ gather f xs
 abbrev pub broken : Bool → ℕ → List ℕ
 broken true at = at ∷ []
 broken false at = []
+
+-- the earlier of two faults that may be absent
+abbrev pub or_else : {F : Type 0} → Option F → Option F → Option F
+or_else None later = later
+or_else (Some fault) later = Some fault
+
+-- the fault of a rule that is broken at an offset
+abbrev pub fault_at : {F : Type 0} → (ℕ → F) → Option ℕ → Option F
+fault_at rule None = None
+fault_at rule (Some at) = Some (rule at)
+
+-- whether two names are the same bytes
+abbrev pub same_name : List ℕ → List ℕ → Bool
+same_name = pointwise nat_eq

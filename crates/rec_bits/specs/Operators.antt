@@ -1,5 +1,5 @@
 -- What the operators are: arithmetic on whole numbers, with the width given.
-use Rattle.std.specs.Prelude.{ℕ, ◌+◌, ◌-◌, ◌*◌, ◌/◌, ◌%◌, ◌^◌, Bool, if◌then◌else◌, ◌==◌, nat_lt, nat_le, bit_and, bit_or, bit_xor, ℤ, pos, ◌-ℤ◌, int_lt}
+use Rattle.std.specs.Prelude.{ℕ, ◌+◌, ◌-◌, ◌*◌, ◌/◌, ◌%◌, ◌^◌, Bool, if◌then◌else◌, ◌==◌, nat_lt, nat_le, bit_and, bit_or, bit_xor, ℤ, pos, ◌-ℤ◌, int_lt, ◌≤◌}
 use Rattle.rec_bits.specs.declared.operator.Op1.{Op1}
 use Rattle.rec_bits.specs.declared.operator.Op1.TheVariants.{Not, Neg}
 use Rattle.rec_bits.specs.declared.operator.Op2.{Op2}
@@ -21,7 +21,8 @@ signed_of width a = if is_negative_of width a then pos a -ℤ pos (2 ^ width) el
 abbrev pub shr_of : ℕ → ℕ → ℕ → ℕ
 shr_of width a b = if nat_lt b width then a / 2 ^ b else 0
 
--- a shift to the right with copies of the top bit: of a negative value it is the complement of the shifted complement
+-- a shift to the right with copies of the top bit: of a negative value it is the complement of the
+-- shifted complement
 abbrev pub sar_of : ℕ → ℕ → ℕ → ℕ
 sar_of width a b =
     if is_negative_of width a then 2 ^ width - 1 - shr_of width (2 ^ width - 1 - a) b else shr_of width a b
@@ -62,3 +63,7 @@ result_width Eq width = 1
 result_width Ltu width = 1
 result_width Lts width = 1
 result_width op width = width
+
+-- the widths that there are
+abbrev pub IsWidth : ℕ → Type 0
+IsWidth width = (1 ≤ width) × (width ≤ 64)

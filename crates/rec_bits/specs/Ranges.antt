@@ -10,12 +10,12 @@ pub record HasEnds (range : Range) : Type 0 where
   pub low : IsEnd range.lo
   pub high : IsEnd range.hi
 
-abbrev pub is_end : ℤ → Bool
-is_end end = int_le (pos 0 -ℤ pos (2 ^ 64)) end && int_le end (pos (2 ^ 64))
+abbrev pub is_range_end : ℤ → Bool
+is_range_end end = int_le (pos 0 -ℤ pos (2 ^ 64)) end && int_le end (pos (2 ^ 64))
 
 -- the range of these ends, where both lie within the bounds
 abbrev pub range_of : ℤ → ℤ → Option Range
-range_of lo hi = if is_end lo && is_end hi then Some (record { lo = lo; hi = hi }) else None
+range_of lo hi = if is_range_end lo && is_range_end hi then Some (record { lo = lo; hi = hi }) else None
 
 -- the range of all sums
 abbrev pub sums_of : Range → Range → Option Range

@@ -41,7 +41,8 @@ pub fn range_sub(a: Range, b: Range) -> Option<Range>
     bounded(a.lo - b.hi, a.hi - b.lo)
 }
 
-/// The range of all products with `literal`, or None where an end of it lies outside `-2^64` to `2^64`.
+/// The range of all products with `literal`, or None where an end of it lies outside `-2^64` to
+/// `2^64`.
 pub fn range_mul(a: Range, literal: u64) -> Option<Range>
     requires { HasEnds a }
     ensures { result ≡ products_of a literal }

@@ -37,5 +37,5 @@ abbrev pub first_state : Files → ShelfState
 first_state files = record { files = Some files; faults = 0; taken = 0; last = []; failed = false }
 
 -- the next fetch of this name is to fail: its number is listed, or no pair has the name
-abbrev pub IsDue : MemShelf → List ℕ → Type 0
-IsDue shelf name = Contains (fails_of shelf) (count_after (fetches_of shelf)) ⊎ (file_of (files_of shelf) name ≡ None)
+abbrev pub IsFetchDue : MemShelf → List ℕ → Type 0
+IsFetchDue shelf name = Contains (fails_of shelf) (count_after (fetches_of shelf)) ⊎ (file_of (files_of shelf) name ≡ None)

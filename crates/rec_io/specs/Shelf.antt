@@ -32,7 +32,8 @@ pub record IsFailed (before now : ShelfState) (name : List ℕ) : Type 0 where
   pub failed : now.failed ≡ true
   pub rose : Rose before.faults now.faults
 
--- the file is longer than the limit, which the answer names; where the files are told, there is one of this name
+-- the file is longer than the limit, which the answer names; where the files are told, there is one
+-- of this name
 pub record IsLong (before now : ShelfState) (name : List ℕ) (limit told : ℕ) : Type 0 where
   pub asked : now.last ≡ name
   pub ended : now.failed ≡ false
@@ -40,7 +41,8 @@ pub record IsLong (before now : ShelfState) (name : List ℕ) (limit told : ℕ)
   pub above : limit < now.taken
   pub file : IfSome before.files (λ files. IsSomeAnd (file_of files name) (λ bytes. limit < length bytes))
 
--- why nothing was handed out; want of memory has no cause here, and after it nothing is said of the name
+-- why nothing was handed out; want of memory has no cause here, and after it nothing is said of the
+-- name
 abbrev pub IsRefused : ShelfState → ShelfState → List ℕ → ℕ → Fetch → Type 0
 IsRefused before now name limit Failed = IsFailed before now name
 IsRefused before now name limit (TooLong told) = IsLong before now name limit told

@@ -3,7 +3,7 @@
 ghost use Rattle.std.specs.Prelude.{◌≡◌, ◌≢◌, ◌⊎◌, ◌^◌, ◌<◌, ◌≤◌, true, length, option_map, IfSome, IfOk, IfErr, OnOk};
 ghost use Rattle.rec_io.specs.Causes.{count_after};
 ghost use Rattle.rec_io.specs.Files.{file_of};
-ghost use Rattle.rec_io.specs.MemShelf.{pairs_of, files_of, fails_of, fetches_of, shelf_state, first_state, IsDue};
+ghost use Rattle.rec_io.specs.MemShelf.{pairs_of, files_of, fails_of, fetches_of, shelf_state, first_state, IsFetchDue};
 ghost use Rattle.rec_io.specs.Shelf.{IsGot, IsRefused};
 
 use crate::{Fetch, Shelf};
@@ -22,8 +22,8 @@ pub struct MemShelf {
 }
 
 impl MemShelf {
-    /// A shelf of these files, each a name and its bytes; the first pair with a name is the file. `fails` lists the
-    /// numbers, from 1, of the fetches that are to fail. Takes no memory.
+    /// A shelf of these files, each a name and its bytes; the first pair with a name is the file.
+    /// `fails` lists the numbers, from 1, of the fetches that are to fail. Takes no memory.
     pub fn new(files: Vec<(String, Vec<u8>)>, fails: Vec<u64>) -> MemShelf
         ensures state { shelf_state result ≡ first_state (pairs_of files.items) }
         ensures fails { fails_of result ≡ fails.items }
@@ -67,8 +67,9 @@ fn find<'a>(files: &'a [(String, Vec<u8>)], name: &str) -> Option<&'a [u8]>
 impl Shelf for MemShelf {
     ghost state = { shelf_state };
 
-    /// As [`Shelf::fetch`]. A fetch fails exactly where its number is listed or no pair has the name, unless memory is
-    /// wanting, and the count of faults rises by one there and in no other fetch.
+    /// As [`Shelf::fetch`]. A fetch fails exactly where its number is listed or no pair has the
+    /// name, unless memory is wanting, and the count of faults rises by one there and in no other
+    /// fetch.
     fn fetch(&mut self, alloc: Global, name: &str, limit: u64) -> Result<Vec<u8>, Fetch>
         requires { limit < 2 ^ 32 }
 
@@ -82,8 +83,8 @@ impl Shelf for MemShelf {
         // Of this one alone.
         ensures turn { fetches_of self.new ≡ count_after (fetches_of self.old) }
         ensures fails { fails_of self.new ≡ fails_of self.old }
-        ensures due { result ≡ Err Fetch.Failed → IsDue self.old name.now }
-        ensures faulty { IsDue self.old name.now → (result ≡ Err Fetch.Failed) ⊎ (result ≡ Err Fetch.Memory) }
+        ensures due { result ≡ Err Fetch.Failed → IsFetchDue self.old name.now }
+        ensures faulty { IsFetchDue self.old name.now → (result ≡ Err Fetch.Failed) ⊎ (result ≡ Err Fetch.Memory) }
         ensures rise { result ≡ Err Fetch.Failed
             → (shelf_state self.new).faults ≡ count_after (shelf_state self.old).faults }
         ensures steady { result ≢ Err Fetch.Failed → (shelf_state self.new).faults ≡ (shelf_state self.old).faults }

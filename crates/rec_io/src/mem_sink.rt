@@ -6,8 +6,8 @@ use crate::{Sink, WriteFault};
 use rec_bits::NoMemory;
 use std::alloc::Global;
 
-/// An output in memory, which takes a few bytes a put, up to its room, and the numbers of the puts that are to fail.
-/// It tells what it has taken.
+/// An output in memory, which takes a few bytes a put, up to its room, and the numbers of the puts
+/// that are to fail. It tells what it has taken.
 #[derive(Debug, Drop)]
 pub struct MemSink {
     bytes: Vec<u8>,
@@ -25,8 +25,9 @@ impl MemSink {
     ghost use Rattle.rec_io.specs.Causes.{count_after};
     ghost use Rattle.rec_io.specs.MemSink.{bytes_of, IsFresh};
 
-    /// An empty sink whose puts take at most `step` bytes each, which is at least 1, and at most `room` together, which
-    /// are reserved. `fails` lists the numbers, from 1, of the puts that are to fail.
+    /// An empty sink whose puts take at most `step` bytes each, which is at least 1, and at most
+    /// `room` together, which are reserved. `fails` lists the numbers, from 1, of the puts that are
+    /// to fail.
     ///
     /// # Errors
     ///
@@ -70,14 +71,14 @@ impl MemSink {
 
 impl Sink for MemSink {
     ghost use Rattle.rec_io.specs.Causes.{HasCause, count_after};
-    ghost use Rattle.rec_io.specs.MemSink.{sink_state, puts_of, step_of, room_of, fails_of, portion_of, IsDue};
+    ghost use Rattle.rec_io.specs.MemSink.{sink_state, puts_of, step_of, room_of, fails_of, portion_of, IsPutDue};
     ghost use Rattle.rec_io.specs.Written.{Takes};
 
     ghost state = { sink_state };
 
-    /// As [`Sink::put`]. A put of a piece that isn't empty fails exactly where its number is listed or no room is free,
-    /// and the count of faults rises by one there and in no other put. Every other put takes as much of the piece as the
-    /// step and the free room allow. Takes no memory.
+    /// As [`Sink::put`]. A put of a piece that isn't empty fails exactly where its number is listed
+    /// or no room is free, and the count of faults rises by one there and in no other put. Every
+    /// other put takes as much of the piece as the step and the free room allow. Takes no memory.
     fn put(&mut self, bytes: &[u8]) -> Result<usize, WriteFault>
         // As of every sink.
         ensures cause { HasCause (sink_state self.old).faults (sink_state self.new).faults result }
@@ -90,7 +91,7 @@ impl Sink for MemSink {
 
         // Of this one alone.
         ensures turn { puts_of self.new ≡ count_after (puts_of self.old) }
-        ensures due { IsErr result ↔ IsDue self.old bytes.now }
+        ensures due { IsErr result ↔ IsPutDue self.old bytes.now }
         ensures portion { IfOk result (λ count. count ≡ portion_of self.old bytes.now) }
         ensures rise { OnErr result ((sink_state self.new).faults ≡ count_after (sink_state self.old).faults) }
         ensures step { step_of self.new ≡ step_of self.old }

@@ -10,7 +10,8 @@ use std::alloc::{AllocError, Global};
 /// Why a file was not handed out.
 #[derive(Clone, Copy, Debug, PartialEq, Eq)]
 pub enum Fetch {
-    /// The file could not be read, as where there is none of that name; the shelf's count of faults rose.
+    /// The file could not be read, as where there is none of that name; the shelf's count of faults
+    /// rose.
     Failed,
     /// The file has more bytes than this limit, which is that of the call.
     TooLong(u64),
@@ -36,20 +37,22 @@ impl From<AllocError> for Fetch {
 
 /// Files that are asked for by name.
 ///
-/// A shelf means five things: its files, where it tells them; a count of faults, which never falls and stays at
-/// `u64::MAX` once it is there; the number of bytes that the last fetch got; the name that it was asked for; and whether
-/// it failed. That the count rose means that it is greater than before, or stands at `u64::MAX`.
+/// A shelf means five things: its files, where it tells them; a count of faults, which never falls
+/// and stays at `u64::MAX` once it is there; the number of bytes that the last fetch got; the name
+/// that it was asked for; and whether it failed. That the count rose means that it is greater than
+/// before, or stands at `u64::MAX`.
 pub trait Shelf {
     ghost state: { Self → ShelfState };
 
-    /// All bytes of the file `name`, if they are at most `limit`, which is below 2^32; the count of faults stays as it was
-    /// then. A fetch leaves the files as they are.
+    /// All bytes of the file `name`, if they are at most `limit`, which is below 2^32; the count of
+    /// faults stays as it was then. A fetch leaves the files as they are.
     ///
     /// # Errors
     ///
-    /// `Failed` only where the count of faults rose; a file that isn't there is such a fault. `TooLong(limit)` where the
-    /// file has more than `limit` bytes, and then the shelf got more than `limit` of them. `Memory` for want of memory,
-    /// after which nothing is said of the name that was asked for.
+    /// `Failed` only where the count of faults rose; a file that isn't there is such a fault.
+    /// `TooLong(limit)` where the file has more than `limit` bytes, and then the shelf got more
+    /// than `limit` of them. `Memory` for want of memory, after which nothing is said of the name
+    /// that was asked for.
     fn fetch(&mut self, alloc: Global, name: &str, limit: u64) -> Result<Vec<u8>, Fetch>
         requires { limit < 2 ^ 32 }
 

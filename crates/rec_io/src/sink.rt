@@ -11,18 +11,19 @@ pub struct WriteFault;
 
 /// An output, which takes bytes in order.
 ///
-/// A sink means two things: the bytes that it has taken so far, where it tells them; and a count of faults, which
-/// never falls and stays at `u64::MAX` once it is there. That the count rose means that it is greater than before, or
-/// stands at `u64::MAX`.
+/// A sink means two things: the bytes that it has taken so far, where it tells them; and a count of
+/// faults, which never falls and stays at `u64::MAX` once it is there. That the count rose means
+/// that it is greater than before, or stands at `u64::MAX`.
 pub trait Sink {
     ghost state: { Self → SinkState };
 
-    /// Takes a prefix of the piece and answers its length, which is at least 1 unless the piece is empty. The count of
-    /// faults stays as it was then.
+    /// Takes a prefix of the piece and answers its length, which is at least 1 unless the piece is
+    /// empty. The count of faults stays as it was then.
     ///
     /// # Errors
     ///
-    /// `WriteFault` only where the count of faults rose, and never for an empty piece; nothing was taken then.
+    /// `WriteFault` only where the count of faults rose, and never for an empty piece; nothing was
+    /// taken then.
     fn put(&mut self, bytes: &[u8]) -> Result<usize, WriteFault>
         ensures cause { HasCause (state self.old).faults (state self.new).faults result }
         ensures calm { OnOk result ((state self.new).faults ≡ (state self.old).faults) }
@@ -32,12 +33,13 @@ pub trait Sink {
         ensures nothing { OnErr result ((state self.new).written ≡ (state self.old).written) };
 }
 
-/// Puts the piece until the sink has taken it whole; no put failed then, and the count of faults stays as it was. Takes no
-/// memory.
+/// Puts the piece until the sink has taken it whole; no put failed then, and the count of faults
+/// stays as it was. Takes no memory.
 ///
 /// # Errors
 ///
-/// `WriteFault` only where the count of faults rose; the sink took a prefix of the piece then, and not all of it.
+/// `WriteFault` only where the count of faults rose; the sink took a prefix of the piece then, and
+/// not all of it.
 pub fn put_all<S: Sink>(sink: &mut S, bytes: &[u8]) -> Result<(), WriteFault>
     ensures cause { HasCause (S.state sink.old).faults (S.state sink.new).faults result }
     ensures calm { OnOk result ((S.state sink.new).faults ≡ (S.state sink.old).faults) }

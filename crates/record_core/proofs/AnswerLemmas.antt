@@ -3,19 +3,19 @@ use Rattle.std.proofs.Common.{◌≡◌, ℕ, ◌⊎◌, List, [], ◌∷◌, So
 use Rattle.std.specs.declared.option.Option.{Option}
 use Rattle.rec_io.specs.Shelf.{ShelfState}
 use Rattle.record_core.proofs.StageLemmas.{By-none}
-use Rattle.record_core.specs.Answers.{Answers, TextAnswers, IsReadFault, IsTooLong, AreFiles, file_at, netlist_in}
-use Rattle.record_core.specs.Fetch.{FetchStops, FetchesPass}
+use Rattle.record_core.specs.Answers.{Answers, TextAnswers, IsFileReadFault, IsFileTooLong, AreFiles, file_at, netlist_in}
+use Rattle.record_core.specs.Inner.Fetch.{FetchStops, FetchesPass}
 use Rattle.record_core.specs.Lines.{due_line, IsRefusal}
 use Rattle.record_core.specs.Words.{command_of, names_of}
 use Rattle.record_core.specs.declared.status.Status.{Status}
 use Rattle.record_core.specs.declared.status.Status.TheVariants.{Memory, ReadFault, TooLong}
 use Rattle.record_core.specs.declared.words.Command.{Command}
 
-no_read_fault : (names : List (List ℕ)) (before now : ShelfState) → FetchesPass names now → (file : ℕ) → IsReadFault names before now file → ⊥
+no_read_fault : (names : List (List ℕ)) (before now : ShelfState) → FetchesPass names now → (file : ℕ) → IsFileReadFault names before now file → ⊥
 no_read_fault [] before now passes file fault = let p = fault.place in absurd cc
 no_read_fault (name ∷ names) before now passes file fault = let a = (passes (omega arith)).ended in let b = fault.failed in cc
 
-no_long_file : (names : List (List ℕ)) (before now : ShelfState) → FetchesPass names now → (at : ℕ × ℕ) → IsTooLong names before now at → ⊥
+no_long_file : (names : List (List ℕ)) (before now : ShelfState) → FetchesPass names now → (at : ℕ × ℕ) → IsFileTooLong names before now at → ⊥
 no_long_file [] before now passes at long = let p = long.place in absurd cc
 no_long_file (name ∷ names) before now passes at long = let a = (passes (omega arith)).short in let b = long.bound in let c = long.above in omega arith
 
@@ -26,9 +26,9 @@ module _ (words : List (List ℕ)) (command : Command) (before now : ShelfState)
   answers_fetched passes files are status text answers =
       rw is (
       inr (
-        By-none ReadFault (IsReadFault (names_of command words) before now) (no_read_fault (names_of command words) before now passes),
+        By-none ReadFault (IsFileReadFault (names_of command words) before now) (no_read_fault (names_of command words) before now passes),
         inr (
-          By-none (λ (p : ℕ × ℕ). TooLong p.0 p.1) (IsTooLong (names_of command words) before now) (no_long_file (names_of command words) before now passes),
+          By-none (λ (p : ℕ × ℕ). TooLong p.0 p.1) (IsFileTooLong (names_of command words) before now) (no_long_file (names_of command words) before now passes),
           (files, are, answers),
         ),
       ))
@@ -40,7 +40,7 @@ module _ (words : List (List ℕ)) (command : Command) (before now : ShelfState)
   answers_stopped status (inr (inr long)) =
       inr (
       rw is
-      (inr (By-none ReadFault (IsReadFault (names_of command words) before now) (λ file fault. let a = fault.failed in let b = long.1.ended in absurd cc), inl (long, refl)))
+      (inr (By-none ReadFault (IsFileReadFault (names_of command words) before now) (λ file fault. let a = fault.failed in let b = long.1.ended in absurd cc), inl (long, refl)))
       )
 
 -- a refusal, made of its status and the line that is due

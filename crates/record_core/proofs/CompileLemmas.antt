@@ -8,18 +8,18 @@ use Rattle.src_model.specs.declared.fault.SrcFault.{SrcFault}
 use Rattle.src_parser.specs.Texts.{IsNoSrcText}
 use Rattle.right_code.specs.Covered.{HasBareTree}
 use Rattle.right_code.specs.Tasks.{Property}
-use Rattle.net_code.specs.Refusals.{HasJumps, HasSteps, IsBeyondReach, IsCoverable, IsJumpless, IsReached, IsStepless, IsTooLong as HasLongImage}
+use Rattle.net_code.specs.Refusals.{HasJumps, HasSteps, IsBeyondReach, IsCoverable, IsJumpless, IsReached, IsStepless, IsImageTooLong as HasLongImage}
 use Rattle.net_compile.proofs.TaskLemmas.{has_net, none_broken, weaker, no_full, no_stepless, no_jumpless, no_uncovered, no_beyond, no_long, room_of_code, reached_of_code}
 use Rattle.net_compile.specs.declared.fault.CompileFault.{CompileFault}
 use Rattle.net_compile.specs.declared.fault.CompileFault.TheVariants.{NetText as CompileNetText, Net as CompileNet, SrcText as CompileSrcText, Src as CompileSrc, DataFull as NoRoom, NoStep as Stepless, NoJump as Jumpless, NoCover as Uncovered, NoReach as Beyond, ImageFull as Overlong, Memory as CompileMemory}
-use Rattle.net_compile.specs.Code.{IsFull, IsWithin, FailsWith, HasRoom}
+use Rattle.net_compile.specs.Code.{IsDataFull, IsWithin, FailsWith, HasRoom}
 use Rattle.net_compile.specs.Compiled.{HasNet, IsCompiled, BreaksSrc, IsCompileFault}
-use Rattle.net_compile.specs.Tasks.{Holds}
+use Rattle.net_compile.specs.Tasks.{TaskHolds}
 use Rattle.record_core.proofs.NetLemmas.{behind_rules, past_rules, stops_at_text, stops_at_rule}
 use Rattle.record_core.proofs.StageLemmas.{By-none, Just-none, Then-behind, Then-past}
 use Rattle.record_core.specs.Answers.{CodeAnswers, CodeEnds, CompileAnswers}
 use Rattle.record_core.specs.Stages.{By, Just, Then}
-use Rattle.record_core.specs.Told.{compile_status}
+use Rattle.record_core.specs.Inner.Statuses.{compile_status}
 use Rattle.record_core.specs.declared.status.Status.{Status}
 use Rattle.record_core.specs.declared.status.Status.TheVariants.{Done, NetText, Net, SrcText, Src, NoStep, NoJump, NoCover, DataFull, NoReach, ImageFull, Memory}
 
@@ -33,19 +33,19 @@ module _ (line : Status → List ℕ) (net src : List ℕ) (Later : Status → L
   broken = By Src (BreaksSrc net src)
 
   abbrev full : Status → Type 0
-  full = By (λ (p : ℕ × ℕ). DataFull p.0 p.1) (λ (p : ℕ × ℕ). Holds net src (IsFull p.0 p.1))
+  full = By (λ (p : ℕ × ℕ). DataFull p.0 p.1) (λ (p : ℕ × ℕ). TaskHolds net src (IsDataFull p.0 p.1))
 
   abbrev stepless : Status → Type 0
-  stepless = Just NoStep (Holds net src (λ task. IsStepless task.netlist))
+  stepless = Just NoStep (TaskHolds net src (λ task. IsStepless task.netlist))
 
   abbrev jumpless : Status → Type 0
-  jumpless = Just NoJump (Holds net src (λ task. IsJumpless task.netlist))
+  jumpless = Just NoJump (TaskHolds net src (λ task. IsJumpless task.netlist))
 
   abbrev uncovered : Status → Type 0
-  uncovered = By NoCover (λ (tree : ℕ). Holds net src (HasBareTree tree))
+  uncovered = By NoCover (λ (tree : ℕ). TaskHolds net src (HasBareTree tree))
 
   abbrev beyond : Status → Type 0
-  beyond = By (λ (p : ℕ × ℕ). NoReach p.0 p.1) (λ (p : ℕ × ℕ). Holds net src (IsBeyondReach p.0 p.1))
+  beyond = By (λ (p : ℕ × ℕ). NoReach p.0 p.1) (λ (p : ℕ × ℕ). TaskHolds net src (IsBeyondReach p.0 p.1))
 
   -- ---- what is answered behind them
 
@@ -75,57 +75,57 @@ module _ (line : Status → List ℕ) (net src : List ℕ) (Later : Status → L
 
   -- ---- no stage refuses where there is nothing to refuse
 
-  not_text : (P : Property) → Holds net src P → (other : Status) → no_text other → ⊥
+  not_text : (P : Property) → TaskHolds net src P → (other : Status) → no_text other → ⊥
   not_text P h = By-none SrcText (IsNoSrcText src) (λ at faulty. no_src_fault src h.task.listing at h.is.src_file.says faulty)
 
-  not_broken : (P : Property) → Holds net src P → (other : Status) → broken other → ⊥
+  not_broken : (P : Property) → TaskHolds net src P → (other : Status) → broken other → ⊥
   not_broken P h = By-none Src (BreaksSrc net src) (λ fault breaks. none_broken net src P fault h breaks)
 
-  not_full : Holds net src HasRoom → (other : Status) → full other → ⊥
-  not_full h = By-none (λ (p : ℕ × ℕ). DataFull p.0 p.1) (λ (p : ℕ × ℕ). Holds net src (IsFull p.0 p.1)) (λ p is. no_full net src p.0 p.1 h is)
+  not_full : TaskHolds net src HasRoom → (other : Status) → full other → ⊥
+  not_full h = By-none (λ (p : ℕ × ℕ). DataFull p.0 p.1) (λ (p : ℕ × ℕ). TaskHolds net src (IsDataFull p.0 p.1)) (λ p is. no_full net src p.0 p.1 h is)
 
-  not_stepless : Holds net src HasSteps → (other : Status) → stepless other → ⊥
-  not_stepless h = Just-none NoStep (Holds net src (λ task. IsStepless task.netlist)) (no_stepless net src h)
+  not_stepless : TaskHolds net src HasSteps → (other : Status) → stepless other → ⊥
+  not_stepless h = Just-none NoStep (TaskHolds net src (λ task. IsStepless task.netlist)) (no_stepless net src h)
 
-  not_jumpless : Holds net src HasJumps → (other : Status) → jumpless other → ⊥
-  not_jumpless h = Just-none NoJump (Holds net src (λ task. IsJumpless task.netlist)) (no_jumpless net src h)
+  not_jumpless : TaskHolds net src HasJumps → (other : Status) → jumpless other → ⊥
+  not_jumpless h = Just-none NoJump (TaskHolds net src (λ task. IsJumpless task.netlist)) (no_jumpless net src h)
 
-  not_uncovered : Holds net src IsCoverable → (other : Status) → uncovered other → ⊥
-  not_uncovered h = By-none NoCover (λ (tree : ℕ). Holds net src (HasBareTree tree)) (λ tree is. no_uncovered net src tree h is)
+  not_uncovered : TaskHolds net src IsCoverable → (other : Status) → uncovered other → ⊥
+  not_uncovered h = By-none NoCover (λ (tree : ℕ). TaskHolds net src (HasBareTree tree)) (λ tree is. no_uncovered net src tree h is)
 
-  not_beyond : Holds net src IsReached → (other : Status) → beyond other → ⊥
-  not_beyond h = By-none (λ (p : ℕ × ℕ). NoReach p.0 p.1) (λ (p : ℕ × ℕ). Holds net src (IsBeyondReach p.0 p.1)) (λ p is. no_beyond net src p.0 p.1 h is)
+  not_beyond : TaskHolds net src IsReached → (other : Status) → beyond other → ⊥
+  not_beyond h = By-none (λ (p : ℕ × ℕ). NoReach p.0 p.1) (λ (p : ℕ × ℕ). TaskHolds net src (IsBeyondReach p.0 p.1)) (λ p is. no_beyond net src p.0 p.1 h is)
 
   -- ---- what each refusal that doesn't come leaves to the later stages
 
   past_net : HasNet net → (status : Status) (text : List ℕ) → source_answers status text → CodeAnswers line net src Later status text
   past_net h = past_rules line net source_answers h.entries h.file
 
-  past_program : (P : Property) → Holds net src P → (status : Status) (text : List ℕ) → room_answers status text → CodeAnswers line net src Later status text
+  past_program : (P : Property) → TaskHolds net src P → (status : Status) (text : List ℕ) → room_answers status text → CodeAnswers line net src Later status text
   past_program P h status text later = past_net (has_net net src P h) status text
       (Then-past line no_text rule_answers (not_text P h) status text (Then-past line broken room_answers (not_broken P h) status text later))
 
-  past_room : Holds net src HasRoom → (status : Status) (text : List ℕ) → step_answers status text → CodeAnswers line net src Later status text
+  past_room : TaskHolds net src HasRoom → (status : Status) (text : List ℕ) → step_answers status text → CodeAnswers line net src Later status text
   past_room h status text later = past_program HasRoom h status text (Then-past line full step_answers (not_full h) status text later)
 
-  module _ (roomy : Holds net src HasRoom) where
-    past_steps : Holds net src HasSteps → (status : Status) (text : List ℕ) → jump_answers status text → CodeAnswers line net src Later status text
+  module _ (roomy : TaskHolds net src HasRoom) where
+    past_steps : TaskHolds net src HasSteps → (status : Status) (text : List ℕ) → jump_answers status text → CodeAnswers line net src Later status text
     past_steps h status text later = past_room roomy status text (Then-past line stepless jump_answers (not_stepless h) status text later)
 
-    past_jumps : Holds net src HasJumps → (status : Status) (text : List ℕ) → cover_answers status text → CodeAnswers line net src Later status text
+    past_jumps : TaskHolds net src HasJumps → (status : Status) (text : List ℕ) → cover_answers status text → CodeAnswers line net src Later status text
     past_jumps h status text later =
         past_steps (weaker net src HasJumps HasSteps (λ task x. x.steps) h) status text (Then-past line jumpless cover_answers (not_jumpless h) status text later)
 
-    past_covers : Holds net src IsCoverable → (status : Status) (text : List ℕ) → reach_answers status text → CodeAnswers line net src Later status text
+    past_covers : TaskHolds net src IsCoverable → (status : Status) (text : List ℕ) → reach_answers status text → CodeAnswers line net src Later status text
     past_covers h status text later =
         past_jumps (weaker net src IsCoverable HasJumps (λ task x. x.jumps) h) status text (Then-past line uncovered reach_answers (not_uncovered h) status text later)
 
-    past_reach : Holds net src IsReached → (status : Status) (text : List ℕ) → ends status text → CodeAnswers line net src Later status text
+    past_reach : TaskHolds net src IsReached → (status : Status) (text : List ℕ) → ends status text → CodeAnswers line net src Later status text
     past_reach h status text later =
         past_covers (weaker net src IsReached IsCoverable (λ task x. x.coverable) h) status text (Then-past line beyond ends (not_beyond h) status text later)
 
   -- where there is room and the code is within reach, the later stages answer
-  pub answers_later : Holds net src HasRoom → Holds net src IsReached → (status : Status) (text : List ℕ) → Later status text → CodeAnswers line net src Later status text
+  pub answers_later : TaskHolds net src HasRoom → TaskHolds net src IsReached → (status : Status) (text : List ℕ) → Later status text → CodeAnswers line net src Later status text
   answers_later roomy reached status text later = past_reach roomy reached status text (inr later)
 
   -- ---- each refusal is answered
@@ -145,35 +145,35 @@ module _ (line : Status → List ℕ) (net src : List ℕ) (Later : Status → L
     inl ((fault, breaks, refl), refl),
   ))
 
-  answers_full : (need have : ℕ) → Holds net src (IsFull need have) → CodeAnswers line net src Later (DataFull need have) (line (DataFull need have))
-  answers_full need have is = past_program (IsFull need have) is (DataFull need have) (line (DataFull need have)) (inl (((need, have), is, refl), refl))
+  answers_full : (need have : ℕ) → TaskHolds net src (IsDataFull need have) → CodeAnswers line net src Later (DataFull need have) (line (DataFull need have))
+  answers_full need have is = past_program (IsDataFull need have) is (DataFull need have) (line (DataFull need have)) (inl (((need, have), is, refl), refl))
 
-  answers_stepless : Holds net src (FailsWith Stepless) → CodeAnswers line net src Later NoStep (line NoStep)
+  answers_stepless : TaskHolds net src (FailsWith Stepless) → CodeAnswers line net src Later NoStep (line NoStep)
   answers_stepless h = past_room (weaker net src (FailsWith Stepless) HasRoom (λ task x. x.0) h) NoStep (line NoStep)
       (inl ((weaker net src (FailsWith Stepless) (λ task. IsStepless task.netlist) (λ task x. x.1) h, refl), refl))
 
-  answers_jumpless : Holds net src (FailsWith Jumpless) → CodeAnswers line net src Later NoJump (line NoJump)
+  answers_jumpless : TaskHolds net src (FailsWith Jumpless) → CodeAnswers line net src Later NoJump (line NoJump)
   answers_jumpless h =
       past_steps (weaker net src (FailsWith Jumpless) HasRoom (λ task x. x.0) h)
       (weaker net src (FailsWith Jumpless) HasSteps (λ task x. x.1.0) h)
       NoJump (line NoJump)
       (inl ((weaker net src (FailsWith Jumpless) (λ task. IsJumpless task.netlist) (λ task x. x.1.1) h, refl), refl))
 
-  answers_uncovered : (tree : ℕ) → Holds net src (FailsWith (Uncovered tree)) → CodeAnswers line net src Later (NoCover tree) (line (NoCover tree))
+  answers_uncovered : (tree : ℕ) → TaskHolds net src (FailsWith (Uncovered tree)) → CodeAnswers line net src Later (NoCover tree) (line (NoCover tree))
   answers_uncovered tree h =
       past_jumps (weaker net src (FailsWith (Uncovered tree)) HasRoom (λ task x. x.0) h)
       (weaker net src (FailsWith (Uncovered tree)) HasJumps (λ task x. x.1.0) h)
       (NoCover tree) (line (NoCover tree))
       (inl ((tree, weaker net src (FailsWith (Uncovered tree)) (HasBareTree tree) (λ task x. x.1.1) h, refl), refl))
 
-  answers_beyond : (bound reach : ℕ) → Holds net src (FailsWith (Beyond bound reach)) → CodeAnswers line net src Later (NoReach bound reach) (line (NoReach bound reach))
+  answers_beyond : (bound reach : ℕ) → TaskHolds net src (FailsWith (Beyond bound reach)) → CodeAnswers line net src Later (NoReach bound reach) (line (NoReach bound reach))
   answers_beyond bound reach h =
       past_covers (weaker net src (FailsWith (Beyond bound reach)) HasRoom (λ task x. x.0) h)
       (weaker net src (FailsWith (Beyond bound reach)) IsCoverable (λ task x. x.1.0) h)
       (NoReach bound reach) (line (NoReach bound reach))
       (inl (((bound, reach), weaker net src (FailsWith (Beyond bound reach)) (IsBeyondReach bound reach) (λ task x. x.1.1) h, refl), refl))
 
-  answers_long : (len size bound : ℕ) → Holds net src (FailsWith (Overlong len size bound)) → CodeAnswers line net src Later (ImageFull len size bound) (line (ImageFull len size bound))
+  answers_long : (len size bound : ℕ) → TaskHolds net src (FailsWith (Overlong len size bound)) → CodeAnswers line net src Later (ImageFull len size bound) (line (ImageFull len size bound))
   answers_long len size bound h =
       past_reach (weaker net src (FailsWith (Overlong len size bound)) HasRoom (λ task x. x.0) h)
       (weaker net src (FailsWith (Overlong len size bound)) IsReached (λ task x. x.1.0) h)
@@ -197,14 +197,14 @@ module _ (line : Status → List ℕ) (net src : List ℕ) (Later : Status → L
 
   -- ---- where nothing is refused, whatever image is made
 
-  module _ (h : Holds net src IsWithin) where
-    reached : Holds net src IsReached
+  module _ (h : TaskHolds net src IsWithin) where
+    reached : TaskHolds net src IsReached
     reached = weaker net src IsWithin IsReached (λ task x. x.reached) h
 
-    covered : Holds net src IsCoverable
+    covered : TaskHolds net src IsCoverable
     covered = weaker net src IsReached IsCoverable (λ task x. x.coverable) reached
 
-    jumps : Holds net src HasJumps
+    jumps : TaskHolds net src HasJumps
     jumps = weaker net src IsCoverable HasJumps (λ task x. x.jumps) covered
 
     ends_later : (status : Status) (text : List ℕ) → ends status text → Later status text
@@ -268,5 +268,5 @@ module _ (line : Status → List ℕ) (net src : List ℕ) where
   right_of text answers = (later_of line net src (λ status text. (status ≡ Done) × IsCompiled net src text) Done text tt answers).1
 
   -- where nothing is refused, whatever image is made, one is written
-  pub done_within : Holds net src IsWithin → (status : Status) (text : List ℕ) → CompileAnswers line net src status text → status ≡ Done
+  pub done_within : TaskHolds net src IsWithin → (status : Status) (text : List ℕ) → CompileAnswers line net src status text → status ≡ Done
   done_within h status text answers = (later_within line net src (λ status text. (status ≡ Done) × IsCompiled net src text) h status text answers).0

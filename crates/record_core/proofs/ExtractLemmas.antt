@@ -7,7 +7,7 @@ use Rattle.net_front.specs.declared.front.NetRefusal.{NetRefusal}
 use Rattle.net_front.specs.declared.front.NetRefusal.TheVariants.{Text as NoNet, Fault as BrokenNet, Memory as NetMemory}
 use Rattle.record_core.proofs.NetLemmas.{past_rules, stops_at_text, stops_at_rule}
 use Rattle.record_core.specs.Answers.{ExtractAnswers}
-use Rattle.record_core.specs.Told.{net_status}
+use Rattle.record_core.specs.Inner.Statuses.{net_status}
 use Rattle.record_core.specs.declared.status.Status.{Status}
 use Rattle.record_core.specs.declared.status.Status.TheVariants.{Done, NetText, Net, Memory}
 

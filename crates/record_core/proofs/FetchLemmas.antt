@@ -9,7 +9,7 @@ use Rattle.std.specs.declared.option.Option.{Option}
 use Rattle.rec_io.specs.Files.{Files}
 use Rattle.rec_io.specs.Shelf.{ShelfState, IsFailed, IsLong}
 use Rattle.record_core.specs.Answers.{file_limit, place_from, IsFile, AreFiles, HasFirst}
-use Rattle.record_core.specs.Fetch.{contents, AreShort, FetchStops}
+use Rattle.record_core.specs.Inner.Fetch.{contents, AreShort, FetchStops}
 use Rattle.record_core.specs.Words.{texts_of, name_in}
 use Rattle.record_core.specs.declared.status.Status.{Status}
 use Rattle.record_core.specs.declared.status.Status.TheVariants.{ReadFault, TooLong}

@@ -4,7 +4,7 @@ use Rattle.net_compile.proofs.TaskLemmas.{holds_of_read, together, weaker}
 use Rattle.net_compile.specs.Code.{HasRoom, IsRightFor}
 use Rattle.net_compile.specs.Compiled.{IsCompileFault}
 use Rattle.net_compile.specs.Read.{IsCompiledTo}
-use Rattle.net_compile.specs.Tasks.{Holds}
+use Rattle.net_compile.specs.Tasks.{TaskHolds}
 use Rattle.net_compile.specs.declared.compiler.Compiled.{Compiled}
 use Rattle.net_compile.specs.declared.fault.CompileFault.{CompileFault}
 use Rattle.net_code.specs.Refusals.{IsReached}
@@ -13,19 +13,19 @@ use Rattle.right_code.specs.Tasks.{Property, read_task}
 use Rattle.record_core.proofs.CompileLemmas.{answers_fault, answers_later, later_of}
 use Rattle.record_core.proofs.StageLemmas.{By-none}
 use Rattle.record_core.specs.Answers.{CodeAnswers, GoAnswers, WatchAnswers}
-use Rattle.record_core.specs.Putting.{IsMemoryStatus}
+use Rattle.record_core.specs.Inner.Putting.{IsMemoryStatus}
 use Rattle.record_core.specs.Stages.{By}
-use Rattle.record_core.specs.Told.{compile_status}
+use Rattle.record_core.specs.Inner.Statuses.{compile_status}
 use Rattle.record_core.specs.Watching.{HasRightImage, IsWatched, LacksMemory}
 use Rattle.record_core.specs.declared.status.Status.{Status}
 use Rattle.record_core.specs.declared.status.Status.TheVariants.{Done, Usage, ReadFault, TooLong, WriteFault, NetText, Net, SrcText, Src, NoStep, NoJump, NoCover, DataFull, NoReach, ImageFull, Memory, ImageText, MemText, Clash}
 
 module _ (net src memory : List ℕ) where
   -- a memory text that is none shows that at one offset, and one that is read shows it at none
-  pub one_lack : (a b : ℕ) → Holds net src (LacksMemory memory a) → Holds net src (LacksMemory memory b) → a ≡ b
+  pub one_lack : (a b : ℕ) → TaskHolds net src (LacksMemory memory a) → TaskHolds net src (LacksMemory memory b) → a ≡ b
   one_lack a b = together net src (LacksMemory memory a) (LacksMemory memory b) (a ≡ b) (λ task x y. one_state_fault task.netlist memory a b x.none y.none)
 
-  pub no_lack : (clocks : ℕ) (out : List ℕ) (at : ℕ) → Holds net src (IsWatched memory clocks out) → Holds net src (LacksMemory memory at) → ⊥
+  pub no_lack : (clocks : ℕ) (out : List ℕ) (at : ℕ) → TaskHolds net src (IsWatched memory clocks out) → TaskHolds net src (LacksMemory memory at) → ⊥
   no_lack clocks out at = together net src (IsWatched memory clocks out) (LacksMemory memory at) ⊥ (λ task x y. no_state_fault task.netlist memory x.start at x.said y.none)
 
 module _ (line : Status → List ℕ) (net src memory : List ℕ) (clocks : ℕ) where
@@ -34,30 +34,30 @@ module _ (line : Status → List ℕ) (net src memory : List ℕ) (clocks : ℕ)
   go_fault = answers_fault line net src (WatchAnswers line net src memory clocks)
 
   -- what is written on `Done` are the checkpoints
-  pub watched_of : (text : List ℕ) → GoAnswers line net src memory clocks Done text → Holds net src (IsWatched memory clocks text)
+  pub watched_of : (text : List ℕ) → GoAnswers line net src memory clocks Done text → TaskHolds net src (IsWatched memory clocks text)
   watched_of text answers = shown (later_of line net src (WatchAnswers line net src memory clocks) Done text tt answers)
     where
-      shown : WatchAnswers line net src memory clocks Done text → Holds net src (IsWatched memory clocks text)
+      shown : WatchAnswers line net src memory clocks Done text → TaskHolds net src (IsWatched memory clocks text)
       shown (image, inl ((at, reason, is), same)) = absurd cc
       shown (image, inr (none, (is, watched))) = watched
 
   module _ (program : Compiled) (from : IsCompiledTo net src program) where
     -- what holds of the task that was read holds of the texts
-    holds : (P : Property) → P (read_task program.checked program.typed) → Holds net src P
+    holds : (P : Property) → P (read_task program.checked program.typed) → TaskHolds net src P
     holds = holds_of_read net src program.checked program.typed from.net_file from.width from.src_file
 
     later : (status : Status) (text : List ℕ) → WatchAnswers line net src memory clocks status text → GoAnswers line net src memory clocks status text
     later = answers_later line net src (WatchAnswers line net src memory clocks) (holds HasRoom from.image.room) (holds IsReached from.image.reached)
 
-    image : Holds net src HasRightImage
+    image : TaskHolds net src HasRightImage
     image = holds HasRightImage (record { image = program.image; right = from.image.right })
 
     pub answers_watched : (text : List ℕ) → IsWatched memory clocks text (read_task program.checked program.typed) → GoAnswers line net src memory clocks Done text
     answers_watched text watched =
-        let shown : Holds net src (IsWatched memory clocks text) = holds (IsWatched memory clocks text) watched in
+        let shown : TaskHolds net src (IsWatched memory clocks text) = holds (IsWatched memory clocks text) watched in
         later Done text (
           image,
-          inr (By-none MemText (λ (at : ℕ). Holds net src (LacksMemory memory at)) (λ at lacks. no_lack net src memory clocks text at shown lacks), (refl, shown)),
+          inr (By-none MemText (λ (at : ℕ). TaskHolds net src (LacksMemory memory at)) (λ at lacks. no_lack net src memory clocks text at shown lacks), (refl, shown)),
         )
 
     answers_lacking : (at : ℕ) → LacksMemory memory at (read_task program.checked program.typed) → GoAnswers line net src memory clocks (MemText at) (line (MemText at))

@@ -5,13 +5,13 @@ use Rattle.job_gen.specs.SrcText.{src_text as job_program}
 use Rattle.net_compile.proofs.TaskLemmas.{weaker}
 use Rattle.net_compile.specs.Code.{HasRoom}
 use Rattle.net_compile.specs.Compiled.{IsCompileFault}
-use Rattle.net_compile.specs.Tasks.{Holds}
+use Rattle.net_compile.specs.Tasks.{TaskHolds}
 use Rattle.net_compile.specs.declared.fault.CompileFault.{CompileFault}
 use Rattle.net_code.specs.Refusals.{IsReached}
 use Rattle.net_make.specs.Summaries.{IsSummary, IsSummaryOf}
 use Rattle.record_core.proofs.CompileLemmas.{answers_fault, answers_later, later_of}
 use Rattle.record_core.specs.Answers.{MakeAnswers}
-use Rattle.record_core.specs.Told.{compile_status}
+use Rattle.record_core.specs.Inner.Statuses.{compile_status}
 use Rattle.record_core.specs.declared.status.Status.{Status}
 use Rattle.record_core.specs.declared.status.Status.TheVariants.{Done, Memory}
 

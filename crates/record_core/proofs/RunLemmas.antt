@@ -13,7 +13,7 @@ use Rattle.net_run.specs.declared.machine.RunFault.TheVariants.{NetText as RunNe
 use Rattle.record_core.proofs.StageLemmas.{By-none}
 use Rattle.record_core.specs.Answers.{RunAnswers, RunEnds}
 use Rattle.record_core.specs.Stages.{By, Then}
-use Rattle.record_core.specs.Told.{run_stop}
+use Rattle.record_core.specs.Inner.Statuses.{run_stop}
 use Rattle.record_core.specs.declared.status.Status.{Status}
 use Rattle.record_core.specs.declared.status.Status.TheVariants.{Done, NetText, Net, Memory, ImageText, MemText, Clash}
 

@@ -26,7 +26,8 @@ AllAlike Alike Answer = (s t : Status) (a b : List ℕ) → Answer s a → Answe
 abbrev pub AtMostOne : (Status → List ℕ → Type 0) → Type 0
 AtMostOne = AllAlike (λ s t. s ≡ t)
 
--- where a stage refuses with statuses that are alike, and the later stages answer with such, so do they together
+-- where a stage refuses with statuses that are alike, and the later stages answer with such, so do
+-- they together
 pub Then-alike : (Alike : Status → Status → Type 0) (line : Status → List ℕ) (Refuses : Status → Type 0) (Later : Status → List ℕ → Type 0) →
     ((s t : Status) → Refuses s → Refuses t → Alike s t) → AllAlike Alike Later → AllAlike Alike (Then line Refuses Later)
 Then-alike Alike line Refuses Later one later s t a b (inl p) (inl q) = one s t p.0 q.0

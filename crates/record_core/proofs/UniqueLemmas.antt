@@ -10,7 +10,7 @@ use Rattle.net_extract.specs.Extracts.{IsExtracted}
 use Rattle.job_gen.specs.NetText.{net_text as job_netlist}
 use Rattle.job_gen.specs.SrcText.{src_text as job_program}
 use Rattle.net_compile.specs.Compiled.{IsCompiled}
-use Rattle.net_compile.specs.Tasks.{Holds}
+use Rattle.net_compile.specs.Tasks.{TaskHolds}
 use Rattle.net_make.specs.Summaries.{IsSummary}
 use Rattle.net_compile.proofs.TaskLemmas.{one_beyond, one_broken, one_full, one_limit, one_uncovered}
 use Rattle.net_run.proofs.RunLaws.{one_image_fault, one_memory_fault, one_clash, no_clash_shown}
@@ -23,7 +23,7 @@ use Rattle.record_core.proofs.CompileLemmas.{done_within}
 use Rattle.record_core.proofs.GoLemmas.{one_lack}
 use Rattle.record_core.proofs.NetLemmas.{NetStages-alike}
 use Rattle.record_core.proofs.StageLemmas.{AllAlike, AtMostOne, By-unique, Then-alike, Just-unique}
-use Rattle.record_core.specs.Answers.{Agree, Answers, FilesAnswer, CanCompile, AreOfImages, CodeAnswers, CodeEnds, ExtractAnswers, WatchAnswers, netlist_in, RunEnds, RunAnswers, TextAnswers, CommandAnswers, file_at, file_limit, place_from, AreFiles, IsReadFault, IsTooLong, IsFile, Gives, IsExact, IsAccepted}
+use Rattle.record_core.specs.Answers.{AnswersAgree, Answers, FilesAnswer, CanCompile, AreOfImages, CodeAnswers, CodeEnds, ExtractAnswers, WatchAnswers, netlist_in, RunEnds, RunAnswers, TextAnswers, CommandAnswers, file_at, file_limit, place_from, AreFiles, IsFileReadFault, IsFileTooLong, IsFile, IsAnswer, IsExact, IsAccepted}
 use Rattle.record_core.specs.Lines.{due_line}
 use Rattle.record_core.specs.Stages.{Then}
 use Rattle.record_core.specs.Watching.{IsWatched}
@@ -33,17 +33,17 @@ use Rattle.record_core.specs.declared.words.Command.TheVariants.{Compile, Extrac
 use Rattle.record_core.specs.declared.status.Status.{Status}
 use Rattle.record_core.specs.declared.status.Status.TheVariants.{Done, Usage, ReadFault, TooLong, NetText, Net, SrcText, Src, NoStep, NoJump, NoCover, DataFull, NoReach, ImageFull, ImageText, MemText, Clash, Memory}
 
-one_read : (names : List (List ℕ)) (before now : ShelfState) (x y : ℕ) → IsReadFault names before now x → IsReadFault names before now y → x ≡ y
+one_read : (names : List (List ℕ)) (before now : ShelfState) (x y : ℕ) → IsFileReadFault names before now x → IsFileReadFault names before now y → x ≡ y
 one_read names before now x y p q = let a = p.place in let b = q.place in cc
 
-one_long : (names : List (List ℕ)) (before now : ShelfState) (x y : ℕ × ℕ) → IsTooLong names before now x → IsTooLong names before now y → x ≡ y
+one_long : (names : List (List ℕ)) (before now : ShelfState) (x y : ℕ × ℕ) → IsFileTooLong names before now x → IsFileTooLong names before now y → x ≡ y
 one_long names before now (a, b) (c, d) p q = let p0 = p.place in let p1 = p.bound in let q0 = q.place in let q1 = q.bound in cc
 
 done_only : (Written : List ℕ → Type 0) → AtMostOne (λ status text. (status ≡ Done) × Written text)
 done_only Written s t a b p q = p.0 ∙ sym q.0
 
 -- one answer agrees with itself
-equal : (command : Option Command) (s t : Status) → s ≡ t → Agree command s t
+equal : (command : Option Command) (s t : Status) → s ≡ t → AnswersAgree command s t
 equal None s t e = e
 equal (Some Compile) s t e = inl e
 equal (Some Extract) s t e = e
@@ -57,7 +57,8 @@ equal (Some (Make number)) s t e = inl e
 abbrev CodeAgree : Status → Status → Type 0
 CodeAgree s t = (s ≡ t) ⊎ AreOfImages s t
 
--- what is answered once there is an image: one status, which may stand beside an image that is too long
+-- what is answered once there is an image: one status, which may stand beside an image that is too
+-- long
 record IsOfImage (Later : Status → List ℕ → Type 0) : Type 0 where
   one : AtMostOne Later
   beside : (s : Status) (text : List ℕ) → Later s text → (len size bound : ℕ) → AreOfImages s (ImageFull len size bound) × AreOfImages (ImageFull len size bound) s
@@ -95,10 +96,10 @@ done_beside Written = record {
 
 module _ (line : Status → List ℕ) (net src memory : List ℕ) (clocks : ℕ) where
   abbrev Shown : Status → List ℕ → Type 0
-  Shown status text = (status ≡ Done) × Holds net src (IsWatched memory clocks text)
+  Shown status text = (status ≡ Done) × TaskHolds net src (IsWatched memory clocks text)
 
   watch_one : AtMostOne (WatchAnswers line net src memory clocks)
-  watch_one s t a b p q = Then-alike (λ s t. s ≡ t) line _ Shown (By-unique MemText _ (one_lack net src memory)) (done_only (λ text. Holds net src (IsWatched memory clocks text))) s t a b p.1 q.1
+  watch_one s t a b p q = Then-alike (λ s t. s ≡ t) line _ Shown (By-unique MemText _ (one_lack net src memory)) (done_only (λ text. TaskHolds net src (IsWatched memory clocks text))) s t a b p.1 q.1
 
   watch_beside : IsOfImage (WatchAnswers line net src memory clocks)
   watch_beside = record { one = watch_one; beside = beside }
@@ -131,7 +132,7 @@ RunAnswers-unique line net image memory clocks =
 
 -- ---- all commands
 
-TextAnswers-agree : (line : Option ℕ → Status → List ℕ) (command : Command) (files : List (List ℕ)) → AllAlike (Agree (Some command)) (TextAnswers line command files)
+TextAnswers-agree : (line : Option ℕ → Status → List ℕ) (command : Command) (files : List (List ℕ)) → AllAlike (AnswersAgree (Some command)) (TextAnswers line command files)
 TextAnswers-agree line Compile files =
     CodeAnswers-agree (line None) (file_at files 0) (file_at files 1) _ (done_beside (IsCompiled (file_at files 0) (file_at files 1)))
 TextAnswers-agree line Extract files = ExtractAnswers-unique (line None) (file_at files 0)
@@ -155,7 +156,7 @@ same_files told (name ∷ names) [] b some p q = absurd p
 same_files told (name ∷ names) (x ∷ a) [] some p q = absurd q
 
 CommandAnswers-agree : (line : List ℕ → Option ℕ → Status → List ℕ) (told : Option Files) (command : Command) (names : List (List ℕ)) → IsSome told →
-    AllAlike (Agree (Some command)) (CommandAnswers line told command names)
+    AllAlike (AnswersAgree (Some command)) (CommandAnswers line told command names)
 CommandAnswers-agree line told command names some s t a b (files, p, x) (others, q, y) =
     let e : others ≡ files = same_files told names others files some q p in
     TextAnswers-agree (line (netlist_in command files)) command files s t a b x (subst (λ (fs : List (List ℕ)). TextAnswers (line (netlist_in command fs)) command fs t b) e y)
@@ -164,30 +165,30 @@ usage_only : (line : List ℕ) → AtMostOne (λ status text. (status ≡ Usage)
 usage_only line s t a b p q = p.0 ∙ sym q.0
 
 FilesAnswer-agree : (words : List (List ℕ)) (command : Option Command) (before now : ShelfState) → IsSome before.files →
-    AllAlike (Agree command) (FilesAnswer words command before now)
+    AllAlike (AnswersAgree command) (FilesAnswer words command before now)
 FilesAnswer-agree words None before now told = usage_only (due_line words [] None Usage)
 FilesAnswer-agree words (Some command) before now told =
-    Then-alike (Agree (Some command)) (due_line words [] None) _ _
+    Then-alike (AnswersAgree (Some command)) (due_line words [] None) _ _
     (λ s t p q. equal (Some command) s t (By-unique ReadFault _ (one_read (names_of command words) before now) s t p q))
-    (Then-alike (Agree (Some command)) (due_line words [] None) _ _
+    (Then-alike (AnswersAgree (Some command)) (due_line words [] None) _ _
     (λ s t p q. equal (Some command) s t (By-unique (λ (p : ℕ × ℕ). TooLong p.0 p.1) _ (one_long (names_of command words) before now) s t p q))
     (CommandAnswers-agree (due_line words) before.files command (names_of command words) told))
 
 -- where the files are told, the statuses that apply agree
-pub Answers-agree : (words : List (List ℕ)) (before now : ShelfState) → IsSome before.files → AllAlike (Agree (command_of words)) (Answers words before now)
+pub Answers-agree : (words : List (List ℕ)) (before now : ShelfState) → IsSome before.files → AllAlike (AnswersAgree (command_of words)) (Answers words before now)
 Answers-agree words before now told = FilesAnswer-agree words (command_of words) before now told
 
-pub exact_of : (words : List (List ℕ)) (before now : ShelfState) (old new : SinkState) (result : Status) → Gives words before now old new result →
+pub exact_of : (words : List (List ℕ)) (before now : ShelfState) (old new : SinkState) (result : Status) → IsAnswer words before now old new result →
     IsSome before.files → IsExact words before now result
 exact_of words before now old new result gives told status text applies = elim gives.put [
   | inl whole ↦ elim gives.answer [
     | inl memory ↦ inr (inl (whole.0 ∙ memory.0))
-    | inr due ↦ inl (subst (λ (r : Status). Agree (command_of words) r status) (sym whole.0) (Answers-agree words before now told gives.due status gives.text text due applies))
+    | inr due ↦ inl (subst (λ (r : Status). AnswersAgree (command_of words) r status) (sym whole.0) (Answers-agree words before now told gives.due status gives.text text due applies))
   ]
   | inr part ↦ inr (inr part.0)
 ]
 
-pub complete_of : (words : List (List ℕ)) (before now : ShelfState) (old new : SinkState) (result : Status) → Gives words before now old new result → IsAccepted words before now → (Rose old.faults new.faults → ⊥) → (result ≡ Done) ⊎ (result ≡ Memory)
+pub complete_of : (words : List (List ℕ)) (before now : ShelfState) (old new : SinkState) (result : Status) → IsAnswer words before now old new result → IsAccepted words before now → (Rose old.faults new.faults → ⊥) → (result ≡ Done) ⊎ (result ≡ Memory)
 complete_of words before now old new result gives accepted calm = elim gives.put [
   | inl whole ↦ elim gives.answer [
     | inl memory ↦ inr (whole.0 ∙ memory.0)
@@ -216,7 +217,7 @@ not_long told k (first ∷ names) (bytes ∷ files) name place are found long =
     by_test false e rest f = rest f
 
 no_long_file : (files : Option Files) → IsSome files → (names contents : List (List ℕ)) (before now : ShelfState) → before.files ≡ files → AreFiles files names contents →
-    (at : ℕ × ℕ) → IsTooLong names before now at → ⊥
+    (at : ℕ × ℕ) → IsFileTooLong names before now at → ⊥
 no_long_file None told names contents before now is are at long = absurd (search rules)
 no_long_file (Some all) told names contents before now is are at long =
     not_long all 0 names contents now.last at.0 are long.place (rw (long.bound, is) at long.longer)
@@ -230,13 +231,13 @@ accepted_by words before now can calm (Some (Go clocks)) is status text answers 
 accepted_by words before now can calm (Some (Make number)) is status text answers = absurd cc
 accepted_by words before now can calm (Some Compile) is status text (inl ((file, fault, e), t)) = absurd (calm fault.rose)
 accepted_by words before now can calm (Some Compile) is status text (inr (a, inl ((at, long, e), t))) =
-    absurd (no_long_file before.files can.told (names_of Compile words) can.files before now refl can.are at long)
+    absurd (no_long_file before.files can.known (names_of Compile words) can.files before now refl can.are at long)
 accepted_by words before now can calm (Some Compile) is status text (inr (a, inr (b, (files, are, answers)))) =
-    let same : files ≡ can.files = same_files before.files (names_of Compile words) files can.files can.told are can.are in
+    let same : files ≡ can.files = same_files before.files (names_of Compile words) files can.files can.known are can.are in
     done_within (due_line words (file_at can.files 0) None) (file_at can.files 0) (file_at can.files 1) can.within status text
     (subst (λ (fs : List (List ℕ)). TextAnswers (due_line words (file_at fs 0)) Compile fs status text) same answers)
 
-pub compiled_of : (words : List (List ℕ)) (before now : ShelfState) (old new : SinkState) (result : Status) → Gives words before now old new result →
+pub compiled_of : (words : List (List ℕ)) (before now : ShelfState) (old new : SinkState) (result : Status) → IsAnswer words before now old new result →
     CanCompile words before.files → (Rose before.faults now.faults → ⊥) → (Rose old.faults new.faults → ⊥) → (result ≡ Done) ⊎ (result ≡ Memory)
 compiled_of words before now old new result gives can read calm =
     complete_of words before now old new result gives (accepted_by words before now can read (command_of words) can.command) calm

@@ -10,7 +10,7 @@ use Rattle.record_core.proofs.ExtractLemmas.{patterns_of}
 use Rattle.record_core.proofs.GoLemmas.{watched_of}
 use Rattle.record_core.proofs.MakeLemmas.{summary_of}
 use Rattle.record_core.proofs.RunLemmas.{state_of}
-use Rattle.record_core.specs.Answers.{FilesAnswer, TextAnswers, CommandAnswers, Gives, IsText, Wrote, file_at, netlist_in}
+use Rattle.record_core.specs.Answers.{FilesAnswer, TextAnswers, CommandAnswers, IsAnswer, IsText, Wrote, file_at, netlist_in}
 use Rattle.record_core.specs.Lines.{due_line}
 use Rattle.record_core.specs.Words.{command_of, names_of}
 use Rattle.record_core.specs.declared.words.Command.{Command}
@@ -42,7 +42,7 @@ files_wrote words command before now old new text (inl (read, t)) taken = absurd
 files_wrote words command before now old new text (inr (a, inl (long, t))) taken = absurd (let e = long.2 in cc)
 files_wrote words command before now old new text (inr (a, inr (b, answers))) taken = command_wrote (due_line words) command (names_of command words) before.files old new text answers taken
 
-pub wrote_of : (words : List (List ℕ)) (before now : ShelfState) (old new : SinkState) (result : Status) → Gives words before now old new result → (command : Command) → command_of words ≡ Some command → result ≡ Done → Wrote command (names_of command words) before.files old.written new.written
+pub wrote_of : (words : List (List ℕ)) (before now : ShelfState) (old new : SinkState) (result : Status) → IsAnswer words before now old new result → (command : Command) → command_of words ≡ Some command → result ≡ Done → Wrote command (names_of command words) before.files old.written new.written
 wrote_of words before now old new result gives command has done = elim gives.put [
   | inl whole ↦ elim gives.answer [
     | inl memory ↦ absurd (let e = whole.0 in let f = memory.0 in cc)

@@ -7,10 +7,10 @@ use Rattle.net_front.specs.Fronts.{BreaksRule}
 use Rattle.net_extract.specs.Extracts.{BreaksAnyRule, IsExtracted}
 use Rattle.src_parser.specs.Texts.{IsNoSrcText}
 use Rattle.right_code.specs.Covered.{HasBareTree}
-use Rattle.net_code.specs.Refusals.{IsBeyondReach, IsJumpless, IsStepless, IsTooLong as HasLongImage}
-use Rattle.net_compile.specs.Code.{IsFull, IsWithin}
+use Rattle.net_code.specs.Refusals.{IsBeyondReach, IsJumpless, IsStepless, IsImageTooLong as HasLongImage}
+use Rattle.net_compile.specs.Code.{IsDataFull, IsWithin}
 use Rattle.net_compile.specs.Compiled.{IsCompiled, BreaksSrc}
-use Rattle.net_compile.specs.Tasks.{Holds}
+use Rattle.net_compile.specs.Tasks.{TaskHolds}
 use Rattle.job_gen.specs.NetText.{net_text as job_netlist}
 use Rattle.job_gen.specs.SrcText.{src_text as job_program}
 use Rattle.net_make.specs.Summaries.{IsSummary}
@@ -54,14 +54,14 @@ abbrev pub HasFirst : Option Files → List (List ℕ) → ℕ → Type 0
 HasFirst files names count = (contents : List (List ℕ)) × AreFiles files (take count names) contents
 
 -- the last fetch failed, it asked for the file at this place, and the count of faults rose
-pub record IsReadFault (names : List (List ℕ)) (before now : ShelfState) (file : ℕ) : Type 0 where
+pub record IsFileReadFault (names : List (List ℕ)) (before now : ShelfState) (file : ℕ) : Type 0 where
   pub rose : Rose before.faults now.faults
   pub failed : now.failed ≡ true
   pub place : place_from 0 names now.last ≡ Some file
   pub earlier : HasFirst before.files names file
 
 -- the last fetch asked for the file at this place, did not fail and got more than the limit
-pub record IsTooLong (names : List (List ℕ)) (before now : ShelfState) (at : ℕ × ℕ) : Type 0 where
+pub record IsFileTooLong (names : List (List ℕ)) (before now : ShelfState) (at : ℕ × ℕ) : Type 0 where
   pub bound : at.1 ≡ file_limit
   pub above : at.1 < now.taken
   pub ended : now.failed ≡ false
@@ -69,26 +69,28 @@ pub record IsTooLong (names : List (List ℕ)) (before now : ShelfState) (at : �
   pub earlier : HasFirst before.files names at.0
   pub longer : IfSome before.files (λ all. IsSomeAnd (file_of all now.last) (λ bytes. at.1 < length bytes))
 
--- how the making of the code ends: there is an image made for the task that is too long, or there is one that is right code, and the later
--- stages answer. Images made for one task may differ in length, so both may apply
+-- how the making of the code ends: there is an image made for the task that is too long, or there
+-- is one that is right code, and the later stages answer. Images made for one task may differ in
+-- length, so both may apply
 abbrev pub CodeEnds : (Status → List ℕ) → List ℕ → List ℕ → (Status → List ℕ → Type 0) → Status → List ℕ → Type 0
 CodeEnds line net src Later status text =
-    ((len : ℕ) × (size : ℕ) × (bound : ℕ) × Holds net src (HasLongImage len size bound)
+    ((len : ℕ) × (size : ℕ) × (bound : ℕ) × TaskHolds net src (HasLongImage len size bound)
     × (status ≡ ImageFull len size bound) × (text ≡ line (ImageFull len size bound)))
     ⊎ Later status text
 
--- what a command answers that makes code of these two texts, and what the later stages answer once there is an image
+-- what a command answers that makes code of these two texts, and what the later stages answer once
+-- there is an image
 abbrev pub CodeAnswers : (Status → List ℕ) → List ℕ → List ℕ → (Status → List ℕ → Type 0) → Status → List ℕ → Type 0
 CodeAnswers line net src Later =
     Then line (By NetText (IsNoNetText net)) (
     Then line (By Net (BreaksAnyRule net)) (
     Then line (By SrcText (IsNoSrcText src)) (
     Then line (By Src (BreaksSrc net src)) (
-    Then line (By (λ (p : ℕ × ℕ). DataFull p.0 p.1) (λ (p : ℕ × ℕ). Holds net src (IsFull p.0 p.1))) (
-    Then line (Just NoStep (Holds net src (λ task. IsStepless task.netlist))) (
-    Then line (Just NoJump (Holds net src (λ task. IsJumpless task.netlist))) (
-    Then line (By NoCover (λ (tree : ℕ). Holds net src (HasBareTree tree))) (
-    Then line (By (λ (p : ℕ × ℕ). NoReach p.0 p.1) (λ (p : ℕ × ℕ). Holds net src (IsBeyondReach p.0 p.1))) (
+    Then line (By (λ (p : ℕ × ℕ). DataFull p.0 p.1) (λ (p : ℕ × ℕ). TaskHolds net src (IsDataFull p.0 p.1))) (
+    Then line (Just NoStep (TaskHolds net src (λ task. IsStepless task.netlist))) (
+    Then line (Just NoJump (TaskHolds net src (λ task. IsJumpless task.netlist))) (
+    Then line (By NoCover (λ (tree : ℕ). TaskHolds net src (HasBareTree tree))) (
+    Then line (By (λ (p : ℕ × ℕ). NoReach p.0 p.1) (λ (p : ℕ × ℕ). TaskHolds net src (IsBeyondReach p.0 p.1))) (
     CodeEnds line net src Later)))))))))
 
 -- what `compile` answers for these two texts
@@ -117,11 +119,12 @@ RunAnswers line net image memory clocks =
     Then (line None) (By MemText (IsNoMemoryFile net memory)) (
     RunEnds line net image memory clocks))))
 
--- what `go` answers once there is an image: its checkpoints from the state that the memory text says
+-- what `go` answers once there is an image: its checkpoints from the state that the memory text
+-- says
 abbrev pub WatchAnswers : (Status → List ℕ) → List ℕ → List ℕ → List ℕ → ℕ → Status → List ℕ → Type 0
 WatchAnswers line net src memory clocks status text =
-    Holds net src HasRightImage
-    × Then line (By MemText (λ (at : ℕ). Holds net src (LacksMemory memory at))) (λ status text. (status ≡ Done) × Holds net src (IsWatched memory clocks text)) status text
+    TaskHolds net src HasRightImage
+    × Then line (By MemText (λ (at : ℕ). TaskHolds net src (LacksMemory memory at))) (λ status text. (status ≡ Done) × TaskHolds net src (IsWatched memory clocks text)) status text
 
 -- what `go` answers for these three texts and this number of clocks
 abbrev pub GoAnswers : (Status → List ℕ) → List ℕ → List ℕ → List ℕ → ℕ → Status → List ℕ → Type 0
@@ -150,18 +153,19 @@ netlist_in command files = file_at files 0
 
 -- what it answers once its files are there; a line is of the netlist's text too
 abbrev pub CommandAnswers : (List ℕ → Option ℕ → Status → List ℕ) → Option Files → Command → List (List ℕ) → Status → List ℕ → Type 0
-CommandAnswers line told command names status text =
-    (files : List (List ℕ)) × AreFiles told names files × TextAnswers (line (netlist_in command files)) command files status text
+CommandAnswers line known command names status text =
+    (files : List (List ℕ)) × AreFiles known names files × TextAnswers (line (netlist_in command files)) command files status text
 
 -- what the words answer by their command
 abbrev pub FilesAnswer : List (List ℕ) → Option Command → ShelfState → ShelfState → Status → List ℕ → Type 0
 FilesAnswer words None before now status text = (status ≡ Usage) × (text ≡ due_line words [] None Usage)
 FilesAnswer words (Some command) before now status text =
-    Then (due_line words [] None) (By ReadFault (IsReadFault (names_of command words) before now)) (
-    Then (due_line words [] None) (By (λ (p : ℕ × ℕ). TooLong p.0 p.1) (IsTooLong (names_of command words) before now)) (
+    Then (due_line words [] None) (By ReadFault (IsFileReadFault (names_of command words) before now)) (
+    Then (due_line words [] None) (By (λ (p : ℕ × ℕ). TooLong p.0 p.1) (IsFileTooLong (names_of command words) before now)) (
     CommandAnswers (due_line words) before.files command (names_of command words))) status text
 
--- what the call answers: the first refusal that applies and its line, or `Done` and the text; all but want of memory and faults of the sink
+-- what the call answers: the first refusal that applies and its line, or `Done` and the text; all
+-- but want of memory and faults of the sink
 abbrev pub Answers : List (List ℕ) → ShelfState → ShelfState → Status → List ℕ → Type 0
 Answers words before now status text = FilesAnswer words (command_of words) before now status text
 
@@ -176,14 +180,14 @@ PutsText before now text status result =
     ⊎ ((result ≡ WriteFault) × Rose before.faults now.faults × TakesPrefix before.written now.written text)
 
 -- the answer that is due, what the sink took of its text, and the status that is returned
-pub record Gives (words : List (List ℕ)) (before now : ShelfState) (old new : SinkState) (result : Status) : Type 0 where
+pub record IsAnswer (words : List (List ℕ)) (before now : ShelfState) (old new : SinkState) (result : Status) : Type 0 where
   pub due : Status
   pub text : List ℕ
   pub answer : MayAnswer words before now due text
   pub put : PutsText old new text due result
 
--- two answers that images made for one task have: what is answered of one of them, and that the other is too long, or that both are too long, for
--- one code and with one bound
+-- two answers that images made for one task have: what is answered of one of them, and that the
+-- other is too long, or that both are too long, for one code and with one bound
 abbrev pub AreOfImages : Status → Status → Type 0
 AreOfImages Done (ImageFull len size bound) = ⊤
 AreOfImages (ImageFull len size bound) Done = ⊤
@@ -193,44 +197,47 @@ AreOfImages (ImageFull len size bound) (ImageFull other room most) = (size ≡ r
 AreOfImages _ _ = ⊥
 
 -- one answer; of the commands that make code, or two of images made for one task
-abbrev pub Agree : Option Command → Status → Status → Type 0
-Agree (Some Compile) status other = (status ≡ other) ⊎ AreOfImages status other
-Agree (Some (Go clocks)) status other = (status ≡ other) ⊎ AreOfImages status other
-Agree (Some (Make number)) status other = (status ≡ other) ⊎ AreOfImages status other
-Agree _ status other = status ≡ other
+abbrev pub AnswersAgree : Option Command → Status → Status → Type 0
+AnswersAgree (Some Compile) status other = (status ≡ other) ⊎ AreOfImages status other
+AnswersAgree (Some (Go clocks)) status other = (status ≡ other) ⊎ AreOfImages status other
+AnswersAgree (Some (Make number)) status other = (status ≡ other) ⊎ AreOfImages status other
+AnswersAgree _ status other = status ≡ other
 
--- where an answer applies, nothing else is returned but one that agrees with it, want of memory or a fault of the sink
+-- where an answer applies, nothing else is returned but one that agrees with it, want of memory or
+-- a fault of the sink
 abbrev pub IsExact : List (List ℕ) → ShelfState → ShelfState → Status → Type 0
 IsExact words before now result = (status : Status) (text : List ℕ) → Answers words before now status text →
-    Agree (command_of words) result status ⊎ (result ≡ Memory) ⊎ (result ≡ WriteFault)
+    AnswersAgree (command_of words) result status ⊎ (result ≡ Memory) ⊎ (result ≡ WriteFault)
 
 -- no refusal applies
 abbrev pub IsAccepted : List (List ℕ) → ShelfState → ShelfState → Type 0
 IsAccepted words before now = (status : Status) (text : List ℕ) → Answers words before now status text → status ≡ Done
 
--- the words ask to compile, the files are told, and they say a task of which nothing is refused, whatever image is made for it
+-- the words ask to compile, the files are told, and they say a task of which nothing is refused,
+-- whatever image is made for it
 pub record CanCompile (words : List (List ℕ)) (given : Option Files) : Type 0 where
   pub command : command_of words ≡ Some Compile
-  pub told : IsSome given
+  pub known : IsSome given
   pub files : List (List ℕ)
   pub are : AreFiles given (names_of Compile words) files
-  pub within : Holds (file_at files 0) (file_at files 1) IsWithin
+  pub within : TaskHolds (file_at files 0) (file_at files 1) IsWithin
 
--- what is written on `Done`. Of `compile`: an image that is right code for the program on the netlist. Of `extract`: what the instruction
--- words of the netlist do, each with its least word. Of `run`: the state that the clocks reach. Of `go`: the checkpoints that the netlist shows
--- on the words of an image that is right code. Of `make`: the summary of the made-up texts of the number
+-- what is written on `Done`. Of `compile`: an image that is right code for the program on the
+-- netlist. Of `extract`: what the instruction words of the netlist do, each with its least word. Of
+-- `run`: the state that the clocks reach. Of `go`: the checkpoints that the netlist shows on the
+-- words of an image that is right code. Of `make`: the summary of the made-up texts of the number
 abbrev pub IsText : Command → List (List ℕ) → List ℕ → Type 0
 IsText Compile files = IsCompiled (file_at files 0) (file_at files 1)
 IsText Extract files = IsExtracted (file_at files 0)
 IsText (Run clocks) files = ShowsState (file_at files 0) (file_at files 1) (file_at files 2) clocks
-IsText (Go clocks) files = λ out. Holds (file_at files 0) (file_at files 1) (IsWatched (file_at files 2) clocks out)
+IsText (Go clocks) files = λ out. TaskHolds (file_at files 0) (file_at files 1) (IsWatched (file_at files 2) clocks out)
 IsText (Make number) files = IsSummary number
 
 -- the bytes that were taken are the text of the command for the files of these names
-pub record HasText (command : Command) (names : List (List ℕ)) (told : Files) (old new : List ℕ) : Type 0 where
+pub record HasText (command : Command) (names : List (List ℕ)) (known : Files) (old new : List ℕ) : Type 0 where
   pub files : List (List ℕ)
   pub out : List ℕ
-  pub are : AreFiles (Some told) names files
+  pub are : AreFiles (Some known) names files
   pub taken : new ≡ old ++ out
   pub text : IsText command files out
 

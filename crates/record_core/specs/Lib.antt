@@ -1,11 +1,9 @@
 pub mod Answers
-pub mod Fetch
 pub mod Lines
 pub mod NetLines
 pub mod SrcLines
 pub mod Stages
 pub mod Status
-pub mod Told
 pub mod Words
-pub mod Putting
 pub mod Watching
+pub mod Inner

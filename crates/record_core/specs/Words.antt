@@ -32,13 +32,13 @@ within_jobs None = None
 within_jobs (Some job) = if nat_le 1 job && nat_le job job_limit then Some job else None
 
 -- the number of the made-up program that a word asks for, from 1 on
-abbrev pub job_of : List ℕ → Option ℕ
-job_of word = within_jobs (number_of word)
+abbrev pub job_number : List ℕ → Option ℕ
+job_number word = within_jobs (number_of word)
 
 -- the command that the words ask for, if they have the form of one
 abbrev pub command_of : List (List ℕ) → Option Command
 command_of (word ∷ other ∷ []) =
-    if bytes_eq word (codes "extract") then Some Extract else (if bytes_eq word (codes "make") then option_map Make (job_of other) else None)
+    if bytes_eq word (codes "extract") then Some Extract else (if bytes_eq word (codes "make") then option_map Make (job_number other) else None)
 command_of (word ∷ net ∷ src ∷ []) = if bytes_eq word (codes "compile") then Some Compile else None
 command_of (word ∷ net ∷ other ∷ memory ∷ clocks ∷ []) =
     if bytes_eq word (codes "run") then option_map Run (clocks_of clocks)

@@ -1,10 +1,10 @@
 //! The call of the program.
 ghost use Rattle.std.specs.Prelude.{◌≡◌, ◌≢◌, ◌⊎◌, ◌≤◌, Some, IfOk, IfErr, IsSome, OnOk, string_bytes};
 ghost use Rattle.rec_io.specs.Causes.{Rose};
-ghost use Rattle.record_core.specs.Answers.{TextAnswers, Answers, PutsText, Gives, IsExact, IsAccepted, CanCompile, Wrote, netlist_in};
-ghost use Rattle.record_core.specs.Fetch.{contents, AreShort};
+ghost use Rattle.record_core.specs.Answers.{TextAnswers, Answers, PutsText, IsAnswer, IsExact, IsAccepted, CanCompile, Wrote, netlist_in};
+ghost use Rattle.record_core.specs.Inner.Fetch.{contents, AreShort};
 ghost use Rattle.record_core.specs.Lines.{due_line, IsRefusal};
-ghost use Rattle.record_core.specs.Putting.{PutsAnswer, PutsDone};
+ghost use Rattle.record_core.specs.Inner.Putting.{PutsAnswer, PutsDone};
 ghost use Rattle.record_core.specs.Words.{CommandFits, command_of, names_of, texts_of};
 ghost use Rattle.record_core.specs.declared.words.Command.{Command};
 ghost use Rattle.record_core.specs.declared.status.Status.{Status};
@@ -12,7 +12,7 @@ ghost use Rattle.record_core.specs.declared.status.Status.{Status};
 use crate::Status;
 use crate::commands::{file, put_command};
 use crate::fetch::fetch_all;
-use crate::line::{fault_line, name_from, told_place};
+use crate::line::{fault_line, name_from, name_offset};
 use crate::stop::Stop;
 use crate::words::{Command, command_of};
 use rec_io::{Shelf, Sink, WriteFault, put_all};
@@ -27,11 +27,12 @@ struct Refusal {
     line: String,
 }
 
-// The refusal of this status, with its line from the words and the netlist's text. `bus` is the place of the name of a bus that clashes.
+// The refusal of this status, with its line from the words and the netlist's text. `bus` is the
+// place of the name of a bus that clashes.
 fn refused(alloc: Global, words: &[String], net: &[u8], bus: Option<u64>, status: Status) -> Refusal
     ensures { IsRefusal (texts_of words.now) net.now bus status result.status (string_bytes result.line) }
 {
-    let name = name_from(net, told_place(bus, status));
+    let name = name_from(net, name_offset(bus, status));
     match fault_line(alloc, words, name, status) {
         Ok(line) => Refusal { status, line },
         Err(_) => Refusal {
@@ -70,7 +71,8 @@ fn command_refused(
     }
 }
 
-// Puts the text of the command for the bytes of its files, or answers the first refusal that applies, where nothing was put.
+// Puts the text of the command for the bytes of its files, or answers the first refusal that
+// applies, where nothing was put.
 fn put_for<S: Sink>(
     alloc: Global,
     words: &[String],
@@ -81,7 +83,8 @@ fn put_for<S: Sink>(
     requires short { AreShort (contents files.now) }
     requires fits { CommandFits command }
     ensures done { IfOk result (PutsDone (due_line (texts_of words.now) (netlist_in command (contents files.now))) command (contents files.now) (S.state out.old) (S.state out.new)) }
-    ensures refused { IfErr result (λ refusal. (refusal.status ≡ Status.Memory) ⊎ TextAnswers (due_line (texts_of words.now) (netlist_in command (contents files.now))) command (contents files.now) refusal.status (string_bytes refusal.line)) }
+    ensures refused { IfErr result (λ refusal. (refusal.status ≡ Status.Memory)
+        ⊎ TextAnswers (due_line (texts_of words.now) (netlist_in command (contents files.now))) command (contents files.now) refusal.status (string_bytes refusal.line)) }
     ensures other { IfErr result (λ refusal. refusal.status ≢ Status.Done) }
     ensures still { IfErr result (λ _. S.state out.new ≡ S.state out.old) }
 {
@@ -91,7 +94,8 @@ fn put_for<S: Sink>(
     }
 }
 
-// Puts the text, or answers the first refusal that applies, where nothing was put. No fetch failed where a text was due.
+// Puts the text, or answers the first refusal that applies, where nothing was put. No fetch failed
+// where a text was due.
 fn decide<F: Shelf, S: Sink>(
     alloc: Global,
     words: &[String],
@@ -102,7 +106,8 @@ fn decide<F: Shelf, S: Sink>(
     ensures same { (F.state shelf.new).files ≡ (F.state shelf.old).files }
     ensures calm { OnOk result ((F.state shelf.new).faults ≡ (F.state shelf.old).faults) }
     ensures done { IfOk result (PutsAnswer (texts_of words.now) (F.state shelf.old) (F.state shelf.new) (S.state out.old) (S.state out.new)) }
-    ensures refused { IfErr result (λ refusal. (refusal.status ≡ Status.Memory) ⊎ Answers (texts_of words.now) (F.state shelf.old) (F.state shelf.new) refusal.status (string_bytes refusal.line)) }
+    ensures refused { IfErr result (λ refusal. (refusal.status ≡ Status.Memory)
+        ⊎ Answers (texts_of words.now) (F.state shelf.old) (F.state shelf.new) refusal.status (string_bytes refusal.line)) }
     ensures other { IfErr result (λ refusal. refusal.status ≢ Status.Done) }
     ensures still { IfErr result (λ _. S.state out.new ≡ S.state out.old) }
 {
@@ -134,7 +139,7 @@ fn answer<F: Shelf, S: Sink>(alloc: Global, words: &[String], shelf: &mut F, out
     ensures sink_later { (S.state out.old).faults ≤ (S.state out.new).faults }
     ensures shelf_calm { result ≡ Status.Done → (F.state shelf.new).faults ≡ (F.state shelf.old).faults }
     ensures sink_calm { result ≢ Status.WriteFault → (S.state out.new).faults ≡ (S.state out.old).faults }
-    ensures gives { Gives (texts_of words.now) (F.state shelf.old) (F.state shelf.new) (S.state out.old) (S.state out.new) result }
+    ensures gives { IsAnswer (texts_of words.now) (F.state shelf.old) (F.state shelf.new) (S.state out.old) (S.state out.new) result }
 {
     match decide(alloc, words, shelf, out) {
         Ok(Ok(())) => Status::Done,
@@ -148,10 +153,12 @@ fn answer<F: Shelf, S: Sink>(alloc: Global, words: &[String], shelf: &mut F, out
 
 /// What the words ask for, over the files of this shelf, into this output.
 ///
-/// The words are those after the program's name: `compile NET SRC`, `extract NET`, `run NET IMG MEM CYCLES`, `go NET SRC MEM CYCLES` or
-/// `make N`, where NET, SRC, IMG and MEM are names of files, CYCLES is a decimal number from 0 to 1,000,000, and N one from 1 to 1,000. On
-/// `Done` the output took the whole text: an image, the patterns of a netlist, a state, checkpoints, or a summary. On `WriteFault` it took a prefix of the text that was due, and on every other status the line of the fault. Want
-/// of memory may be answered anywhere.
+/// The words are those after the program's name: `compile NET SRC`, `extract NET`, `run NET IMG MEM
+/// CYCLES`, `go NET SRC MEM CYCLES` or `make N`, where NET, SRC, IMG and MEM are names of files,
+/// CYCLES is a decimal number from 0 to 1,000,000, and N one from 1 to 1,000. On `Done` the output
+/// took the whole text: an image, the patterns of a netlist, a state, checkpoints, or a summary. On
+/// `WriteFault` it took a prefix of the text that was due, and on every other status the line of
+/// the fault. Want of memory may be answered anywhere.
 pub fn record_call<F: Shelf, S: Sink>(
     alloc: Global,
     words: &Vec<String>,
@@ -162,27 +169,34 @@ pub fn record_call<F: Shelf, S: Sink>(
     ensures shelf_same { (F.state shelf.new).files ≡ (F.state shelf.old).files }
     ensures sink_later { (S.state out.old).faults ≤ (S.state out.new).faults }
 
-    // No fault is swallowed: on `Done` neither count of faults has changed, and on no status but `WriteFault` has the output's.
+    // No fault is swallowed: on `Done` neither count of faults has changed, and on no status but
+    // `WriteFault` has the output's.
     ensures shelf_calm { result ≡ Status.Done → (F.state shelf.new).faults ≡ (F.state shelf.old).faults }
     ensures sink_calm { result ≢ Status.WriteFault → (S.state out.new).faults ≡ (S.state out.old).faults }
 
-    // What is due is the first refusal that applies, with its line, or `Done` and the text, or want of memory.
-    ensures gives { Gives (texts_of words.now.items) (F.state shelf.old) (F.state shelf.new) (S.state out.old) (S.state out.new) result }
+    // What is due is the first refusal that applies, with its line, or `Done` and the text, or want
+    // of memory.
+    ensures gives { IsAnswer (texts_of words.now.items) (F.state shelf.old) (F.state shelf.new) (S.state out.old) (S.state out.new) result }
 
-    // Where the files are told, nothing else is answered than what applies; where code is made more than one answer may, since images
-    // made for one task may differ in length.
+    // Where the files are told, nothing else is answered than what applies; where code is made more
+    // than one answer may, since images made for one task may differ in length.
     ensures exactly { IsSome (F.state shelf.old).files → IsExact (texts_of words.now.items) (F.state shelf.old) (F.state shelf.new) result }
 
     // Where no refusal applies and the output did not fail, the call succeeds.
-    ensures complete { IsAccepted (texts_of words.now.items) (F.state shelf.old) (F.state shelf.new) → ¬ Rose (S.state out.old).faults (S.state out.new).faults → (result ≡ Status.Done) ⊎ (result ≡ Status.Memory) }
+    ensures complete { IsAccepted (texts_of words.now.items) (F.state shelf.old) (F.state shelf.new) →
+        ¬ Rose (S.state out.old).faults (S.state out.new).faults → (result ≡ Status.Done) ⊎ (result ≡ Status.Memory) }
 
-    // In particular, `compile` succeeds where the files are told and say a netlist and a program of which nothing is refused, whatever
-    // image is made for them, and neither the shelf nor the output failed.
-    ensures compiles { CanCompile (texts_of words.now.items) (F.state shelf.old).files → ¬ Rose (F.state shelf.old).faults (F.state shelf.new).faults → ¬ Rose (S.state out.old).faults (S.state out.new).faults → (result ≡ Status.Done) ⊎ (result ≡ Status.Memory) }
+    // In particular, `compile` succeeds where the files are told and say a netlist and a program of
+    // which nothing is refused, whatever image is made for them, and neither the shelf nor the
+    // output failed.
+    ensures compiles { CanCompile (texts_of words.now.items) (F.state shelf.old).files →
+        ¬ Rose (F.state shelf.old).faults (F.state shelf.new).faults → ¬ Rose (S.state out.old).faults (S.state out.new).faults →
+        (result ≡ Status.Done) ⊎ (result ≡ Status.Memory) }
 
-    // The main promise: what was written is the text of the command for its files, as of `compile` an image that is right code for the
-    // program on the netlist.
-    ensures wrote { (command : Command) → command_of (texts_of words.now.items) ≡ Some command → result ≡ Status.Done → Wrote command (names_of command (texts_of words.now.items)) (F.state shelf.old).files (S.state out.old).written (S.state out.new).written }
+    // The main promise: what was written is the text of the command for its files, as of `compile`
+    // an image that is right code for the program on the netlist.
+    ensures wrote { (command : Command) → command_of (texts_of words.now.items) ≡ Some command → result ≡ Status.Done →
+        Wrote command (names_of command (texts_of words.now.items)) (F.state shelf.old).files (S.state out.old).written (S.state out.new).written }
 {
     answer(alloc, words, shelf, out)
 }

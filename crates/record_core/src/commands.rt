@@ -2,8 +2,8 @@
 ghost use Rattle.std.specs.Prelude.{◌≡◌, ◌≢◌, ◌⊎◌, ℕ, List, Option, IfOk, IfErr};
 ghost use Rattle.net_watch.specs.Puts.{Puts};
 ghost use Rattle.record_core.specs.Answers.{file_at, TextAnswers};
-ghost use Rattle.record_core.specs.Fetch.{contents, AreShort};
-ghost use Rattle.record_core.specs.Putting.{PutsDone};
+ghost use Rattle.record_core.specs.Inner.Fetch.{contents, AreShort};
+ghost use Rattle.record_core.specs.Inner.Putting.{PutsDone};
 ghost use Rattle.record_core.specs.Words.{CommandFits};
 ghost use Rattle.record_core.specs.declared.status.Status.{Status};
 
@@ -34,7 +34,8 @@ fn put<S: Sink>(out: &mut S, text: &[u8]) -> Result<(), WriteFault>
     put_all(out, text)
 }
 
-/// Puts the text of the command for the bytes of its files, or answers the first refusal that applies, where nothing was put.
+/// Puts the text of the command for the bytes of its files, or answers the first refusal that
+/// applies, where nothing was put.
 pub fn put_command<S: Sink>(
     alloc: Global,
     command: Command,
@@ -45,8 +46,10 @@ pub fn put_command<S: Sink>(
     requires fits { CommandFits command }
 
     // Whatever the lines of the refusals are.
-    ensures done { (line : Option ℕ → Status → List ℕ) → IfOk result (PutsDone line command (contents files.now) (S.state out.old) (S.state out.new)) }
-    ensures refused { (line : Option ℕ → Status → List ℕ) → IfErr result (λ stop. (stop.status ≡ Status.Memory) ⊎ TextAnswers line command (contents files.now) stop.status (line stop.bus stop.status)) }
+    ensures done { (line : Option ℕ → Status → List ℕ) →
+        IfOk result (PutsDone line command (contents files.now) (S.state out.old) (S.state out.new)) }
+    ensures refused { (line : Option ℕ → Status → List ℕ) → IfErr result (λ stop.
+        (stop.status ≡ Status.Memory) ⊎ TextAnswers line command (contents files.now) stop.status (line stop.bus stop.status)) }
     ensures other { IfErr result (λ stop. stop.status ≢ Status.Done) }
     ensures still { IfErr result (λ _. S.state out.new ≡ S.state out.old) }
 {

@@ -13,7 +13,8 @@ pub fn extract_text(alloc: Global, net: &[u8]) -> Result<Vec<u8>, Status>
 
     // Whatever the lines of the refusals are.
     ensures ok { (line : Status → List ℕ) → IfOk result (λ text. ExtractAnswers line net.now Status.Done text.items) }
-    ensures refused { (line : Status → List ℕ) → IfErr result (λ status. (status ≡ Status.Memory) ⊎ ExtractAnswers line net.now status (line status)) }
+    ensures refused { (line : Status → List ℕ) → IfErr result (λ status.
+        (status ≡ Status.Memory) ⊎ ExtractAnswers line net.now status (line status)) }
     ensures other { IfErr result (λ status. status ≢ Status.Done) }
 {
     let text = extract(alloc, net)?;

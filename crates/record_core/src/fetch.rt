@@ -1,7 +1,7 @@
 //! The files of a command.
 ghost use Rattle.std.specs.Prelude.{◌≡◌, ◌⊎◌, ◌<◌, ◌≤◌, [], Some, IfSome, IfOk, IfErr, OnOk, length, map, slice_index_or};
 ghost use Rattle.record_core.specs.Answers.{place_from, IsFile, AreFiles, HasFirst};
-ghost use Rattle.record_core.specs.Fetch.{contents, FetchStops, FetchPasses, FetchesPass};
+ghost use Rattle.record_core.specs.Inner.Fetch.{contents, FetchStops, FetchPasses, FetchesPass};
 ghost use Rattle.record_core.specs.Words.{texts_of, name_in};
 
 use crate::Status;

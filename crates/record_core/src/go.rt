@@ -3,8 +3,8 @@ ghost use Rattle.std.specs.Prelude.{◌≡◌, ◌≢◌, ◌⊎◌, ℕ, List, 
 ghost use Rattle.right_code.specs.Tasks.{read_task};
 ghost use Rattle.net_compile.specs.Code.{IsRightFor};
 ghost use Rattle.record_core.specs.Answers.{file_limit, GoAnswers};
-ghost use Rattle.record_core.specs.Putting.{IsMemoryStatus, PutsGo, PutsWatched};
-ghost use Rattle.record_core.specs.Told.{memory_status};
+ghost use Rattle.record_core.specs.Inner.Putting.{IsMemoryStatus, PutsGo, PutsWatched};
+ghost use Rattle.record_core.specs.Inner.Statuses.{memory_status};
 ghost use Rattle.record_core.specs.declared.status.Status.{Status};
 
 use crate::Status;
@@ -51,8 +51,8 @@ fn watch<S: Sink>(
     Ok(watch.run(out))
 }
 
-/// Puts the checkpoints that the netlist `net` shows of the program `src` over so many clocks, from the state of `memory`, or answers the first
-/// refusal that applies, where nothing was put.
+/// Puts the checkpoints that the netlist `net` shows of the program `src` over so many clocks, from
+/// the state of `memory`, or answers the first refusal that applies, where nothing was put.
 pub fn go<S: Sink>(
     alloc: Global,
     net: &[u8],
@@ -66,8 +66,10 @@ pub fn go<S: Sink>(
     requires memory_short { length memory.now ≤ file_limit }
 
     // Whatever the lines of the refusals are.
-    ensures done { (line : Status → List ℕ) → IfOk result (PutsGo line net.now src.now memory.now clocks (S.state out.old) (S.state out.new)) }
-    ensures refused { (line : Status → List ℕ) → IfErr result (λ status. (status ≡ Status.Memory) ⊎ GoAnswers line net.now src.now memory.now clocks status (line status)) }
+    ensures done { (line : Status → List ℕ) →
+        IfOk result (PutsGo line net.now src.now memory.now clocks (S.state out.old) (S.state out.new)) }
+    ensures refused { (line : Status → List ℕ) → IfErr result (λ status.
+        (status ≡ Status.Memory) ⊎ GoAnswers line net.now src.now memory.now clocks status (line status)) }
     ensures other { IfErr result (λ status. status ≢ Status.Done) }
     ensures still { IfErr result (λ _. S.state out.new ≡ S.state out.old) }
 {

@@ -3,7 +3,7 @@
 //! Promise: of `record_call`. `wrote`: on `Done` the sink took in this call the text of the command
 //! for its files, as of `compile` that of an image which is right code (`Wrote`). `gives`: what is
 //! answered is the first refusal that applies, with its line, or `Done`, or want of memory
-//! (`Gives`). `shelf_calm`, `sink_calm`: no fault of a file or of the output is swallowed.
+//! (`IsAnswer`). `shelf_calm`, `sink_calm`: no fault of a file or of the output is swallowed.
 //! `exactly`, `complete`, `compiles`: where the files are told, nothing is answered but what
 //! applies, want of memory, or a fault of the sink (`IsExact`, `IsAccepted`, `CanCompile`).
 //! `Status::code` is the exit status.
@@ -20,10 +20,9 @@
 //! - `commands`: the arm of each command, and its text put.
 //! - `line`: the lines of the faults.
 //! - `call`: `record_call`.
-//! - `specs/`: `Answers` (what is answered, and what is written), `Stages`, `Words`, `Watching`,
-//!   `Status`, `Lines`, `NetLines` and `SrcLines` are cited by public contracts; `Fetch`,
-//!   `Putting`, `Told`, `IsRefusal` of `Lines` and two definitions of `Words` are for the functions
-//!   here.
+//! - `specs/`, cited by public contracts: `Answers` (what is answered, and what is written),
+//!   `Stages`, `Words`, `Watching`, `Status`, `Lines`, `NetLines` and `SrcLines`. `specs/Inner/`:
+//!   `Fetch`, `Putting`, `Statuses`, for the functions here.
 //! - `proofs/`: `WroteLemmas`, `AnswerLemmas`, `UniqueLemmas` and `StageLemmas` for the call, one
 //!   file a command, `FetchLemmas`, `NameLemmas`.
 #![tactic(auto)]

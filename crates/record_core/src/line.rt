@@ -1,7 +1,7 @@
 //! The lines of the faults.
 ghost use Rattle.std.specs.Prelude.{◌≡◌, ◌+◌, ◌<◌, IfOk, drop, length, string_bytes, take_while};
 ghost use Rattle.lexing.specs.Bytes.{is_name_byte};
-ghost use Rattle.record_core.specs.Lines.{told_place, line_of, name_at};
+ghost use Rattle.record_core.specs.Lines.{name_offset, status_line, name_of_file};
 ghost use Rattle.record_core.specs.NetLines.{name_from, name_place, net_line, net_rule_text, net_kind_text, role_text};
 ghost use Rattle.record_core.specs.SrcLines.{src_line, src_kind_text};
 ghost use Rattle.record_core.specs.Words.{texts_of};
@@ -13,7 +13,7 @@ use std::alloc::{AllocError, Global};
 
 // The word that names this file.
 fn file_name(words: &[String], file: u8) -> &str
-    ensures { result.now ≡ name_at (texts_of words.now) file }
+    ensures { result.now ≡ name_of_file (texts_of words.now) file }
 {
     match words.get(file as usize + 1) {
         Some(word) => word.as_str(),
@@ -97,9 +97,10 @@ fn behind(bytes: &[u8], at: u64) -> &[u8]
     }
 }
 
-/// Where the name stands that the line tells, if it tells one. `bus` is the place of the name of a bus that clashes.
-pub fn told_place(bus: Option<u64>, status: Status) -> Option<u64>
-    ensures { result ≡ told_place bus status }
+/// Where the name stands that the line tells, if it tells one. `bus` is the place of the name of a
+/// bus that clashes.
+pub fn name_offset(bus: Option<u64>, status: Status) -> Option<u64>
+    ensures { result ≡ name_offset bus status }
 {
     match status {
         Status::Net(fault) => name_place(fault),
@@ -108,7 +109,8 @@ pub fn told_place(bus: Option<u64>, status: Status) -> Option<u64>
     }
 }
 
-/// The name that begins at this place of the netlist's text; the empty text where there is no place.
+/// The name that begins at this place of the netlist's text; the empty text where there is no
+/// place.
 pub fn name_from(net: &[u8], at: Option<u64>) -> &str
     ensures { result.now ≡ name_from net.now at }
 {
@@ -189,7 +191,7 @@ pub fn fault_line(
     name: &str,
     status: Status,
 ) -> Result<String, AllocError>
-    ensures { IfOk result (λ line. string_bytes line ≡ line_of (texts_of words.now) name.now status) }
+    ensures { IfOk result (λ line. string_bytes line ≡ status_line (texts_of words.now) name.now status) }
 {
     match status {
         Status::Done | Status::WriteFault => Ok(String::new(alloc)),

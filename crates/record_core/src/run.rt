@@ -7,7 +7,8 @@ use crate::stop::Stop;
 use net_run::run;
 use std::alloc::Global;
 
-/// The state text of so many clocks of the netlist `net` on the image `image` from the state of `memory`, or the first refusal that applies.
+/// The state text of so many clocks of the netlist `net` on the image `image` from the state of
+/// `memory`, or the first refusal that applies.
 pub fn run_text(
     alloc: Global,
     net: &[u8],
@@ -20,8 +21,10 @@ pub fn run_text(
     requires memory_short { length memory.now ≤ file_limit }
 
     // Whatever the lines of the refusals are.
-    ensures ok { (line : Option ℕ → Status → List ℕ) → IfOk result (λ text. RunAnswers line net.now image.now memory.now clocks Status.Done text.items) }
-    ensures refused { (line : Option ℕ → Status → List ℕ) → IfErr result (λ stop. (stop.status ≡ Status.Memory) ⊎ RunAnswers line net.now image.now memory.now clocks stop.status (line stop.bus stop.status)) }
+    ensures ok { (line : Option ℕ → Status → List ℕ) → IfOk result (λ text.
+        RunAnswers line net.now image.now memory.now clocks Status.Done text.items) }
+    ensures refused { (line : Option ℕ → Status → List ℕ) → IfErr result (λ stop.
+        (stop.status ≡ Status.Memory) ⊎ RunAnswers line net.now image.now memory.now clocks stop.status (line stop.bus stop.status)) }
     ensures other { IfErr result (λ stop. stop.status ≢ Status.Done) }
 {
     let text = run(alloc, net, image, memory, clocks)?;

@@ -9,7 +9,8 @@ use rec_bits::NoMemory;
 use src_model::SrcFault;
 use std::alloc::{AllocError, AllocFailed};
 
-/// How a call ends. A `file` is its place among the words that name files, from 0; offsets are those of bytes.
+/// How a call ends. A `file` is its place among the words that name files, from 0; offsets are
+/// those of bytes.
 #[derive(Clone, Copy, Debug, PartialEq, Eq)]
 pub enum Status {
     /// The output took the whole text.
@@ -105,7 +106,7 @@ impl From<CompileFault> for Status {
     ghost from_gives = { λ fault status. status ≡ compile_status fault };
 
     ghost use Rattle.std.specs.Prelude.{◌≡◌};
-    ghost use Rattle.record_core.specs.Told.{compile_status};
+    ghost use Rattle.record_core.specs.Inner.Statuses.{compile_status};
 
     fn from(fault: CompileFault) -> Status {
         match fault {
@@ -128,7 +129,7 @@ impl From<NetRefusal> for Status {
     ghost from_gives = { λ refusal status. status ≡ net_status refusal };
 
     ghost use Rattle.std.specs.Prelude.{◌≡◌};
-    ghost use Rattle.record_core.specs.Told.{net_status};
+    ghost use Rattle.record_core.specs.Inner.Statuses.{net_status};
 
     fn from(refusal: NetRefusal) -> Status {
         match refusal {

@@ -15,7 +15,7 @@ impl From<Status> for Stop {
     ghost from_gives = { λ status stop. stop ≡ without_bus status };
 
     ghost use Rattle.std.specs.Prelude.{◌≡◌};
-    ghost use Rattle.record_core.specs.Told.{without_bus};
+    ghost use Rattle.record_core.specs.Inner.Statuses.{without_bus};
 
     fn from(status: Status) -> Stop {
         Stop { status, bus: None }
@@ -26,7 +26,7 @@ impl From<RunFault> for Stop {
     ghost from_gives = { λ fault stop. stop ≡ run_stop fault };
 
     ghost use Rattle.std.specs.Prelude.{◌≡◌};
-    ghost use Rattle.record_core.specs.Told.{run_stop};
+    ghost use Rattle.record_core.specs.Inner.Statuses.{run_stop};
 
     fn from(fault: RunFault) -> Stop {
         match fault {

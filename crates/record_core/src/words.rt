@@ -1,6 +1,6 @@
 //! The words of the command line.
 ghost use Rattle.std.specs.Prelude.{◌≡◌, ◌<◌, ◌≤◌, IfSome, length};
-ghost use Rattle.record_core.specs.Words.{CommandFits, texts_of, clocks_of, command_of, file_count, job_limit, job_of};
+ghost use Rattle.record_core.specs.Words.{CommandFits, texts_of, clocks_of, command_of, file_count, job_limit, job_number};
 
 use text_lines::number;
 
@@ -17,9 +17,11 @@ pub enum Command {
     Compile,
     /// `extract NET`: the text of a netlist's patterns.
     Extract,
-    /// `run NET IMG MEM CYCLES`: the state of a netlist after so many clocks on an image, from a memory text's state.
+    /// `run NET IMG MEM CYCLES`: the state of a netlist after so many clocks on an image, from a
+    /// memory text's state.
     Run(u32),
-    /// `go NET SRC MEM CYCLES`: the checkpoints that a netlist shows of a program over so many clocks, from a memory text's state.
+    /// `go NET SRC MEM CYCLES`: the checkpoints that a netlist shows of a program over so many
+    /// clocks, from a memory text's state.
     Go(u32),
     /// `make N`: the summary of the made-up netlist and program of this number, compiled and run.
     Make(u32),
@@ -55,7 +57,7 @@ fn clocks(word: &str) -> Option<u32>
 
 // The number of the made-up program that a word asks for.
 fn job(word: &str) -> Option<u32>
-    ensures job { result ≡ job_of word.now }
+    ensures job { result ≡ job_number word.now }
     ensures fits { IfSome result (λ number. (1 ≤ number) × (number ≤ job_limit)) }
 {
     match number(word.as_bytes()) {

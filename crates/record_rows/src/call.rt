@@ -1,9 +1,10 @@
 //! One call, what it is made over, and what it answers.
 
+use crate::fault::Fault;
 use crate::row::number;
-use anyhow::{Context, Result, bail};
 use rec_io::{MemShelf, MemSink};
 use record_core::record_call;
+use row_texts::put;
 use std::alloc::{AllocError, Global};
 
 // What a sink has room for where the row doesn't say.
@@ -24,7 +25,7 @@ pub struct Call {
 
 impl Call {
     /// A call of this name without words and files.
-    pub fn new(alloc: Global, name: &str) -> Result<Call> {
+    pub fn new(alloc: Global, name: &str) -> Result<Call, Fault> {
         Ok(Call {
             name: String::from_str(alloc, name)?,
             words: Vec::new(alloc),
@@ -38,16 +39,16 @@ impl Call {
     }
 
     // More bytes of the last file.
-    fn add(&mut self, bytes: &[u8]) -> Result<()> {
+    fn add(&mut self, bytes: &[u8]) -> Result<(), Fault> {
         let Some(file) = self.files.last_mut() else {
-            bail!("no file to add to");
+            return Err(Fault::Line);
         };
         file.1.extend_from_slice(bytes)?;
         Ok(())
     }
 
     // More of the last file: the text behind the number so many times, or a space.
-    fn fill(&mut self, what: &str) -> Result<()> {
+    fn fill(&mut self, what: &str) -> Result<(), Fault> {
         let (count, text) = what.split_once(" ").unwrap_or((what, " "));
         for _ in 0..number(count)? {
             self.add(text.as_bytes())?;
@@ -55,23 +56,40 @@ impl Call {
         Ok(())
     }
 
+    // One more word.
+    fn add_word(&mut self, alloc: Global, word: &str) -> Result<(), Fault> {
+        let word = String::from_str(alloc, word)?;
+        self.words.push(word)?;
+        Ok(())
+    }
+
+    // One more file, which is empty.
+    fn add_file(&mut self, alloc: Global, name: &str) -> Result<(), Fault> {
+        let name = String::from_str(alloc, name)?;
+        self.files.push((name, Vec::new(alloc)))?;
+        Ok(())
+    }
+
+    // One more line of the last file.
+    fn add_line(&mut self, line: &str) -> Result<(), Fault> {
+        self.add(line.as_bytes())?;
+        self.add(b"\n")
+    }
+
     // One more byte of the last file.
-    fn byte(&mut self, value: u64) -> Result<()> {
-        let byte = u8::try_from(value).context("no byte")?;
-        self.add(&[byte])
+    fn byte(&mut self, value: u64) -> Result<(), Fault> {
+        match u8::try_from(value) {
+            Ok(byte) => self.add(&[byte]),
+            Err(_) => Err(Fault::Number),
+        }
     }
 
     /// Takes one line of the row: its first word, and what stands behind it.
-    pub fn take(&mut self, alloc: Global, key: &str, rest: &str) -> Result<()> {
+    pub fn take(&mut self, alloc: Global, key: &str, rest: &str) -> Result<(), Fault> {
         match key {
-            "word" => self.words.push(String::from_str(alloc, rest)?)?,
-            "file" => self
-                .files
-                .push((String::from_str(alloc, rest)?, Vec::new(alloc)))?,
-            "|" => {
-                self.add(rest.as_bytes())?;
-                self.add(b"\n")?;
-            }
+            "word" => self.add_word(alloc, rest)?,
+            "file" => self.add_file(alloc, rest)?,
+            "|" => self.add_line(rest)?,
             "+" => self.add(rest.as_bytes())?,
             "fill" => self.fill(rest)?,
             "byte" => self.byte(number(rest)?)?,
@@ -79,22 +97,22 @@ impl Call {
             "room" => self.room = number(rest)? as usize,
             "ends" => self.ends = Some(number(rest)? as usize),
             "fail" => self.fail(rest)?,
-            _ => bail!("no line of a call: {key} {rest}"),
+            _ => return Err(Fault::Line),
         }
         Ok(())
     }
 
-    fn fail(&mut self, what: &str) -> Result<()> {
+    fn fail(&mut self, what: &str) -> Result<(), Fault> {
         match what.split_once(" ") {
             Some(("fetch", count)) => self.fetch_fails.push(number(count)?)?,
             Some(("put", count)) => self.put_fails.push(number(count)?)?,
-            _ => bail!("nothing can fail so: {what}"),
+            _ => return Err(Fault::Line),
         }
         Ok(())
     }
 
     /// Makes the call. The text has the row's name, what the sink took, and the status.
-    pub fn found(self, alloc: Global) -> Result<String> {
+    pub fn found(self, alloc: Global) -> Result<String, Fault> {
         let Call {
             name,
             words,
@@ -105,43 +123,76 @@ impl Call {
             room,
             ends,
         } = self;
+        let mut sink = MemSink::new(alloc, step.max(1), room, put_fails)?;
         let mut shelf = MemShelf::new(files, fetch_fails);
-        let mut sink = MemSink::new(alloc, step.max(1), room, put_fails).map_err(|_| AllocError)?;
         let status = record_call(alloc, &words, &mut shelf, &mut sink);
-        let taken = String::from_utf8_lossy(alloc, sink.bytes())?;
-        match ends {
-            None => told(alloc, &name, taken.as_str(), status.code()),
-            Some(count) => {
-                let short = shortened(alloc, taken.as_str(), count)?;
-                told(alloc, &name, short.as_str(), status.code())
-            }
-        }
+        drop(words);
+        drop(shelf);
+        Ok(answer(alloc, &name, sink.bytes(), ends, status.code())?)
     }
 }
 
-// The first lines of a text and its last, so many of both, and how many stand between them.
-fn shortened(alloc: Global, text: &str, count: usize) -> Result<String> {
+// The lines that tell of a call: all that the sink took, or so many lines of both ends.
+fn answer(
+    alloc: Global,
+    name: &str,
+    bytes: &[u8],
+    ends: Option<usize>,
+    code: u8,
+) -> Result<String, AllocError> {
+    let taken = String::from_utf8_lossy(alloc, bytes)?;
+    told(alloc, name, taken.as_str(), ends, code)
+}
+
+// The lines that tell of a call.
+fn told(
+    alloc: Global,
+    name: &str,
+    text: &str,
+    ends: Option<usize>,
+    code: u8,
+) -> Result<String, AllocError> {
+    let mut told = String::from_str(alloc, "row ")?;
+    put_name(&mut told, name)?;
+    match ends {
+        None => put_text(&mut told, text)?,
+        Some(count) => put_ends(&mut told, text, count)?,
+    }
+    put_status(&mut told, code)?;
+    Ok(told)
+}
+
+fn put_name(told: &mut String, name: &str) -> Result<(), AllocError> {
+    told.push_str(name)?;
+    told.push_str("\n")
+}
+
+fn put_status(told: &mut String, code: u8) -> Result<(), AllocError> {
+    put(told, "status ", u64::from(code))?;
+    told.push_str("\n\n")
+}
+
+// Adds a text, with a mark where it doesn't end with a line's end.
+fn put_text(told: &mut String, text: &str) -> Result<(), AllocError> {
+    told.push_str(text)?;
+    if !text.is_empty() && !text.ends_with("\n") {
+        told.push_str("$\n")?;
+    }
+    Ok(())
+}
+
+// Adds the first lines of a text and its last, so many of both, and how many stand between them.
+fn put_ends(told: &mut String, text: &str, count: usize) -> Result<(), AllocError> {
     let lines = text.lines().count();
     let behind = lines.saturating_sub(count);
-    let mut short = String::new(alloc);
     for (k, line) in text.lines().enumerate() {
         if k < count || k >= behind {
-            short.push_str(line)?;
-            short.push_str("\n")?;
+            told.push_str(line)?;
+            told.push_str("\n")?;
         } else if k == count {
-            let between = behind - count;
-            short.push_str(&format!(in alloc; "({between} lines)\n")?)?;
+            put(told, "(", (behind - count) as u64)?;
+            told.push_str(" lines)\n")?;
         }
     }
-    Ok(short)
-}
-
-// The lines that tell of a call; what the sink took ends with a mark where it doesn't end with a line's end.
-fn told(alloc: Global, name: &str, text: &str, code: u8) -> Result<String> {
-    let end = if text.is_empty() || text.ends_with("\n") {
-        ""
-    } else {
-        "$\n"
-    };
-    Ok(format!(in alloc; "row {name}\n{text}{end}status {code}\n\n")?)
+    Ok(())
 }

@@ -1,4 +1,5 @@
-//! Makes the calls, runs the programs and looks at the netlists that the rows on standard input ask for, over memory, and prints what is found.
+//! Makes the calls, runs the programs and looks at the netlists that the rows on standard input ask
+//! for, over memory, and prints what is found.
 //!
 //! A row begins with its kind and its name, and ends at its `run`. A call's lines are
 //!
@@ -38,9 +39,10 @@
 //! run
 //! ```
 //!
-//! of which is printed how many nets, storages and patterns it has, how many diagram nodes and expressions stand behind these, and, where
-//! instruction words have at most 16 bits, how many words there are, how many of them clash, and for how many what the word does by itself
-//! isn't what the patterns tell of it. The forms of a netlist are asked for by
+//! of which is printed how many nets, storages and patterns it has, how many diagram nodes and
+//! expressions stand behind these, and, where instruction words have at most 16 bits, how many
+//! words there are, how many of them clash, and for how many what the word does by itself isn't
+//! what the patterns tell of it. The forms of a netlist are asked for by
 //!
 //! ```text
 //! forms NAME
@@ -50,8 +52,9 @@
 //! run
 //! ```
 //!
-//! and for each of them the number of its pattern, its transfer, the mask of its instruction bits and its clobbers are printed: a jump's with
-//! its reach, a branch's with its target and its condition. The covers of a program's jobs by the forms of a netlist are asked for by
+//! and for each of them the number of its pattern, its transfer, the mask of its instruction bits
+//! and its clobbers are printed: a jump's with its reach, a branch's with its target and its
+//! condition. The covers of a program's jobs by the forms of a netlist are asked for by
 //!
 //! ```text
 //! cover NAME
@@ -60,8 +63,8 @@
 //! run
 //! ```
 //!
-//! and for each job its number is printed, with the tree that is covered, what the cover costs and how many temporary cells it fills, or that
-//! there is no cover.
+//! and for each job its number is printed, with the tree that is covered, what the cover costs and
+//! how many temporary cells it fills, or that there is no cover.
 //!
 //! It promises nothing but safety and an end, so a new row needs no proof. `stdin` beside `src/`
 //! has the rows and `stdout` what they print.
@@ -69,43 +72,43 @@
 //! Files:
 //!
 //! - `main`: line by line, up to a row's `run`.
-//! - `row`: rows by their kinds.
+//! - `fault`, `row`: why a row isn't run; rows by their kinds.
 //! - `call`: a call over `MemShelf` and `MemSink`.
 //! - `program`, `store`: a run of a program by `src_eval`, and the store that it begins with.
-//! - `netlist`, `words`: what is counted of a netlist, and its words held one by one against the
-//!   patterns.
-//! - `forms`, `form_text`: the forms of a netlist, and how they are printed.
-//! - `cover_row`, `cover_text`: the covers of a program's jobs, and how they are printed.
-//! - `specs/`: `Stores`: cells that hold what was given for them; no other crate cites it.
-//! - `proofs/`: `WordCounts`, and a folder for each file whose loops ask for it.
+//! - `netlist`, `forms`, `cover_row`: rows of netlists, whose texts are those of `row_texts`.
+//! - `specs/Inner/`: `Stores`: cells that hold what was given for them; no other crate cites it.
+//! - `proofs/`: a folder for each function of `store`.
 #![tactic(auto)]
 
 mod call;
 mod cover_row;
-mod cover_text;
-mod form_text;
+mod fault;
 mod forms;
 mod netlist;
 mod program;
 mod row;
 mod store;
-mod words;
 
-use anyhow::Result;
+use anyhow::{Context, Result};
 use row::Row;
+use std::mem;
+
+// Takes a line, and at the last of a row prints what is found.
+fn take(rt: &(impl Print + AllocGlobal), row: &mut Row, line: &str) -> Result<()> {
+    if line != "run" {
+        return row
+            .take(rt.alloc(), line)
+            .context(format_args!("at the line {line}"));
+    }
+    let asked = mem::replace(row, Row::Nothing);
+    rt.print(asked.found(rt.alloc())?)?;
+    Ok(())
+}
 
 fn run(rt: &(impl Input + Print + AllocGlobal)) -> Result<()> {
-    let alloc = rt.alloc();
     let mut row = Row::Nothing;
-    for line in rt.lines(alloc) {
-        let line = line?;
-        if line.as_str() == "run" {
-            let found = row.found(alloc)?;
-            rt.print(found)?;
-            row = Row::Nothing;
-        } else {
-            row.take(alloc, line.as_str())?;
-        }
+    for line in rt.lines(rt.alloc()) {
+        take(rt, &mut row, line?.as_str())?;
     }
     Ok(())
 }

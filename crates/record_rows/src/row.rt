@@ -2,10 +2,10 @@
 
 use crate::call::Call;
 use crate::cover_row::CoverRow;
+use crate::fault::Fault;
 use crate::forms::FormRow;
 use crate::netlist::Netlist;
 use crate::program::Program;
-use anyhow::{Context, Result, bail};
 use std::alloc::Global;
 
 /// What a row asks for.
@@ -26,42 +26,59 @@ pub enum Row {
 }
 
 impl Row {
+    // The row that a line of this first word begins, if it begins one.
+    fn begun(alloc: Global, key: &str, name: &str) -> Result<Option<Row>, Fault> {
+        Ok(Some(match key {
+            "row" => Row::Call(Call::new(alloc, name)?),
+            "program" => Row::Program(Program::new(alloc, name)?),
+            "netlist" => Row::Netlist(Netlist::new(alloc, name)?),
+            "forms" => Row::Forms(FormRow::new(alloc, name)?),
+            "cover" => Row::Cover(CoverRow::new(alloc, name)?),
+            _ => return Ok(None),
+        }))
+    }
+
+    // Takes a line behind the first.
+    fn add(&mut self, alloc: Global, key: &str, rest: &str) -> Result<(), Fault> {
+        match self {
+            Row::Call(call) => call.take(alloc, key, rest),
+            Row::Program(program) => program.take(key, rest),
+            Row::Netlist(netlist) => netlist.take(key, rest),
+            Row::Forms(row) => row.take(key, rest),
+            Row::Cover(row) => row.take(key, rest),
+            Row::Nothing => Err(Fault::Line),
+        }
+    }
+
     /// Takes one line, of which the first says what kind of row it is.
-    pub fn take(&mut self, alloc: Global, line: &str) -> Result<()> {
+    pub fn take(&mut self, alloc: Global, line: &str) -> Result<(), Fault> {
         let Some((key, rest)) = line.split_once(" ") else {
-            bail!("no line of a row: {line}");
+            return Err(Fault::Line);
         };
-        match (key, &mut *self) {
-            ("row", _) => *self = Row::Call(Call::new(alloc, rest)?),
-            ("program", _) => *self = Row::Program(Program::new(alloc, rest)?),
-            ("netlist", _) => *self = Row::Netlist(Netlist::new(alloc, rest)?),
-            ("forms", _) => *self = Row::Forms(FormRow::new(alloc, rest)?),
-            ("cover", _) => *self = Row::Cover(CoverRow::new(alloc, rest)?),
-            (_, Row::Call(call)) => call.take(alloc, key, rest)?,
-            (_, Row::Program(program)) => program.take(key, rest)?,
-            (_, Row::Netlist(netlist)) => netlist.take(key, rest)?,
-            (_, Row::Forms(row)) => row.take(key, rest)?,
-            (_, Row::Cover(row)) => row.take(key, rest)?,
-            (_, Row::Nothing) => bail!("no kind of a row: {line}"),
+        match Row::begun(alloc, key, rest)? {
+            Some(row) => *self = row,
+            None => self.add(alloc, key, rest)?,
         }
         Ok(())
     }
 
     /// The text that is printed of the row.
-    pub fn found(self, alloc: Global) -> Result<String> {
+    pub fn found(self, alloc: Global) -> Result<String, Fault> {
         match self {
             Row::Call(call) => call.found(alloc),
             Row::Program(program) => program.found(alloc),
             Row::Netlist(netlist) => netlist.found(alloc),
             Row::Forms(row) => row.found(alloc),
             Row::Cover(row) => row.found(alloc),
-            Row::Nothing => bail!("no row to run"),
+            Row::Nothing => Err(Fault::Line),
         }
     }
 }
 
 /// The number that the text writes.
-pub fn number(text: &str) -> Result<u64> {
-    text.parse::<u64>()
-        .context(format_args!("a number: {text}"))
+pub fn number(text: &str) -> Result<u64, Fault> {
+    match text.parse::<u64>() {
+        Ok(number) => Ok(number),
+        Err(_) => Err(Fault::Number),
+    }
 }

@@ -2,7 +2,7 @@
 
 ghost use Rattle.std.specs.Prelude.{◌≡◌, ◌+◌, ◌<◌, ◌≤◌, ◌^◌, ℕ, length, slice_index, IfOk, OnOk};
 ghost use Rattle.src_model.specs.Meaning.{FitsStore};
-ghost use Rattle.record_rows.specs.Stores.{AreGiven};
+ghost use Rattle.record_rows.specs.Inner.Stores.{AreGiven};
 
 use rec_bits::{Items, NoMemory, mask};
 use src_model::{Store, Typed};
@@ -36,7 +36,8 @@ fn push_cells(cells: &mut Items<u64>, width: u8, given: &[u64], count: u64) -> R
     Ok(())
 }
 
-/// The store of a program whose first cells hold these values. The other cells hold 0, and so do those whose value is no word.
+/// The store of a program whose first cells hold these values. The other cells hold 0, and so do
+/// those whose value is no word.
 pub fn store_of(alloc: Global, typed: &Typed, given: &[u64]) -> Result<Store, NoMemory>
     ensures fits { IfOk result (λ store. FitsStore typed.now.width typed.now.program.vars store.cells) }
     ensures given { IfOk result (λ store. AreGiven typed.now.width given.now store.cells) }

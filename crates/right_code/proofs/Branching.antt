@@ -7,7 +7,7 @@ use Rattle.net_model.specs.declared.states.State.{State}
 use Rattle.net_model.specs.CheckedRules.{KeepsRules}
 use Rattle.net_model.specs.Terms.{Term, word, const, slice, zext, sext, select, write}
 use Rattle.net_model.specs.Meaning.{mean}
-use Rattle.net_model.specs.Symbolic.{blank}
+use Rattle.net_model.specs.Symbolic.{no_state}
 use Rattle.net_model.specs.Nets.{counter_of, counter_width}
 use Rattle.net_model.specs.Clock.{counter_in}
 use Rattle.net_model.specs.Patterns.{Pattern}
@@ -25,7 +25,7 @@ use Rattle.net_model.proofs.WordWidths.{less_fits, move_fits}
 use Rattle.net_model.proofs.TermLaws.{mean_fields}
 use Rattle.branch_fix.specs.Made.{DoesBranch}
 use Rattle.branch_fix.proofs.Settings.{setting_means}
-use Rattle.right_code.specs.Forks.{one_side, IsNextTerm, IsBranchForm, IsJumpMade}
+use Rattle.right_code.specs.Inner.Forks.{one_side, IsNextTerm, IsBranchForm, IsJumpMade}
 use Rattle.right_code.proofs.Masks.{mask_first, mask_second}
 
 -- ---- meanings under a word and under the bits of a setting
@@ -75,7 +75,7 @@ module _ (netlist : Netlist) (order : List ℕ) (keeps : KeepsRules netlist orde
         jump = record {
           to_term = h.rule.value;
           move = f.does.gives;
-          to_is = record { fixed = shape_fixed h.rule.value to h.bits h.shown; is = mean_under h.rule.value blank i h.bits fit f.does.setting ∙ setting_means h.rule.value blank to h.bits h.shown };
+          to_is = record { fixed = shape_fixed h.rule.value to h.bits h.shown; is = mean_under h.rule.value no_state i h.bits fit f.does.setting ∙ setting_means h.rule.value no_state to h.bits h.shown };
         };
         keeps = record { move = f.memory };
       }

@@ -19,17 +19,18 @@ use Rattle.form_model.specs.Rules.{tested}
 use Rattle.emit_seq.specs.Spares.{wanted}
 use Rattle.emit_seq.specs.Cells.{AllReadWords}
 use Rattle.src_trees.specs.Lowered.{Work}
-use Rattle.src_trees.specs.Blocks.{job_of, job_at, jobs_at}
+use Rattle.src_trees.specs.Blocks.{job_list, job_at, jobs_at}
 use Rattle.src_trees.specs.Flows.{program_flow}
 use Rattle.src_trees.specs.Seen.{InReach}
 use Rattle.src_trees.specs.Measures.{AllSmall}
-use Rattle.branch_fix.specs.Parts.{AllFit}
+use Rattle.branch_fix.specs.Parts.{PartsFit}
 use Rattle.branch_fix.proofs.Laying.{settled_fit}
-use Rattle.right_code.specs.Jobs.{IsCovered, AreCovered, tree_used}
-use Rattle.right_code.specs.Forks.{test_of}
-use Rattle.right_code.specs.Laid.{IsLaidCode}
+use Rattle.right_code.specs.Jobs.{IsCovered, tree_used}
+use Rattle.right_code.specs.Inner.Jobs.{AreCovered}
+use Rattle.right_code.specs.Inner.Forks.{test_of}
+use Rattle.right_code.specs.Inner.Laid.{IsLaidCode}
 use Rattle.right_code.specs.Covered.{AllChosen}
-use Rattle.right_code.specs.Images.{AreTestWords, IsMadeFor, choice_of, choice_at, choices_at}
+use Rattle.right_code.specs.Images.{AreTestWords, IsMadeFor, choices_of, choice_at, choices_at}
 use Rattle.right_code.specs.Tasks.{Task, task_stock, task_works}
 use Rattle.right_code.proofs.Covered.{covered_of}
 use Rattle.right_code.proofs.Tasks.{AllOne, IsTestWork, AreTests, test_work_of}
@@ -43,7 +44,7 @@ module _ (bits : ℕ) (stock : Stock) (reads : AllReadWords bits stock.rules) wh
 
   -- the job and the cover of one number
   pair_at : (most : ℕ) (works : List Work) (choices : List Choice) (k : ℕ) → AllSmall bits stock.temps most works → AllOne works → AllChosen stock works choices
-      → AreCovered stock (job_of (slice_get works k)) (choice_of (slice_get choices k))
+      → AreCovered stock (job_list (slice_get works k)) (choices_of (slice_get choices k))
   pair_at most [] [] k s o c = tt
   pair_at most [] (d ∷ choices) k s o c = absurd c
   pair_at most (t ∷ works) [] k s o c = absurd c
@@ -72,8 +73,8 @@ module _ (bits : ℕ) (stock : Stock) (reads : AllReadWords bits stock.rules) wh
     -- the job of a test and its cover
     pub covered_test : (k : ℕ) (job : Work) (choice : Choice) → slice_get works k ≡ Some job → slice_get choices k ≡ Some choice → job.destination ≡ tested → IsCovered stock (test_of job) choice
     covered_test k job choice e d aim =
-        let c : AreCovered stock (job_of (slice_get works k)) (choice_of (slice_get choices k)) = pair_at most works choices k small one chosen in
-        let both : AreCovered stock (job ∷ []) (choice ∷ []) = subst (λ o. AreCovered stock (job_of (Some job)) (choice_of o)) d (subst (λ o. AreCovered stock (job_of o) (choice_of (slice_get choices k))) e c) in
+        let c : AreCovered stock (job_list (slice_get works k)) (choices_of (slice_get choices k)) = pair_at most works choices k small one chosen in
+        let both : AreCovered stock (job ∷ []) (choice ∷ []) = subst (λ o. AreCovered stock (job_list (Some job)) (choices_of o)) d (subst (λ o. AreCovered stock (job_list o) (choices_of (slice_get choices k))) e c) in
         subst (λ x. IsCovered stock (record { destination = x; trees = job.trees }) choice) aim both.0
 
 -- a job that goes nowhere is a test's
@@ -88,7 +89,7 @@ module _ (task : Task) (image : Image) (made : IsMadeFor task image) (most : ℕ
       let stock : Stock = task_stock made.rules task in
       let flow : List Flow = program_flow task.listing in
       let works : List Work = task_works task in
-      let fit : AllFit made.rules flow 0 flow made.parts = settled_fit made.rules flow made.sizes made.settings made.parts made.settled in
+      let fit : PartsFit made.rules flow 0 flow made.parts = settled_fit made.rules flow made.sizes made.settings made.parts made.settled in
       let long = made.long in
       record {
         layout = record { sizes = made.sizes; settings = made.settings; settled = made.settled; reached = omega (arith, long, reached) };

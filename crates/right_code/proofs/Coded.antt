@@ -25,17 +25,17 @@ use Rattle.form_model.specs.Rules.{Rule}
 use Rattle.emit_seq.specs.Formed.{AreFormed}
 use Rattle.src_trees.specs.Lowered.{Work}
 use Rattle.src_trees.specs.Flows.{places_in, program_flow, program_works}
-use Rattle.src_trees.specs.Seen.{memory_of, InReach}
+use Rattle.src_trees.specs.Seen.{memory_map, InReach}
 use Rattle.branch_fix.specs.declared.part.Part.{Part}
 use Rattle.branch_fix.specs.declared.part.Part.TheVariants.{Block, Inner, Test, Jump, End}
-use Rattle.branch_fix.specs.Parts.{address, total, room, branch_words, AllFit, Fits}
+use Rattle.branch_fix.specs.Parts.{address, total, room, branch_words, PartsFit, FitsPart}
 use Rattle.branch_fix.specs.Made.{IsMade}
-use Rattle.branch_fix.specs.Flowing.{IsFlow}
+use Rattle.branch_fix.specs.Inner.Flowing.{IsFlow}
 use Rattle.branch_fix.proofs.Addresses.{address_next, address_rises, part_at, fit_length}
 use Rattle.branch_fix.proofs.Laying.{address_total}
 use Rattle.branch_fix.proofs.Shapes.{program_is_flow}
 use Rattle.branch_fix.proofs.LaidRight.{laid_right}
-use Rattle.right_code.specs.Code.{IsMadeCode}
+use Rattle.right_code.specs.Inner.Code.{IsMadeCode}
 use Rattle.right_code.proofs.Walked.{block_does}
 use Rattle.right_code.proofs.Branching.{jump_does}
 use Rattle.right_code.proofs.Forked.{fork_does}
@@ -54,7 +54,7 @@ is_end Inner = false
 is_end (Test f) = false
 is_end (Jump to) = false
 
-pub ended : (rules : List Rule) (flow : List Flow) (n : ℕ) (p : Part) → Fits rules flow n Ended p → (is_end p ≡ true) × (1 ≤ room p)
+pub ended : (rules : List Rule) (flow : List Flow) (n : ℕ) (p : Part) → FitsPart rules flow n Ended p → (is_end p ≡ true) × (1 ≤ room p)
 ended rules flow n End h = (refl, omega arith)
 ended rules flow n (Block block words) h = absurd h
 ended rules flow n Inner h = absurd h
@@ -62,7 +62,7 @@ ended rules flow n (Test f) h = absurd h
 ended rules flow n (Jump to) h = absurd h
 
 -- behind such a part the end still stands
-pub before_end : (rules : List Rule) (flow : List Flow) (end : ℕ) (parts : List Part) (k : ℕ) (p : Part) → IsFlow flow end → AllFit rules flow 0 flow parts → slice_get parts k ≡ Some p → is_end p ≡ false
+pub before_end : (rules : List Rule) (flow : List Flow) (end : ℕ) (parts : List Part) (k : ℕ) (p : Part) → IsFlow flow end → PartsFit rules flow 0 flow parts → slice_get parts k ≡ Some p → is_end p ≡ false
     → address parts k + room p < total parts
 before_end rules flow end parts k p f fit e stays =
     let n : length parts ≡ length flow = fit_length rules flow 0 flow parts fit in
@@ -136,8 +136,8 @@ module _ (netlist : Netlist) (order : List ℕ) (keeps : KeepsRules netlist orde
   -- and traces the program
   pub code_right : (bits addr : ℕ) (l : Listing) (parts : List Part) → first_fault bits l ≡ None → memory_width netlist.storages ≡ bits → InReach bits addr stock.temps l.vars
       → stock.temps + cell_count l.vars ≤ memory_size netlist.storages → image.places ≡ places_from stock.temps (variables_of l.vars)
-      → IsMadeCode netlist patterns stock image (program_flow l) (program_works (memory_of bits addr stock.temps l.vars) l) parts
+      → IsMadeCode netlist patterns stock image (program_flow l) (program_works (memory_map bits addr stock.temps l.vars) l) parts
       → length (words_of image) ≡ total parts → ((a : ℕ) → WordFits netlist (slice_index (words_of image) a)) → TracesRight netlist image (strace bits l)
   code_right bits addr l parts kept wide reach room places made long fits =
       laid_right netlist image bits addr stock.temps l stock.rules parts (sound_of netlist order keeps) kept wide reach room places
-      (made_is (program_flow l) (program_works (memory_of bits addr stock.temps l.vars) l) parts (places_in (acts_of l.body)) (program_is_flow l) made) long fits
+      (made_is (program_flow l) (program_works (memory_map bits addr stock.temps l.vars) l) parts (places_in (acts_of l.body)) (program_is_flow l) made) long fits

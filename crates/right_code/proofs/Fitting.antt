@@ -17,12 +17,12 @@ use Rattle.code_model.specs.Right.{TracesRight}
 use Rattle.emit_seq.specs.Formed.{AreFormed}
 use Rattle.src_trees.specs.Lowered.{MemoryMap}
 use Rattle.src_trees.specs.Flows.{places_in, program_flow, program_works}
-use Rattle.src_trees.specs.Seen.{memory_of, InReach}
+use Rattle.src_trees.specs.Seen.{memory_map, InReach}
 use Rattle.branch_fix.specs.Parts.{address}
-use Rattle.branch_fix.specs.Flowing.{IsFlow}
+use Rattle.branch_fix.specs.Inner.Flowing.{IsFlow}
 use Rattle.branch_fix.proofs.Shapes.{program_is_flow}
 use Rattle.branch_fix.proofs.Words.{items_length}
-use Rattle.right_code.specs.Laid.{AreTurns}
+use Rattle.right_code.specs.Inner.Laid.{AreTurns}
 use Rattle.right_code.proofs.Tasks.{program_tests}
 use Rattle.right_code.proofs.Layouts.{within_code}
 use Rattle.right_code.proofs.Ordered.{ordered_right}
@@ -35,8 +35,8 @@ use Rattle.form_model.specs.Covers.{Stock}
 use Rattle.form_model.specs.Live.{Regs}
 use Rattle.form_model.specs.Rules.{Rule}
 use Rattle.src_trees.specs.Lowered.{Work}
-use Rattle.src_trees.specs.Blocks.{is_assign, is_entered, continues, IsBlock}
-use Rattle.branch_fix.specs.Parts.{room, total, starts, Fits, AllFit}
+use Rattle.src_trees.specs.Blocks.{is_assign, is_entered, continues, IsAssignBlock}
+use Rattle.branch_fix.specs.Parts.{room, total, starts, FitsPart, PartsFit}
 use Rattle.branch_fix.specs.Items.{groups, behind, jump_form, part_items, items_from}
 use Rattle.branch_fix.specs.declared.laid.Item.{Item}
 use Rattle.branch_fix.specs.declared.laid.Item.TheVariants.{Group, Jump as Word}
@@ -44,7 +44,7 @@ use Rattle.branch_fix.specs.declared.part.Part.{Part}
 use Rattle.branch_fix.specs.declared.part.Part.TheVariants.{Block, Inner, Test, Jump, End}
 use Rattle.branch_fix.proofs.Addresses.{part_at, fit_length}
 use Rattle.branch_fix.proofs.Laying.{settled_fit}
-use Rattle.right_code.specs.Laid.{IsLaidCode}
+use Rattle.right_code.specs.Inner.Laid.{IsLaidCode}
 use Rattle.right_code.specs.Words.{AreGroupWords, StandItems}
 use Rattle.right_code.proofs.Coded.{there}
 use Rattle.right_code.proofs.Inside.{get_there}
@@ -78,14 +78,14 @@ below_suc P n f p k l = elim (cases_eq k n) as (λ _. P k) [
 ]
 
 block_from : (flow : List Flow) (at fuel n : ℕ) → continues flow at ≡ false → 1 ≤ n → length flow ≤ at + n + fuel → ((k : ℕ) → k < n → is_assign (slice_get flow (at + k)) ≡ true) → ((k : ℕ) → k < n → 0 < k → continues flow (at + k) ≡ true)
-    → (m : ℕ) × IsBlock flow at m
+    → (m : ℕ) × IsAssignBlock flow at m
 block_from flow at zero n first some l assigns inner = (n, record { some = some; assigns = assigns; first = first; inner = inner; last = stops flow (at + n) (omega (arith, l)) })
 block_from flow at (suc fuel) n first some l assigns inner =
     by (continues flow (at + n)) refl
     (λ e. block_from flow at fuel (n + 1) first (omega arith) (omega (arith, l)) (below_suc (λ k. is_assign (slice_get flow (at + k)) ≡ true) n assigns (assign_there flow (at + n) e))
     (below_suc (λ k. 0 < k → continues flow (at + k) ≡ true) n inner (λ z. e)))
   where
-    by : (b : Bool) → continues flow (at + n) ≡ b → (continues flow (at + n) ≡ true → (m : ℕ) × IsBlock flow at m) → (m : ℕ) × IsBlock flow at m
+    by : (b : Bool) → continues flow (at + n) ≡ b → (continues flow (at + n) ≡ true → (m : ℕ) × IsAssignBlock flow at m) → (m : ℕ) × IsAssignBlock flow at m
     by true e more = more e
     by false e more = (n, record { some = some; assigns = assigns; first = first; inner = inner; last = e })
 
@@ -161,19 +161,19 @@ module _ (netlist : Netlist) (patterns : List Pattern) (words : ℕ → List ℕ
   ]
 
 -- a part that is a block begins one
-begins : (rules : List Rule) (flow : List Flow) (at : ℕ) (g : Flow) (block size : ℕ) → Fits rules flow at g (Block block size) → (continues flow at ≡ false) × (is_assign (Some g) ≡ true)
+begins : (rules : List Rule) (flow : List Flow) (at : ℕ) (g : Flow) (block size : ℕ) → FitsPart rules flow at g (Block block size) → (continues flow at ≡ false) × (is_assign (Some g) ≡ true)
 begins rules flow at (Assign tree) block size h = (h, refl)
 begins rules flow at (Tested tree a b) block size h = absurd h
 begins rules flow at (Jumped to) block size h = absurd h
 begins rules flow at Ended block size h = absurd h
 
-pub block_at : (rules : List Rule) (flow : List Flow) (parts : List Part) (k block size : ℕ) → AllFit rules flow 0 flow parts → slice_get parts k ≡ Some (Block block size) → (n : ℕ) × IsBlock flow k n
+pub block_at : (rules : List Rule) (flow : List Flow) (parts : List Part) (k block size : ℕ) → PartsFit rules flow 0 flow parts → slice_get parts k ≡ Some (Block block size) → (n : ℕ) × IsAssignBlock flow k n
 block_at rules flow parts k block size fit e =
     let l : k < length parts = there parts k (Block block size) e in
     let m : length parts ≡ length flow = fit_length rules flow 0 flow parts fit in
     let g = get_there flow k (omega (arith, l, m)) in
     let q = part_at rules flow 0 flow parts k k g.0 fit g.1 (omega arith) in
-    let b = begins rules flow k g.0 block size (subst (λ x. Fits rules flow k g.0 x) (one q.0 (Block block size) (sym q.1 ∙ e)) q.2) in
+    let b = begins rules flow k g.0 block size (subst (λ x. FitsPart rules flow k g.0 x) (one q.0 (Block block size) (sym q.1 ∙ e)) q.2) in
     block_from flow k (length flow) 1 b.0 (omega arith) (omega arith) (λ i h. let z : k ≡ k + i = omega (arith, h) in subst (λ j. is_assign (slice_get flow j) ≡ true) z (ap is_assign g.1 ∙ b.1)) (λ i h some. absurd (omega (arith, h, some)))
   where
     one : (x y : Part) → Some x ≡ Some y → x ≡ y
@@ -183,13 +183,13 @@ block_at rules flow parts k block size fit e =
 pub code_fits : (netlist : Netlist) (patterns : List Pattern) (stock : Stock) (image : Image) (flow : List Flow) (jobs : List Work) (parts : List Part) (reach : ℕ) → AreTests jobs flow → IsLaidCode netlist patterns stock image flow jobs parts reach
     → 1 ≤ length (words_of image) → (a : ℕ) → WordFits netlist (slice_index (words_of image) a)
 code_fits netlist patterns stock image flow jobs parts reach tests laid some =
-    let fit : AllFit stock.rules flow 0 flow parts = settled_fit stock.rules flow laid.layout.sizes laid.layout.settings parts laid.layout.settled in
+    let fit : PartsFit stock.rules flow 0 flow parts = settled_fit stock.rules flow laid.layout.sizes laid.layout.settings parts laid.layout.settled in
     let n = laid.long in
     let items = items_length stock.rules (jump_form stock.rules reach) (starts 0 parts) 0 parts in
     all_fit netlist patterns laid.words (words_of image) (items_from stock.rules (jump_form stock.rules reach) (starts 0 parts) 0 parts)
     (items_fit netlist patterns laid.words stock.rules (jump_form stock.rules reach) (starts 0 parts) 0 parts (λ k p e. by fit k p e)) laid.stand (n ∙ sym (items_length stock.rules (jump_form stock.rules reach) (starts 0 parts) 0 parts)) (omega (arith, n, items, some))
   where
-    by : AllFit stock.rules flow 0 flow parts → (k : ℕ) (p : Part) → slice_get parts k ≡ Some p → PartFits netlist patterns laid.words p
+    by : PartsFit stock.rules flow 0 flow parts → (k : ℕ) (p : Part) → slice_get parts k ≡ Some p → PartFits netlist patterns laid.words p
     by fit k (Block block size) e = let b = block_at stock.rules flow parts k block size fit e in let r = laid.blocks k b.0 block size b.1 e in least_fit netlist patterns laid.words block r.groups r.live size r.least r.long
     by fit k Inner e = tt
     by fit k (Test f) e = let t : IsTestWork jobs f.tree = test_work_of jobs stock.rules flow parts k f fit tests e in let r = laid.forks k f e t.work t.at in least_fit netlist patterns laid.words f.block r.groups r.live f.words r.least r.long
@@ -200,11 +200,11 @@ code_fits netlist patterns stock image flow jobs parts reach tests laid some =
 pub laid_traces : (netlist : Netlist) (order : List ℕ) → KeepsRules netlist order → (image : Image) (patterns : List Pattern) (stock : Stock) → AreFormed patterns (length netlist.storages) stock.rules → (reach : ℕ)
     → AreTurns netlist patterns stock.rules reach → (bits addr : ℕ) (l : Listing) (parts : List Part) → first_fault bits l ≡ None → memory_width netlist.storages ≡ bits → InReach bits addr stock.temps l.vars
     → stock.temps + cell_count l.vars ≤ memory_size netlist.storages → image.places ≡ places_from stock.temps (variables_of l.vars)
-    → IsLaidCode netlist patterns stock image (program_flow l) (program_works (memory_of bits addr stock.temps l.vars) l) parts reach → TracesRight netlist image (strace bits l)
+    → IsLaidCode netlist patterns stock image (program_flow l) (program_works (memory_map bits addr stock.temps l.vars) l) parts reach → TracesRight netlist image (strace bits l)
 laid_traces netlist order keeps image patterns stock formed reach turns bits addr l parts kept wide inreach room places laid =
-    let m : MemoryMap = memory_of bits addr stock.temps l.vars in
+    let m : MemoryMap = memory_map bits addr stock.temps l.vars in
     let f : IsFlow (program_flow l) (places_in (acts_of l.body)) = program_is_flow l in
-    let fit : AllFit stock.rules (program_flow l) 0 (program_flow l) parts = settled_fit stock.rules (program_flow l) laid.layout.sizes laid.layout.settings parts laid.layout.settled in
+    let fit : PartsFit stock.rules (program_flow l) 0 (program_flow l) parts = settled_fit stock.rules (program_flow l) laid.layout.sizes laid.layout.settings parts laid.layout.settled in
     let n = fit_length stock.rules (program_flow l) 0 (program_flow l) parts fit in
     let long = f.long in
     let some : address parts 0 < total parts = within_code stock.rules (program_flow l) (places_in (acts_of l.body)) parts 0 f fit (omega (arith, n, long)) in

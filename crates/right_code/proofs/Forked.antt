@@ -22,11 +22,12 @@ use Rattle.word_fit.proofs.Occurring.{reads_occurs}
 use Rattle.net_model.specs.Occurs.{AgreeOn, has_read, occurs}
 use Rattle.net_model.proofs.TermLaws.{mean_alike}
 use Rattle.src_trees.specs.Lowered.{Work}
-use Rattle.branch_fix.specs.Made.{Walks, DoesOperands, DoesFork, Behind, word_in}
+use Rattle.branch_fix.specs.Made.{Walks, DoesOperands, DoesFork, TailGoes, image_word}
 use Rattle.branch_fix.specs.declared.part.Fork.{Fork}
 use Rattle.right_code.specs.Jobs.{tree_or_none, tree_used, job_steps}
-use Rattle.right_code.specs.Blocks.{WalksTo}
-use Rattle.right_code.specs.Forks.{IsBranchForm, plan_rule, test_of, BehindMade, IsTestMade, IsForkMade}
+use Rattle.right_code.specs.Inner.Blocks.{WalksTo}
+use Rattle.right_code.specs.Forks.{plan_rule}
+use Rattle.right_code.specs.Inner.Forks.{IsBranchForm, test_of, BehindMade, IsTestMade, IsForkMade}
 use Rattle.right_code.proofs.Meant.{tree_mean, same_behind}
 use Rattle.right_code.proofs.Jobs.{used_tree, leaves}
 use Rattle.right_code.proofs.Walked.{walked}
@@ -83,7 +84,7 @@ module _ (netlist : Netlist) (order : List ℕ) (keeps : KeepsRules netlist orde
       let o : IsOrderly stock tested used true choice.plan = subst (λ x. IsOrderly stock tested x true choice.plan) (sym is) made.covered.covers.orderly in
       subst (λ k. bit_and (branch_setting stock used choice.plan) k ≡ branch_setting stock used choice.plan) form.same_fields (setting_within stock used choice.plan o)
 
-  behind_does : (next long : Bool) (at to other : ℕ) → BehindMade netlist patterns image next long at to other → Behind netlist image next long at to other
+  behind_does : (next long : Bool) (at to other : ℕ) → BehindMade netlist patterns image next long at to other → TailGoes netlist image next long at to other
   behind_does next true at to other h = (jump_does netlist order keeps patterns _ other h.0, jump_does netlist order keeps patterns _ to h.1)
   behind_does true false at to other h = tt
   behind_does false false at to other h = jump_does netlist order keeps patterns _ other h
@@ -95,7 +96,7 @@ module _ (netlist : Netlist) (order : List ℕ) (keeps : KeepsRules netlist orde
   fork_does job when_one f at to other made few b le far =
       let used : Term = tree_used (test_of job) made.choice in
       let setting : ℕ = branch_setting stock used made.choice.plan in
-      let i : ℕ = word_in image (at + f.words) in
+      let i : ℕ = image_word image (at + f.words) in
       let e : bit_and setting (fields made.form.condition) ≡ setting = test_setting job made.choice at f.words when_one made.way made.form made.operands in
       let p : BranchParts netlist order keeps patterns (plan_rule stock made.choice.plan) when_one made.way made.form i setting made.bits =
       branch_parts netlist order keeps patterns (plan_rule stock made.choice.plan) when_one made.way made.form i setting made.bits e

@@ -10,7 +10,7 @@ use Rattle.form_model.specs.Rules.{Rule, BranchTarget, absolute, relative, branc
 use Rattle.src_trees.specs.Lowered.{holds_at_one}
 use Rattle.src_trees.specs.Blocks.{continues}
 use Rattle.src_trees.specs.Flows.{places_for, places_in, places_else, else_entry, asked, flow_of, flow_in, flow_else, program_flow}
-use Rattle.branch_fix.specs.Parts.{rule_at_one, fork_to, given, part_for, parts_from, parts_of, room, starts, blocks_in, tests_in, Fits, AllFit}
+use Rattle.branch_fix.specs.Parts.{rule_at_one, fork_to, branch_or_zero, part_for, parts_from, parts_of, room, starts, blocks_in, tests_in, FitsPart, PartsFit}
 use Rattle.branch_fix.specs.Rounds.{kind_shows, rule_shows, widened, widened_from, round, rounds}
 use Rattle.branch_fix.specs.declared.part.Fork.{Fork}
 use Rattle.branch_fix.specs.declared.part.Part.{Part}
@@ -96,7 +96,7 @@ get_there [] k l = absurd (omega (arith, l))
 get_there (x ∷ xs) zero l = (x, refl)
 get_there (x ∷ xs) (suc k) l = get_there xs k (omega (arith, l))
 
-fork_upto : (rules : List Rule) (flow : List Flow) (at n : ℕ) (g : Flow) (f : Fork) → Fits rules flow at g (Test f) → Upto n (g ∷ []) → (f.to ≤ n) × (f.other ≤ n)
+fork_upto : (rules : List Rule) (flow : List Flow) (at n : ℕ) (g : Flow) (f : Fork) → FitsPart rules flow at g (Test f) → Upto n (g ∷ []) → (f.to ≤ n) × (f.other ≤ n)
 fork_upto rules flow at n (Tested tree one none) f h u = (subst (λ k. k ≤ n) (sym h.2) (side (rule_at_one (slice_get rules f.form)) one none u.0 u.1), subst (λ k. k ≤ n) (sym h.3) (side (rule_at_one (slice_get rules f.form)) none one u.1 u.0))
   where
     side : (b : Bool) (x y : ℕ) → x ≤ n → y ≤ n → (if b then x else y) ≤ n
@@ -106,25 +106,25 @@ fork_upto rules flow at n (Assign tree) f h u = absurd h
 fork_upto rules flow at n (Jumped to) f h u = absurd h
 fork_upto rules flow at n Ended f h u = absurd h
 
-jump_upto : (rules : List Rule) (flow : List Flow) (at n : ℕ) (g : Flow) (to : ℕ) → Fits rules flow at g (Jump to) → Upto n (g ∷ []) → to ≤ n
+jump_upto : (rules : List Rule) (flow : List Flow) (at n : ℕ) (g : Flow) (to : ℕ) → FitsPart rules flow at g (Jump to) → Upto n (g ∷ []) → to ≤ n
 jump_upto rules flow at n (Jumped place) to h u = let l = u.0 in omega (arith, h, l)
 jump_upto rules flow at n (Assign tree) to h u = absurd h
 jump_upto rules flow at n (Tested tree one none) to h u = absurd h
 jump_upto rules flow at n Ended to h u = absurd h
 
 -- what stands at a part's place in the flow
-fits_at : (rules : List Rule) (flow : List Flow) (parts : List Part) (k n : ℕ) (p : Part) → AllFit rules flow 0 flow parts → slice_get parts k ≡ Some p → Upto n flow → (g : Flow) × Fits rules flow k g p × Upto n (g ∷ [])
+fits_at : (rules : List Rule) (flow : List Flow) (parts : List Part) (k n : ℕ) (p : Part) → PartsFit rules flow 0 flow parts → slice_get parts k ≡ Some p → Upto n flow → (g : Flow) × FitsPart rules flow k g p × Upto n (g ∷ [])
 fits_at rules flow parts k n p fit e u =
     let l : k < length parts = there parts k p e in
     let m : length parts ≡ length flow = fit_length rules flow 0 flow parts fit in
     let g = get_there flow k (omega (arith, l, m)) in
     let q = part_at rules flow 0 flow parts k k g.0 fit g.1 (omega arith) in
-    (g.0, subst (λ x. Fits rules flow k g.0 x) (one q.0 p (sym q.1 ∙ e)) q.2, upto_get n flow k g.0 u g.1)
+    (g.0, subst (λ x. FitsPart rules flow k g.0 x) (one q.0 p (sym q.1 ∙ e)) q.2, upto_get n flow k g.0 u g.1)
   where
     one : (x y : Part) → Some x ≡ Some y → x ≡ y
     one x y e = cc
 
-pub ways_inside : (rules : List Rule) (flow : List Flow) (parts : List Part) (end : ℕ) → AllFit rules flow 0 flow parts → length flow ≡ end + 1 → Upto end flow → (at : ℕ) (f : Fork) → slice_get parts at ≡ Some (Test f) → (f.to < length parts) × (f.other < length parts)
+pub ways_inside : (rules : List Rule) (flow : List Flow) (parts : List Part) (end : ℕ) → PartsFit rules flow 0 flow parts → length flow ≡ end + 1 → Upto end flow → (at : ℕ) (f : Fork) → slice_get parts at ≡ Some (Test f) → (f.to < length parts) × (f.other < length parts)
 ways_inside rules flow parts end fit long u at f e =
     let m : length parts ≡ length flow = fit_length rules flow 0 flow parts fit in
     let g = fits_at rules flow parts at end (Test f) fit e u in
@@ -133,7 +133,7 @@ ways_inside rules flow parts end fit long u at f e =
     let b = h.1 in
     (omega (arith, m, long, a), omega (arith, m, long, b))
 
-pub goals_inside : (rules : List Rule) (flow : List Flow) (parts : List Part) (end : ℕ) → AllFit rules flow 0 flow parts → length flow ≡ end + 1 → Upto end flow → (at to : ℕ) → slice_get parts at ≡ Some (Jump to) → to < length parts
+pub goals_inside : (rules : List Rule) (flow : List Flow) (parts : List Part) (end : ℕ) → PartsFit rules flow 0 flow parts → length flow ≡ end + 1 → Upto end flow → (at to : ℕ) → slice_get parts at ≡ Some (Jump to) → to < length parts
 goals_inside rules flow parts end fit long u at to e =
     let m : length parts ≡ length flow = fit_length rules flow 0 flow parts fit in
     let g = fits_at rules flow parts at end (Jump to) fit e u in
@@ -155,9 +155,9 @@ new_short rules flow sizes forks (Assign tree) at block test f e = by (continues
     by : (c : Bool) → (if c then Inner else Block block (slice_index sizes block)) ≡ Test f → f.long ≡ false
     by true e = absurd (cc e)
     by false e = absurd (cc e)
-new_short rules flow sizes forks (Tested tree one none) at block test f e = by (rule_at_one (slice_get rules (given (slice_get forks test)).0)) e
+new_short rules flow sizes forks (Tested tree one none) at block test f e = by (rule_at_one (slice_get rules (branch_or_zero (slice_get forks test)).0)) e
   where
-    by : (w : Bool) → (if w then fork_to tree block (slice_index sizes block) (given (slice_get forks test)).0 (given (slice_get forks test)).1 at one none else fork_to tree block (slice_index sizes block) (given (slice_get forks test)).0 (given (slice_get forks test)).1 at none one) ≡ Test f → f.long ≡ false
+    by : (w : Bool) → (if w then fork_to tree block (slice_index sizes block) (branch_or_zero (slice_get forks test)).0 (branch_or_zero (slice_get forks test)).1 at one none else fork_to tree block (slice_index sizes block) (branch_or_zero (slice_get forks test)).0 (branch_or_zero (slice_get forks test)).1 at none one) ≡ Test f → f.long ≡ false
     by true e = is _ f e
       where
         is : (x y : Fork) → Test x ≡ Test y → y.long ≡ x.long

@@ -13,14 +13,15 @@ use Rattle.form_model.specs.Plans.{Plan}
 use Rattle.form_model.specs.Effects.{operation_of, steps_effect}
 use Rattle.form_model.specs.Steps.{cover_steps}
 use Rattle.emit_seq.specs.Formed.{AreFormed}
-use Rattle.emit_seq.specs.Leaves.{IsStart, IsOfJob, IsAimWithin, DestinationReads, LeaveValue}
+use Rattle.emit_seq.specs.Leaves.{IsCoverStart, IsOfJob, IsAimWithin, DestinationReads, LeaveValue}
 use Rattle.emit_seq.proofs.Leaving.{leave_value}
 use Rattle.emit_seq.proofs.Walks.{effect-steps}
 use Rattle.src_trees.specs.Lowered.{Work}
-use Rattle.src_trees.specs.Seen.{tree_value, ReadsFrom}
+use Rattle.src_trees.specs.Seen.{tree_value, ReadsCells}
 use Rattle.src_trees.specs.Doing.{job_value, put_at, done, all_done, AllRead, DestinationLies, Lies, AllLie}
 use Rattle.src_trees.proofs.Behind.{Alike, all_done_behind, all_lie_behind}
-use Rattle.right_code.specs.Jobs.{tree_or_none, tree_used, job_steps, jobs_steps, AreTrees, IsTreeDestination, IsCovered, IsOne, HasOne, AreCovered, LeavesDone}
+use Rattle.right_code.specs.Jobs.{tree_or_none, tree_used, job_steps, jobs_steps, AreTrees, IsTreeDestination, IsCovered}
+use Rattle.right_code.specs.Inner.Jobs.{IsOne, HasOne, AreCovered, LeavesDone}
 use Rattle.right_code.proofs.Meant.{tree_mean, tree_reads, same_behind}
 
 -- the tree that is used is a tree of the job
@@ -32,16 +33,16 @@ used_tree (x ∷ trees) zero t a e = subst (λ y. is_tree y ≡ true) (some_same
     some_same x t e = cc
 used_tree (x ∷ trees) (suc k) t a e = used_tree trees k t a.1 e
 
-pub used_reads : (at : ℕ) (cells : List ℕ) (trees : List Term) (k : ℕ) (t : Term) → AllRead at cells trees → slice_get trees k ≡ Some t → ReadsFrom at cells t
+pub used_reads : (at : ℕ) (cells : List ℕ) (trees : List Term) (k : ℕ) (t : Term) → AllRead at cells trees → slice_get trees k ≡ Some t → ReadsCells at cells t
 used_reads at cells [] k t a e = absurd (cc e)
-used_reads at cells (x ∷ trees) zero t a e = subst (ReadsFrom at cells) (some_same x t e) a.0
+used_reads at cells (x ∷ trees) zero t a e = subst (ReadsCells at cells) (some_same x t e) a.0
   where
     some_same : (x t : Term) → Some x ≡ Some t → x ≡ t
     some_same x t e = cc
 used_reads at cells (x ∷ trees) (suc k) t a e = used_reads at cells trees k t a.1 e
 
 -- what a job's cells ask, its steps' state gives
-pub start_at : (stock : Stock) (count : ℕ) (work : Work) (choice : Choice) (s : State) (c : IsCovered stock work choice) → length s.regs ≡ count → Lies stock.temps s.cells work → IsStart stock count work.destination c.covers.tree s
+pub start_at : (stock : Stock) (count : ℕ) (work : Work) (choice : Choice) (s : State) (c : IsCovered stock work choice) → length s.regs ≡ count → Lies stock.temps s.cells work → IsCoverStart stock count work.destination c.covers.tree s
 start_at stock count work choice s c n l = record {
   regs = n;
   reads = tree_reads stock.temps c.covers.tree s (used_tree work.trees choice.which c.covers.tree c.trees c.covers.used) (used_reads stock.temps s.cells work.trees choice.which c.covers.tree l.reads c.covers.used);

@@ -17,11 +17,11 @@ use Rattle.form_model.specs.Rules.{Rule, tested}
 use Rattle.form_model.specs.Shapes.{shape_setting}
 use Rattle.form_model.specs.Steps.{branch_setting}
 use Rattle.form_set.specs.Listing.{AreForms}
-use Rattle.form_set.specs.Promises.{is_control}
+use Rattle.form_set.specs.Promises.{is_control_goal}
 use Rattle.form_set.specs.Words.{IsSetting}
 use Rattle.word_fit.specs.Fits.{FitsJump}
 use Rattle.block_words.proofs.Worded.{jump_has_word}
-use Rattle.branch_fix.specs.Flowing.{IsFlow}
+use Rattle.branch_fix.specs.Inner.Flowing.{IsFlow}
 use Rattle.branch_fix.specs.Items.{behind, branch_step, groups, items_from, jump_form, jump_step, part_items}
 use Rattle.branch_fix.specs.Parts.{address, room, starts}
 use Rattle.branch_fix.specs.declared.laid.Item.{Item}
@@ -29,9 +29,11 @@ use Rattle.branch_fix.specs.declared.laid.Item.TheVariants.{Group, Jump as Word}
 use Rattle.branch_fix.specs.declared.part.Fork.{Fork}
 use Rattle.branch_fix.specs.declared.part.Part.{Part}
 use Rattle.branch_fix.specs.declared.part.Part.TheVariants.{Block, Inner, Test, Jump, End}
-use Rattle.right_code.specs.Forks.{IsBranchForm, one_side, plan_rule}
-use Rattle.right_code.specs.Known.{AreKnown}
-use Rattle.right_code.specs.Laid.{AreTurns, IsLayout}
+use Rattle.right_code.specs.Forks.{plan_rule}
+use Rattle.right_code.specs.Inner.Forks.{IsBranchForm, one_side}
+use Rattle.right_code.specs.Inner.Known.{AreKnown}
+use Rattle.right_code.specs.Laid.{IsLayout}
+use Rattle.right_code.specs.Inner.Laid.{AreTurns}
 use Rattle.right_code.proofs.Coded.{there}
 use Rattle.right_code.proofs.Forked.{setting_within}
 use Rattle.right_code.proofs.Inside.{Upto}
@@ -159,7 +161,7 @@ module _ (netlist : Netlist) (order : List ℕ) (keeps : KeepsRules netlist orde
         let own : bit_and setting (fields form.condition) ≡ setting = subst (λ k. bit_and setting k ≡ setting) form.same_fields (setting_within stock asked.tree asked.plan asked.orderly) in
         let bits : bit_and s.bits (fields form.target) ≡ s.bits = way_bits netlist s.way form.target (address parts at + g.words) (address parts g.to) g.long s.bits form.goes s.shown in
         subst HasWord (sym s.step)
-        (turn_word rule _ (bit_or setting s.bits) (turn_can netlist order keeps some patterns known reach stock.rules forms g.form rule asked.form (ap is_control s.goal)) form.is
+        (turn_word rule _ (bit_or setting s.bits) (turn_can netlist order keeps some patterns known reach stock.rules forms g.form rule asked.form (ap is_control_goal s.goal)) form.is
         (branch_fields s.when_one form.condition form.target form.step setting s.bits own bits))
 
     part_have : ((at : ℕ) (g : Fork) → slice_get parts at ≡ Some (Test g) → IsAsked g) → (k : ℕ) (p : Part) → slice_get parts k ≡ Some p

@@ -1,4 +1,5 @@
--- The patterns of a netlist are of its expressions, whose operators get operands of the widths that they ask for.
+-- The patterns of a netlist are of its expressions, whose operators get operands of the widths that
+-- they ask for.
 use Rattle.std.proofs.Common.{◌≡◌, ℕ, zero, suc, ◌+◌, ◌<◌, ◌≤◌, ◌==◌, ◌&&◌, Bool, true, false, cond, List, [], ◌∷◌, length, Option, Some, None, slice_get, slice_index_or, refl, sym, ◌∙◌, ap, subst, arith}
 use Rattle.std.specs.Prelude.{All}
 use Rattle.std.specs.List.{AllByRecursion}
@@ -13,7 +14,7 @@ use Rattle.net_model.specs.Clock.{is_enabled}
 use Rattle.net_model.specs.Control.{GateControlled, IsSound}
 use Rattle.net_model.specs.Nets.{net_width, width_at}
 use Rattle.net_model.specs.Patterns.{ArePatterns, IsPattern, Pattern}
-use Rattle.net_model.specs.Symbolic.{blank, bus_term, case_term, gate_term, is_static, net_term, sliced, sym_of, sym_within}
+use Rattle.net_model.specs.Symbolic.{no_state, bus_term, case_term, gate_term, is_static, net_term, sliced, sym_of, sym_within}
 use Rattle.net_model.specs.Terms.{Term, word, reg, const, read, un, bin, slice, cat, zext, sext, select, term_width, keep, write, write_at}
 use Rattle.net_model.specs.Transfers.{move_at, same_reg, storage_move, transfer_of}
 use Rattle.net_model.specs.Value.{value_of, value_within}
@@ -24,7 +25,7 @@ use Rattle.net_model.proofs.Meanings.{width_is}
 use Rattle.sym_expr.specs.Pools.{TermFits}
 use Rattle.transfer_set.specs.TextMarks.{IsMoveOf}
 use Rattle.transfer_set.proofs.TermsOf.{move_terms}
-use Rattle.right_code.specs.Known.{AreKnown, MoveFits}
+use Rattle.right_code.specs.Inner.Known.{AreKnown, MoveFits}
 
 -- ---- slices
 
@@ -107,8 +108,8 @@ module _ (netlist : Netlist) (sound : IsSound netlist) where
   within_fits i (suc k) n lt =
       let net = net_there netlist.nets n lt in
       let f : NetFits netlist (Some net.0) = subst (NetFits netlist) net.1 (sound.typed.nets n) in
-      subst (λ o. TermFits (net_term (sym_within k netlist i) (value_within k netlist blank i) (is_static netlist) o)) (sym net.1)
-      (gate_of (sym_within k netlist i) (value_within k netlist blank i) (within_fits i k) (width_is netlist i sound.typed k) net.0.width net.0.gate f.0 f.1 f.2
+      subst (λ o. TermFits (net_term (sym_within k netlist i) (value_within k netlist no_state i) (is_static netlist) o)) (sym net.1)
+      (gate_of (sym_within k netlist i) (value_within k netlist no_state i) (within_fits i k) (width_is netlist i sound.typed k) net.0.width net.0.gate f.0 f.1 f.2
       (gate_controlled netlist sound.controlled n net.0 net.1))
 
   sym_fits : (i n : ℕ) → n < length netlist.nets → TermFits (sym_of netlist i n)
@@ -116,12 +117,12 @@ module _ (netlist : Netlist) (sound : IsSound netlist) where
 
   -- ---- transfers
 
-  storage_of : (i id : ℕ) (storage : Storage) → StorageFits netlist storage → MoveFits (storage_move (sym_of netlist i) (value_of netlist blank i) id storage)
+  storage_of : (i id : ℕ) (storage : Storage) → StorageFits netlist storage → MoveFits (storage_move (sym_of netlist i) (value_of netlist no_state i) id storage)
   storage_of i id (Register name width input when) f =
-      pick MoveFits (is_enabled (value_of netlist blank i) when) _ keep
+      pick MoveFits (is_enabled (value_of netlist no_state i) when) _ keep
       (pick MoveFits (same_reg (sym_of netlist i input) id) keep (write (sym_of netlist i input)) tt (sym_fits i input f.0.0)) tt
   storage_of i id (Memory name width size addr_width value addr when) f =
-      pick MoveFits (is_enabled (value_of netlist blank i) when) (write_at (sym_of netlist i addr) (sym_of netlist i value)) keep
+      pick MoveFits (is_enabled (value_of netlist no_state i) when) (write_at (sym_of netlist i addr) (sym_of netlist i value)) keep
       (sym_fits i addr f.1.0, sym_fits i value f.0.0) tt
 
   storages_of : (i id : ℕ) (storages : List Storage) (k : ℕ) → AllByRecursion (StorageFits netlist) storages → MoveFits (transfer_of netlist i id (slice_get storages k))

@@ -14,17 +14,19 @@ use Rattle.form_model.specs.Covers.{Stock, IsOrderly}
 use Rattle.form_model.specs.Matches.{goal_match}
 use Rattle.form_model.specs.Steps.{rule_at, found_at}
 use Rattle.emit_seq.proofs.Opened.{opened_plan}
-use Rattle.branch_fix.specs.Parts.{room, total, starts, address, AllFit}
+use Rattle.branch_fix.specs.Parts.{room, total, starts, address, PartsFit}
 use Rattle.branch_fix.specs.Rounds.{distance, target_shows, kind_shows, rule_shows}
 use Rattle.branch_fix.specs.Items.{target_setting, kind_setting, branch_step}
-use Rattle.branch_fix.specs.Flowing.{IsFlow}
+use Rattle.branch_fix.specs.Inner.Flowing.{IsFlow}
 use Rattle.branch_fix.specs.declared.part.Fork.{Fork}
 use Rattle.branch_fix.specs.declared.part.Part.{Part}
 use Rattle.branch_fix.specs.declared.part.Part.TheVariants.{Test, Jump}
 use Rattle.branch_fix.proofs.Addresses.{address_next, address_rises, part_at, fit_length, starts_at}
 use Rattle.branch_fix.proofs.Laying.{address_total, settled_fit}
-use Rattle.right_code.specs.Forks.{IsTargetShown, plan_rule}
-use Rattle.right_code.specs.Laid.{TargetReaches, AreTurns, IsLayout}
+use Rattle.right_code.specs.Forks.{plan_rule}
+use Rattle.right_code.specs.Inner.Forks.{IsTargetShown}
+use Rattle.right_code.specs.Laid.{IsLayout}
+use Rattle.right_code.specs.Inner.Laid.{TargetReaches, AreTurns}
 use Rattle.right_code.proofs.Coded.{ended}
 use Rattle.right_code.proofs.Inside.{IsWide, AreWide, Upto, ways_inside, goals_inside, settled_wide}
 use Rattle.right_code.proofs.Standing.{shown_some, still_shows}
@@ -40,7 +42,7 @@ plan_goal stock tree (use_form k ps cs) o = by (rule_at stock k).goal refl (open
     by (jumps reach) e h = absurd (cc h)
 
 -- a part stands in the code
-pub within_code : (rules : List Rule) (flow : List Flow) (end : ℕ) (parts : List Part) (k : ℕ) → IsFlow flow end → AllFit rules flow 0 flow parts → k < length parts → address parts k < total parts
+pub within_code : (rules : List Rule) (flow : List Flow) (end : ℕ) (parts : List Part) (k : ℕ) → IsFlow flow end → PartsFit rules flow 0 flow parts → k < length parts → address parts k < total parts
 within_code rules flow end parts k f fit l =
     let n : length parts ≡ length flow = fit_length rules flow 0 flow parts fit in
     let long : length flow ≡ end + 1 = f.long in
@@ -64,7 +66,7 @@ shown_way netlist reach (relative shape) false from to r lt low wide still = (lo
 
 module _ (netlist : Netlist) (order : List ℕ) (keeps : KeepsRules netlist order) (patterns : List Pattern) (stock : Stock) (reach : ℕ) (turns : AreTurns netlist patterns stock.rules reach) where
   module _ (flow : List Flow) (parts : List Part) (end : ℕ) (f : IsFlow flow end) (upto : Upto end flow) (layout : IsLayout stock.rules flow parts reach) where
-    pub fit : AllFit stock.rules flow 0 flow parts
+    pub fit : PartsFit stock.rules flow 0 flow parts
     fit = settled_fit stock.rules flow layout.sizes layout.settings parts layout.settled
 
     wide : AreWide stock.rules parts

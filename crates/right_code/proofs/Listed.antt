@@ -21,8 +21,8 @@ use Rattle.form_set.proofs.OneList.{clobbers_one}
 use Rattle.form_set.proofs.RuleLists.{plain_not_jump}
 use Rattle.emit_seq.specs.Cells.{AddressReadsWords, AllReadWords, ReadsWords}
 use Rattle.emit_seq.specs.Formed.{AreFormed, IsFormed}
-use Rattle.emit_seq.specs.Spares.{AreShared, IsCounter}
-use Rattle.right_code.specs.Known.{AreKnown}
+use Rattle.emit_seq.specs.Spares.{AreShared, ReadsCounter}
+use Rattle.right_code.specs.Inner.Known.{AreKnown}
 use Rattle.right_code.proofs.Plain.{plain_formed}
 use Rattle.right_code.proofs.Swapping.{AddrSwapped, AreSwapped, swapped_sides}
 use Rattle.right_code.proofs.Turning.{test_once, test_swapped, test_terms}
@@ -117,7 +117,7 @@ module _ (netlist : Netlist) (order : List ℕ) (keeps : KeepsRules netlist orde
         by i to (inl h) = value_read choice p.move _ (counter_of netlist.codes) (sym to ∙ h) (next_read (counter_of netlist.codes) (counter_width netlist))
         by i to (inr h) = value_read choice p.move _ (counter_of netlist.codes) (sym to ∙ h) (swapped_read (counter_of netlist.codes) (counter_width netlist))
 
-    pub is_counter : IsCounter rules (counter_of netlist.codes)
+    pub is_counter : ReadsCounter rules (counter_of netlist.codes)
     is_counter k rule h g = let f = placed k rule h in (0, counter_read f.number f.pattern rule f.of g)
 
     -- ---- reads are of words of the data memory

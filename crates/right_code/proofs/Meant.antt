@@ -6,7 +6,7 @@ use Rattle.net_model.specs.declared.states.State.{State}
 use Rattle.net_model.specs.Terms.{Term, word, reg, const, read, un, bin, slice, cat, zext, sext, select, term_width}
 use Rattle.net_model.specs.Meaning.{mean}
 use Rattle.form_model.specs.Trees.{is_tree}
-use Rattle.src_trees.specs.Seen.{tree_value, ReadsFrom}
+use Rattle.src_trees.specs.Seen.{tree_value, ReadsCells}
 use Rattle.emit_seq.specs.Leaves.{ReadsFrom as StateReads}
 
 pub tree_mean : (t : Term) (s : State) → is_tree t ≡ true → mean t s 0 ≡ tree_value s.cells t
@@ -26,7 +26,7 @@ tree_mean (zext a w) s h = tree_mean a s h
 tree_mean (sext a w) s h = ap (λ n. extended_of n (term_width a) w) (tree_mean a s h)
 tree_mean (select c a b) s h = absurd (cc h)
 
-pub tree_reads : (at : ℕ) (t : Term) (s : State) → is_tree t ≡ true → ReadsFrom at s.cells t → StateReads at s t
+pub tree_reads : (at : ℕ) (t : Term) (s : State) → is_tree t ≡ true → ReadsCells at s.cells t → StateReads at s t
 tree_reads at (word w) s h r = tt
 tree_reads at (reg n w) s h r = tt
 tree_reads at (const w v) s h r = tt

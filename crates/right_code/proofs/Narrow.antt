@@ -7,7 +7,7 @@ use Rattle.net_model.specs.declared.hardware.Storage.TheVariants.{Register, Memo
 use Rattle.net_model.specs.CheckedRules.{KeepsRules}
 use Rattle.net_model.specs.Nets.{counter_of, counter_width, storage_bits}
 use Rattle.net_model.specs.Patterns.{IsPattern, Pattern}
-use Rattle.net_model.specs.Symbolic.{blank, sym_of}
+use Rattle.net_model.specs.Symbolic.{no_state, sym_of}
 use Rattle.net_model.specs.Value.{value_of}
 use Rattle.net_model.specs.Clock.{is_enabled}
 use Rattle.std.proofs.Math.Pow.{pow_mono}
@@ -60,14 +60,14 @@ module _ (netlist : Netlist) (order : List ℕ) (keeps : KeepsRules netlist orde
   taken_width : (i id : ℕ) (e : Term) (o : Option Storage) → FitsThere netlist o → transfer_of netlist i id o ≡ write e → term_width e ≡ storage_bits o
   taken_width i id e None f is = absurd (cc)
   taken_width i id e (Some (Register name width input when)) f is =
-      by (is_enabled (value_of netlist blank i) when) (same_reg (sym_of netlist i input) id) is
+      by (is_enabled (value_of netlist no_state i) when) (same_reg (sym_of netlist i input) id) is
     where
       by : (on same : Bool) → (if on then (if same then keep else write (sym_of netlist i input)) else keep) ≡ write e → term_width e ≡ width
       by true true p = absurd (cc)
       by true false p =
           ap term_width (sym (written_one (sym_of netlist i input) e p)) ∙ width_is netlist i (sound_of netlist order keeps).typed (length netlist.nets) input ∙ f.0.1
       by false same p = absurd (cc)
-  taken_width i id e (Some (Memory name width size addr_width value addr when)) f is = by (is_enabled (value_of netlist blank i) when) is
+  taken_width i id e (Some (Memory name width size addr_width value addr when)) f is = by (is_enabled (value_of netlist no_state i) when) is
     where
       by : (on : Bool) → (if on then write_at (sym_of netlist i addr) (sym_of netlist i value) else keep) ≡ write e → term_width e ≡ width
       by true p = absurd (cc)

@@ -7,8 +7,8 @@ use Rattle.std.proofs.lemmas.Nat.Bits.{bit_at-zero, bit_at-lt, bit_at_ones, bit_
 use Rattle.net_model.specs.Fields.{fields}
 use Rattle.net_model.specs.Occurs.{registers}
 use Rattle.net_model.specs.Terms.{Term, word, reg, const, read, un, bin, slice, cat, zext, sext, select}
-use Rattle.form_set.specs.Linear.{are_apart, is_linear, meet_in}
-use Rattle.emit_seq.specs.Formed.{Apart, IsOnce, uses}
+use Rattle.form_set.specs.Inner.Linear.{are_apart, is_linear, meet_in}
+use Rattle.emit_seq.specs.Formed.{BitsApart, IsOnce, uses}
 use Rattle.emit_seq.proofs.Fields.{zero_left}
 use Rattle.right_code.proofs.Swapping.{is_word}
 
@@ -77,7 +77,7 @@ occurs n (select c a b) f k u =
     ]
 
 -- masks without a common bit
-pub apart_of : (n : ℕ) (a b : Term) → 0 < n → WordsIn n a → WordsIn n b → bit_and (fields a) (fields b) ≡ 0 → Apart a b
+pub apart_of : (n : ℕ) (a b : Term) → 0 < n → WordsIn n a → WordsIn n b → bit_and (fields a) (fields b) ≡ 0 → BitsApart a b
 apart_of n a b p fa fb e k u = no_use (uses b k) refl
   where
     none : (j : ℕ) → bit_at (fields a) j ≡ 1 → bit_at (fields b) j ≡ 1 → ⊥

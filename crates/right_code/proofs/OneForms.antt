@@ -3,7 +3,7 @@ use Rattle.std.proofs.Common.{◌≡◌, ℕ, zero, suc, List, [], ◌∷◌, in
 use Rattle.std.specs.Prelude.{AllPairs, Contains}
 use Rattle.std.proofs.lemmas.List.Elements.{All-contains}
 use Rattle.net_model.specs.declared.hardware.Netlist.{Netlist}
-use Rattle.net_model.specs.Patterns.{ArePatterns, IsBefore, IsPattern, IsTextBefore, Pattern}
+use Rattle.net_model.specs.Patterns.{ArePatterns, IsPatternBefore, IsPattern, IsTextBefore, Pattern}
 use Rattle.net_model.specs.Texts.{move_text}
 use Rattle.form_model.specs.Rules.{Rule}
 use Rattle.form_set.specs.Listing.{AreForms}
@@ -21,7 +21,7 @@ text_one_way (x ∷ xs) (y ∷ ys) (inl h) (inr k) = let e = k.0 in omega arith
 text_one_way (x ∷ xs) (y ∷ ys) (inr h) (inl k) = let e = h.0 in omega arith
 text_one_way (x ∷ xs) (y ∷ ys) (inr h) (inr k) = text_one_way xs ys h.1 k.1
 
-one_way : (netlist : Netlist) (p q : Pattern) → IsBefore netlist p q → IsBefore netlist q p → ⊥
+one_way : (netlist : Netlist) (p q : Pattern) → IsPatternBefore netlist p q → IsPatternBefore netlist q p → ⊥
 one_way netlist p q (inl h) (inl k) = omega arith
 one_way netlist p q (inl h) (inr k) = let e = k.0 in omega arith
 one_way netlist p q (inr h) (inl k) = let e = h.0 in omega arith
@@ -66,7 +66,7 @@ module _ {X : Type 0} (R : X → X → Type 0) (goes : (x y : X) → R x y → R
 -- a netlist has one list of patterns
 pub patterns_one : (netlist : Netlist) (a b : List Pattern) → ArePatterns netlist a → ArePatterns netlist b → a ≡ b
 patterns_one netlist a b p q =
-    same_lists (IsBefore netlist) (one_way netlist) a b p.ordered q.ordered
+    same_lists (IsPatternBefore netlist) (one_way netlist) a b p.ordered q.ordered
     (λ x within. q.every x (All-contains (IsPattern netlist) a x p.each within))
     (λ x within. p.every x (All-contains (IsPattern netlist) b x q.each within))
 

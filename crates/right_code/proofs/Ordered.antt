@@ -24,21 +24,22 @@ use Rattle.word_fit.specs.Fits.{fits_over, FitsJump}
 use Rattle.word_fit.proofs.Least.{all_fit}
 use Rattle.src_trees.specs.Lowered.{Work}
 use Rattle.src_trees.specs.Flows.{places_in, program_flow, program_works}
-use Rattle.src_trees.specs.Seen.{memory_of, InReach}
+use Rattle.src_trees.specs.Seen.{memory_map, InReach}
 use Rattle.branch_fix.specs.Parts.{rule_at_one, kind_at_one, room, starts, address}
 use Rattle.branch_fix.specs.Items.{groups, jump_form, jump_step, branch_step, behind, part_items}
-use Rattle.branch_fix.specs.Made.{word_in}
-use Rattle.branch_fix.specs.Flowing.{IsFlow}
+use Rattle.branch_fix.specs.Made.{image_word}
+use Rattle.branch_fix.specs.Inner.Flowing.{IsFlow}
 use Rattle.branch_fix.specs.declared.part.Fork.{Fork}
 use Rattle.branch_fix.specs.declared.part.Part.{Part}
 use Rattle.branch_fix.specs.declared.part.Part.TheVariants.{Block, Test, Jump, End}
 use Rattle.branch_fix.proofs.Shapes.{program_is_flow}
 use Rattle.branch_fix.proofs.Words.{groups_length}
 use Rattle.right_code.specs.Jobs.{tree_used}
-use Rattle.right_code.specs.Blocks.{IsBlockMade}
-use Rattle.right_code.specs.Forks.{IsJumpMade, IsForkMade, BehindMade, plan_rule, test_of}
-use Rattle.right_code.specs.Code.{IsMadeCode}
-use Rattle.right_code.specs.Laid.{AreTurns, IsBlockReady, IsForkReady, IsLaidCode}
+use Rattle.right_code.specs.Inner.Blocks.{IsBlockMade}
+use Rattle.right_code.specs.Forks.{plan_rule}
+use Rattle.right_code.specs.Inner.Forks.{IsJumpMade, IsForkMade, BehindMade, test_of}
+use Rattle.right_code.specs.Inner.Code.{IsMadeCode}
+use Rattle.right_code.specs.Inner.Laid.{AreTurns, IsBlockReady, IsForkReady, IsLaidCode}
 use Rattle.right_code.specs.Words.{StandItems}
 use Rattle.right_code.proofs.Coded.{code_right, there}
 use Rattle.right_code.proofs.Inside.{Upto, program_upto}
@@ -59,7 +60,7 @@ module _ (netlist : Netlist) (order : List ℕ) (keeps : KeepsRules netlist orde
       → StandItems netlist patterns words (words_of image) (at + 1) (behind (jump_form stock.rules reach) next long to other) → BehindMade netlist patterns image next long at to other
   behind_made words next true at to other lt low h =
       let z : at + 1 + 1 ≡ at + 2 = omega arith in
-      (jump_made _ other h.0.is low, jump_made _ to (subst (λ k. FitsJump netlist (word_in image k) (operation_of patterns (jump_step (jump_form stock.rules reach) to))) z h.1.0.is) lt)
+      (jump_made _ other h.0.is low, jump_made _ to (subst (λ k. FitsJump netlist (image_word image k) (operation_of patterns (jump_step (jump_form stock.rules reach) to))) z h.1.0.is) lt)
   behind_made words true false at to other lt low h = tt
   behind_made words false false at to other lt low h = jump_made _ other h.0.is low
 
@@ -84,7 +85,7 @@ module _ (netlist : Netlist) (order : List ℕ) (keeps : KeepsRules netlist orde
         let to_is : slice_index (starts 0 parts) g.to ≡ address parts g.to = start_is parts g.to in_to in
         let other_is : slice_index (starts 0 parts) g.other ≡ address parts g.other = start_is parts g.other in_other in
         let s = stand_split netlist patterns laid.words (words_of image) (groups g.block 0 g.words) _ a from (ap (λ n. a + n) (sym (groups_length g.block 0 g.words))) (stands at (Test g) e) in
-        let word : FitsJump netlist (word_in image from) (operation_of patterns (branch_step (slice_get stock.rules g.form) g.setting from (slice_index (starts 0 parts) g.to) g.long)) = s.1.0.is in
+        let word : FitsJump netlist (image_word image from) (operation_of patterns (branch_step (slice_get stock.rules g.form) g.setting from (slice_index (starts 0 parts) g.to) g.long)) = s.1.0.is in
         subst (λ b. IsForkMade netlist patterns stock image job b g a (address parts g.to) (address parts g.other)) (sym (ap rule_at_one r.form ∙ ap kind_at_one step.goal)) (record {
           choice = r.choice;
           operands = record {
@@ -103,7 +104,7 @@ module _ (netlist : Netlist) (order : List ℕ) (keeps : KeepsRules netlist orde
           form = turns.forks g.form rule step.when_one step.way r.form step.goal;
           bits = step.bits;
           shown = step.shown;
-          word = subst (λ x. FitsJump netlist (word_in image from) (operation_of patterns x)) step.step word;
+          word = subst (λ x. FitsJump netlist (image_word image from) (operation_of patterns x)) step.step word;
           behind = behind_made laid.words g.next g.long from (address parts g.to) (address parts g.other) (near netlist order keeps patterns stock reach turns flow parts end f upto laid.layout g.to in_to) (near netlist order keeps patterns stock reach turns flow parts end f upto laid.layout g.other in_other)
               (subst (λ n. StandItems netlist patterns laid.words (words_of image) (from + 1) (behind (jump_form stock.rules reach) g.next g.long (address parts g.to) n)) other_is
               (subst (λ n. StandItems netlist patterns laid.words (words_of image) (from + 1) (behind (jump_form stock.rules reach) g.next g.long n (slice_index (starts 0 parts) g.other))) to_is s.1.1));
@@ -134,7 +135,7 @@ module _ (netlist : Netlist) (order : List ℕ) (keeps : KeepsRules netlist orde
       forks = λ at g e job has. fork_made at g e job (laid.forks at g e job has);
       jumps = λ at to e.
           jump_made _ (address parts to)
-          (subst (λ n. FitsJump netlist (word_in image (address parts at)) (operation_of patterns (jump_step (jump_form stock.rules reach) n))) (start_is parts to (goals netlist order keeps patterns stock reach turns flow parts end f upto laid.layout at to e)) (stands at (Jump to) e).0.is)
+          (subst (λ n. FitsJump netlist (image_word image (address parts at)) (operation_of patterns (jump_step (jump_form stock.rules reach) n))) (start_is parts to (goals netlist order keeps patterns stock reach turns flow parts end f upto laid.layout at to e)) (stands at (Jump to) e).0.is)
           (near netlist order keeps patterns stock reach turns flow parts end f upto laid.layout to (goals netlist order keeps patterns stock reach turns flow parts end f upto laid.layout at to e));
       ends = λ at e. jump_made _ (address parts at) (stands at End e).0.is (near netlist order keeps patterns stock reach turns flow parts end f upto laid.layout at (there parts at End e));
     }
@@ -143,9 +144,9 @@ module _ (netlist : Netlist) (order : List ℕ) (keeps : KeepsRules netlist orde
 pub ordered_right : (netlist : Netlist) (order : List ℕ) → KeepsRules netlist order → (image : Image) (patterns : List Pattern) (stock : Stock) → AreFormed patterns (length netlist.storages) stock.rules → (reach : ℕ)
     → AreTurns netlist patterns stock.rules reach → (bits addr : ℕ) (l : Listing) (parts : List Part) → first_fault bits l ≡ None → memory_width netlist.storages ≡ bits → InReach bits addr stock.temps l.vars
     → stock.temps + cell_count l.vars ≤ memory_size netlist.storages → image.places ≡ places_from stock.temps (variables_of l.vars)
-    → IsLaidCode netlist patterns stock image (program_flow l) (program_works (memory_of bits addr stock.temps l.vars) l) parts reach
+    → IsLaidCode netlist patterns stock image (program_flow l) (program_works (memory_map bits addr stock.temps l.vars) l) parts reach
     → ((a : ℕ) → WordFits netlist (slice_index (words_of image) a)) → TracesRight netlist image (strace bits l)
 ordered_right netlist order keeps image patterns stock formed reach turns bits addr l parts kept wide inreach room places laid fits =
     code_right netlist order keeps image patterns stock formed bits addr l parts kept wide inreach room places
-    (laid_made netlist order keeps image patterns stock reach turns (program_flow l) (program_works (memory_of bits addr stock.temps l.vars) l) parts (places_in (acts_of l.body)) (program_is_flow l) (program_upto l) laid)
+    (laid_made netlist order keeps image patterns stock reach turns (program_flow l) (program_works (memory_map bits addr stock.temps l.vars) l) parts (places_in (acts_of l.body)) (program_is_flow l) (program_upto l) laid)
     laid.long fits

@@ -1,4 +1,5 @@
--- Plain forms are as the steps of covers want them: each does what it says under any setting of its bits.
+-- Plain forms are as the steps of covers want them: each does what it says under any setting of its
+-- bits.
 use Rattle.std.proofs.Common.{◌≡◌, ℕ, ◌<◌, ◌==◌, ◌&&◌, Bool, true, false, bit_and, if◌then◌else◌, List, Option, Some, None, length, slice_get, refl, sym, ◌∙◌, ap, subst, arith, eqb-true}
 use Rattle.std.specs.Int.{bit_at}
 use Rattle.std.proofs.lemmas.Bool.{true≢false, eq-eqb, and_parts}
@@ -14,7 +15,7 @@ use Rattle.sym_expr.specs.Pools.{TermFits}
 use Rattle.net_model.specs.Fields.{fields}
 use Rattle.transfer_set.specs.TextMarks.{IsTermOf, IsMoveOf}
 use Rattle.form_model.specs.Rules.{Rule, into_reg, into_memory}
-use Rattle.form_set.specs.Linear.{is_linear, are_apart, move_linear}
+use Rattle.form_set.specs.Inner.Linear.{is_linear, are_apart, move_linear}
 use Rattle.form_set.specs.Listing.{IsPlain, goal_at, plain_rule, sides_of}
 use Rattle.form_set.specs.Promises.{AreAlike, IsAlike as AreSame}
 use Rattle.form_set.specs.Swaps.{Sides, swapped}
@@ -22,13 +23,13 @@ use Rattle.form_set.specs.Words.{AreClobbers}
 use Rattle.form_set.proofs.FormLaws.{own_clobber}
 use Rattle.form_set.proofs.LinearLaws.{linear_is}
 use Rattle.form_set.proofs.SwapLaws.{swapped_alike}
-use Rattle.emit_seq.specs.Formed.{Apart, IsAlike, IsFormed, IsIntoMemory, IsIntoReg, IsOnce, uses}
-use Rattle.right_code.specs.Known.{AreKnown, MoveFits}
+use Rattle.emit_seq.specs.Formed.{BitsApart, MeansAlike, IsFormed, IsIntoMemory, IsIntoReg, IsOnce, uses}
+use Rattle.right_code.specs.Inner.Known.{AreKnown, MoveFits}
 use Rattle.right_code.proofs.Once.{WordsIn, apart_of, meet_none, once_of}
 use Rattle.right_code.proofs.Swapping.{AreSwapped, IsSwapped, is_word, swapped_sides}
 
 -- an expression with operands swapped is another way to write it
-pub alike_of : (t u : Term) → TermFits t → AreSame t u → IsSwapped t u → IsAlike u t
+pub alike_of : (t u : Term) → TermFits t → AreSame t u → IsSwapped t u → MeansAlike u t
 alike_of t u fits same h = record { means = same.same fits; reads = λ i r. sym (h.reads i r) }
 
 -- ---- words in an expression have the width of the code
@@ -76,13 +77,13 @@ module _ (netlist : Netlist) (order : List ℕ) (keeps : KeepsRules netlist orde
       record {
         value = v;
         is = at ∙ ap (λ (q : Pattern). Some q) e;
-        alike = subst (λ x. IsAlike x v) (sym same) (alike_of v (swapped choice sides).value fits like.value sw.value);
+        alike = subst (λ x. MeansAlike x v) (sym same) (alike_of v (swapped choice sides).value fits like.value sw.value);
         once = subst (λ x. IsOnce x) (sym same) (sw.value.once (once_of (word_width netlist) 0 v some (words_in netlist v terms fits) linear));
         clobbered = subst (λ r. bit_at clobbers r ≡ 1) es (own_clobber netlist p clobbers are);
         below = subst (λ r. r < length netlist.storages) es (storage_within netlist p k.is);
       }
 
-  used_apart : (a b c d : Term) → ((k : ℕ) → uses a k ≡ uses c k) → ((k : ℕ) → uses b k ≡ uses d k) → Apart a b → Apart c d
+  used_apart : (a b c d : Term) → ((k : ℕ) → uses a k ≡ uses c k) → ((k : ℕ) → uses b k ≡ uses d k) → BitsApart a b → BitsApart c d
   used_apart a b c d ac bd h = λ k u. sym (bd k) ∙ h k (ac k ∙ u)
 
   memory_sides : (number choice clobbers storage : ℕ) (a v : Term) (rule : Rule) → slice_get patterns number ≡ Some (record { storage = storage; move = write_at a v }) → rule.pattern ≡ number
@@ -118,11 +119,11 @@ module _ (netlist : Netlist) (order : List ℕ) (keeps : KeepsRules netlist orde
         at = b;
         has = eb;
         alike_addr = alike_of a b fa la sa;
-        alike_value = subst (λ x. IsAlike x v) (sym eu) (alike_of v u fv lv sv);
+        alike_value = subst (λ x. MeansAlike x v) (sym eu) (alike_of v u fv lv sv);
         once_addr = sa.once (once_of (word_width netlist) 0 a some wa both.0);
         once_value = subst (λ x. IsOnce x) (sym eu) (sv.once (once_of (word_width netlist) 0 v some wv both.1));
-        apart = subst (λ x. Apart b x) (sym eu) (used_apart a v b u sa.used sv.used (apart_of (word_width netlist) a v some wa wv none));
-        apart_back = subst (λ x. Apart x b) (sym eu) (used_apart v a u b sv.used sa.used (apart_of (word_width netlist) v a some wv wa (and_comm (fields v) (fields a) ∙ none)));
+        apart = subst (λ x. BitsApart b x) (sym eu) (used_apart a v b u sa.used sv.used (apart_of (word_width netlist) a v some wa wv none));
+        apart_back = subst (λ x. BitsApart x b) (sym eu) (used_apart v a u b sv.used sa.used (apart_of (word_width netlist) v a some wv wa (and_comm (fields v) (fields a) ∙ none)));
       }
 
       by_addr : (o : Option Term) (u : Term) → rule.addr ≡ o → rule.value ≡ u → AreSwapped sides (record { addr = o; value = u }) → AreAlike sides (record { addr = o; value = u }) → IsIntoMemory patterns rule

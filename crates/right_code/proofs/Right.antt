@@ -20,8 +20,8 @@ use Rattle.src_trees.specs.Flows.{places_in, program_flow}
 use Rattle.src_trees.specs.Measures.{AllSmall, IsSmall}
 use Rattle.src_trees.specs.Seen.{InReach}
 use Rattle.src_trees.proofs.Measured.{program_small}
-use Rattle.branch_fix.specs.Flowing.{IsFlow}
-use Rattle.branch_fix.specs.Parts.{AllFit, address, starts, total}
+use Rattle.branch_fix.specs.Inner.Flowing.{IsFlow}
+use Rattle.branch_fix.specs.Parts.{PartsFit, address, starts, total}
 use Rattle.branch_fix.proofs.Addresses.{fit_length}
 use Rattle.branch_fix.proofs.Laying.{settled_fit}
 use Rattle.branch_fix.proofs.Shapes.{program_is_flow}
@@ -43,10 +43,11 @@ use Rattle.branch_fix.specs.declared.part.Part.{Part}
 use Rattle.branch_fix.specs.declared.part.Part.TheVariants.{Test}
 use Rattle.right_code.specs.Bounded.{HasBound}
 use Rattle.right_code.specs.Covered.{AllChosen}
-use Rattle.right_code.specs.Forks.{test_of}
+use Rattle.right_code.specs.Inner.Forks.{test_of}
 use Rattle.right_code.specs.Jobs.{IsCovered, job_steps, jobs_steps, tree_or_none, tree_used}
-use Rattle.right_code.specs.Known.{AreKnown}
-use Rattle.right_code.specs.Laid.{AreTurns, IsLayout}
+use Rattle.right_code.specs.Inner.Known.{AreKnown}
+use Rattle.right_code.specs.Laid.{IsLayout}
+use Rattle.right_code.specs.Inner.Laid.{AreTurns}
 use Rattle.right_code.specs.Tasks.{IsChecked, Task, task_memory, task_stock, task_works}
 use Rattle.right_code.proofs.Chosen.{as_test, choice_there, covered_block, covered_test, in_reach, made_laid}
 use Rattle.right_code.proofs.Covered.{covered_of}
@@ -79,7 +80,7 @@ module _ (order : List ℕ) (task : Task) (checked : IsChecked order task) where
   small = program_small task.width (memory_addr_width task.netlist.storages) (temp_count task.width task.listing) task.listing checked.program near
 
   -- parts of the program have words
-  some_total : (rules : List Rule) (parts : List Part) → AllFit rules (program_flow task.listing) 0 (program_flow task.listing) parts → 1 ≤ total parts
+  some_total : (rules : List Rule) (parts : List Part) → PartsFit rules (program_flow task.listing) 0 (program_flow task.listing) parts → 1 ≤ total parts
   some_total rules parts fits =
       let f : IsFlow (program_flow task.listing) (places_in (acts_of task.listing.body)) = program_is_flow task.listing in
       let n = fit_length rules (program_flow task.listing) 0 (program_flow task.listing) parts fits in
@@ -105,7 +106,7 @@ module _ (order : List ℕ) (task : Task) (checked : IsChecked order task) where
     -- a layout has words
     some_reach : (parts : List Part) → IsLayout rules (program_flow task.listing) parts reach → 1 ≤ reach
     some_reach parts layout =
-        let fits : AllFit rules (program_flow task.listing) 0 (program_flow task.listing) parts = settled_fit rules (program_flow task.listing) layout.sizes layout.settings parts layout.settled in
+        let fits : PartsFit rules (program_flow task.listing) 0 (program_flow task.listing) parts = settled_fit rules (program_flow task.listing) layout.sizes layout.settings parts layout.settled in
         let a = some_total rules parts fits in
         let r = layout.reached in
         omega (arith, a, r)
@@ -146,7 +147,7 @@ module _ (order : List ℕ) (task : Task) (checked : IsChecked order task) where
           layout_words task.netlist order checked.netlist some patterns known reach (task_stock rules task) forms (turns (some_reach parts layout)) (program_flow task.listing) parts (places_in (acts_of task.listing.body))
           (program_is_flow task.listing) (program_upto task.listing) layout asked k step e
         where
-          fits : AllFit rules (program_flow task.listing) 0 (program_flow task.listing) parts
+          fits : PartsFit rules (program_flow task.listing) 0 (program_flow task.listing) parts
           fits = settled_fit rules (program_flow task.listing) layout.sizes layout.settings parts layout.settled
 
           asked : (at : ℕ) (f : Fork) → slice_get parts at ≡ Some (Test f)
@@ -162,7 +163,7 @@ module _ (order : List ℕ) (task : Task) (checked : IsChecked order task) where
   -- ---- the image
 
   module _ (image : Image) (made : IsMadeFor task image) where
-    fit : AllFit made.rules (program_flow task.listing) 0 (program_flow task.listing) made.parts
+    fit : PartsFit made.rules (program_flow task.listing) 0 (program_flow task.listing) made.parts
     fit = settled_fit made.rules (program_flow task.listing) made.sizes made.settings made.parts made.settled
 
     pub made_traces : length (words_of image) ≤ code_size task.netlist.codes → length (words_of image) ≤ made.reach → TracesRight task.netlist image (strace task.width task.listing)

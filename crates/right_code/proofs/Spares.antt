@@ -6,11 +6,12 @@ use Rattle.form_model.specs.Covers.{Stock, Choice}
 use Rattle.form_model.specs.Effects.{Operation, operation_of, register, reads, writes}
 use Rattle.form_model.specs.Live.{Regs, no_regs, group_reads, group_writes, live_before, singles, AllSpare}
 use Rattle.emit_seq.specs.Formed.{AreFormed}
-use Rattle.emit_seq.specs.Spares.{AreGiven, AreShared, IsCounter, AreSpare, step_clobbers, wanted}
+use Rattle.emit_seq.specs.Spares.{AreDefined, AreShared, ReadsCounter, AreSpare, step_clobbers, wanted}
 use Rattle.emit_seq.proofs.Lives.{live-steps, spare-append}
 use Rattle.emit_seq.proofs.Spared.{steps_spare}
 use Rattle.src_trees.specs.Lowered.{Work}
-use Rattle.right_code.specs.Jobs.{tree_or_none, tree_used, job_steps, jobs_steps, IsCovered, AreCovered}
+use Rattle.right_code.specs.Jobs.{tree_or_none, tree_used, job_steps, jobs_steps, IsCovered}
+use Rattle.right_code.specs.Inner.Jobs.{AreCovered}
 
 not_live : (l k : Bool) → (l ≡ true → k ≡ true) → k ≡ false → l ≡ false
 not_live true k f e = cc (f refl, e)
@@ -41,12 +42,12 @@ module _ {A : Type 0} (m : A → Operation) (clobbers : A → Regs) where
   spare_less [] k l f h = tt
   spare_less (x ∷ xs) k l f h = (λ r c w. not_live (live_before m (singles xs) l r) (live_before m (singles xs) k r) (live_less (singles xs) k l f r) (h.0 r c w), spare_less xs k l f h.1)
 
-  pub given_less : (known : Regs) (xs : List A) (k l : Regs) → ((r : ℕ) → l r ≡ true → k r ≡ true) → AreGiven m known xs k → AreGiven m known xs l
+  pub given_less : (known : Regs) (xs : List A) (k l : Regs) → ((r : ℕ) → l r ≡ true → k r ≡ true) → AreDefined m known xs k → AreDefined m known xs l
   given_less known [] k l f h = λ r e. h r (f r e)
   given_less known (x ∷ xs) k l f h = (h.0, given_less (λ r. known r || writes (m x) r) xs k l f h.1)
 
   -- what is live before steps is known
-  pub live_known : (known : Regs) (xs : List A) (after : Regs) → AreGiven m known xs after → (r : ℕ) → live_before m (singles xs) after r ≡ true → known r ≡ true
+  pub live_known : (known : Regs) (xs : List A) (after : Regs) → AreDefined m known xs after → (r : ℕ) → live_before m (singles xs) after r ≡ true → known r ≡ true
   live_known known [] after h r e = h r e
   live_known known (x ∷ xs) after h r e =
       known_from (reads (m x) (register r)) (live_before m (singles xs) after r) (writes (m x) r) (known r) (h.0 r) (live_known (λ q. known q || writes (m x) q) xs after h.1 r) e
@@ -56,9 +57,9 @@ module _ {A : Type 0} (m : A → Operation) (clobbers : A → Regs) where
       let p : (r : ℕ) → live_before m (singles xs) no_regs r ≡ false = (λ r. not_live (live_before m (singles xs) no_regs r) false (h r) refl) in
       (λ j r. p r j)
 
-module _ (stock : Stock) (patterns : List Pattern) (count pc : ℕ) (formed : AreFormed patterns count stock.rules) (shared : AreShared stock.rules) (counter : IsCounter stock.rules pc) where
+module _ (stock : Stock) (patterns : List Pattern) (count pc : ℕ) (formed : AreFormed patterns count stock.rules) (shared : AreShared stock.rules) (counter : ReadsCounter stock.rules pc) where
   abbrev Spares : List Step → Type 0
-  Spares xs = AllSpare (operation_of patterns) (step_clobbers stock.rules) xs no_regs × AreGiven (operation_of patterns) no_regs xs no_regs
+  Spares xs = AllSpare (operation_of patterns) (step_clobbers stock.rules) xs no_regs × AreDefined (operation_of patterns) no_regs xs no_regs
 
   job_spares : (work : Work) (choice : Choice) → IsCovered stock work choice → Spares (job_steps stock work choice)
   job_spares work choice c =

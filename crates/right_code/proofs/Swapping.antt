@@ -11,13 +11,14 @@ use Rattle.net_model.specs.Terms.{Term, word, reg, const, read, un, bin, slice, 
 use Rattle.form_model.specs.Effects.{register, term_reads}
 use Rattle.form_set.specs.Swaps.{Sides, addr_swaps, at_level, in_two, levels, root_swaps, swap_chosen, swap_count, swap_from, swap_in, swap_number, swap_side, swapped, swaps_in}
 use Rattle.emit_seq.specs.Cells.{ReadsWords}
-use Rattle.emit_seq.specs.Formed.{Apart, IsOnce, uses}
+use Rattle.emit_seq.specs.Formed.{BitsApart, IsOnce, uses}
 
 abbrev pub is_word : Term → Bool
 is_word (word w) = true
 is_word _ = false
 
--- two expressions in which the same registers and bits occur, none of them oftener, and reads of the same words
+-- two expressions in which the same registers and bits occur, none of them oftener, and reads of
+-- the same words
 pub record IsSwapped (t u : Term) : Type 0 where
   pub reads : (i r : ℕ) → term_reads i t (register r) ≡ term_reads i u (register r)
   pub used : (k : ℕ) → uses t k ≡ uses u k
@@ -39,7 +40,7 @@ swapped_then t u v a b = record {
   words = λ bits h. b.words bits (a.words bits h);
 }
 
-apart_same : (a b a' b' : Term) → ((k : ℕ) → uses a k ≡ uses a' k) → ((k : ℕ) → uses b k ≡ uses b' k) → Apart a b → Apart a' b'
+apart_same : (a b a' b' : Term) → ((k : ℕ) → uses a k ≡ uses a' k) → ((k : ℕ) → uses b k ≡ uses b' k) → BitsApart a b → BitsApart a' b'
 apart_same a b a' b' f g h k e = sym (g k) ∙ h k (f k ∙ e)
 
 -- ---- inside operators

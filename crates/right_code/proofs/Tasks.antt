@@ -1,4 +1,5 @@
--- The jobs of a program: those that store something have one tree, and those of tests store nothing.
+-- The jobs of a program: those that store something have one tree, and those of tests store
+-- nothing.
 use Rattle.std.proofs.Common.{ℕ, zero, suc, ◌≡◌, ◌<◌, ◌+◌, Bool, true, false, if◌then◌else◌, List, [], ◌∷◌, ◌++◌, length, Some, refl, sym, ◌∙◌, subst, arith, slice_get}
 use Rattle.net_model.specs.Terms.{Term, const}
 use Rattle.src_model.specs.declared.program.Cmp.{Cmp}
@@ -11,12 +12,12 @@ use Rattle.form_model.specs.Rules.{Rule, Destination, into, cell, stored, tempor
 use Rattle.src_trees.specs.Lowered.{MemoryMap, Work, holds_at_one, start_work, step_work, works, works_in, works_else}
 use Rattle.src_trees.specs.Flows.{places_for, places_in, else_entry, asked, flow_of, flow_in, flow_else, program_flow, program_works}
 use Rattle.src_trees.proofs.Parts.{Stand, stand_left, stand_right, stand_all, works_length, works_in_length}
-use Rattle.branch_fix.specs.Parts.{Fits, AllFit}
+use Rattle.branch_fix.specs.Parts.{FitsPart, PartsFit}
 use Rattle.branch_fix.specs.declared.part.Fork.{Fork}
 use Rattle.branch_fix.specs.declared.part.Part.{Part}
 use Rattle.branch_fix.specs.declared.part.Part.TheVariants.{Test}
 use Rattle.branch_fix.proofs.Addresses.{part_at, fit_length}
-use Rattle.right_code.specs.Jobs.{HasOne}
+use Rattle.right_code.specs.Inner.Jobs.{HasOne}
 use Rattle.right_code.proofs.Coded.{there}
 use Rattle.right_code.proofs.Inside.{get_there}
 
@@ -126,18 +127,18 @@ tests_get all (Jumped to ∷ xs) (suc k) tree one none h e = tests_get all xs k 
 tests_get all (Ended ∷ xs) (suc k) tree one none h e = tests_get all xs k tree one none h e
 
 -- the job of a test's part
-pub test_work_of : (all : List Work) (rules : List Rule) (flow : List Flow) (parts : List Part) (k : ℕ) (f : Fork) → AllFit rules flow 0 flow parts → AreTests all flow → slice_get parts k ≡ Some (Test f) → IsTestWork all f.tree
+pub test_work_of : (all : List Work) (rules : List Rule) (flow : List Flow) (parts : List Part) (k : ℕ) (f : Fork) → PartsFit rules flow 0 flow parts → AreTests all flow → slice_get parts k ≡ Some (Test f) → IsTestWork all f.tree
 test_work_of all rules flow parts k f fit tests e =
     let l : k < length parts = there parts k (Test f) e in
     let n : length parts ≡ length flow = fit_length rules flow 0 flow parts fit in
     let g = get_there flow k (omega (arith, l, n)) in
     let q = part_at rules flow 0 flow parts k k g.0 fit g.1 (omega arith) in
-    by g.0 g.1 (subst (λ x. Fits rules flow k g.0 x) (one q.0 (Test f) (sym q.1 ∙ e)) q.2)
+    by g.0 g.1 (subst (λ x. FitsPart rules flow k g.0 x) (one q.0 (Test f) (sym q.1 ∙ e)) q.2)
   where
     one : (x y : Part) → Some x ≡ Some y → x ≡ y
     one x y e = cc
 
-    by : (g : Flow) → slice_get flow k ≡ Some g → Fits rules flow k g (Test f) → IsTestWork all f.tree
+    by : (g : Flow) → slice_get flow k ≡ Some g → FitsPart rules flow k g (Test f) → IsTestWork all f.tree
     by (Tested tree a b) at h = subst (IsTestWork all) (sym h.0) (tests_get all flow k tree a b tests at)
     by (Assign tree) at h = absurd h
     by (Jumped to) at h = absurd h

@@ -15,7 +15,7 @@ use Rattle.transfer_set.specs.declared.stepping.Counter.{Counter}
 use Rattle.form_model.specs.Rules.{BranchTarget, absolute, relative}
 use Rattle.form_model.specs.Shapes.{is_shape, reach_of, shows}
 use Rattle.form_model.proofs.ShapeLaws.{exact_shape}
-use Rattle.form_set.specs.Linear.{are_apart, is_linear, move_linear}
+use Rattle.form_set.specs.Inner.Linear.{are_apart, is_linear, move_linear}
 use Rattle.form_set.specs.Listing.{IsBranch, IsJump, branch_rule, counter_at, jump_rule, test_sides}
 use Rattle.form_set.specs.Swaps.{swapped}
 use Rattle.form_set.specs.Targets.{Branch, allowed_target, branch_if, distance_if, first_of, is_absolute, relative_target, term_branch}
@@ -23,9 +23,9 @@ use Rattle.form_set.proofs.LinearLaws.{linear_is}
 use Rattle.form_set.proofs.ShapeBits.{shape_fits}
 use Rattle.form_set.proofs.SwapLaws.{swapped_alike}
 use Rattle.emit_seq.specs.Formed.{IsOnce}
-use Rattle.right_code.specs.Forks.{IsBranchForm, IsJumpForm, IsTargetTerm, one_side}
-use Rattle.right_code.specs.Known.{AreKnown, MoveFits}
-use Rattle.right_code.specs.Laid.{TargetReaches}
+use Rattle.right_code.specs.Inner.Forks.{IsBranchForm, IsJumpForm, IsTargetTerm, one_side}
+use Rattle.right_code.specs.Inner.Known.{AreKnown, MoveFits}
+use Rattle.right_code.specs.Inner.Laid.{TargetReaches}
 use Rattle.right_code.proofs.Narrow.{jump_within}
 use Rattle.right_code.proofs.Once.{meet_none, once_of}
 use Rattle.right_code.proofs.Plain.{alike_of, words_in}

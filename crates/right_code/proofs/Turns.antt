@@ -9,11 +9,11 @@ use Rattle.form_model.specs.Rules.{BranchTarget, Kind, Rule, into_memory, into_r
 use Rattle.form_model.specs.Shapes.{reach_of, shows}
 use Rattle.form_set.specs.Listing.{AreForms, goal_at, goal_reach, greatest_reach}
 use Rattle.form_set.specs.Words.{CanJump}
-use Rattle.form_set.specs.Promises.{IsFormOf, is_control, of_branch, of_jump, of_plain}
+use Rattle.form_set.specs.Promises.{IsFormOf, is_control_goal, of_branch, of_jump, of_plain}
 use Rattle.branch_fix.specs.Items.{jump_form, reaches}
-use Rattle.right_code.specs.Forks.{IsBranchForm, IsJumpForm}
-use Rattle.right_code.specs.Known.{AreKnown}
-use Rattle.right_code.specs.Laid.{AreTurns, TargetReaches}
+use Rattle.right_code.specs.Inner.Forks.{IsBranchForm, IsJumpForm}
+use Rattle.right_code.specs.Inner.Known.{AreKnown}
+use Rattle.right_code.specs.Inner.Laid.{AreTurns, TargetReaches}
 use Rattle.right_code.proofs.Listed.{placed}
 use Rattle.right_code.proofs.Turning.{branch_made, branch_reaches, jump_made, jump_narrow, jump_shows}
 
@@ -55,10 +55,10 @@ first_jump (rule ∷ rules) reach l e = by (reaches rule.goal reach) refl (first
         record { rule = f.rule; first = ap (λ b. if b then Some rule else jump_form rules reach) q ∙ f.first; place = suc f.place; at = f.at; goal = f.goal })
 
 -- a plain form is none of the two
-plain_goal : (netlist : Netlist) (storage : ℕ) (k : Kind) → k ≡ goal_at netlist storage → is_control k ≡ true → ⊥
-plain_goal netlist storage k e h = true≢false (sym h ∙ ap is_control e ∙ by (storage == memory_id netlist.storages))
+plain_goal : (netlist : Netlist) (storage : ℕ) (k : Kind) → k ≡ goal_at netlist storage → is_control_goal k ≡ true → ⊥
+plain_goal netlist storage k e h = true≢false (sym h ∙ ap is_control_goal e ∙ by (storage == memory_id netlist.storages))
   where
-    by : (b : Bool) → is_control (if b then into_memory else into_reg storage) ≡ false
+    by : (b : Bool) → is_control_goal (if b then into_memory else into_reg storage) ≡ false
     by true = refl
     by false = refl
 
@@ -70,7 +70,7 @@ module _ (netlist : Netlist) (order : List ℕ) (keeps : KeepsRules netlist orde
 
   jumping : (number : ℕ) (p : Pattern) (rule : Rule) → slice_get patterns number ≡ Some p → IsFormOf netlist reach number p rule → rule.goal ≡ jumps reach → IsJumping rule
   jumping number p rule at (of_plain choice clobbers plain are e) g =
-      absurd (plain_goal netlist p.storage rule.goal (ap (λ (r : Rule). r.goal) e) (ap is_control g))
+      absurd (plain_goal netlist p.storage rule.goal (ap (λ (r : Rule). r.goal) e) (ap is_control_goal g))
   jumping number p rule at (of_jump h e) g =
       subst IsJumping (sym e)
       (record {
@@ -92,7 +92,7 @@ module _ (netlist : Netlist) (order : List ℕ) (keeps : KeepsRules netlist orde
 
   turning : (number : ℕ) (p : Pattern) (rule : Rule) (when_one : Bool) (way : BranchTarget) → slice_get patterns number ≡ Some p → IsFormOf netlist reach number p rule → rule.goal ≡ branches when_one way → IsTurning rule when_one way
   turning number p rule when_one way at (of_plain choice clobbers plain are e) g =
-      absurd (plain_goal netlist p.storage rule.goal (ap (λ (r : Rule). r.goal) e) (ap is_control g))
+      absurd (plain_goal netlist p.storage rule.goal (ap (λ (r : Rule). r.goal) e) (ap is_control_goal g))
   turning number p rule when_one way at (of_jump h e) g = let x : jumps _ ≡ branches when_one way = sym (ap (λ (r : Rule). r.goal) e) ∙ g in absurd (cc)
   turning number p rule when_one way at (of_branch choice parts b e) g =
       let s = same parts.when_one when_one parts.to way (sym (ap (λ (r : Rule). r.goal) e) ∙ g) in
@@ -135,18 +135,18 @@ module _ (netlist : Netlist) (order : List ℕ) (keeps : KeepsRules netlist orde
     pub is : IsPattern netlist pattern
     pub can : CanJump netlist pattern
 
-  can_turn : (number : ℕ) (p : Pattern) (rule : Rule) → slice_get patterns number ≡ Some p → IsFormOf netlist reach number p rule → is_control rule.goal ≡ true → CanTurn rule
+  can_turn : (number : ℕ) (p : Pattern) (rule : Rule) → slice_get patterns number ≡ Some p → IsFormOf netlist reach number p rule → is_control_goal rule.goal ≡ true → CanTurn rule
   can_turn number p rule at (of_plain choice clobbers plain are e) g = absurd (plain_goal netlist p.storage rule.goal (ap (λ (r : Rule). r.goal) e) g)
   can_turn number p rule at (of_jump h e) g = record { pattern = p; at = ap (λ (r : Rule). slice_get patterns r.pattern) e ∙ at; is = (known number p at).is; can = h.can }
   can_turn number p rule at (of_branch choice parts b e) g = record { pattern = p; at = ap (λ (r : Rule). slice_get patterns r.pattern) e ∙ at; is = (known number p at).is; can = b.can }
 
-  pub turn_can : (k : ℕ) (rule : Rule) → slice_get rules k ≡ Some rule → is_control rule.goal ≡ true → CanTurn rule
+  pub turn_can : (k : ℕ) (rule : Rule) → slice_get rules k ≡ Some rule → is_control_goal rule.goal ≡ true → CanTurn rule
   turn_can k rule at g = let r = placed netlist order keeps some patterns known reach rules forms.list k rule at in can_turn r.number r.pattern rule r.at r.of g
 
   pub jump_can : 1 ≤ reach → (rule : Rule) → jump_form rules reach ≡ Some rule → CanTurn rule
   jump_can l rule e =
       let f = first_jump rules reach l forms.greatest_is in
-      turn_can f.place rule (f.at ∙ sym f.first ∙ e) (ap (λ (r : Rule). is_control r.goal) (same rule f.rule (sym e ∙ f.first)) ∙ ap is_control f.goal)
+      turn_can f.place rule (f.at ∙ sym f.first ∙ e) (ap (λ (r : Rule). is_control_goal r.goal) (same rule f.rule (sym e ∙ f.first)) ∙ ap is_control_goal f.goal)
     where
       same : (a b : Rule) → Some a ≡ Some b → a ≡ b
       same a b e = cc

@@ -13,15 +13,16 @@ use Rattle.form_model.specs.Covers.{Stock}
 use Rattle.form_model.specs.Effects.{Operation, operation_of, steps_effect}
 use Rattle.form_model.specs.Live.{Regs, live_before}
 use Rattle.word_fit.specs.Fits.{fits_over, FitsGroup}
-use Rattle.word_fit.specs.Groups.{Agree, AllFit}
+use Rattle.word_fit.specs.Groups.{Agree, GroupsFit}
 use Rattle.word_fit.specs.Runs.{IsClocked, StandAt, RunsTo}
 use Rattle.word_fit.proofs.Clocks.{clocks}
 use Rattle.compaction.specs.Meant.{MeansSteps}
 use Rattle.emit_seq.specs.Formed.{AreFormed}
 use Rattle.src_trees.specs.Lowered.{Work}
 use Rattle.branch_fix.specs.Made.{Walks, DoesBlock}
-use Rattle.right_code.specs.Jobs.{jobs_steps, LeavesDone}
-use Rattle.right_code.specs.Blocks.{WalksTo, IsBlockMade}
+use Rattle.right_code.specs.Jobs.{jobs_steps}
+use Rattle.right_code.specs.Inner.Jobs.{LeavesDone}
+use Rattle.right_code.specs.Inner.Blocks.{WalksTo, IsBlockMade}
 use Rattle.right_code.proofs.Jobs.{jobs_left}
 
 reached_same : (s t : State) → Reached s ≡ Reached t → s ≡ t
@@ -35,7 +36,7 @@ module _ (netlist : Netlist) (order : List ℕ) (keeps : KeepsRules netlist orde
       ap (then_run cycle (λ u. run_from (cycle + 1) netlist (words_of image) u n)) w.1.1 ∙ walk_runs n (at + 1) (cycle + 1) w.1.0 t w.1.2
 
   module _ {A : Type 0} (m : A → Operation) (after : Regs) where
-    walk : (ws : List ℕ) (gs : List (List A)) (at : ℕ) (s : State) → AllFit m (fits_over netlist m) ws gs after → IsAt netlist at s → StandAt (words_of image) at ws → at + length ws < 2 ^ counter_width netlist
+    walk : (ws : List ℕ) (gs : List (List A)) (at : ℕ) (s : State) → GroupsFit m (fits_over netlist m) ws gs after → IsAt netlist at s → StandAt (words_of image) at ws → at + length ws < 2 ^ counter_width netlist
         → (t : State) × Walks netlist image at s (length ws) t
     walk [] [] at s f h p b = (s, (refl, h))
     walk [] (g ∷ gs) at s f h p b = absurd f
@@ -49,8 +50,9 @@ module _ (netlist : Netlist) (order : List ℕ) (keeps : KeepsRules netlist orde
         let r = walk ws gs (at + 1) d.next f.1 (record { state = d.state; counter = one }) p.1 (omega (arith, b)) in
         (r.0, (h, (d.next, d.clocked, r.1)))
 
-    -- and leads to what the steps leave that the groups mean, in the memory and in the live registers
-    pub walked : (xs : List A) (gs : List (List A)) (ws : List ℕ) (at : ℕ) (s : State) → MeansSteps netlist m after xs gs → AllFit m (fits_over netlist m) ws gs after → IsAt netlist at s
+    -- and leads to what the steps leave that the groups mean, in the memory and in the live
+    -- registers
+    pub walked : (xs : List A) (gs : List (List A)) (ws : List ℕ) (at : ℕ) (s : State) → MeansSteps netlist m after xs gs → GroupsFit m (fits_over netlist m) ws gs after → IsAt netlist at s
         → StandAt (words_of image) at ws → at + length ws < 2 ^ counter_width netlist → WalksTo netlist image at (length ws) after s (steps_effect m xs s)
     walked xs gs ws at s means f h p b =
         let c : counter_in netlist s ≡ at = h.counter in

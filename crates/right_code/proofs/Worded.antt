@@ -28,9 +28,10 @@ use Rattle.word_fit.specs.Fits.{fits_over}
 use Rattle.word_fit.specs.Groups.{AllHaveWords}
 use Rattle.block_words.specs.Formed.{AreWorded, IsWorded}
 use Rattle.block_words.proofs.Worded.{have_words}
-use Rattle.right_code.specs.Forks.{test_of}
-use Rattle.right_code.specs.Jobs.{tree_or_none, tree_used, job_steps, jobs_steps, IsCovered, AreCovered}
-use Rattle.right_code.specs.Known.{AreKnown, IsKnownPattern}
+use Rattle.right_code.specs.Inner.Forks.{test_of}
+use Rattle.right_code.specs.Jobs.{tree_or_none, tree_used, job_steps, jobs_steps, IsCovered}
+use Rattle.right_code.specs.Inner.Jobs.{AreCovered}
+use Rattle.right_code.specs.Inner.Known.{AreKnown, IsKnownPattern}
 use Rattle.right_code.proofs.Listed.{Placed, are_formed, are_shared, is_counter, placed}
 use Rattle.right_code.proofs.Spares.{jobs_spare, spare_less}
 use Rattle.right_code.proofs.Swapping.{AreSwapped, swapped_sides}

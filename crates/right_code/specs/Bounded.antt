@@ -7,7 +7,8 @@ use Rattle.right_code.specs.Covered.{AllChosen, job_costs}
 use Rattle.right_code.specs.Forms.{AreFormsOf}
 use Rattle.right_code.specs.Tasks.{Task, task_stock, task_works}
 
--- the bound is that of the program by the costs of the covers that are chosen, and the reach that of the netlist's jump forms
+-- the bound is that of the program by the costs of the covers that are chosen, and the reach that
+-- of the netlist's jump forms
 pub record HasBound (task : Task) (bound reach : ℕ) : Type 0 where
   pub rules : List Rule
   pub forms : AreFormsOf task.netlist rules reach

@@ -5,7 +5,8 @@ use Rattle.net_model.specs.Patterns.{ArePatterns, Pattern}
 use Rattle.form_model.specs.Rules.{Rule}
 use Rattle.form_set.specs.Listing.{AreForms}
 
--- these are the netlist's forms in their order, with the greatest reach of its jump forms; a netlist has one such list
+-- these are the netlist's forms in their order, with the greatest reach of its jump forms; a
+-- netlist has one such list
 pub record AreFormsOf (netlist : Netlist) (rules : List Rule) (reach : ℕ) : Type 0 where
   pub patterns : List Pattern
   pub are : ArePatterns netlist patterns

@@ -1,15 +1,13 @@
 -- The steps of jobs one after the other, and what they leave.
-use Rattle.std.specs.Prelude.{ℕ, ◌≤◌, ◌≡◌, true, List, [], ◌∷◌, ◌++◌, length, drop, Option, Some, None, slice_get}
-use Rattle.net_model.specs.declared.states.State.{State}
+use Rattle.std.specs.Prelude.{◌≤◌, ◌≡◌, true, List, [], ◌∷◌, ◌++◌, Option, Some, None, slice_get}
 use Rattle.net_model.specs.Terms.{Term, const}
 use Rattle.form_model.specs.declared.forms.Step.{Step}
 use Rattle.form_model.specs.Trees.{is_tree}
-use Rattle.form_model.specs.Rules.{Destination, stored, tested}
+use Rattle.form_model.specs.Rules.{Destination, stored}
 use Rattle.form_model.specs.Covers.{Stock, Choice, Covers}
 use Rattle.form_model.specs.Steps.{cut_count, cover_steps}
 use Rattle.emit_seq.specs.Leaves.{IsOfJob}
 use Rattle.src_trees.specs.Lowered.{Work}
-use Rattle.src_trees.specs.Doing.{all_done}
 
 abbrev pub tree_or_none : Option Term → Term
 tree_or_none None = const 0 0
@@ -44,24 +42,3 @@ pub record IsCovered (stock : Stock) (work : Work) (choice : Choice) : Type 0 wh
   pub goes : IsOfJob work.destination
   pub covers : Covers stock work.destination work.trees choice
   pub few : cut_count choice.plan ≤ stock.temps
-
--- a list of one tree
-abbrev pub IsOne : List Term → Type 0
-IsOne trees = (t : Term) × (trees ≡ t ∷ [])
-
--- a job that stores something has one tree
-abbrev pub HasOne : Destination → List Term → Type 0
-HasOne tested trees = Unit {0}
-HasOne destination trees = IsOne trees
-
--- each of these jobs has one
-abbrev pub AreCovered : Stock → List Work → List Choice → Type 0
-AreCovered stock [] [] = Unit {0}
-AreCovered stock (work ∷ works) (choice ∷ choices) = IsCovered stock work choice × HasOne work.destination work.trees × AreCovered stock works choices
-AreCovered stock _ _ = ⊥
-
--- t is what jobs leave from s, but for the cells below an address and for the registers
-pub record LeavesDone (temps : ℕ) (jobs : List Work) (s t : State) : Type 0 where
-  pub same : drop temps (all_done jobs s.cells) ≡ drop temps t.cells
-  pub long : length (all_done jobs s.cells) ≡ length t.cells
-  pub regs : length t.regs ≡ length s.regs

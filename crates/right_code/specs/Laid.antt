@@ -1,93 +1,17 @@
 -- Code as the layout orders it: what is known of each part.
-use Rattle.std.specs.Prelude.{ℕ, ◌<◌, ◌≤◌, ◌^◌, ◌≡◌, Bool, true, List, length, Some, slice_get}
-use Rattle.net_model.specs.declared.hardware.Netlist.{Netlist}
-use Rattle.net_model.specs.CheckedRules.{code_size}
-use Rattle.net_model.specs.Nets.{counter_width}
-use Rattle.net_model.specs.Patterns.{Pattern}
-use Rattle.code_model.specs.declared.image.Image.{Image}
-use Rattle.code_model.specs.Places.{words_of}
+use Rattle.std.specs.Prelude.{ℕ, ◌≤◌, List}
 use Rattle.form_model.specs.declared.flow.Flow.{Flow}
-use Rattle.form_model.specs.Shapes.{shows}
-use Rattle.form_model.specs.Rules.{Rule, BranchTarget, absolute, relative, branches, tested}
-use Rattle.form_model.specs.Covers.{Stock, Choice}
-use Rattle.form_model.specs.declared.forms.Step.{Step}
-use Rattle.form_model.specs.Effects.{operation_of}
-use Rattle.form_model.specs.Live.{Regs}
-use Rattle.form_model.specs.Steps.{branch_setting}
-use Rattle.emit_seq.specs.Spares.{wanted}
-use Rattle.compaction.specs.Meant.{MeansSteps}
-use Rattle.src_trees.specs.Lowered.{Work}
-use Rattle.src_trees.specs.Blocks.{IsBlock, jobs_at}
-use Rattle.branch_fix.specs.Parts.{parts_of, total, starts, marks_from}
-use Rattle.branch_fix.specs.Rounds.{IsSettled}
-use Rattle.branch_fix.specs.Items.{jump_form, items_from}
-use Rattle.branch_fix.specs.declared.part.Fork.{Fork}
+use Rattle.form_model.specs.Rules.{Rule}
+use Rattle.branch_fix.specs.Parts.{parts_of, total}
+use Rattle.branch_fix.specs.Rounds.{IsFixpoint}
 use Rattle.branch_fix.specs.declared.part.Part.{Part}
-use Rattle.branch_fix.specs.declared.part.Part.TheVariants.{Block, Test}
-use Rattle.right_code.specs.Jobs.{AreCovered, IsCovered, jobs_steps, job_steps, tree_used}
-use Rattle.right_code.specs.Forks.{IsBranchForm, IsJumpForm, plan_rule, test_of}
-use Rattle.right_code.specs.Words.{AreGroupWords, StandItems}
-
--- ---- jump and branch forms
-
--- the target shows each address of the code, a relative one the two words to the jump behind a long branch
-abbrev pub TargetReaches : ℕ → BranchTarget → Type 0
-TargetReaches reach (absolute shape) = (v : ℕ) → v < reach → shows shape v ≡ true
-TargetReaches reach (relative shape) = shows shape 2 ≡ true
-
--- the first jump form of this reach shows each address below it, and each branch form is made of its pattern
-pub record AreTurns (netlist : Netlist) (patterns : List Pattern) (rules : List Rule) (reach : ℕ) : Type 0 where
-  pub rule : Rule
-  pub first : jump_form rules reach ≡ Some rule
-  pub jump : IsJumpForm netlist patterns rule
-  pub shown : (v : ℕ) → v < reach → shows rule.value v ≡ true
-  pub narrow : reach ≤ 2 ^ counter_width netlist
-  pub forks : (k : ℕ) (turn : Rule) (when_one : Bool) (way : BranchTarget) → slice_get rules k ≡ Some turn → turn.goal ≡ branches when_one way → IsBranchForm netlist patterns turn when_one way
-  pub reaches : (k : ℕ) (turn : Rule) (when_one : Bool) (way : BranchTarget) → slice_get rules k ≡ Some turn → turn.goal ≡ branches when_one way → TargetReaches reach way
-
--- ---- blocks and tests
-
--- a block's words are those of groups that mean the steps of its jobs' covers, so many
-pub record IsBlockReady (netlist : Netlist) (patterns : List Pattern) (stock : Stock) (jobs : List Work) (words : List ℕ) (size : ℕ) : Type 0 where
-  pub choices : List Choice
-  pub covered : AreCovered stock jobs choices
-  pub live : Regs
-  pub groups : List (List Step)
-  pub means : MeansSteps netlist (operation_of patterns) live (jobs_steps stock jobs choices) groups
-  pub least : AreGroupWords netlist patterns groups live words
-  pub long : size ≡ length words
-
--- a test's words are those of groups that mean the steps of its cover, with the registers of the condition live behind them, and its branch has the
--- cover's form and setting
-pub record IsForkReady (netlist : Netlist) (patterns : List Pattern) (stock : Stock) (job : Work) (words : List ℕ) (f : Fork) : Type 0 where
-  pub choice : Choice
-  pub covered : IsCovered stock (test_of job) choice
-  pub live : Regs
-  pub groups : List (List Step)
-  pub means : MeansSteps netlist (operation_of patterns) live (job_steps stock (test_of job) choice) groups
-  pub least : AreGroupWords netlist patterns groups live words
-  pub long : f.words ≡ length words
-  pub wants : (r : ℕ) → wanted stock tested (tree_used (test_of job) choice) choice.plan r ≡ true → live r ≡ true
-  pub form : slice_get stock.rules f.form ≡ Some (plan_rule stock choice.plan)
-  pub setting : f.setting ≡ branch_setting stock (tree_used (test_of job) choice) choice.plan
 
 -- ---- the code
 
--- the parts of a flow, where `sizes` are the blocks' numbers of words and `settings` the tests' branch forms with their settings; jumps reach all
--- their words
+-- the parts of a flow, where `sizes` are the blocks' numbers of words and `settings` the tests'
+-- branch forms with their settings; jumps reach all their words
 pub record IsLayout (rules : List Rule) (flow : List Flow) (parts : List Part) (reach : ℕ) : Type 0 where
   pub sizes : List ℕ
   pub settings : List (ℕ × ℕ)
-  pub settled : IsSettled rules (parts_of rules flow sizes settings) parts
+  pub settled : IsFixpoint rules (parts_of rules flow sizes settings) parts
   pub reached : total parts ≤ reach
-
--- an image holds the words of the layout's items in their order, where each block and each test is ready
-pub record IsLaidCode (netlist : Netlist) (patterns : List Pattern) (stock : Stock) (image : Image) (flow : List Flow) (jobs : List Work) (parts : List Part) (reach : ℕ) : Type 0 where
-  pub layout : IsLayout stock.rules flow parts reach
-  pub room : total parts ≤ code_size netlist.codes
-  pub marks : image.marks ≡ marks_from 0 parts
-  pub words : ℕ → List ℕ
-  pub stand : StandItems netlist patterns words (words_of image) 0 (items_from stock.rules (jump_form stock.rules reach) (starts 0 parts) 0 parts)
-  pub long : length (words_of image) ≡ total parts
-  pub blocks : (at n block size : ℕ) → IsBlock flow at n → slice_get parts at ≡ Some (Block block size) → IsBlockReady netlist patterns stock (jobs_at flow jobs at n) (words block) size
-  pub forks : (at : ℕ) (f : Fork) → slice_get parts at ≡ Some (Test f) → (job : Work) → slice_get jobs f.tree ≡ Some job → IsForkReady netlist patterns stock job (words f.block) f

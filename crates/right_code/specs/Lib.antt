@@ -1,12 +1,10 @@
-pub mod Blocks
 pub mod Bounded
-pub mod Code
 pub mod Covered
 pub mod Forks
 pub mod Forms
 pub mod Images
 pub mod Jobs
-pub mod Known
 pub mod Laid
 pub mod Tasks
 pub mod Words
+pub mod Inner

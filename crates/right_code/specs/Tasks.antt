@@ -1,4 +1,5 @@
--- What two files say together: a netlist and a program for the words of its data memory; and what is made of that before any form is known.
+-- What two files say together: a netlist and a program for the words of its data memory; and what
+-- is made of that before any form is known.
 use Rattle.std.specs.Prelude.{ℕ, ◌≤◌, ◌≡◌, List, None}
 use Rattle.net_model.specs.declared.hardware.Netlist.{Netlist}
 use Rattle.net_model.specs.CheckedRules.{KeepsRules, Ordered, memory_addr_width}
@@ -11,7 +12,7 @@ use Rattle.form_model.specs.Covers.{Stock}
 use Rattle.form_model.specs.Rules.{Rule}
 use Rattle.src_trees.specs.Flows.{program_works}
 use Rattle.src_trees.specs.Lowered.{MemoryMap, Work}
-use Rattle.src_trees.specs.Seen.{memory_of}
+use Rattle.src_trees.specs.Seen.{memory_map}
 
 -- a netlist, how many bits a word has, and a program that keeps the rules for such words
 pub record Task : Type 0 where
@@ -19,7 +20,8 @@ pub record Task : Type 0 where
   pub width : ℕ
   pub listing : Listing
 
--- the netlist keeps its rules and the program its own, its words are those of the data memory, and the memory has a cell for each of its cells
+-- the netlist keeps its rules and the program its own, its words are those of the data memory, and
+-- the memory has a cell for each of its cells
 pub record IsChecked (order : List ℕ) (task : Task) : Type 0 where
   pub netlist : KeepsRules task.netlist order
   pub program : first_fault task.width task.listing ≡ None
@@ -36,7 +38,7 @@ read_task checked typed = record { netlist = checked.netlist; width = typed.widt
 
 -- the data memory with the program's variables, which stand behind the temporary cells
 abbrev pub task_memory : Task → MemoryMap
-task_memory task = memory_of task.width (memory_addr_width task.netlist.storages) (temp_count task.width task.listing) task.listing.vars
+task_memory task = memory_map task.width (memory_addr_width task.netlist.storages) (temp_count task.width task.listing) task.listing.vars
 
 -- the jobs of the program
 abbrev pub task_works : Task → List Work

@@ -1,4 +1,5 @@
--- The groups and the words of blocks, and the words that stand in an image in the order of its layout.
+-- The groups and the words of blocks, and the words that stand in an image in the order of its
+-- layout.
 use Rattle.std.specs.Prelude.{ℕ, ◌+◌, ◌≡◌, List, [], ◌∷◌, slice_index, IsPermutation}
 use Rattle.std.specs.List.{slice_index_or}
 use Rattle.net_model.specs.declared.hardware.Netlist.{Netlist}
@@ -17,8 +18,10 @@ use Rattle.branch_fix.specs.declared.laid.Item.TheVariants.{Group, Jump}
 
 -- ---- the groups of a block
 
--- groups that the steps of a block are packed into, where these registers are live behind the block: they hold the steps, each as often; any words
--- that fit the groups leave what the steps leave one after the other; no two neighbours may be merged, and no step may move to the group before
+-- groups that the steps of a block are packed into, where these registers are live behind the
+-- block: they hold the steps, each as often; any words that fit the groups leave what the steps
+-- leave one after the other; no two neighbours may be merged, and no step may move to the group
+-- before
 pub record IsPackingOf (netlist : Netlist) (patterns : List Pattern) (steps : List Step) (after : Regs) (groups : List (List Step)) : Type 0 where
   pub holds : IsPermutation steps (all_steps groups)
   pub means : MeansSteps netlist (operation_of patterns) after steps groups
@@ -30,7 +33,8 @@ AreGroupWords netlist patterns groups after words = AreLeast (operation_of patte
 
 -- ---- the words of a layout
 
--- the word of an item: that of its group in its block's words, or the least jump or branch word of the item's setting that keeps the data memory
+-- the word of an item: that of its group in its block's words, or the least jump or branch word of
+-- the item's setting that keeps the data memory
 abbrev pub IsItemWord : Netlist → List Pattern → (ℕ → List ℕ) → ℕ → Item → Type 0
 IsItemWord netlist patterns words i (Group block at) = i ≡ slice_index (words block) at
 IsItemWord netlist patterns words i (Jump step) = IsLeastFit (λ word. FitsJump netlist word (operation_of patterns step)) i
@@ -41,7 +45,8 @@ StandItems netlist patterns words code at [] = Unit {0}
 StandItems netlist patterns words code at (item ∷ items) =
     IsItemWord netlist patterns words (slice_index code at) item × StandItems netlist patterns words code (at + 1) items
 
--- the steps of an item's word: those of its group, by the blocks' groups, or the jump or branch alone
+-- the steps of an item's word: those of its group, by the blocks' groups, or the jump or branch
+-- alone
 abbrev pub item_steps : (ℕ → List (List Step)) → Item → List Step
 item_steps groups (Group block at) = slice_index_or (groups block) at []
 item_steps groups (Jump step) = step ∷ []

@@ -1,4 +1,5 @@
-//! Laws of what two files say together: what is one for a task, and that an image made for it is right code.
+//! Laws of what two files say together: what is one for a task, and that an image made for it is
+//! right code.
 
 ghost use Rattle.std.specs.Prelude.{ℕ, ◌≡◌, ◌≤◌, List, length, Some, slice_get};
 ghost use Rattle.net_model.specs.declared.hardware.Netlist.{Netlist};
@@ -21,12 +22,14 @@ pub fn law_of_lists()
         AreFormsOf netlist rules reach → AreFormsOf netlist others other → (rules ≡ others) × (reach ≡ other) }
 {}
 
-/// Jobs have one list of costs of their chosen covers, and a task one such list, one bound and one reach.
+/// Jobs have one list of costs of their chosen covers, and a task one such list, one bound and one
+/// reach.
 pub fn law_of_costs()
     ensures jobs { (stock : Stock) (jobs : List Work) (choices others : List Choice) →
         AllChosen stock jobs choices → AllChosen stock jobs others → job_costs jobs choices ≡ job_costs jobs others }
     ensures task { (task : Task) (costs others : List (ℕ × ℕ)) → AreCosts task costs → AreCosts task others → costs ≡ others }
-    ensures bound { (task : Task) (bound other reach more : ℕ) → HasBound task bound reach → HasBound task other more → (bound ≡ other) × (reach ≡ more) }
+    ensures bound { (task : Task) (bound other reach more : ℕ) → HasBound task bound reach → HasBound task other more →
+        (bound ≡ other) × (reach ≡ more) }
 {}
 
 /// A task has one first tree that no forms cover, and where there is one not all trees are covered.
@@ -42,8 +45,8 @@ pub fn law_of_chosen()
         (choice : Choice) → IsChosen (task_stock rules task) job.destination job.trees choice → IsCovered (task_stock rules task) job choice }
 {}
 
-/// An image that is made for a checked task is right code, which traces the program, where the code has room for its words and jumps reach them
-/// all; they do where they reach as far as the bound.
+/// An image that is made for a checked task is right code, which traces the program, where the code
+/// has room for its words and jumps reach them all; they do where they reach as far as the bound.
 pub fn law_of_programs()
     ensures reach { (order : List ℕ) (task : Task) → IsChecked order task → (image : Image) (made : IsMadeFor task image) →
         length (words_of image) ≤ code_size task.netlist.codes → length (words_of image) ≤ made.reach → IsRightImage task image }

@@ -16,10 +16,10 @@
 //! - `laws`: what is one for a task, and that an image made for it is right code.
 //! - `words`: that each step and each jump of a task's code has a word.
 //! - `specs/`, cited by public contracts: `Tasks` (what two files say together), `Forms`,
-//!   `Covered`, `Bounded`, `Words`, `Images` (the definition of right code), of `Jobs` the steps of
-//!   jobs, of `Laid` `IsLayout`, of `Forks` `plan_rule`.
-//! - `specs/`, between the definition of an image and its trace: `Blocks`, `Code`, `Known`, and the
-//!   rest of `Jobs`, `Laid` and `Forks`.
+//!   `Covered`, `Bounded`, `Words`, `Images` (the definition of right code), `Jobs` (the steps of
+//!   jobs), `Laid`, `Forks`.
+//! - `specs/Inner/`, between the definition of an image and its trace: `Blocks`, `Code`, `Known`,
+//!   `Jobs`, `Laid` and `Forks`.
 //! - `proofs/`: `Right` on top; `Chosen`, `Ordered`, `Coded` from the image to the trace; `Plain`,
 //!   `Listed`, `Turning`, `Turns`, `Swapping` for forms; `Standing`, `Layouts`, `Walked`, `Forked`,
 //!   `Branching`, `Ways` for words; `Worded` and `Jumping` for the laws of words; `OneForms`,

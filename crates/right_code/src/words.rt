@@ -26,7 +26,8 @@ ghost use Rattle.right_code.specs.Jobs.{job_steps, jobs_steps, tree_used};
 ghost use Rattle.right_code.specs.Laid.{IsLayout};
 ghost use Rattle.right_code.specs.Tasks.{IsChecked, Task, task_stock, task_works};
 
-/// Each step of the chosen covers of a block's jobs has a word that keeps what is still needed, where nothing is live behind the block.
+/// Each step of the chosen covers of a block's jobs has a word that keeps what is still needed,
+/// where nothing is live behind the block.
 pub fn law_of_block_words()
     ensures { (order : List ℕ) (task : Task) → IsChecked order task → (patterns : List Pattern) → ArePatterns task.netlist patterns →
         (rules : List Rule) (reach : ℕ) → AreForms task.netlist patterns rules reach →
@@ -36,7 +37,8 @@ pub fn law_of_block_words()
         (choices_at (program_flow task.listing) choices at n))) (regs_of 0) }
 {}
 
-/// And each step of the chosen cover of a test, where no registers are live behind it but those that the branch's condition reads.
+/// And each step of the chosen cover of a test, where no registers are live behind it but those
+/// that the branch's condition reads.
 pub fn law_of_test_words()
     ensures { (order : List ℕ) (task : Task) → IsChecked order task → (patterns : List Pattern) → ArePatterns task.netlist patterns →
         (rules : List Rule) (reach : ℕ) → AreForms task.netlist patterns rules reach →
@@ -47,7 +49,8 @@ pub fn law_of_test_words()
         AllHaveWords (operation_of patterns) (fits_over task.netlist (operation_of patterns)) (singles (job_steps (task_stock rules task) job choice)) live }
 {}
 
-/// And each jump and branch of the layout of a program, whose branches have the forms and the settings of the chosen covers.
+/// And each jump and branch of the layout of a program, whose branches have the forms and the
+/// settings of the chosen covers.
 pub fn law_of_jump_words()
     ensures { (order : List ℕ) (task : Task) → IsChecked order task → (patterns : List Pattern) → ArePatterns task.netlist patterns →
         (rules : List Rule) (reach : ℕ) → AreForms task.netlist patterns rules reach →

@@ -7,19 +7,19 @@ use Rattle.sym_expr.proofs.CallerLemmas.{same_term}
 use Rattle.transfer_set.specs.declared.route.Route.{Route}
 use Rattle.route_trace.specs.declared.heads.Two.{Two}
 use Rattle.route_trace.specs.declared.heads.Two.TheVariants.{Select}
-use Rattle.route_trace.specs.Heads.{two_parts}
+use Rattle.route_trace.specs.Inner.Heads.{two_parts}
 use Rattle.transfer_set.specs.Routes.{AllExprs}
-use Rattle.route_trace.specs.Routing.{AllTwoFit, each, pairs}
-use Rattle.route_trace.specs.Selects.{AllSelectFit, under}
+use Rattle.route_trace.specs.Inner.Routing.{AllBinaryFit, each, pairs}
+use Rattle.route_trace.specs.Inner.Selects.{AllSelectFit, under}
 use Rattle.route_trace.proofs.Loops.{two_below, all_fit_later}
 
-pub two_fit_later : (old new : List Node) → Grows old new → (two : Two) → AllBelow (length old) (two_parts two) → (xs ys : List Route) → AllExprs (length old) xs → AllExprs (length old) ys → AllTwoFit two old xs ys → AllTwoFit two new xs ys
+pub two_fit_later : (old new : List Node) → Grows old new → (two : Two) → AllBelow (length old) (two_parts two) → (xs ys : List Route) → AllExprs (length old) xs → AllExprs (length old) ys → AllBinaryFit two old xs ys → AllBinaryFit two new xs ys
 two_fit_later old new g two p [] ys e k f = tt
 two_fit_later old new g two p (x ∷ xs) ys e k f = (all_fit_later old new g _ (two_below (length old) two x.expr e.0 p) ys k f.0, two_fit_later old new g two p xs ys e.1 k f.1)
 
-pub select_fit_at : (pool : List Node) (xs ys zs : List Route) (i : ℕ) (c : Route) → slice_get xs i ≡ Some c → AllSelectFit pool xs ys zs → AllTwoFit (Select c.expr) pool ys zs
+pub select_fit_at : (pool : List Node) (xs ys zs : List Route) (i : ℕ) (c : Route) → slice_get xs i ≡ Some c → AllSelectFit pool xs ys zs → AllBinaryFit (Select c.expr) pool ys zs
 select_fit_at pool [] ys zs i c at f = absurd (cc)
-select_fit_at pool (x ∷ xs) ys zs zero c at f = (let e : x ≡ c = cc in subst (λ (r : Route). AllTwoFit (Select r.expr) pool ys zs) e f.0)
+select_fit_at pool (x ∷ xs) ys zs zero c at f = (let e : x ≡ c = cc in subst (λ (r : Route). AllBinaryFit (Select r.expr) pool ys zs) e f.0)
 select_fit_at pool (x ∷ xs) ys zs (suc i) c at f = select_fit_at pool xs ys zs i c at f.1
 
 -- the choices under a selector, in a pool that grew

@@ -1,4 +1,5 @@
--- What is right for the routes of a case, from what is right for the choices and the tests that it is made of.
+-- What is right for the routes of a case, from what is right for the choices and the tests that it
+-- is made of.
 use Rattle.std.proofs.Common.{◌≡◌, inl, inr, ℕ, ◌<◌, Bool, true, false, if◌then◌else◌, List, [], ◌∷◌, length, Option, sym, ap, subst, ◌∙◌, arith}
 use Rattle.bit_bdd.specs.Diagrams.{Diagrams, Extends, has_word}
 use Rattle.bit_bdd.proofs.CallerLemmas.{extends_trans, same_words}
@@ -10,21 +11,21 @@ use Rattle.sym_expr.specs.Pools.{Grows}
 use Rattle.sym_expr.proofs.CallerLemmas.{grows_refl, grows_trans}
 use Rattle.ctl_bdd.specs.Bits.{number_at}
 use Rattle.transfer_set.specs.declared.route.Route.{Route}
-use Rattle.transfer_set.specs.Routes.{IsTable, held_terms, only, routes_at}
-use Rattle.route_trace.specs.Routing.{AreTables, first_terms, passes}
-use Rattle.route_trace.specs.Gates.{AllGiven, RowTests, rest_terms}
-use Rattle.route_trace.specs.Selects.{selects}
-use Rattle.route_trace.specs.Tests.{IsSelectedAt, target, target_terms}
+use Rattle.transfer_set.specs.Routes.{IsRouteTable, terms_under, only, routes_at}
+use Rattle.route_trace.specs.Inner.Routing.{AreTables, first_terms, passes}
+use Rattle.route_trace.specs.Inner.Gates.{AllGive, RowTests, rest_terms}
+use Rattle.route_trace.specs.Inner.Selects.{selects}
+use Rattle.route_trace.specs.Inner.Tests.{IsSelectedAt, target, target_terms}
 use Rattle.route_trace.proofs.Given.{given_case}
 use Rattle.route_trace.proofs.Products.{both_later}
 use Rattle.route_trace.proofs.Selecting.{given_later, selects_given, target_given, target_later}
 
 -- choices between routes that were made one after the other, as they stood before
 pub selects_then : (book book1 book2 : Diagrams) (pool pool1 pool2 : List Node) → Extends book book1 → Extends book1 book2 → Grows pool pool1 → Grows pool1 pool2 → (nets : List (List Route)) → AreTables book pool nets
-    → (legal : ℕ) → legal < length book.nodes → (width sel : ℕ) (one zero : Option ℕ) (ones zeros : List Route) → IsTable book1 pool1 ones → (word : ℕ)
-    → held_terms book1 pool1 ones word ≡ target_terms book pool nets legal width one word → held_terms book2 pool2 zeros word ≡ target_terms book1 pool1 nets legal width zero word → (terms : List Term)
-    → terms ≡ (if has_word book2 legal word then selects (held_terms book2 pool2 (routes_at nets sel) word) (held_terms book2 pool2 ones word) (held_terms book2 pool2 zeros word) else [])
-    → terms ≡ (if has_word book legal word then selects (held_terms book pool (routes_at nets sel) word) (target_terms book pool nets legal width one word) (target_terms book pool nets legal width zero word) else [])
+    → (legal : ℕ) → legal < length book.nodes → (width sel : ℕ) (one zero : Option ℕ) (ones zeros : List Route) → IsRouteTable book1 pool1 ones → (word : ℕ)
+    → terms_under book1 pool1 ones word ≡ target_terms book pool nets legal width one word → terms_under book2 pool2 zeros word ≡ target_terms book1 pool1 nets legal width zero word → (terms : List Term)
+    → terms ≡ (if has_word book2 legal word then selects (terms_under book2 pool2 (routes_at nets sel) word) (terms_under book2 pool2 ones word) (terms_under book2 pool2 zeros word) else [])
+    → terms ≡ (if has_word book legal word then selects (terms_under book pool (routes_at nets sel) word) (target_terms book pool nets legal width one word) (target_terms book pool nets legal width zero word) else [])
 selects_then book book1 book2 pool pool1 pool2 e f g h nets t legal legal_in width sel one zero ones zeros table word eo ez terms is =
     is ∙ same
     (same_words book book2 (extends_trans book book1 book2 e f) legal legal_in word)
@@ -39,8 +40,8 @@ module _ (book : Diagrams) (pool : List Node) (nets : List (List Route)) (legal 
   -- a case whose selector has one bit and no sets
   pub bit_case : (0 < length sets → ⊥) → (terms : List Term)
       → terms ≡ (if has_word book legal word
-      then selects (held_terms book pool (routes_at nets sel) word) (target_terms book pool nets legal width (target rows 1 rest) word) (target_terms book pool nets legal width (target rows 0 rest) word) else [])
-      → (t : ℕ → Term) (u : ℕ → ℕ) (f : ℕ → Bool) → AllGiven book pool nets legal t word (sel ∷ row_nets rows rest) → IsSelectedAt book sets word u f sel
+      then selects (terms_under book pool (routes_at nets sel) word) (target_terms book pool nets legal width (target rows 1 rest) word) (target_terms book pool nets legal width (target rows 0 rest) word) else [])
+      → (t : ℕ → Term) (u : ℕ → ℕ) (f : ℕ → Bool) → AllGive book pool nets legal t word (sel ∷ row_nets rows rest) → IsSelectedAt book sets word u f sel
       → terms ≡ only book legal word (if f sel then case_term t width (u sel) rows rest else select (t sel) (case_term t width 1 rows rest) (case_term t width 0 rows rest))
   bit_case none terms is t u f given selected =
       selects_given (has_word book legal word) (t sel) (case_term t width 1 rows rest) (case_term t width 0 rows rest) _ _ _ terms given.0
@@ -53,7 +54,7 @@ module _ (book : Diagrams) (pool : List Node) (nets : List (List Route)) (legal 
   -- a case whose selector has sets, by the tests of its rows
   pub tests_case : (book1 : Diagrams) → Extends book book1 → AreTables book pool nets → legal < length book.nodes → (tests : List (ℕ × ℕ)) → RowTests book1 word (number_at book sets word) tests rows → 0 < length sets → (terms : List Term)
       → terms ≡ (if has_word book1 legal word then (if passes book1 word tests then first_terms book1 pool nets word tests else rest_terms book1 pool nets width rest word) else [])
-      → (t : ℕ → Term) (u : ℕ → ℕ) (f : ℕ → Bool) → AllGiven book pool nets legal t word (sel ∷ row_nets rows rest) → IsSelectedAt book sets word u f sel
+      → (t : ℕ → Term) (u : ℕ → ℕ) (f : ℕ → Bool) → AllGive book pool nets legal t word (sel ∷ row_nets rows rest) → IsSelectedAt book sets word u f sel
       → terms ≡ only book legal word (if f sel then case_term t width (u sel) rows rest else select (t sel) (case_term t width 1 rows rest) (case_term t width 0 rows rest))
   tests_case book1 e tables legal_in tests tested some terms is t u f given selected =
       given_case book1 pool nets legal t word width (u sel) tests rows rest (select (t sel) (case_term t width 1 rows rest) (case_term t width 0 rows rest)) (f sel) static.0

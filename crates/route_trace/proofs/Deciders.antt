@@ -7,15 +7,15 @@ use Rattle.net_model.specs.declared.hardware.Netlist.{Netlist}
 use Rattle.net_model.specs.declared.hardware.Net.{Net}
 use Rattle.net_model.specs.Nets.{net_width, width_at}
 use Rattle.net_model.specs.Widths.{DriversFit, IsTyped, NetFits, RestFits, RowsFit}
-use Rattle.net_model.specs.Symbolic.{blank, is_static}
+use Rattle.net_model.specs.Symbolic.{no_state, is_static}
 use Rattle.net_model.specs.Value.{value_of}
 use Rattle.sym_expr.specs.declared.pool.Node.{Node}
 use Rattle.ctl_bdd.specs.Bits.{AreSets}
 use Rattle.transfer_set.specs.declared.route.Route.{Route}
 use Rattle.transfer_set.specs.Routes.{routes_at}
 use Rattle.transfer_set.proofs.TermsOf.{narrow}
-use Rattle.route_trace.specs.Gates.{AllWide, HaveWidths}
-use Rattle.route_trace.specs.Tests.{AreEnabledAt, AreRowsWide, HasBits, IsSelectedAt, IsSelector, IsTargetWide, sets_in}
+use Rattle.route_trace.specs.Inner.Gates.{AllWide, HaveWidths}
+use Rattle.route_trace.specs.Inner.Tests.{AreEnabledAt, AreRowsWide, HasBits, IsSelectedAt, IsSelector, IsTargetWide, sets_in}
 
 wide_net : (netlist : Netlist) (net : Option Net) → NetFits netlist net → (x : Net) → net ≡ Some x → 1 ≤ net_width net
 wide_net netlist None h x e = cc
@@ -62,8 +62,8 @@ selector_bit netlist typed book pool nets widths sets sel lt is none = elim is a
 ]
 
 pub selected_at : (netlist : Netlist) → IsTyped netlist → (book : Diagrams) (sets : List ℕ) (sel word : ℕ) → sel < length netlist.nets → word < 2 ^ book.bits → IsSelector netlist book sets sel
-    → IsSelectedAt book sets word (value_of netlist blank word) (is_static netlist) sel
-selected_at netlist typed book sets sel word lt fits is = elim is as (λ _. IsSelectedAt book sets word (value_of netlist blank word) (is_static netlist) sel) [
+    → IsSelectedAt book sets word (value_of netlist no_state word) (is_static netlist) sel
+selected_at netlist typed book sets sel word lt fits is = elim is as (λ _. IsSelectedAt book sets word (value_of netlist no_state word) (is_static netlist) sel) [
   | inl h ↦ inl (some h.1.1.long, h.0, h.1.1.number word fits)
   | inr h ↦ inr (h.1, h.0)
 ]
@@ -94,6 +94,6 @@ module _ (netlist : Netlist) (book : Diagrams) (bits : List (ℕ × List ℕ)) w
   driver_one width (driver ∷ drivers) f h = (h.0.1.long ∙ f.1.1, driver_one width drivers f.2 h.1)
 
   pub enabled_at : (word : ℕ) → word < 2 ^ book.bits → (drivers : List (ℕ × ℕ)) → AllByRecursion (λ (driver : ℕ × ℕ). HasBits netlist book (sets_in bits driver.1) driver.1) drivers
-      → AreEnabledAt book bits word (value_of netlist blank word) drivers
+      → AreEnabledAt book bits word (value_of netlist no_state word) drivers
   enabled_at word fits [] h = tt
   enabled_at word fits (driver ∷ drivers) h = (h.0.1.number word fits, enabled_at word fits drivers h.1)

@@ -3,9 +3,9 @@ use Rattle.std.proofs.Common.{◌≡◌, ℕ, zero, suc, ◌+◌, ◌<◌, ◌==
 use Rattle.std.specs.List.{AllByRecursion, slice_index_or}
 use Rattle.bit_bdd.specs.Diagrams.{Diagrams, has_word, Extends}
 use Rattle.bit_bdd.proofs.CallerLemmas.{same_words}
-use Rattle.ctl_bdd.specs.Bits.{AreSets, number_at, number_of}
-use Rattle.route_trace.specs.Routing.{AllTests}
-use Rattle.route_trace.specs.Gates.{RowTests, DriverTests}
+use Rattle.ctl_bdd.specs.Bits.{AreSets, number_at, bits_value}
+use Rattle.route_trace.specs.Inner.Routing.{AllTests}
+use Rattle.route_trace.specs.Inner.Gates.{RowTests, DriverTests}
 
 pub tests_later : (old new : Diagrams) → Extends old new → (tests : List (ℕ × ℕ)) → AllTests old tests → AllTests new tests
 tests_later old new e [] h = tt
@@ -57,7 +57,7 @@ pub enabled : (book : Diagrams) (sets : List ℕ) (word : ℕ) → length sets �
 enabled book [] word e = absurd (omega (arith, e))
 enabled book (set ∷ []) word e = by (has_word book set word)
   where
-    by : (b : Bool) → b ≡ (number_of (b ∷ []) == 1)
+    by : (b : Bool) → b ≡ (bits_value (b ∷ []) == 1)
     by true = refl
     by false = refl
 enabled book (set ∷ next ∷ sets) word e = absurd (omega (arith, e))

@@ -5,8 +5,8 @@ use Rattle.net_model.specs.Terms.{Term, term_width}
 use Rattle.sym_expr.specs.declared.pool.Node.{Node}
 use Rattle.sym_expr.specs.Pools.{term_at, IsOneEach}
 use Rattle.transfer_set.specs.declared.route.Route.{Route}
-use Rattle.transfer_set.specs.Routes.{row, held, held_terms, Fresh, NoRepeat, AllSets, AllExprs, IsTable, only, Gives}
-use Rattle.route_trace.specs.Gates.{AllWide, AllLegal, HasValues}
+use Rattle.transfer_set.specs.Routes.{row, exprs_under, terms_under, Fresh, NoRepeat, AllSets, AllExprs, IsRouteTable, only, GivesTerm}
+use Rattle.route_trace.specs.Inner.Gates.{AllWide, AllLegal, HasValues}
 use Rattle.route_trace.specs.Limits.{Differ, AllDiffer}
 use Rattle.route_trace.proofs.Loops.{no_terms}
 use Rattle.transfer_set.proofs.Exact.{held-append, holds_right, one_of}
@@ -15,25 +15,25 @@ use Rattle.route_trace.proofs.Merging.{nil_left, nil_right}
 module _ (book : Diagrams) (pool : List Node) (legal : ℕ) (f : ℕ → Term) where
   -- widths, by a word of each route
   wide : (width : ℕ) → ((word : ℕ) → word < 2 ^ book.bits → term_width (f word) ≡ width) → (before routes : List Route) → AllSets book routes
-      → ((word : ℕ) → word < 2 ^ book.bits → held_terms book pool (before ++ routes) word ≡ only book legal word (f word)) → AllWide pool width routes
+      → ((word : ℕ) → word < 2 ^ book.bits → terms_under book pool (before ++ routes) word ≡ only book legal word (f word)) → AllWide pool width routes
   wide width w before [] s g = tt
   wide width w before (route ∷ routes) s g =
       let r = holds_right book pool legal f before routes route s.0.word (g s.0.word s.0.fits) s.0.holds in (
         ap term_width r.1 ∙ w s.0.word s.0.fits,
-        wide width w (before ++ route ∷ []) routes s.1 (λ word fits. ap (λ l. held_terms book pool l word) (assoc before route routes) ∙ g word fits),
+        wide width w (before ++ route ∷ []) routes s.1 (λ word fits. ap (λ l. terms_under book pool l word) (assoc before route routes) ∙ g word fits),
       )
     where
       assoc : (xs : List Route) (y : Route) (ys : List Route) → (xs ++ y ∷ []) ++ ys ≡ xs ++ y ∷ ys
       assoc [] y ys = refl
       assoc (x ∷ xs) y ys = ap (λ l. x ∷ l) (assoc xs y ys)
 
-  pub all_wide : (width : ℕ) → ((word : ℕ) → word < 2 ^ book.bits → term_width (f word) ≡ width) → (routes : List Route) → AllSets book routes → Gives book pool legal f routes → AllWide pool width routes
+  pub all_wide : (width : ℕ) → ((word : ℕ) → word < 2 ^ book.bits → term_width (f word) ≡ width) → (routes : List Route) → AllSets book routes → GivesTerm book pool legal f routes → AllWide pool width routes
   all_wide width w routes s g = wide width w [] routes s g
 
 -- each legal word has a route
-pub every : (book : Diagrams) (pool : List Node) (legal : ℕ) (f : ℕ → Term) (routes : List Route) → Gives book pool legal f routes → (word : ℕ) → word < 2 ^ book.bits → has_word book legal word ≡ true
-    → (e : ℕ) × (held book routes word ≡ e ∷ []) × (term_at pool e ≡ f word)
-every book pool legal f routes g word fits h = one_of (term_at pool) (held book routes word) (f word) (g word fits ∙ ap (λ b. if b then f word ∷ [] else []) h)
+pub every : (book : Diagrams) (pool : List Node) (legal : ℕ) (f : ℕ → Term) (routes : List Route) → GivesTerm book pool legal f routes → (word : ℕ) → word < 2 ^ book.bits → has_word book legal word ≡ true
+    → (e : ℕ) × (exprs_under book routes word ≡ e ∷ []) × (term_at pool e ≡ f word)
+every book pool legal f routes g word fits h = one_of (term_at pool) (exprs_under book routes word) (f word) (g word fits ∙ ap (λ b. if b then f word ∷ [] else []) h)
 
 -- ---- how many values a net has
 
@@ -50,14 +50,14 @@ join (x ∷ xs) y ys = ap (λ l. x ∷ l) (join xs y ys)
 
 -- the routes give each word nothing yet, or its value
 abbrev pub GivesPart : Diagrams → List Node → ℕ → (ℕ → Term) → List Route → Type 0
-GivesPart book pool legal f routes = (word : ℕ) → word < 2 ^ book.bits → (held_terms book pool routes word ≡ []) ⊎ (held_terms book pool routes word ≡ only book legal word (f word))
+GivesPart book pool legal f routes = (word : ℕ) → word < 2 ^ book.bits → (terms_under book pool routes word ≡ []) ⊎ (terms_under book pool routes word ≡ only book legal word (f word))
 
 module _ (book : Diagrams) (pool : List Node) (legal : ℕ) (f : ℕ → Term) where
   -- a route that holds a word gives it something
-  holds_some : (before after : List Route) (route : Route) (word : ℕ) → has_word book route.set word ≡ true → held_terms book pool (before ++ route ∷ after) word ≡ [] → ⊥
+  holds_some : (before after : List Route) (route : Route) (word : ℕ) → has_word book route.set word ≡ true → terms_under book pool (before ++ route ∷ after) word ≡ [] → ⊥
   holds_some before after route word h e =
-      let none = no_terms (term_at pool) (held book (before ++ route ∷ after) word) e in
-      let row = nil_left (row book route word) (held book after word) (nil_right (held book before word) _ (sym (held-append book before (route ∷ after) word) ∙ none)) in
+      let none = no_terms (term_at pool) (exprs_under book (before ++ route ∷ after) word) e in
+      let row = nil_left (row book route word) (exprs_under book after word) (nil_right (exprs_under book before word) _ (sym (held-append book before (route ∷ after) word) ∙ none)) in
       some (sym (ap (λ b. if b then route.expr ∷ [] else []) h) ∙ row)
     where
       some : route.expr ∷ [] ≡ [] → ⊥
@@ -93,7 +93,7 @@ module _ (book : Diagrams) (pool : List Node) (legal : ℕ) (f : ℕ → Term) w
   all_legal (x ∷ routes) (v ∷ ws) k = (k.0, k.1, all_legal routes ws k.3)
 
   -- a net has as many values as there are routes so far
-  pub as_many : IsOneEach pool → (routes : List Route) → IsTable book pool routes → GivesPart book pool legal f routes → HasValues book legal f (length routes)
+  pub as_many : IsOneEach pool → (routes : List Route) → IsRouteTable book pool routes → GivesPart book pool legal f routes → HasValues book legal f (length routes)
   as_many one routes table g =
       let w = witness [] routes table.right.sets g in
       record { words = w.0; count = w.2; legal_words = all_legal routes w.0 w.1; apart = all_differ one routes w.0 table.right.apart table.exprs w.1 }

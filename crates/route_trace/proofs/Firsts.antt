@@ -9,8 +9,8 @@ use Rattle.sym_expr.proofs.CallerLemmas.{grows_refl}
 use Rattle.rec_bits.proofs.Lists.{around}
 use Rattle.transfer_set.specs.declared.route.Route.{Route}
 use Rattle.route_trace.specs.declared.heads.Head.TheVariants.{Same}
-use Rattle.transfer_set.specs.Routes.{IsTable, held_terms, routes_at}
-use Rattle.route_trace.specs.Routing.{AllTests, passes, first_terms, AreTables, AllFit}
+use Rattle.transfer_set.specs.Routes.{IsRouteTable, terms_under, routes_at}
+use Rattle.route_trace.specs.Inner.Routing.{AllTests, passes, first_terms, AreTables, AllFit}
 use Rattle.route_trace.proofs.Products.{both_later, table_later}
 use Rattle.route_trace.proofs.Merging.{held_later}
 use Rattle.route_trace.proofs.Loops.{no_terms}
@@ -43,13 +43,13 @@ module _ (book : Diagrams) (pool : List Node) (nets : List (List Route)) (word :
       by false e = e
 
   first_more : (xs : List (ℕ × ℕ)) (test : ℕ × ℕ) → first_terms book pool nets word (xs ++ test ∷ [])
-      ≡ (if passes book word xs then first_terms book pool nets word xs else (if has_word book test.0 word then held_terms book pool (routes_at nets test.1) word else []))
+      ≡ (if passes book word xs then first_terms book pool nets word xs else (if has_word book test.0 word then terms_under book pool (routes_at nets test.1) word else []))
   first_more [] test = refl
   first_more (x ∷ xs) test = by (has_word book x.0 word) (first_more xs test)
     where
-      by : (b : Bool) → first_terms book pool nets word (xs ++ test ∷ []) ≡ (if passes book word xs then first_terms book pool nets word xs else (if has_word book test.0 word then held_terms book pool (routes_at nets test.1) word else []))
-          → (if b then held_terms book pool (routes_at nets x.1) word else first_terms book pool nets word (xs ++ test ∷ []))
-          ≡ (if b || passes book word xs then (if b then held_terms book pool (routes_at nets x.1) word else first_terms book pool nets word xs) else (if has_word book test.0 word then held_terms book pool (routes_at nets test.1) word else []))
+      by : (b : Bool) → first_terms book pool nets word (xs ++ test ∷ []) ≡ (if passes book word xs then first_terms book pool nets word xs else (if has_word book test.0 word then terms_under book pool (routes_at nets test.1) word else []))
+          → (if b then terms_under book pool (routes_at nets x.1) word else first_terms book pool nets word (xs ++ test ∷ []))
+          ≡ (if b || passes book word xs then (if b then terms_under book pool (routes_at nets x.1) word else first_terms book pool nets word xs) else (if has_word book test.0 word then terms_under book pool (routes_at nets test.1) word else []))
       by true e = refl
       by false e = e
 
@@ -58,7 +58,7 @@ module _ (book : Diagrams) (pool : List Node) (nets : List (List Route)) (word :
   none_taken [] e = refl
   none_taken (x ∷ xs) e = by (has_word book x.0 word) e (λ q. none_taken xs q)
     where
-      by : (b : Bool) → (b || passes book word xs) ≡ false → (passes book word xs ≡ false → first_terms book pool nets word xs ≡ []) → (if b then held_terms book pool (routes_at nets x.1) word else first_terms book pool nets word xs) ≡ []
+      by : (b : Bool) → (b || passes book word xs) ≡ false → (passes book word xs ≡ false → first_terms book pool nets word xs ≡ []) → (if b then terms_under book pool (routes_at nets x.1) word else first_terms book pool nets word xs) ≡ []
       by true e rest = absurd (true≢false e)
       by false e rest = rest e
 
@@ -89,35 +89,36 @@ module _ (book : Diagrams) (pool : List Node) (nets : List (List Route)) (word :
 
     first_terms_more : (outs new old add : List Term) (b p c : Bool) → p ≡ passes book word (take i tests) → c ≡ has_word book test.0 word
         → old ≡ (if b then first_terms book pool nets word (take i tests) else outs)
-        → add ≡ held_terms book pool (routes_at nets test.1) word
+        → add ≡ terms_under book pool (routes_at nets test.1) word
         → new ≡ (if (b && not p) && c then add else old)
         → new ≡ (if b then first_terms book pool nets word (take (i + 1) tests) else outs)
     first_terms_more outs new old add b p c ep ec eo ea en = en ∙ by b p c ep ec eo
       where
         all : first_terms book pool nets word (take (i + 1) tests)
-            ≡ (if passes book word (take i tests) then first_terms book pool nets word (take i tests) else (if has_word book test.0 word then held_terms book pool (routes_at nets test.1) word else []))
+            ≡ (if passes book word (take i tests) then first_terms book pool nets word (take i tests) else (if has_word book test.0 word then terms_under book pool (routes_at nets test.1) word else []))
         all = ap (first_terms book pool nets word) one_more ∙ first_more (take i tests) test
 
         by : (b p c : Bool) → p ≡ passes book word (take i tests) → c ≡ has_word book test.0 word → old ≡ (if b then first_terms book pool nets word (take i tests) else outs)
             → (if (b && not p) && c then add else old) ≡ (if b then first_terms book pool nets word (take (i + 1) tests) else outs)
-        by true false true ep ec eo = ea ∙ (λ j. if ep j then first_terms book pool nets word (take i tests) else (if ec j then held_terms book pool (routes_at nets test.1) word else [])) ∙ sym all
-        by true false false ep ec eo = eo ∙ none_taken (take i tests) (sym ep) ∙ (λ j. if ep j then first_terms book pool nets word (take i tests) else (if ec j then held_terms book pool (routes_at nets test.1) word else [])) ∙ sym all
-        by true true c ep ec eo = eo ∙ (λ j. if ep j then first_terms book pool nets word (take i tests) else (if has_word book test.0 word then held_terms book pool (routes_at nets test.1) word else [])) ∙ sym all
+        by true false true ep ec eo = ea ∙ (λ j. if ep j then first_terms book pool nets word (take i tests) else (if ec j then terms_under book pool (routes_at nets test.1) word else [])) ∙ sym all
+        by true false false ep ec eo = eo ∙ none_taken (take i tests) (sym ep) ∙ (λ j. if ep j then first_terms book pool nets word (take i tests) else (if ec j then terms_under book pool (routes_at nets test.1) word else [])) ∙ sym all
+        by true true c ep ec eo = eo ∙ (λ j. if ep j then first_terms book pool nets word (take i tests) else (if has_word book test.0 word then terms_under book pool (routes_at nets test.1) word else [])) ∙ sym all
         by false p c ep ec eo = eo
 
-    -- a turn of a loop that narrows what is left to a test's words and adds what the test's net gives
-    pub first_step : (book1 book2 : Diagrams) (pool1 : List Node) → Extends book book1 → Extends book1 book2 → Grows pool pool1 → (out : List Route) → IsTable book1 pool1 out → test.0 < length book.nodes → AreTables book pool nets
+    -- a turn of a loop that narrows what is left to a test's words and adds what the test's net
+    -- gives
+    pub first_step : (book1 book2 : Diagrams) (pool1 : List Node) → Extends book book1 → Extends book1 book2 → Grows pool pool1 → (out : List Route) → IsRouteTable book1 pool1 out → test.0 < length book.nodes → AreTables book pool nets
         → (outs new : List Term) (b : Bool) (left here : ℕ) → has_word book1 left word ≡ (b && not (passes book word (take i tests))) → has_word book2 here word ≡ (has_word book1 left word && has_word book1 test.0 word)
-        → held_terms book1 pool1 out word ≡ (if b then first_terms book pool nets word (take i tests) else outs)
+        → terms_under book1 pool1 out word ≡ (if b then first_terms book pool nets word (take i tests) else outs)
         → (routes : List Route) → routes ≡ routes_at nets test.1
-        → new ≡ (if has_word book2 here word then map (λ t. t) (held_terms book2 pool1 routes word) else held_terms book2 pool1 out word)
+        → new ≡ (if has_word book2 here word then map (λ t. t) (terms_under book2 pool1 routes word) else terms_under book2 pool1 out word)
         → new ≡ (if b then first_terms book pool nets word (take (i + 1) tests) else outs)
     first_step book1 book2 pool1 e1 e2 g out table in_book tables outs new b left here el eh old routes er en =
-        first_terms_more outs new (held_terms book2 pool1 out word) (map (λ t. t) (held_terms book2 pool1 routes word)) b (passes book word (take i tests)) (has_word book test.0 word) refl refl
+        first_terms_more outs new (terms_under book2 pool1 out word) (map (λ t. t) (terms_under book2 pool1 routes word)) b (passes book word (take i tests)) (has_word book test.0 word) refl refl
         (both_later book1 book2 pool1 pool1 e2 (grows_refl pool1) out table word ∙ old)
-        (map_same (held_terms book2 pool1 routes word) ∙ ap (λ l. held_terms book2 pool1 l word) er
+        (map_same (terms_under book2 pool1 routes word) ∙ ap (λ l. terms_under book2 pool1 l word) er
         ∙ both_later book book2 pool pool1 (extends_trans book book1 book2 e1 e2) g (routes_at nets test.1) (tables.tables test.1) word)
-        (en ∙ ap (λ d. if d then map (λ t. t) (held_terms book2 pool1 routes word) else held_terms book2 pool1 out word)
+        (en ∙ ap (λ d. if d then map (λ t. t) (terms_under book2 pool1 routes word) else terms_under book2 pool1 out word)
         (eh ∙ (λ j. el j && same_words book book1 e1 test.0 in_book word j)))
 
     pub left_more : (b p c new : Bool) → p ≡ passes book word (take i tests) → c ≡ has_word book test.0 word → new ≡ ((b && not p) && not c) → new ≡ (b && not (passes book word (take (i + 1) tests)))

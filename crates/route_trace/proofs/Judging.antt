@@ -7,7 +7,7 @@ use Rattle.bit_bdd.specs.Diagrams.{Diagrams, has_word, Extends}
 use Rattle.bit_bdd.proofs.CallerLemmas.{same_words}
 use Rattle.net_model.specs.declared.hardware.Netlist.{Netlist}
 use Rattle.net_model.specs.Depends.{Among, Depends, named_by, direct, via}
-use Rattle.net_model.specs.Symbolic.{all_of, sym_of}
+use Rattle.net_model.specs.Symbolic.{all_nets, sym_of}
 use Rattle.net_model.specs.Terms.{Term, size_of}
 use Rattle.net_model.specs.Nets.{word_width}
 use Rattle.net_model.specs.Transfers.{IsClean}
@@ -17,12 +17,12 @@ use Rattle.sym_expr.specs.Pools.{term_at, IsOneEach}
 use Rattle.ctl_bdd.specs.Controls.{IsControl}
 use Rattle.ctl_bdd.specs.declared.ControlBits.{ControlBits}
 use Rattle.transfer_set.specs.declared.route.Route.{Route}
-use Rattle.transfer_set.specs.Routes.{held, Gives, IsTable}
-use Rattle.route_trace.specs.Gates.{AllLegal}
-use Rattle.route_trace.specs.Limits.{AllDiffer, Differ, HasMany, IsBroken, IsFirstBroken, IsLarge, IsRefusal, KeepsLimits}
+use Rattle.transfer_set.specs.Routes.{exprs_under, GivesTerm, IsRouteTable}
+use Rattle.route_trace.specs.Inner.Gates.{AllLegal}
+use Rattle.route_trace.specs.Limits.{AllDiffer, Differ, HasMany, IsBroken, IsFirstBroken, IsLarge, IsRouteFault, KeepsLimits}
 use Rattle.route_trace.specs.declared.RouteFault.{RouteFault}
 use Rattle.route_trace.specs.declared.RouteFault.TheVariants.{PatternLarge, TooMany}
-use Rattle.route_trace.specs.Verdicts.{HasBroken, HasLarge, IsFound, IsJudged, fault_of, first_fault, is_kept, kept_at, or_else, verdict_at}
+use Rattle.route_trace.specs.Inner.Verdicts.{HasBroken, HasLarge, IsFound, IsJudged, fault_of, first_fault, is_kept, kept_at, or_else, verdict_at}
 use Rattle.route_trace.specs.declared.verdict.Verdict.{Verdict}
 use Rattle.route_trace.specs.declared.verdict.Verdict.TheVariants.{Kept, Large, Many, Skipped}
 use Rattle.transfer_set.proofs.Exact.{exact}
@@ -72,11 +72,11 @@ module _ (t f : ℕ → Term) where
       let one = w.one in
       omega (arith, rest, one)
 
-among_held : (book : Diagrams) (word : ℕ) (routes : List Route) (e : ℕ) (es : List ℕ) → held book routes word ≡ e ∷ es → Among e (map (λ (route : Route). route.expr) routes)
+among_held : (book : Diagrams) (word : ℕ) (routes : List Route) (e : ℕ) (es : List ℕ) → exprs_under book routes word ≡ e ∷ es → Among e (map (λ (route : Route). route.expr) routes)
 among_held book word [] e es h = absurd (cc)
 among_held book word (route ∷ routes) e es h = by (has_word book route.set word) (λ k. among_held book word routes e es k) h
   where
-    by : (b : Bool) → (held book routes word ≡ e ∷ es → Among e (map (λ (route : Route). route.expr) routes)) → (if b then route.expr ∷ [] else []) ++ held book routes word ≡ e ∷ es
+    by : (b : Bool) → (exprs_under book routes word ≡ e ∷ es → Among e (map (λ (route : Route). route.expr) routes)) → (if b then route.expr ∷ [] else []) ++ exprs_under book routes word ≡ e ∷ es
         → Among e (map (λ (route : Route). route.expr) (route ∷ routes))
     by true later k = inl (cc)
     by false later k = inr (later k)
@@ -112,7 +112,7 @@ module _ (netlist : Netlist) (controls : ControlBits) (old book : Diagrams) (con
   all_clean (word ∷ words) h = (clean word h.0 h.1, all_clean words h.2)
 
   -- more than 4,096 routes, be they all or not, tell of as many values
-  pub has_many : (pool : List Node) → IsOneEach pool → (n : ℕ) (routes : List Route) → IsTable book pool routes → GivesPart book pool controls.legal (λ word. sym_of netlist word n) routes → 4096 < length routes → HasMany netlist n
+  pub has_many : (pool : List Node) → IsOneEach pool → (n : ℕ) (routes : List Route) → IsRouteTable book pool routes → GivesPart book pool controls.legal (λ word. sym_of netlist word n) routes → 4096 < length routes → HasMany netlist n
   has_many pool one n routes table part lt =
       let v = as_many book pool controls.legal (λ word. sym_of netlist word n) one routes table part in
       let count = v.count in
@@ -121,7 +121,7 @@ module _ (netlist : Netlist) (controls : ControlBits) (old book : Diagrams) (con
   pub many_found : (n : ℕ) → n < length netlist.nets → ((m : ℕ) → Depends (named_by netlist) n m → IsBroken netlist m → ⊥) → HasMany netlist n → IsFound netlist n Many
   many_found n net alone m = (record { net = net; broken = inr m; alone = alone }, m)
 
-  module _ (pool : List Node) (one : IsOneEach pool) (n : ℕ) (routes : List Route) (table : IsTable book pool routes) (gives : Gives book pool controls.legal (λ word. sym_of netlist word n) routes) where
+  module _ (pool : List Node) (one : IsOneEach pool) (n : ℕ) (routes : List Route) (table : IsRouteTable book pool routes) (gives : GivesTerm book pool controls.legal (λ word. sym_of netlist word n) routes) where
     covered : (words : List ℕ) → AllByRecursion (IsClean netlist) words → Covered (term_at pool) (λ word. sym_of netlist word n) (map (λ (route : Route). route.expr) routes) words
     covered [] h = tt
     covered (word ∷ words) h =
@@ -183,37 +183,37 @@ module _ (netlist : Netlist) where
 
   module _ (verdicts : List Verdict) (n : ℕ) (found : (b : ℕ) → Among b (named_by netlist n) → IsFound netlist b (verdict_at verdicts b)) where
     -- where all of them keep the limits, so does all that the net depends on
-    pub alone_by : all_of (kept_at verdicts) (named_by netlist n) ≡ true → (m : ℕ) → Depends (named_by netlist) n m → IsBroken netlist m → ⊥
+    pub alone_by : all_nets (kept_at verdicts) (named_by netlist n) ≡ true → (m : ℕ) → Depends (named_by netlist) n m → IsBroken netlist m → ⊥
     alone_by all m d = by n d all found
       where
-        is : (ns : List ℕ) → all_of (kept_at verdicts) ns ≡ true → (b : ℕ) → Among b ns → kept_at verdicts b ≡ true
+        is : (ns : List ℕ) → all_nets (kept_at verdicts) ns ≡ true → (b : ℕ) → Among b ns → kept_at verdicts b ≡ true
         is [] e b a = absurd a
         is (x ∷ ns) e b a = elim a as (λ _. kept_at verdicts b ≡ true) [
           | inl q ↦ subst (λ k. kept_at verdicts k ≡ true) (sym q) (first (kept_at verdicts x) e)
           | inr q ↦ is ns (second (kept_at verdicts x) e) b q
         ]
           where
-            first : (k : Bool) → (k && all_of (kept_at verdicts) ns) ≡ true → k ≡ true
+            first : (k : Bool) → (k && all_nets (kept_at verdicts) ns) ≡ true → k ≡ true
             first true h = refl
             first false h = absurd (true≢false (sym h))
 
-            second : (k : Bool) → (k && all_of (kept_at verdicts) ns) ≡ true → all_of (kept_at verdicts) ns ≡ true
+            second : (k : Bool) → (k && all_nets (kept_at verdicts) ns) ≡ true → all_nets (kept_at verdicts) ns ≡ true
             second true h = h
             second false h = absurd (true≢false (sym h))
 
-        by : (k : ℕ) → Depends (named_by netlist) k m → all_of (kept_at verdicts) (named_by netlist k) ≡ true → ((b : ℕ) → Among b (named_by netlist k) → IsFound netlist b (verdict_at verdicts b)) → IsBroken netlist m → ⊥
+        by : (k : ℕ) → Depends (named_by netlist) k m → all_nets (kept_at verdicts) (named_by netlist k) ≡ true → ((b : ℕ) → Among b (named_by netlist k) → IsFound netlist b (verdict_at verdicts b)) → IsBroken netlist m → ⊥
         by k (direct a) all found = (kept_found m (verdict_at verdicts m) (is (named_by netlist k) all m a) (found m a)).0
         by k (via {b = b} a rest) all found = (kept_found b (verdict_at verdicts b) (is (named_by netlist k) all b a) (found b a)).1 m rest
 
     -- where one of them doesn't, the net depends on one that breaks a limit
-    pub lost_by : all_of (kept_at verdicts) (named_by netlist n) ≡ false → HasBroken netlist n
+    pub lost_by : all_nets (kept_at verdicts) (named_by netlist n) ≡ false → HasBroken netlist n
     lost_by none = by (named_by netlist n) (λ b a. a) none
       where
-        by : (ns : List ℕ) → ((b : ℕ) → Among b ns → Among b (named_by netlist n)) → all_of (kept_at verdicts) ns ≡ false → HasBroken netlist n
+        by : (ns : List ℕ) → ((b : ℕ) → Among b ns → Among b (named_by netlist n)) → all_nets (kept_at verdicts) ns ≡ false → HasBroken netlist n
         by [] within e = absurd (true≢false e)
         by (x ∷ ns) within e = step (kept_at verdicts x) refl (by ns (λ b a. within b (inr a))) e
           where
-            step : (k : Bool) → kept_at verdicts x ≡ k → (all_of (kept_at verdicts) ns ≡ false → HasBroken netlist n) → (k && all_of (kept_at verdicts) ns) ≡ false → HasBroken netlist n
+            step : (k : Bool) → kept_at verdicts x ≡ k → (all_nets (kept_at verdicts) ns ≡ false → HasBroken netlist n) → (k && all_nets (kept_at verdicts) ns) ≡ false → HasBroken netlist n
             step true is later h = later h
             step false is later h = (let a = within x (inl refl) in lost_found n x a (verdict_at verdicts x) is (found x a))
 
@@ -243,7 +243,7 @@ module _ (netlist : Netlist) (verdicts : List Verdict) (found : AllFound netlist
       by Many f e = absurd (cc)
       by Skipped f e = absurd (refused f.net f.first (none f.net f.first.net))
 
-  refusal : (n : ℕ) → n < length netlist.nets → ((m : ℕ) → m < n → fault_of m (verdict_at verdicts m) ≡ None) → (fault : RouteFault) → fault_of n (verdict_at verdicts n) ≡ Some fault → IsRefusal netlist fault
+  refusal : (n : ℕ) → n < length netlist.nets → ((m : ℕ) → m < n → fault_of m (verdict_at verdicts m) ≡ None) → (fault : RouteFault) → fault_of n (verdict_at verdicts n) ≡ Some fault → IsRouteFault netlist fault
   refusal n lt before fault is = by (verdict_at verdicts n) (found n lt) is
     where
       least : (m : ℕ) → IsFirstBroken netlist m → n ≤ m
@@ -252,10 +252,10 @@ module _ (netlist : Netlist) (verdicts : List Verdict) (found : AllFound netlist
         | inr more ↦ omega (arith, more)
       ]
 
-      by : (verdict : Verdict) → IsFound netlist n verdict → fault_of n verdict ≡ Some fault → IsRefusal netlist fault
+      by : (verdict : Verdict) → IsFound netlist n verdict → fault_of n verdict ≡ Some fault → IsRouteFault netlist fault
       by Kept f e = absurd (cc)
-      by Large f e = (let q : PatternLarge n ≡ fault = cc in subst (IsRefusal netlist) q (record { first = f.0; least = least }, f.1, f.2))
-      by Many f e = (let q : TooMany n ≡ fault = cc in subst (IsRefusal netlist) q (record { first = f.0; least = least }, f.1))
+      by Large f e = (let q : PatternLarge n ≡ fault = cc in subst (IsRouteFault netlist) q (record { first = f.0; least = least }, f.1, f.2))
+      by Many f e = (let q : TooMany n ≡ fault = cc in subst (IsRouteFault netlist) q (record { first = f.0; least = least }, f.1))
       by Skipped f e = absurd (cc)
 
 -- the first refusal of a list of verdicts
@@ -308,9 +308,10 @@ none_told n (verdict ∷ verdicts) e m lt = by (fault_of n verdict) refl (none_t
     by None is tell h zero lt = ap (λ k. fault_of k verdict) (let z : n + 0 ≡ n = omega arith in z) ∙ is
     by None is tell h (suc m) lt = ap (λ k. fault_of k (verdict_at verdicts m)) (sym (shift n m)) ∙ tell h m (omega (arith, lt))
 
--- the first refusal names the net that is to be named, and where there is none each net keeps the limits
+-- the first refusal names the net that is to be named, and where there is none each net keeps the
+-- limits
 module _ (netlist : Netlist) (verdicts : List Verdict) (long : length verdicts ≡ length netlist.nets) (found : AllFound netlist verdicts) where
-  pub refused_by : (fault : RouteFault) → first_fault 0 verdicts ≡ Some fault → IsRefusal netlist fault
+  pub refused_by : (fault : RouteFault) → first_fault 0 verdicts ≡ Some fault → IsRouteFault netlist fault
   refused_by fault e =
       let t = told 0 verdicts fault e in
       let within = t.within in

@@ -22,7 +22,7 @@ use Rattle.ctl_bdd.specs.declared.ControlBits.{ControlBits}
 use Rattle.ctl_bdd.proofs.CallerLemmas.{enable_placed, number_there, selector_placed}
 use Rattle.ctl_bdd.proofs.Filling.{bits_later}
 use Rattle.ctl_bdd.proofs.Sets.{sets_later}
-use Rattle.route_trace.specs.Tests.{HasBits, IsDecided, IsSelector, sets_in}
+use Rattle.route_trace.specs.Inner.Tests.{HasBits, IsDecided, IsSelector, sets_in}
 
 -- a net is among the static ones in control places exactly where it is one
 listed : (netlist : Netlist) (m : ℕ) → m < length netlist.nets → is_placed netlist m ≡ true → list_any (nat_eq m) (static_controls netlist) ≡ is_static netlist m

@@ -7,15 +7,15 @@ use Rattle.net_model.specs.Terms.{Term}
 use Rattle.sym_expr.specs.declared.pool.Node.{Node}
 use Rattle.sym_expr.specs.Pools.{term_at}
 use Rattle.transfer_set.specs.declared.route.Route.{Route}
-use Rattle.transfer_set.specs.Routes.{held, held_terms}
-use Rattle.route_trace.specs.Lookups.{HoldsAt, is_free}
+use Rattle.transfer_set.specs.Routes.{exprs_under, terms_under}
+use Rattle.route_trace.specs.Inner.Lookups.{HoldsAt, is_free}
 use Rattle.route_trace.proofs.Products.{held_more}
 use Rattle.route_trace.proofs.Loops.{no_terms}
 
 -- ---- looking for a word
 
 -- one more route that does not hold a word
-pub still_none : (book : Diagrams) (routes : List Route) (i : ℕ) (route : Route) → slice_get routes i ≡ Some route → (word : ℕ) → has_word book route.set word ≡ false → held book (take i routes) word ≡ [] → held book (take (i + 1) routes) word ≡ []
+pub still_none : (book : Diagrams) (routes : List Route) (i : ℕ) (route : Route) → slice_get routes i ≡ Some route → (word : ℕ) → has_word book route.set word ≡ false → exprs_under book (take i routes) word ≡ [] → exprs_under book (take (i + 1) routes) word ≡ []
 still_none book routes i route at word h none = held_more book routes i route at word ∙ (λ j. none j ++ (if h j then route.expr ∷ [] else []))
 
 -- one more route whose words go
@@ -31,11 +31,11 @@ but_free true free = refl
 but_free false free = refl
 
 -- where a route holds a word that at most one does, it alone gives the word's expression
-pub only_held : (book : Diagrams) (routes : List Route) (place : ℕ) (route : Route) → slice_get routes place ≡ Some route → (word : ℕ) → length (held book routes word) ≤ 1 → has_word book route.set word ≡ true → held book routes word ≡ route.expr ∷ []
+pub only_held : (book : Diagrams) (routes : List Route) (place : ℕ) (route : Route) → slice_get routes place ≡ Some route → (word : ℕ) → length (exprs_under book routes word) ≤ 1 → has_word book route.set word ≡ true → exprs_under book routes word ≡ route.expr ∷ []
 only_held book [] place route at word one h = absurd (cc)
 only_held book (x ∷ routes) zero route at word one h =
     let e : x ≡ route = cc in
-    by (has_word book x.set word) (ap (λ (r : Route). has_word book r.set word) e ∙ h) (held book routes word) one ∙ (λ j. (e j).expr ∷ [])
+    by (has_word book x.set word) (ap (λ (r : Route). has_word book r.set word) e ∙ h) (exprs_under book routes word) one ∙ (λ j. (e j).expr ∷ [])
   where
     by : (b : Bool) → b ≡ true → (xs : List ℕ) → length ((if b then x.expr ∷ [] else []) ++ xs) ≤ 1 → (if b then x.expr ∷ [] else []) ++ xs ≡ x.expr ∷ []
     by true e [] one = refl
@@ -43,8 +43,8 @@ only_held book (x ∷ routes) zero route at word one h =
     by false e xs one = absurd (true≢false (sym e))
 only_held book (x ∷ routes) (suc place) route at word one h = by (has_word book x.set word) one (λ less. only_held book routes place route at word less h)
   where
-    by : (b : Bool) → length ((if b then x.expr ∷ [] else []) ++ held book routes word) ≤ 1
-        → (length (held book routes word) ≤ 1 → held book routes word ≡ route.expr ∷ []) → (if b then x.expr ∷ [] else []) ++ held book routes word ≡ route.expr ∷ []
+    by : (b : Bool) → length ((if b then x.expr ∷ [] else []) ++ exprs_under book routes word) ≤ 1
+        → (length (exprs_under book routes word) ≤ 1 → exprs_under book routes word ≡ route.expr ∷ []) → (if b then x.expr ∷ [] else []) ++ exprs_under book routes word ≡ route.expr ∷ []
     by false one rest = rest one
     by true one rest = (let l = ap length (rest (omega (arith, one))) in absurd (omega (arith, one, l)))
 
@@ -125,16 +125,16 @@ left_part false l whole outs terms e = inr e
 
 module _ (f : List Term → List Term) (book : Diagrams) (pool : List Node) (routes : List Route) (word : ℕ) where
   -- a route was added
-  pub left_step : (place : ℕ) (route : Route) → slice_get routes place ≡ Some route → length (held book routes word) ≤ 1
+  pub left_step : (place : ℕ) (route : Route) → slice_get routes place ≡ Some route → length (exprs_under book routes word) ≤ 1
       → (s l r l' : Bool) (outs old add new : List Term) → (l ≡ true → s ≡ true) → r ≡ has_word book route.set word → l' ≡ (l && not r)
-      → old ≡ left_terms s l (f (held_terms book pool routes word)) outs → add ≡ f (term_at pool route.expr ∷ []) → new ≡ (if l && r then add else old)
-      → new ≡ left_terms s l' (f (held_terms book pool routes word)) outs
+      → old ≡ left_terms s l (f (terms_under book pool routes word)) outs → add ≡ f (term_at pool route.expr ∷ []) → new ≡ (if l && r then add else old)
+      → new ≡ left_terms s l' (f (terms_under book pool routes word)) outs
   left_step place route at one s l r l' outs old add new i er el eo ea en =
       en ∙ by s l r i eo (λ h. ea ∙ sym (ap (λ es. f (map (term_at pool) es)) (only_held book routes place route at word one (sym er ∙ h))))
-      ∙ ap (λ b. left_terms s b (f (held_terms book pool routes word)) outs) (sym el)
+      ∙ ap (λ b. left_terms s b (f (terms_under book pool routes word)) outs) (sym el)
     where
-      by : (s l r : Bool) → (l ≡ true → s ≡ true) → old ≡ left_terms s l (f (held_terms book pool routes word)) outs → (r ≡ true → add ≡ f (held_terms book pool routes word))
-          → (if l && r then add else old) ≡ left_terms s (l && not r) (f (held_terms book pool routes word)) outs
+      by : (s l r : Bool) → (l ≡ true → s ≡ true) → old ≡ left_terms s l (f (terms_under book pool routes word)) outs → (r ≡ true → add ≡ f (terms_under book pool routes word))
+          → (if l && r then add else old) ≡ left_terms s (l && not r) (f (terms_under book pool routes word)) outs
       by true true true i eo ea = ea refl
       by true true false i eo ea = eo
       by true false r i eo ea = eo
@@ -142,9 +142,9 @@ module _ (f : List Term → List Term) (book : Diagrams) (pool : List Node) (rou
       by false false r i eo ea = eo
 
   -- the words that no route holds went
-  pub left_free : f [] ≡ [] → (s l l' : Bool) (outs terms : List Term) → l' ≡ (l && not (is_free (held book routes word)))
-      → terms ≡ left_terms s l (f (held_terms book pool routes word)) outs → terms ≡ left_terms s l' (f (held_terms book pool routes word)) outs
-  left_free none s l l' outs terms el e = by s l (held book routes word) e ∙ ap (λ b. left_terms s b (f (held_terms book pool routes word)) outs) (sym el)
+  pub left_free : f [] ≡ [] → (s l l' : Bool) (outs terms : List Term) → l' ≡ (l && not (is_free (exprs_under book routes word)))
+      → terms ≡ left_terms s l (f (terms_under book pool routes word)) outs → terms ≡ left_terms s l' (f (terms_under book pool routes word)) outs
+  left_free none s l l' outs terms el e = by s l (exprs_under book routes word) e ∙ ap (λ b. left_terms s b (f (terms_under book pool routes word)) outs) (sym el)
     where
       by : (s l : Bool) (xs : List ℕ) → terms ≡ left_terms s l (f (map (term_at pool) xs)) outs → terms ≡ left_terms s (l && not (is_free xs)) (f (map (term_at pool) xs)) outs
       by true true [] e = e ∙ sym none

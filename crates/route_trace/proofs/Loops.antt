@@ -11,56 +11,56 @@ use Rattle.transfer_set.specs.declared.route.Route.{Route}
 use Rattle.route_trace.specs.declared.heads.Head.{Head}
 use Rattle.route_trace.specs.declared.heads.Two.{Two}
 use Rattle.route_trace.specs.declared.heads.Two.TheVariants.{Bin, Cat, Select}
-use Rattle.route_trace.specs.Heads.{head_parts, head_term, two_head, two_parts, two_term}
-use Rattle.transfer_set.specs.Routes.{row, held, held_terms, AllExprs, IsTable}
-use Rattle.route_trace.specs.Routing.{each, AllFit, AllTwoFit}
+use Rattle.route_trace.specs.Inner.Heads.{head_parts, head_term, two_head, two_parts, two_term}
+use Rattle.transfer_set.specs.Routes.{row, exprs_under, terms_under, AllExprs, IsRouteTable}
+use Rattle.route_trace.specs.Inner.Routing.{each, AllFit, AllBinaryFit}
 use Rattle.route_trace.proofs.Products.{both_later, held_more, none_before, fits-later}
 
 pub no_terms : (t : ℕ → Term) (xs : List ℕ) → map t xs ≡ [] → xs ≡ []
 no_terms t [] q = refl
 no_terms t (x ∷ xs) q = absurd (cc)
 
-module _ (f : Term → List Term) (book : Diagrams) (pool : List Node) (routes : List Route) (set : ℕ) (word : ℕ) (i : ℕ) (route : Route) (at : slice_get routes i ≡ Some route) (one : length (held book routes word) ≤ 1) where
+module _ (f : Term → List Term) (book : Diagrams) (pool : List Node) (routes : List Route) (set : ℕ) (word : ℕ) (i : ℕ) (route : Route) (at : slice_get routes i ≡ Some route) (one : length (exprs_under book routes word) ≤ 1) where
   pub each_apart : (pool' : List Node) (now : List ℕ) (outs : List Term) (b c : Bool) → b ≡ has_word book set word → c ≡ has_word book route.set word
-      → map (term_at pool') now ≡ (if has_word book set word then each f (held_terms book pool (take i routes) word) else outs)
+      → map (term_at pool') now ≡ (if has_word book set word then each f (terms_under book pool (take i routes) word) else outs)
       → (b && c) ≡ true → now ≡ []
   each_apart pool' now outs true true eb ec e h =
       let none = none_before book routes i route at word one (sym ec) in
-      no_terms (term_at pool') now (e ∙ ap (λ d. if d then each f (held_terms book pool (take i routes) word) else outs) (sym eb) ∙ ap (λ l. each f (map (term_at pool) l)) none)
+      no_terms (term_at pool') now (e ∙ ap (λ d. if d then each f (terms_under book pool (take i routes) word) else outs) (sym eb) ∙ ap (λ l. each f (map (term_at pool) l)) none)
   each_apart pool' now outs true false eb ec e h = absurd (true≢false (sym h))
   each_apart pool' now outs false c eb ec e h = absurd (true≢false (sym h))
 
   each_terms : (outs new old add : List Term) (b c : Bool) → b ≡ has_word book set word → c ≡ has_word book route.set word
-      → old ≡ (if has_word book set word then each f (held_terms book pool (take i routes) word) else outs)
+      → old ≡ (if has_word book set word then each f (terms_under book pool (take i routes) word) else outs)
       → add ≡ f (term_at pool route.expr)
       → new ≡ (if b && c then add else old)
-      → new ≡ (if has_word book set word then each f (held_terms book pool (take (i + 1) routes) word) else outs)
-  each_terms outs new old add b c eb ec eo ea en = en ∙ by b c eb ec ∙ ap (λ d. if d then each f (held_terms book pool (take (i + 1) routes) word) else outs) eb
+      → new ≡ (if has_word book set word then each f (terms_under book pool (take (i + 1) routes) word) else outs)
+  each_terms outs new old add b c eb ec eo ea en = en ∙ by b c eb ec ∙ ap (λ d. if d then each f (terms_under book pool (take (i + 1) routes) word) else outs) eb
     where
-      more : held book (take (i + 1) routes) word ≡ held book (take i routes) word ++ row book route word
+      more : exprs_under book (take (i + 1) routes) word ≡ exprs_under book (take i routes) word ++ row book route word
       more = held_more book routes i route at word
 
-      by : (b c : Bool) → b ≡ has_word book set word → c ≡ has_word book route.set word → (if b && c then add else old) ≡ (if b then each f (held_terms book pool (take (i + 1) routes) word) else outs)
+      by : (b c : Bool) → b ≡ has_word book set word → c ≡ has_word book route.set word → (if b && c then add else old) ≡ (if b then each f (terms_under book pool (take (i + 1) routes) word) else outs)
       by true true eb ec =
           let none = none_before book routes i route at word one (sym ec) in
-          let all : held book (take (i + 1) routes) word ≡ route.expr ∷ [] = more ∙ (λ j. none j ++ (if sym ec j then route.expr ∷ [] else [])) in
+          let all : exprs_under book (take (i + 1) routes) word ≡ route.expr ∷ [] = more ∙ (λ j. none j ++ (if sym ec j then route.expr ∷ [] else [])) in
           ea ∙ sym (append-nil (f (term_at pool route.expr))) ∙ sym (ap (λ l. each f (map (term_at pool) l)) all)
       by true false eb ec =
-          let all : held book (take (i + 1) routes) word ≡ held book (take i routes) word = more ∙ (λ j. held book (take i routes) word ++ (if sym ec j then route.expr ∷ [] else [])) ∙ append-nil (held book (take i routes) word) in
-          eo ∙ ap (λ d. if d then each f (held_terms book pool (take i routes) word) else outs) (sym eb) ∙ sym (ap (λ l. each f (map (term_at pool) l)) all)
-      by false c eb ec = eo ∙ ap (λ d. if d then each f (held_terms book pool (take i routes) word) else outs) (sym eb)
+          let all : exprs_under book (take (i + 1) routes) word ≡ exprs_under book (take i routes) word = more ∙ (λ j. exprs_under book (take i routes) word ++ (if sym ec j then route.expr ∷ [] else [])) ∙ append-nil (exprs_under book (take i routes) word) in
+          eo ∙ ap (λ d. if d then each f (terms_under book pool (take i routes) word) else outs) (sym eb) ∙ sym (ap (λ l. each f (map (term_at pool) l)) all)
+      by false c eb ec = eo ∙ ap (λ d. if d then each f (terms_under book pool (take i routes) word) else outs) (sym eb)
 
   -- a turn of a loop that narrows the set to a route's words and adds what f gives for the route
-  pub each_step : (book1 book2 : Diagrams) (pool1 : List Node) → Extends book book1 → Extends book1 book2 → (out : List Route) → IsTable book1 pool1 out → set < length book.nodes → route.set < length book.nodes
+  pub each_step : (book1 book2 : Diagrams) (pool1 : List Node) → Extends book book1 → Extends book1 book2 → (out : List Route) → IsRouteTable book1 pool1 out → set < length book.nodes → route.set < length book.nodes
       → (outs add new : List Term) (both : ℕ) → has_word book2 both word ≡ (has_word book1 set word && has_word book1 route.set word)
-      → held_terms book1 pool1 out word ≡ (if has_word book set word then each f (held_terms book pool (take i routes) word) else outs)
+      → terms_under book1 pool1 out word ≡ (if has_word book set word then each f (terms_under book pool (take i routes) word) else outs)
       → add ≡ f (term_at pool route.expr)
-      → new ≡ (if has_word book2 both word then add else held_terms book2 pool1 out word)
-      → new ≡ (if has_word book set word then each f (held_terms book pool (take (i + 1) routes) word) else outs)
+      → new ≡ (if has_word book2 both word then add else terms_under book2 pool1 out word)
+      → new ≡ (if has_word book set word then each f (terms_under book pool (take (i + 1) routes) word) else outs)
   each_step book1 book2 pool1 e1 e2 out table set_in route_in outs add new both words old ea en =
-      each_terms outs new (held_terms book2 pool1 out word) add (has_word book1 set word) (has_word book1 route.set word)
+      each_terms outs new (terms_under book2 pool1 out word) add (has_word book1 set word) (has_word book1 route.set word)
       (same_words book book1 e1 set set_in word) (same_words book book1 e1 route.set route_in word)
-      (both_later book1 book2 pool1 pool1 e2 (grows_refl pool1) out table word ∙ old) ea (en ∙ ap (λ b. if b then add else held_terms book2 pool1 out word) words)
+      (both_later book1 book2 pool1 pool1 e2 (grows_refl pool1) out table word ∙ old) ea (en ∙ ap (λ b. if b then add else terms_under book2 pool1 out word) words)
 
 -- ---- two operands
 
@@ -80,7 +80,7 @@ all_fit_later old new g head p [] e f = tt
 all_fit_later old new g head p (r ∷ routes) e f =
     (fits-later old new g head p _ _ (sym (ap term_width (same_term old new g r.expr e.0))) f.0, all_fit_later old new g head p routes e.1 f.1)
 
-pub two_fit_at : (two : Two) (pool : List Node) (xs bs : List Route) (i : ℕ) (a : Route) → slice_get xs i ≡ Some a → AllTwoFit two pool xs bs → AllFit (two_head two a.expr) pool bs
+pub two_fit_at : (two : Two) (pool : List Node) (xs bs : List Route) (i : ℕ) (a : Route) → slice_get xs i ≡ Some a → AllBinaryFit two pool xs bs → AllFit (two_head two a.expr) pool bs
 two_fit_at two pool [] bs i a at f = absurd (cc)
 two_fit_at two pool (x ∷ xs) bs zero a at f = (let e : x ≡ a = cc in subst (λ (r : Route). AllFit (two_head two r.expr) pool bs) e f.0)
 two_fit_at two pool (x ∷ xs) bs (suc i) a at f = two_fit_at two pool xs bs i a at f.1

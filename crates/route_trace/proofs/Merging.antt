@@ -10,8 +10,8 @@ use Rattle.bit_bdd.specs.Diagrams.{Diagrams, has_word, Extends}
 use Rattle.bit_bdd.proofs.CallerLemmas.{same_words}
 use Rattle.rec_bits.proofs.Lists.{Around, around}
 use Rattle.transfer_set.specs.declared.route.Route.{Route}
-use Rattle.transfer_set.specs.Routes.{row, held, Fresh, NoRepeat, IsSet, AllSets, AllExprs, IsRoutes}
-use Rattle.route_trace.specs.Routing.{Finds}
+use Rattle.transfer_set.specs.Routes.{row, exprs_under, Fresh, NoRepeat, IsSet, AllSets, AllExprs, IsRoutes}
+use Rattle.route_trace.specs.Inner.Routing.{Finds}
 
 -- ---- finding
 
@@ -123,7 +123,7 @@ sets_later old new g (route ∷ routes) h = (set_later old new g route.set h.0, 
 pub routes_later : (old new : Diagrams) → Extends old new → (routes : List Route) → IsRoutes old routes → IsRoutes new routes
 routes_later old new g routes h = record { sets = sets_later old new g routes h.sets; apart = h.apart }
 
-pub held_later : (old new : Diagrams) → Extends old new → (routes : List Route) → AllSets old routes → (word : ℕ) → held new routes word ≡ held old routes word
+pub held_later : (old new : Diagrams) → Extends old new → (routes : List Route) → AllSets old routes → (word : ℕ) → exprs_under new routes word ≡ exprs_under old routes word
 held_later old new g [] h word = refl
 held_later old new g (route ∷ routes) h word =
     let e = same_words old new g route.set h.0.within word in
@@ -164,9 +164,9 @@ module _ (old new : Diagrams) (g : Extends old new) (out : List Route) (routes :
           let r = around_it in
           subst (λ l. AllExprs size l) (sym set_is) (exprs_put size r.before r.after found.0 (record { expr = expr; set = both }) less (subst (λ l. AllExprs size l) r.is h))
 
-      pub merged_held : (word : ℕ) → (has_word old set word ≡ true → held old out word ≡ []) → held new (slice_set out place (record { expr = expr; set = both })) word ≡ (if has_word old set word then expr ∷ [] else held old out word)
+      pub merged_held : (word : ℕ) → (has_word old set word ≡ true → exprs_under old out word ≡ []) → exprs_under new (slice_set out place (record { expr = expr; set = both })) word ≡ (if has_word old set word then expr ∷ [] else exprs_under old out word)
       merged_held word apart =
-          ap (λ l. held new l word) set_is ∙ held-append new r.before ((record { expr = expr; set = both }) ∷ r.after) word
+          ap (λ l. exprs_under new l word) set_is ∙ held-append new r.before ((record { expr = expr; set = both }) ∷ r.after) word
           ∙ (λ j. before_same j ++ ((if words word j then expr ∷ [] else []) ++ after_same j))
           ∙ by (has_word old set word) (has_word old found.0.set word) refl refl apart
         where
@@ -176,24 +176,24 @@ module _ (old new : Diagrams) (g : Extends old new) (out : List Route) (routes :
           split : AllSets old (around_it.before ++ found.0 ∷ around_it.after)
           split = subst (λ l. AllSets old l) around_it.is routes.sets
 
-          before_same : held new around_it.before word ≡ held old around_it.before word
+          before_same : exprs_under new around_it.before word ≡ exprs_under old around_it.before word
           before_same = held_later old new g around_it.before (sets_left old around_it.before (found.0 ∷ around_it.after) split) word
 
-          after_same : held new around_it.after word ≡ held old around_it.after word
+          after_same : exprs_under new around_it.after word ≡ exprs_under old around_it.after word
           after_same = held_later old new g around_it.after (sets_right old around_it.before (found.0 ∷ around_it.after) split).1 word
 
-          whole : held old out word ≡ held old around_it.before word ++ (row old found.0 word ++ held old around_it.after word)
-          whole = ap (λ l. held old l word) around_it.is ∙ held-append old around_it.before (found.0 ∷ around_it.after) word
+          whole : exprs_under old out word ≡ exprs_under old around_it.before word ++ (row old found.0 word ++ exprs_under old around_it.after word)
+          whole = ap (λ l. exprs_under old l word) around_it.is ∙ held-append old around_it.before (found.0 ∷ around_it.after) word
 
-          by : (b c : Bool) → has_word old set word ≡ b → has_word old found.0.set word ≡ c → (b ≡ true → held old out word ≡ [])
-              → held old around_it.before word ++ ((if (c || b) then expr ∷ [] else []) ++ held old around_it.after word) ≡ (if b then expr ∷ [] else held old out word)
+          by : (b c : Bool) → has_word old set word ≡ b → has_word old found.0.set word ≡ c → (b ≡ true → exprs_under old out word ≡ [])
+              → exprs_under old around_it.before word ++ ((if (c || b) then expr ∷ [] else []) ++ exprs_under old around_it.after word) ≡ (if b then expr ∷ [] else exprs_under old out word)
           by true c eb ec none =
               let n = sym whole ∙ none refl in
-              let before = nil_left (held old around_it.before word) _ n in
-              let after = nil_right (row old found.0 word) _ (nil_right (held old around_it.before word) _ n) in
+              let before = nil_left (exprs_under old around_it.before word) _ n in
+              let after = nil_right (row old found.0 word) _ (nil_right (exprs_under old around_it.before word) _ n) in
               (λ j. before j ++ ((if or_true c j then expr ∷ [] else []) ++ after j))
-          by false true eb ec none = (λ j. held old around_it.before word ++ ((sym found.2 j ∷ []) ++ held old around_it.after word)) ∙ (λ j. held old around_it.before word ++ ((if sym ec j then found.0.expr ∷ [] else []) ++ held old around_it.after word)) ∙ sym whole
-          by false false eb ec none = (λ j. held old around_it.before word ++ ((if sym ec j then found.0.expr ∷ [] else []) ++ held old around_it.after word)) ∙ sym whole
+          by false true eb ec none = (λ j. exprs_under old around_it.before word ++ ((sym found.2 j ∷ []) ++ exprs_under old around_it.after word)) ∙ (λ j. exprs_under old around_it.before word ++ ((if sym ec j then found.0.expr ∷ [] else []) ++ exprs_under old around_it.after word)) ∙ sym whole
+          by false false eb ec none = (λ j. exprs_under old around_it.before word ++ ((if sym ec j then found.0.expr ∷ [] else []) ++ exprs_under old around_it.after word)) ∙ sym whole
 
   -- ---- a new route
 
@@ -203,12 +203,12 @@ module _ (old new : Diagrams) (g : Extends old new) (out : List Route) (routes :
     apart = apart_push out (record { expr = expr; set = set }) fresh routes.apart;
   }
 
-  pub pushed_held : (word : ℕ) → (has_word old set word ≡ true → held old out word ≡ []) → held old (out ++ (record { expr = expr; set = set }) ∷ []) word ≡ (if has_word old set word then expr ∷ [] else held old out word)
+  pub pushed_held : (word : ℕ) → (has_word old set word ≡ true → exprs_under old out word ≡ []) → exprs_under old (out ++ (record { expr = expr; set = set }) ∷ []) word ≡ (if has_word old set word then expr ∷ [] else exprs_under old out word)
   pushed_held word apart = held-append old out ((record { expr = expr; set = set }) ∷ []) word ∙ by (has_word old set word) apart
     where
-      by : (b : Bool) → (b ≡ true → held old out word ≡ []) → held old out word ++ ((if b then expr ∷ [] else []) ++ []) ≡ (if b then expr ∷ [] else held old out word)
+      by : (b : Bool) → (b ≡ true → exprs_under old out word ≡ []) → exprs_under old out word ++ ((if b then expr ∷ [] else []) ++ []) ≡ (if b then expr ∷ [] else exprs_under old out word)
       by true none = let n = none refl in (λ j. n j ++ (expr ∷ []))
-      by false none = append-nil (held old out word)
+      by false none = append-nil (exprs_under old out word)
 
 -- ---- for what the code finds
 

@@ -11,9 +11,9 @@ use Rattle.rec_bits.proofs.Lists.{around}
 use Rattle.transfer_set.specs.declared.route.Route.{Route}
 use Rattle.route_trace.specs.declared.heads.Head.{Head}
 use Rattle.route_trace.specs.declared.heads.Head.TheVariants.{Same, Read, Un, Slice, Zext, Sext, Bin, Cat, Select}
-use Rattle.route_trace.specs.Heads.{LastFits, head_parts, head_term}
-use Rattle.transfer_set.specs.Routes.{row, held, held_terms, AllExprs, IsTable}
-use Rattle.route_trace.specs.Routing.{AllFit}
+use Rattle.route_trace.specs.Inner.Heads.{LastFits, head_parts, head_term}
+use Rattle.transfer_set.specs.Routes.{row, exprs_under, terms_under, AllExprs, IsRouteTable}
+use Rattle.route_trace.specs.Inner.Routing.{AllFit}
 use Rattle.transfer_set.proofs.Exact.{held-append}
 use Rattle.route_trace.proofs.Merging.{held_later, routes_later}
 
@@ -23,25 +23,25 @@ pub exprs_later : (m n : ℕ) → m ≤ n → (routes : List Route) → AllExprs
 exprs_later m n h [] e = tt
 exprs_later m n h (route ∷ routes) e = (omega (arith, h, e.0), exprs_later m n h routes e.1)
 
-pub terms_later : (book : Diagrams) (old new : List Node) → Grows old new → (routes : List Route) → AllExprs (length old) routes → (word : ℕ) → held_terms book new routes word ≡ held_terms book old routes word
+pub terms_later : (book : Diagrams) (old new : List Node) → Grows old new → (routes : List Route) → AllExprs (length old) routes → (word : ℕ) → terms_under book new routes word ≡ terms_under book old routes word
 terms_later book old new g [] h word = refl
 terms_later book old new g (route ∷ routes) h word =
-    map-append (term_at new) (row book route word) (held book routes word)
+    map-append (term_at new) (row book route word) (exprs_under book routes word)
     ∙ by (has_word book route.set word) (terms_later book old new g routes h.1 word)
-    ∙ sym (map-append (term_at old) (row book route word) (held book routes word))
+    ∙ sym (map-append (term_at old) (row book route word) (exprs_under book routes word))
   where
-    by : (b : Bool) → map (term_at new) (held book routes word) ≡ map (term_at old) (held book routes word)
-        → map (term_at new) (if b then route.expr ∷ [] else []) ++ map (term_at new) (held book routes word) ≡ map (term_at old) (if b then route.expr ∷ [] else []) ++ map (term_at old) (held book routes word)
+    by : (b : Bool) → map (term_at new) (exprs_under book routes word) ≡ map (term_at old) (exprs_under book routes word)
+        → map (term_at new) (if b then route.expr ∷ [] else []) ++ map (term_at new) (exprs_under book routes word) ≡ map (term_at old) (if b then route.expr ∷ [] else []) ++ map (term_at old) (exprs_under book routes word)
     by true rest = let e = same_term old new g route.expr h.0 in (λ j. e j ∷ rest j)
     by false rest = rest
 
-pub table_later : (book book' : Diagrams) (pool pool' : List Node) → Extends book book' → Grows pool pool' → (routes : List Route) → IsTable book pool routes → IsTable book' pool' routes
+pub table_later : (book book' : Diagrams) (pool pool' : List Node) → Extends book book' → Grows pool pool' → (routes : List Route) → IsRouteTable book pool routes → IsRouteTable book' pool' routes
 table_later book book' pool pool' e g routes t = record {
   right = routes_later book book' e routes t.right;
   exprs = exprs_later (length pool) (length pool') g.longer routes t.exprs;
 }
 
-pub both_later : (book book' : Diagrams) (pool pool' : List Node) → Extends book book' → Grows pool pool' → (routes : List Route) → IsTable book pool routes → (word : ℕ) → held_terms book' pool' routes word ≡ held_terms book pool routes word
+pub both_later : (book book' : Diagrams) (pool pool' : List Node) → Extends book book' → Grows pool pool' → (routes : List Route) → IsRouteTable book pool routes → (word : ℕ) → terms_under book' pool' routes word ≡ terms_under book pool routes word
 both_later book book' pool pool' e g routes t word =
     ap (map (term_at pool')) (held_later book book' e routes t.right.sets word) ∙ terms_later book pool pool' g routes t.exprs word
 
@@ -75,13 +75,13 @@ module _ (old new : List Node) (g : Grows old new) where
 -- ---- one route
 
 -- a route was added
-pub added_terms : (book book1 book2 : Diagrams) (pool pool1 : List Node) → Extends book book1 → Grows pool pool1 → (out out2 : List Route) → IsTable book pool out → (expr : ℕ) (term : Term) → term_at pool1 expr ≡ term
-    → (word : ℕ) (b c : Bool) → c ≡ b → held book2 out2 word ≡ (if c then expr ∷ [] else held book1 out word)
-    → held_terms book2 pool1 out2 word ≡ (if b then term ∷ [] else held_terms book pool out word)
+pub added_terms : (book book1 book2 : Diagrams) (pool pool1 : List Node) → Extends book book1 → Grows pool pool1 → (out out2 : List Route) → IsRouteTable book pool out → (expr : ℕ) (term : Term) → term_at pool1 expr ≡ term
+    → (word : ℕ) (b c : Bool) → c ≡ b → exprs_under book2 out2 word ≡ (if c then expr ∷ [] else exprs_under book1 out word)
+    → terms_under book2 pool1 out2 word ≡ (if b then term ∷ [] else terms_under book pool out word)
 added_terms book book1 book2 pool pool1 e g out out2 t expr term is word true c eb h =
-    ap (map (term_at pool1)) (h ∙ ap (λ d. if d then expr ∷ [] else held book1 out word) eb) ∙ (λ j. is j ∷ [])
+    ap (map (term_at pool1)) (h ∙ ap (λ d. if d then expr ∷ [] else exprs_under book1 out word) eb) ∙ (λ j. is j ∷ [])
 added_terms book book1 book2 pool pool1 e g out out2 t expr term is word false c eb h =
-    ap (map (term_at pool1)) (h ∙ ap (λ d. if d then expr ∷ [] else held book1 out word) eb) ∙ both_later book book1 pool pool1 e g out t word
+    ap (map (term_at pool1)) (h ∙ ap (λ d. if d then expr ∷ [] else exprs_under book1 out word) eb) ∙ both_later book book1 pool pool1 e g out t word
 
 -- ---- all routes
 
@@ -96,24 +96,24 @@ take_more before after x = let n : length before + 1 ≡ suc (length before) = o
     by [] = refl
     by (z ∷ before) = ap (λ l. z ∷ l) (by before)
 
-pub held_more : (book : Diagrams) (routes : List Route) (i : ℕ) (route : Route) → slice_get routes i ≡ Some route → (word : ℕ) → held book (take (i + 1) routes) word ≡ held book (take i routes) word ++ row book route word
+pub held_more : (book : Diagrams) (routes : List Route) (i : ℕ) (route : Route) → slice_get routes i ≡ Some route → (word : ℕ) → exprs_under book (take (i + 1) routes) word ≡ exprs_under book (take i routes) word ++ row book route word
 held_more book routes i route at word =
     let r = around routes i route at in
     let more : take (i + 1) routes ≡ r.before ++ route ∷ [] = (λ j. take (sym r.place j + 1) (r.is j)) ∙ take_more r.before r.after route in
     let less : take i routes ≡ r.before = (λ j. take (sym r.place j) (r.is j)) ∙ take_around r.before r.after route in
-    ap (λ l. held book l word) more ∙ held-append book r.before (route ∷ []) word
-    ∙ (λ j. held book (sym less j) word ++ append-nil (row book route word) j)
+    ap (λ l. exprs_under book l word) more ∙ held-append book r.before (route ∷ []) word
+    ∙ (λ j. exprs_under book (sym less j) word ++ append-nil (row book route word) j)
 
 -- where a route holds a word that at most one does, none before it holds it
-pub none_before : (book : Diagrams) (routes : List Route) (i : ℕ) (route : Route) → slice_get routes i ≡ Some route → (word : ℕ) → length (held book routes word) ≤ 1 → has_word book route.set word ≡ true → held book (take i routes) word ≡ []
+pub none_before : (book : Diagrams) (routes : List Route) (i : ℕ) (route : Route) → slice_get routes i ≡ Some route → (word : ℕ) → length (exprs_under book routes word) ≤ 1 → has_word book route.set word ≡ true → exprs_under book (take i routes) word ≡ []
 none_before book routes i route at word one h =
     let r = around routes i route at in
     let less : take i routes ≡ r.before = (λ j. take (sym r.place j) (r.is j)) ∙ take_around r.before r.after route in
-    let whole : held book routes word ≡ held book r.before word ++ ((route.expr ∷ []) ++ held book r.after word) =
-    ap (λ l. held book l word) r.is ∙ held-append book r.before (route ∷ r.after) word ∙ ap (λ b. held book r.before word ++ ((if b then route.expr ∷ [] else []) ++ held book r.after word)) h in
-    ap (λ l. held book l word) less ∙ short (held book r.before word) (held book r.after word) (ap length whole)
+    let whole : exprs_under book routes word ≡ exprs_under book r.before word ++ ((route.expr ∷ []) ++ exprs_under book r.after word) =
+    ap (λ l. exprs_under book l word) r.is ∙ held-append book r.before (route ∷ r.after) word ∙ ap (λ b. exprs_under book r.before word ++ ((if b then route.expr ∷ [] else []) ++ exprs_under book r.after word)) h in
+    ap (λ l. exprs_under book l word) less ∙ short (exprs_under book r.before word) (exprs_under book r.after word) (ap length whole)
   where
-    short : (xs ys : List ℕ) → length (held book routes word) ≡ length (xs ++ ((route.expr ∷ []) ++ ys)) → xs ≡ []
+    short : (xs ys : List ℕ) → length (exprs_under book routes word) ≡ length (xs ++ ((route.expr ∷ []) ++ ys)) → xs ≡ []
     short [] ys e = refl
     short (x ∷ xs) ys e = (let l = length-append xs ((route.expr ∷ []) ++ ys) in absurd (omega (arith, e, one, l)))
 

@@ -13,10 +13,10 @@ use Rattle.ctl_bdd.specs.Bits.{number_at}
 use Rattle.transfer_set.specs.declared.route.Route.{Route}
 use Rattle.transfer_set.specs.Routes.{routes_at, only, AllExprs}
 use Rattle.route_trace.specs.declared.heads.Two.TheVariants.{Select}
-use Rattle.route_trace.specs.Routing.{AreTables}
-use Rattle.route_trace.specs.Gates.{AllGiven, AllWide, DriverTests}
-use Rattle.route_trace.specs.Selects.{AllSelectFit, selects}
-use Rattle.route_trace.specs.Tests.{AreEnabledAt, AreRowsWide, IsTargetWide, sets_in, target, target_terms}
+use Rattle.route_trace.specs.Inner.Routing.{AreTables}
+use Rattle.route_trace.specs.Inner.Gates.{AllGive, AllWide, DriverTests}
+use Rattle.route_trace.specs.Inner.Selects.{AllSelectFit, selects}
+use Rattle.route_trace.specs.Inner.Tests.{AreEnabledAt, AreRowsWide, IsTargetWide, sets_in, target, target_terms}
 use Rattle.route_trace.proofs.Products.{both_later}
 use Rattle.route_trace.proofs.Given.{two_fit_wide}
 
@@ -41,13 +41,13 @@ module _ (book book' : Diagrams) (pool pool' : List Node) (e : Extends book book
   target_later width None = ap (λ b. if b then const width 0 ∷ [] else []) (same_words book book' e legal legal_in word)
   target_later width (Some n) = both_later book book' pool pool' e g (routes_at nets n) (t.tables n) word
 
-  pub given_later : (f : ℕ → Term) (ms : List ℕ) → AllGiven book pool nets legal f word ms → AllGiven book' pool' nets legal f word ms
+  pub given_later : (f : ℕ → Term) (ms : List ℕ) → AllGive book pool nets legal f word ms → AllGive book' pool' nets legal f word ms
   given_later f [] h = tt
   given_later f (m ∷ ms) h =
       (both_later book book' pool pool' e g (routes_at nets m) (t.tables m) word ∙ h.0 ∙ ap (λ b. if b then f m ∷ [] else []) (sym (same_words book book' e legal legal_in word)), given_later f ms h.1)
 
 -- the net of a row gives what the case takes
-pub target_given : (book : Diagrams) (pool : List Node) (nets : List (List Route)) (legal : ℕ) (t : ℕ → Term) (word width key : ℕ) (rows : List (ℕ × ℕ)) (rest : Option ℕ) → AllGiven book pool nets legal t word (row_nets rows rest)
+pub target_given : (book : Diagrams) (pool : List Node) (nets : List (List Route)) (legal : ℕ) (t : ℕ → Term) (word width key : ℕ) (rows : List (ℕ × ℕ)) (rest : Option ℕ) → AllGive book pool nets legal t word (row_nets rows rest)
     → target_terms book pool nets legal width (target rows key rest) word ≡ only book legal word (case_term t width key rows rest)
 target_given book pool nets legal t word width key [] None g = refl
 target_given book pool nets legal t word width key [] (Some n) g = g.0

@@ -5,7 +5,7 @@ use Rattle.net_model.specs.Symbolic.{sliced}
 use Rattle.sym_expr.specs.declared.pool.Node.{Node}
 use Rattle.sym_expr.specs.declared.pool.Node.TheVariants.{Slice}
 use Rattle.sym_expr.specs.Pools.{node_term}
-use Rattle.route_trace.specs.Heads.{slice_parts}
+use Rattle.route_trace.specs.Inner.Heads.{slice_parts}
 
 -- a slice of what is no slice
 pub plain : (node : Node) (t : ℕ → Term) (hi lo : ℕ) → None ≡ slice_parts node → sliced (node_term node t) hi lo ≡ (if (lo == 0) && (hi + 1 == term_width (node_term node t)) then node_term node t else slice (node_term node t) hi lo)

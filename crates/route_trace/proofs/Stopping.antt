@@ -6,9 +6,9 @@ use Rattle.net_model.specs.Terms.{Term}
 use Rattle.sym_expr.specs.declared.pool.Node.{Node}
 use Rattle.sym_expr.specs.Pools.{term_at}
 use Rattle.transfer_set.specs.declared.route.Route.{Route}
-use Rattle.transfer_set.specs.Routes.{held, held_terms, routes_at}
-use Rattle.route_trace.specs.Routing.{first_terms, passes}
-use Rattle.route_trace.specs.Stops.{IfMany, IsOver}
+use Rattle.transfer_set.specs.Routes.{exprs_under, terms_under, routes_at}
+use Rattle.route_trace.specs.Inner.Routing.{first_terms, passes}
+use Rattle.route_trace.specs.Inner.Stops.{IfMany, IsOver}
 use Rattle.route_trace.proofs.Firsts.{none_taken}
 use Rattle.route_trace.specs.declared.stop.Stop.{Stop}
 use Rattle.route_trace.specs.declared.stop.Stop.TheVariants.{Many, Memory}
@@ -24,17 +24,17 @@ many_in Many book pool P Q f o = record {
   many = o.many;
   table = o.table;
   part = λ word fits.
-      elim (o.part word fits) as (λ _. (held_terms book pool o.routes word ≡ []) ⊎ Q word (held_terms book pool o.routes word)) [
+      elim (o.part word fits) as (λ _. (terms_under book pool o.routes word ≡ []) ⊎ Q word (terms_under book pool o.routes word)) [
         | inl e ↦ inl e
-        | inr p ↦ f word fits (held_terms book pool o.routes word) p
+        | inr p ↦ f word fits (terms_under book pool o.routes word) p
       ];
 }
 
 -- ---- some routes of a list
 
 -- where at most one route holds a word, the first of them hold it as all do, or not at all
-held_taken : (book : Diagrams) (routes : List Route) (k word : ℕ) → length (held book routes word) ≤ 1 → (held book (take k routes) word ≡ []) ⊎ (held book (take k routes) word ≡ held book routes word)
-held_taken book [] k word one = inl (ap (λ l. held book l word) (take-nil k))
+held_taken : (book : Diagrams) (routes : List Route) (k word : ℕ) → length (exprs_under book routes word) ≤ 1 → (exprs_under book (take k routes) word ≡ []) ⊎ (exprs_under book (take k routes) word ≡ exprs_under book routes word)
+held_taken book [] k word one = inl (ap (λ l. exprs_under book l word) (take-nil k))
 held_taken book (route ∷ routes) zero word one = inl refl
 held_taken book (route ∷ routes) (suc k) word one = by (has_word book route.set word) one (held_taken book routes k word)
   where
@@ -42,20 +42,20 @@ held_taken book (route ∷ routes) (suc k) word one = by (has_word book route.se
     none [] h = refl
     none (x ∷ xs) h = absurd (omega (arith, h))
 
-    by : (b : Bool) → length ((if b then route.expr ∷ [] else []) ++ held book routes word) ≤ 1
-        → (length (held book routes word) ≤ 1 → (held book (take k routes) word ≡ []) ⊎ (held book (take k routes) word ≡ held book routes word))
-        → ((if b then route.expr ∷ [] else []) ++ held book (take k routes) word ≡ []) ⊎ ((if b then route.expr ∷ [] else []) ++ held book (take k routes) word ≡ (if b then route.expr ∷ [] else []) ++ held book routes word)
+    by : (b : Bool) → length ((if b then route.expr ∷ [] else []) ++ exprs_under book routes word) ≤ 1
+        → (length (exprs_under book routes word) ≤ 1 → (exprs_under book (take k routes) word ≡ []) ⊎ (exprs_under book (take k routes) word ≡ exprs_under book routes word))
+        → ((if b then route.expr ∷ [] else []) ++ exprs_under book (take k routes) word ≡ []) ⊎ ((if b then route.expr ∷ [] else []) ++ exprs_under book (take k routes) word ≡ (if b then route.expr ∷ [] else []) ++ exprs_under book routes word)
     by false one rest = rest one
     by true one rest =
-        let empty = none (held book routes word) (omega (arith, one)) in
-        inr (ap (λ l. route.expr ∷ l) (elim (rest (omega (arith, one))) as (λ _. held book (take k routes) word ≡ held book routes word) [ inl e ↦ e ∙ sym empty | inr e ↦ e ]))
+        let empty = none (exprs_under book routes word) (omega (arith, one)) in
+        inr (ap (λ l. route.expr ∷ l) (elim (rest (omega (arith, one))) as (λ _. exprs_under book (take k routes) word ≡ exprs_under book routes word) [ inl e ↦ e ∙ sym empty | inr e ↦ e ]))
 
 -- what is added for the first of some routes
-pub part_taken : (f : List Term → List Term) → f [] ≡ [] → (book : Diagrams) (pool : List Node) (routes : List Route) (k word : ℕ) → length (held book routes word) ≤ 1 → (b : Bool) (outs terms : List Term)
-    → terms ≡ (if b then f (held_terms book pool (take k routes) word) else outs) → (terms ≡ []) ⊎ (terms ≡ (if b then f (held_terms book pool routes word) else outs))
+pub part_taken : (f : List Term → List Term) → f [] ≡ [] → (book : Diagrams) (pool : List Node) (routes : List Route) (k word : ℕ) → length (exprs_under book routes word) ≤ 1 → (b : Bool) (outs terms : List Term)
+    → terms ≡ (if b then f (terms_under book pool (take k routes) word) else outs) → (terms ≡ []) ⊎ (terms ≡ (if b then f (terms_under book pool routes word) else outs))
 part_taken f none book pool routes k word one false outs terms e = inr e
 part_taken f none book pool routes k word one true outs terms e =
-    elim (held_taken book routes k word one) as (λ _. (terms ≡ []) ⊎ (terms ≡ f (held_terms book pool routes word))) [
+    elim (held_taken book routes k word one) as (λ _. (terms ≡ []) ⊎ (terms ≡ f (terms_under book pool routes word))) [
       | inl n ↦ inl (e ∙ ap (λ l. f (map (term_at pool) l)) n ∙ none)
       | inr a ↦ inr (e ∙ ap (λ l. f (map (term_at pool) l)) a)
     ]
@@ -70,8 +70,8 @@ first_taken book pool nets word (test ∷ tests) zero = inl refl
 first_taken book pool nets word (test ∷ tests) (suc k) = by (has_word book test.0 word) (first_taken book pool nets word tests k)
   where
     by : (b : Bool) → (first_terms book pool nets word (take k tests) ≡ []) ⊎ (first_terms book pool nets word (take k tests) ≡ first_terms book pool nets word tests)
-        → ((if b then held_terms book pool (routes_at nets test.1) word else first_terms book pool nets word (take k tests)) ≡ [])
-        ⊎ ((if b then held_terms book pool (routes_at nets test.1) word else first_terms book pool nets word (take k tests)) ≡ (if b then held_terms book pool (routes_at nets test.1) word else first_terms book pool nets word tests))
+        → ((if b then terms_under book pool (routes_at nets test.1) word else first_terms book pool nets word (take k tests)) ≡ [])
+        ⊎ ((if b then terms_under book pool (routes_at nets test.1) word else first_terms book pool nets word (take k tests)) ≡ (if b then terms_under book pool (routes_at nets test.1) word else first_terms book pool nets word tests))
     by true rest = inr refl
     by false rest = rest
 

@@ -10,16 +10,16 @@ use Rattle.net_model.specs.declared.hardware.Net.{Net}
 use Rattle.net_model.specs.Nets.{width_at, gate_nets, nets_of}
 use Rattle.net_model.specs.Value.{value_of}
 use Rattle.net_model.specs.Widths.{IsTyped}
-use Rattle.net_model.specs.Order.{place_of, IsOrder}
+use Rattle.net_model.specs.Order.{position_of, IsOrder}
 use Rattle.net_model.proofs.Orders.{place_at, at_place}
-use Rattle.net_model.specs.Symbolic.{blank, is_static, gate_term, net_term, sym_of}
+use Rattle.net_model.specs.Symbolic.{no_state, is_static, gate_term, net_term, sym_of}
 use Rattle.net_model.proofs.Meanings.{width_is}
 use Rattle.sym_expr.specs.declared.pool.Node.{Node}
 use Rattle.sym_expr.specs.Pools.{term_at, Grows}
 use Rattle.transfer_set.specs.declared.route.Route.{Route}
-use Rattle.transfer_set.specs.Routes.{held, held_terms, routes_at, IsTable, only}
-use Rattle.route_trace.specs.Routing.{AreTables}
-use Rattle.route_trace.specs.Gates.{AllGiven, AllWide, HaveWidths}
+use Rattle.transfer_set.specs.Routes.{exprs_under, terms_under, routes_at, IsRouteTable, only}
+use Rattle.route_trace.specs.Inner.Routing.{AreTables}
+use Rattle.route_trace.specs.Inner.Gates.{AllGive, AllWide, HaveWidths}
 use Rattle.route_trace.proofs.Products.{both_later}
 use Rattle.route_trace.proofs.Firsts.{tables_later}
 use Rattle.route_trace.proofs.Exact.{all_wide}
@@ -27,13 +27,13 @@ use Rattle.net_model.proofs.Syms.{sym_is}
 use Rattle.route_trace.proofs.Selecting.{wide_later}
 use Rattle.std.proofs.lemmas.List.{get_or-set_same, get_or-set_other}
 use Rattle.net_model.specs.Depends.{Among, named_by}
-use Rattle.net_model.specs.Symbolic.{all_of}
+use Rattle.net_model.specs.Symbolic.{all_nets}
 use Rattle.ctl_bdd.proofs.Alls.{tests_each}
-use Rattle.route_trace.specs.Verdicts.{IsFound, is_kept, kept_at, verdict_at}
+use Rattle.route_trace.specs.Inner.Verdicts.{IsFound, is_kept, kept_at, verdict_at}
 use Rattle.route_trace.specs.declared.verdict.Verdict.{Verdict}
 use Rattle.route_trace.specs.declared.verdict.Verdict.TheVariants.{Skipped}
 use Rattle.route_trace.specs.declared.stop.Stop.TheVariants.{Many}
-use Rattle.route_trace.specs.Stops.{IsOver}
+use Rattle.route_trace.specs.Inner.Stops.{IsOver}
 use Rattle.route_trace.proofs.Stopping.{many_in}
 use Rattle.route_trace.proofs.Judging.{each_among}
 
@@ -61,8 +61,8 @@ short b t (y ∷ []) x e = omega arith
 short true t (y ∷ z ∷ xs) x e = absurd (cc)
 short false t (y ∷ z ∷ xs) x e = absurd (cc)
 
-pub earlier : (order : List ℕ) (i : ℕ) → i < length order → (m : ℕ) → place_of order m < i + 1 → (m ≢ slice_index order i) → place_of order m < i
-earlier order i within m h q = elim (cases_eq (place_of order m) i) as (λ _. place_of order m < i) [
+pub earlier : (order : List ℕ) (i : ℕ) → i < length order → (m : ℕ) → position_of order m < i + 1 → (m ≢ slice_index order i) → position_of order m < i
+earlier order i within m h q = elim (cases_eq (position_of order m) i) as (λ _. position_of order m < i) [
   | inl p ↦ absurd (q (sym (at_place order m (omega (arith, p, within))) ∙ ap (slice_index order) p))
   | inr p ↦ omega (arith, p, h)
 ]
@@ -77,8 +77,8 @@ kept_other : (verdicts : List Verdict) (n m : ℕ) (verdict : Verdict) → m ≢
 kept_other verdicts n m verdict ne = ap is_kept (verdict_other verdicts n m verdict ne)
 
 -- one verdict more
-pub found_more : (netlist : Netlist) (order : List ℕ) (i : ℕ) → i < length order → (verdicts : List Verdict) → slice_index order i < length verdicts → ((m : ℕ) → place_of order m < i → IsFound netlist m (verdict_at verdicts m))
-    → (verdict : Verdict) → IsFound netlist (slice_index order i) verdict → (m : ℕ) → place_of order m < i + 1 → IsFound netlist m (verdict_at (slice_set verdicts (slice_index order i) verdict) m)
+pub found_more : (netlist : Netlist) (order : List ℕ) (i : ℕ) → i < length order → (verdicts : List Verdict) → slice_index order i < length verdicts → ((m : ℕ) → position_of order m < i → IsFound netlist m (verdict_at verdicts m))
+    → (verdict : Verdict) → IsFound netlist (slice_index order i) verdict → (m : ℕ) → position_of order m < i + 1 → IsFound netlist m (verdict_at (slice_set verdicts (slice_index order i) verdict) m)
 found_more netlist order i within verdicts lt found verdict is m h = elim (cases_eq m (slice_index order i)) as (λ _. IsFound netlist m (verdict_at (slice_set verdicts (slice_index order i) verdict) m)) [
   | inl q ↦
       subst (λ k. IsFound netlist k (verdict_at (slice_set verdicts (slice_index order i) verdict) k)) (sym q)
@@ -87,8 +87,8 @@ found_more netlist order i within verdicts lt found verdict is m h = elim (cases
 ]
 
 -- a net that isn't kept changes nothing for those that are
-pub lost_done : (order : List ℕ) (i : ℕ) → i < length order → (verdicts : List Verdict) → slice_index order i < length verdicts → (P : ℕ → Type 0) → ((m : ℕ) → place_of order m < i → kept_at verdicts m ≡ true → P m)
-    → (verdict : Verdict) → is_kept verdict ≡ false → (m : ℕ) → place_of order m < i + 1 → kept_at (slice_set verdicts (slice_index order i) verdict) m ≡ true → P m
+pub lost_done : (order : List ℕ) (i : ℕ) → i < length order → (verdicts : List Verdict) → slice_index order i < length verdicts → (P : ℕ → Type 0) → ((m : ℕ) → position_of order m < i → kept_at verdicts m ≡ true → P m)
+    → (verdict : Verdict) → is_kept verdict ≡ false → (m : ℕ) → position_of order m < i + 1 → kept_at (slice_set verdicts (slice_index order i) verdict) m ≡ true → P m
 lost_done order i within verdicts lt P done verdict lost m h kept = elim (cases_eq m (slice_index order i)) as (λ _. P m) [
   | inl q ↦
       absurd (true≢false (sym kept ∙ ap (kept_at (slice_set verdicts (slice_index order i) verdict)) q ∙ ap is_kept (verdict_same verdicts (slice_index order i) verdict lt) ∙ lost))
@@ -96,19 +96,19 @@ lost_done order i within verdicts lt P done verdict lost m h kept = elim (cases_
 ]
 
 -- the nets that a net names have their verdicts
-pub named_found : (netlist : Netlist) (order : List ℕ) → IsOrder netlist order → (i : ℕ) → i < length order → (verdicts : List Verdict) → ((m : ℕ) → place_of order m < i → IsFound netlist m (verdict_at verdicts m))
+pub named_found : (netlist : Netlist) (order : List ℕ) → IsOrder netlist order → (i : ℕ) → i < length order → (verdicts : List Verdict) → ((m : ℕ) → position_of order m < i → IsFound netlist m (verdict_at verdicts m))
     → (b : ℕ) → Among b (named_by netlist (slice_index order i)) → IsFound netlist b (verdict_at verdicts b)
 named_found netlist order o i within verdicts found b a =
-    let lt = each_among (λ m. place_of order m < place_of order (slice_index order i)) (named_by netlist (slice_index order i)) (o.falls (slice_index order i)) b a in
+    let lt = each_among (λ m. position_of order m < position_of order (slice_index order i)) (named_by netlist (slice_index order i)) (o.falls (slice_index order i)) b a in
     found b (omega (arith, lt, place_at order i within))
 
 module _ (netlist : Netlist) (order : List ℕ) (o : IsOrder netlist order) (i : ℕ) (within : i < length order) (book : Diagrams) (pool : List Node) (nets : List (List Route)) (legal : ℕ)
-    (verdicts : List Verdict) (done : (m word : ℕ) → place_of order m < i → kept_at verdicts m ≡ true → word < 2 ^ book.bits → held_terms book pool (routes_at nets m) word ≡ only book legal word (sym_of netlist word m)) where
+    (verdicts : List Verdict) (done : (m word : ℕ) → position_of order m < i → kept_at verdicts m ≡ true → word < 2 ^ book.bits → terms_under book pool (routes_at nets m) word ≡ only book legal word (sym_of netlist word m)) where
   -- the nets that the next net's gate names have their routes
-  pub all_given : (net : Net) → slice_get netlist.nets (slice_index order i) ≡ Some net → all_of (kept_at verdicts) (gate_nets net.gate) ≡ true → (word : ℕ) → word < 2 ^ book.bits → AllGiven book pool nets legal (sym_of netlist word) word (gate_nets net.gate)
-  all_given net at kept word fits = by (gate_nets net.gate) (tests_each (kept_at verdicts) (gate_nets net.gate) kept) (subst (λ (x : Option Net). AllByRecursion (λ m. place_of order m < place_of order (slice_index order i)) (nets_of x)) at (o.falls (slice_index order i)))
+  pub all_given : (net : Net) → slice_get netlist.nets (slice_index order i) ≡ Some net → all_nets (kept_at verdicts) (gate_nets net.gate) ≡ true → (word : ℕ) → word < 2 ^ book.bits → AllGive book pool nets legal (sym_of netlist word) word (gate_nets net.gate)
+  all_given net at kept word fits = by (gate_nets net.gate) (tests_each (kept_at verdicts) (gate_nets net.gate) kept) (subst (λ (x : Option Net). AllByRecursion (λ m. position_of order m < position_of order (slice_index order i)) (nets_of x)) at (o.falls (slice_index order i)))
     where
-      by : (ms : List ℕ) → AllByRecursion (λ m. kept_at verdicts m ≡ true) ms → AllByRecursion (λ m. place_of order m < place_of order (slice_index order i)) ms → AllGiven book pool nets legal (sym_of netlist word) word ms
+      by : (ms : List ℕ) → AllByRecursion (λ m. kept_at verdicts m ≡ true) ms → AllByRecursion (λ m. position_of order m < position_of order (slice_index order i)) ms → AllGive book pool nets legal (sym_of netlist word) word ms
       by [] k h = tt
       by (m ∷ ms) k h = (done m word (omega (arith, h.0, place_at order i within)) k.0 fits, by ms k.1 h.1)
 
@@ -120,7 +120,7 @@ module _ (netlist : Netlist) (order : List ℕ) (o : IsOrder netlist order) (i :
     n_in = omega (arith, o.nets i within, long)
 
     -- the routes that are there stay right
-    pub done_later : (m word : ℕ) → place_of order m < i → kept_at verdicts m ≡ true → word < 2 ^ book'.bits → held_terms book' pool' (routes_at nets m) word ≡ only book' legal word (sym_of netlist word m)
+    pub done_later : (m word : ℕ) → position_of order m < i → kept_at verdicts m ≡ true → word < 2 ^ book'.bits → terms_under book' pool' (routes_at nets m) word ≡ only book' legal word (sym_of netlist word m)
     done_later m word before kept fits =
         let w = same_words book book' e legal legal_in word in
         both_later book book' pool pool' e g (routes_at nets m) (tables.tables m) word ∙ done m word before kept (low word fits) ∙ (λ j. if sym w j then sym_of netlist word m ∷ [] else [])
@@ -130,31 +130,31 @@ module _ (netlist : Netlist) (order : List ℕ) (o : IsOrder netlist order) (i :
 
     -- what the gate gives is the net's symbolic value
     at_sym : (net : Net) → slice_get netlist.nets (slice_index order i) ≡ Some net → (word : ℕ) (terms : List Term)
-        → terms ≡ only book legal word (gate_term (sym_of netlist word) (value_of netlist blank word) (is_static netlist) net.width net.gate) → terms ≡ only book' legal word (sym_of netlist word (slice_index order i))
+        → terms ≡ only book legal word (gate_term (sym_of netlist word) (value_of netlist no_state word) (is_static netlist) net.width net.gate) → terms ≡ only book' legal word (sym_of netlist word (slice_index order i))
     at_sym net at word terms is =
-        let s = sym_is netlist word order o (slice_index order i) (o.nets i within) ∙ ap (net_term (sym_of netlist word) (value_of netlist blank word) (is_static netlist)) at in
+        let s = sym_is netlist word order o (slice_index order i) (o.nets i within) ∙ ap (net_term (sym_of netlist word) (value_of netlist no_state word) (is_static netlist)) at in
         let w = same_words book book' e legal legal_in word in
         is ∙ (λ j. if sym w j then sym s j ∷ [] else [])
 
     -- the routes that were given up are right so far
-    pub over_sym : (net : Net) → slice_get netlist.nets (slice_index order i) ≡ Some net → all_of (kept_at verdicts) (gate_nets net.gate) ≡ true
-        → IsOver book' pool' (λ word terms. (t : ℕ → Term) → AllGiven book pool nets legal t word (gate_nets net.gate) → terms ≡ only book legal word (gate_term t (value_of netlist blank word) (is_static netlist) net.width net.gate))
+    pub over_sym : (net : Net) → slice_get netlist.nets (slice_index order i) ≡ Some net → all_nets (kept_at verdicts) (gate_nets net.gate) ≡ true
+        → IsOver book' pool' (λ word terms. (t : ℕ → Term) → AllGive book pool nets legal t word (gate_nets net.gate) → terms ≡ only book legal word (gate_term t (value_of netlist no_state word) (is_static netlist) net.width net.gate))
         → IsOver book' pool' (λ word terms. terms ≡ only book' legal word (sym_of netlist word (slice_index order i)))
     over_sym net at kept over = many_in Many book' pool' _ _ (λ word fits terms h. inr (at_sym net at word terms (h (sym_of netlist word) (all_given net at kept word (low word fits))))) over
 
-    module _ (out : List Route) (table : IsTable book' pool' out)
+    module _ (out : List Route) (table : IsRouteTable book' pool' out)
         (net : Net) (at : slice_get netlist.nets (slice_index order i) ≡ Some net)
-        (gives : (word : ℕ) → word < 2 ^ book.bits → held_terms book' pool' out word ≡ only book legal word (gate_term (sym_of netlist word) (value_of netlist blank word) (is_static netlist) net.width net.gate)) where
-      pub new_gives : (word : ℕ) → word < 2 ^ book.bits → held_terms book' pool' out word ≡ only book' legal word (sym_of netlist word (slice_index order i))
-      new_gives word fits = at_sym net at word (held_terms book' pool' out word) (gives word fits)
+        (gives : (word : ℕ) → word < 2 ^ book.bits → terms_under book' pool' out word ≡ only book legal word (gate_term (sym_of netlist word) (value_of netlist no_state word) (is_static netlist) net.width net.gate)) where
+      pub new_gives : (word : ℕ) → word < 2 ^ book.bits → terms_under book' pool' out word ≡ only book' legal word (sym_of netlist word (slice_index order i))
+      new_gives word fits = at_sym net at word (terms_under book' pool' out word) (gives word fits)
 
-      pub turn_done : (verdict : Verdict) (m word : ℕ) → place_of order m < i + 1 → kept_at (slice_set verdicts (slice_index order i) verdict) m ≡ true → word < 2 ^ book'.bits → held_terms book' pool' (routes_at (slice_set nets (slice_index order i) out) m) word ≡ only book' legal word (sym_of netlist word m)
-      turn_done verdict m word h kept fits = elim (cases_eq m (slice_index order i)) as (λ _. held_terms book' pool' (routes_at (slice_set nets (slice_index order i) out) m) word ≡ only book' legal word (sym_of netlist word m)) [
+      pub turn_done : (verdict : Verdict) (m word : ℕ) → position_of order m < i + 1 → kept_at (slice_set verdicts (slice_index order i) verdict) m ≡ true → word < 2 ^ book'.bits → terms_under book' pool' (routes_at (slice_set nets (slice_index order i) out) m) word ≡ only book' legal word (sym_of netlist word m)
+      turn_done verdict m word h kept fits = elim (cases_eq m (slice_index order i)) as (λ _. terms_under book' pool' (routes_at (slice_set nets (slice_index order i) out) m) word ≡ only book' legal word (sym_of netlist word m)) [
         | inl q ↦
-            subst (λ k. held_terms book' pool' (routes_at (slice_set nets (slice_index order i) out) k) word ≡ only book' legal word (sym_of netlist word k)) (sym q)
-            (subst (λ l. held_terms book' pool' l word ≡ only book' legal word (sym_of netlist word (slice_index order i))) (at_same nets (slice_index order i) out n_in) (new_gives word (low word fits)))
+            subst (λ k. terms_under book' pool' (routes_at (slice_set nets (slice_index order i) out) k) word ≡ only book' legal word (sym_of netlist word k)) (sym q)
+            (subst (λ l. terms_under book' pool' l word ≡ only book' legal word (sym_of netlist word (slice_index order i))) (at_same nets (slice_index order i) out n_in) (new_gives word (low word fits)))
         | inr q ↦
-            subst (λ l. held_terms book' pool' l word ≡ only book' legal word (sym_of netlist word m)) (at_other nets (slice_index order i) m out q)
+            subst (λ l. terms_under book' pool' l word ≡ only book' legal word (sym_of netlist word m)) (at_other nets (slice_index order i) m out q)
             (done_later m word (earlier order i within m h q) (sym (kept_other verdicts (slice_index order i) m verdict q) ∙ kept) fits)
       ]
 
@@ -162,15 +162,15 @@ module _ (netlist : Netlist) (order : List ℕ) (o : IsOrder netlist order) (i :
       turn_tables =
           let later = tables_later book book' pool pool' e g nets tables in
           record {
-            tables = λ m. elim (cases_eq m (slice_index order i)) as (λ _. IsTable book' pool' (routes_at (slice_set nets (slice_index order i) out) m)) [
-              | inl q ↦ subst (λ k. IsTable book' pool' (routes_at (slice_set nets (slice_index order i) out) k)) (sym q) (subst (λ l. IsTable book' pool' l) (at_same nets (slice_index order i) out n_in) table)
-              | inr q ↦ subst (λ l. IsTable book' pool' l) (at_other nets (slice_index order i) m out q) (later.tables m)
+            tables = λ m. elim (cases_eq m (slice_index order i)) as (λ _. IsRouteTable book' pool' (routes_at (slice_set nets (slice_index order i) out) m)) [
+              | inl q ↦ subst (λ k. IsRouteTable book' pool' (routes_at (slice_set nets (slice_index order i) out) k)) (sym q) (subst (λ l. IsRouteTable book' pool' l) (at_same nets (slice_index order i) out n_in) table)
+              | inr q ↦ subst (λ l. IsRouteTable book' pool' l) (at_other nets (slice_index order i) m out q) (later.tables m)
             ];
-            one = λ m word fits. elim (cases_eq m (slice_index order i)) as (λ _. length (held book' (routes_at (slice_set nets (slice_index order i) out) m) word) ≤ 1) [
+            one = λ m word fits. elim (cases_eq m (slice_index order i)) as (λ _. length (exprs_under book' (routes_at (slice_set nets (slice_index order i) out) m) word) ≤ 1) [
               | inl q ↦
-                  subst (λ k. length (held book' (routes_at (slice_set nets (slice_index order i) out) k) word) ≤ 1) (sym q)
-                  (subst (λ l. length (held book' l word) ≤ 1) (at_same nets (slice_index order i) out n_in) (short (has_word book' legal word) (term_at pool') (held book' out word) _ (new_gives word (low word fits))))
-              | inr q ↦ subst (λ l. length (held book' l word) ≤ 1) (at_other nets (slice_index order i) m out q) (later.one m word fits)
+                  subst (λ k. length (exprs_under book' (routes_at (slice_set nets (slice_index order i) out) k) word) ≤ 1) (sym q)
+                  (subst (λ l. length (exprs_under book' l word) ≤ 1) (at_same nets (slice_index order i) out n_in) (short (has_word book' legal word) (term_at pool') (exprs_under book' out word) _ (new_gives word (low word fits))))
+              | inr q ↦ subst (λ l. length (exprs_under book' l word) ≤ 1) (at_other nets (slice_index order i) m out q) (later.one m word fits)
             ];
           }
 
@@ -188,8 +188,8 @@ module _ (netlist : Netlist) (order : List ℕ) (o : IsOrder netlist order) (i :
 -- no net has its routes yet
 pub no_tables : (book : Diagrams) (pool : List Node) (nets : List (List Route)) → ((n : ℕ) → routes_at nets n ≡ []) → AreTables book pool nets
 no_tables book pool nets h = record {
-  tables = λ n. subst (λ l. IsTable book pool l) (sym (h n)) (record { right = record { sets = tt; apart = tt }; exprs = tt });
-  one = λ n word fits. subst (λ l. length (held book l word) ≤ 1) (sym (h n)) (omega arith);
+  tables = λ n. subst (λ l. IsRouteTable book pool l) (sym (h n)) (record { right = record { sets = tt; apart = tt }; exprs = tt });
+  one = λ n word fits. subst (λ l. length (exprs_under book l word) ≤ 1) (sym (h n)) (omega arith);
 }
 
 pub no_widths : (netlist : Netlist) (pool : List Node) (nets : List (List Route)) → ((n : ℕ) → routes_at nets n ≡ []) → HaveWidths netlist pool nets

@@ -11,7 +11,7 @@ use Rattle.net_model.specs.Control.{IsControlled}
 use Rattle.sym_expr.specs.declared.pool.Node.{Node}
 use Rattle.sym_expr.specs.Pools.{term_at, IsOneEach}
 use Rattle.transfer_set.specs.declared.route.Route.{Route}
-use Rattle.transfer_set.specs.Routes.{AreRoutes, IsSet, RouteIs, held, routes_at}
+use Rattle.transfer_set.specs.Routes.{AreRoutes, IsSet, RouteIs, exprs_under, routes_at}
 
 -- the set of each route of a net is all words of `legal` with its expression
 abbrev pub AreExact : Type 0
@@ -22,7 +22,7 @@ AreExact = (netlist : Netlist) (book : Diagrams) (pool : List Node) (legal : ℕ
 -- the one expression that a net's routes give a word
 pub record HasOne (book : Diagrams) (pool : List Node) (netlist : Netlist) (n word : ℕ) (routes : List Route) : Type 0 where
   pub expr : ℕ
-  pub held : held book routes word ≡ expr ∷ []
+  pub only : exprs_under book routes word ≡ expr ∷ []
   pub term : term_at pool expr ≡ sym_of netlist word n
 
 -- each word of `legal` is in one route's set alone, and each set holds a word

@@ -1,10 +1,3 @@
-pub mod Heads
-pub mod Routing
-pub mod Lookups
-pub mod Gates
-pub mod Selects
-pub mod Tests
 pub mod Laws
 pub mod Limits
-pub mod Verdicts
-pub mod Stops
+pub mod Inner

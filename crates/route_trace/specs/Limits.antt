@@ -1,4 +1,5 @@
--- The limits on the symbolic values of nets: none has more than 255 nodes, and no net has more than 4,096 of them.
+-- The limits on the symbolic values of nets: none has more than 255 nodes, and no net has more than
+-- 4,096 of them.
 use Rattle.std.specs.Prelude.{◌≢◌, ◌⊎◌, ℕ, ◌<◌, ◌≤◌, List, [], ◌∷◌, length}
 use Rattle.std.specs.List.{AllByRecursion}
 use Rattle.net_model.specs.declared.hardware.Netlist.{Netlist}
@@ -25,7 +26,8 @@ abbrev pub AllDiffer : (ℕ → Term) → List ℕ → Type 0
 AllDiffer f [] = Unit {0}
 AllDiffer f (word ∷ words) = Differ f word words × AllDiffer f words
 
--- a net has more than 4,096 symbolic values over the words without clash: so many words give it different ones
+-- a net has more than 4,096 symbolic values over the words without clash: so many words give it
+-- different ones
 pub record HasMany (netlist : Netlist) (n : ℕ) : Type 0 where
   pub words : List ℕ
   pub many : 4096 < length words
@@ -48,10 +50,10 @@ pub record IsNamed (netlist : Netlist) (n : ℕ) : Type 0 where
   pub least : (m : ℕ) → IsFirstBroken netlist m → n ≤ m
 
 -- what a refusal says; want of memory says nothing
-abbrev pub IsRefusal : Netlist → RouteFault → Type 0
-IsRefusal netlist (PatternLarge n) = IsNamed netlist n × IsLarge netlist n × (HasMany netlist n → ⊥)
-IsRefusal netlist (TooMany n) = IsNamed netlist n × HasMany netlist n
-IsRefusal netlist Memory = Unit {0}
+abbrev pub IsRouteFault : Netlist → RouteFault → Type 0
+IsRouteFault netlist (PatternLarge n) = IsNamed netlist n × IsLarge netlist n × (HasMany netlist n → ⊥)
+IsRouteFault netlist (TooMany n) = IsNamed netlist n × HasMany netlist n
+IsRouteFault netlist Memory = Unit {0}
 
 -- no net breaks a limit
 abbrev pub KeepsLimits : Netlist → Type 0

@@ -6,9 +6,9 @@ ghost use Rattle.net_model.specs.Symbolic.{sym_of};
 ghost use Rattle.net_model.specs.Nets.{word_width};
 ghost use Rattle.sym_expr.specs.Pools.{Grows};
 ghost use Rattle.ctl_bdd.specs.Controls.{IsControl};
-ghost use Rattle.transfer_set.specs.Routes.{AreRoutes, Gives, IsTable, routes_at};
-ghost use Rattle.route_trace.specs.Limits.{IsRefusal, KeepsLimits};
-ghost use Rattle.route_trace.specs.Verdicts.{IsFound, kept_at, verdict_at};
+ghost use Rattle.transfer_set.specs.Routes.{AreRoutes, GivesTerm, IsRouteTable, routes_at};
+ghost use Rattle.route_trace.specs.Limits.{IsRouteFault, KeepsLimits};
+ghost use Rattle.route_trace.specs.Inner.Verdicts.{IsFound, kept_at, verdict_at};
 
 use crate::RouteFault;
 use crate::stop::Stop;
@@ -33,7 +33,8 @@ fn new_routes(alloc: Global, nets: usize) -> Result<Items<Items<Route>>, NoMemor
     Ok(routes)
 }
 
-// The routes of each net that keeps the limits with all that it depends on, and what is found out about each net.
+// The routes of each net that keeps the limits with all that it depends on, and what is found out
+// about each net.
 fn collect(
     alloc: Global,
     checked: &Checked,
@@ -47,11 +48,11 @@ fn collect(
     ensures pool { Grows pool.old pool.new }
     ensures long { IfOk result (λ both. length both.0 ≡ length checked.now.netlist.nets) }
     ensures judged { IfOk result (λ both. length both.1 ≡ length checked.now.netlist.nets) }
-    ensures tables { IfOk result (λ both. (n : ℕ) → IsTable book.new pool.new (routes_at both.0 n)) }
+    ensures tables { IfOk result (λ both. (n : ℕ) → IsRouteTable book.new pool.new (routes_at both.0 n)) }
     ensures found { IfOk result (λ both. (n : ℕ) → n < length checked.now.netlist.nets →
         IsFound checked.now.netlist n (verdict_at both.1 n)) }
     ensures gives { IfOk result (λ both. (n : ℕ) → n < length checked.now.netlist.nets → kept_at both.1 n ≡ true →
-        Gives book.new pool.new controls.now.legal (λ word. sym_of checked.now.netlist word n) (routes_at both.0 n)) }
+        GivesTerm book.new pool.new controls.now.legal (λ word. sym_of checked.now.netlist word n) (routes_at both.0 n)) }
 {
     let netlist = checked.netlist();
     let nets = netlist.nets.as_slice();
@@ -79,11 +80,13 @@ fn collect(
     Ok((routes, verdicts))
 }
 
-/// The routes of all nets: those of a net partition the words without clash by the net's symbolic value. The controls are those of
-/// the netlist, and the book's words are the code's. Book and pool grow, and what they held means what it meant.
+/// The routes of all nets: those of a net partition the words without clash by the net's symbolic
+/// value. The controls are those of the netlist, and the book's words are the code's. Book and pool
+/// grow, and what they held means what it meant.
 ///
-/// A net that breaks a limit and depends on no other net that does is refused, the least of them first: with `TooMany` where it has
-/// more than 4,096 symbolic values over the words without clash, and otherwise with `PatternLarge`, as one has more than 255 nodes.
+/// A net that breaks a limit and depends on no other net that does is refused, the least of them
+/// first: with `TooMany` where it has more than 4,096 symbolic values over the words without clash,
+/// and otherwise with `PatternLarge`, as one has more than 255 nodes.
 pub fn trace(
     alloc: Global,
     checked: &Checked,
@@ -97,7 +100,7 @@ pub fn trace(
     ensures pool { Grows pool.old pool.new }
     ensures routes { IfOk result (λ routes. AreRoutes checked.now.netlist book.new pool.new controls.now.legal routes.of) }
     ensures limits { IfOk result (λ _. KeepsLimits checked.now.netlist) }
-    ensures refusal { IfErr result (IsRefusal checked.now.netlist) }
+    ensures refusal { IfErr result (IsRouteFault checked.now.netlist) }
 {
     let (of, verdicts) = collect(alloc, checked, controls, book, pool)?;
     let _ = checked.netlist();

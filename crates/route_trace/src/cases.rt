@@ -8,12 +8,12 @@ ghost use Rattle.net_model.specs.Symbolic.{bus_term, case_term};
 ghost use Rattle.net_model.specs.Nets.{driver_nets, row_nets};
 ghost use Rattle.sym_expr.specs.Pools.{Grows};
 ghost use Rattle.ctl_bdd.specs.Bits.{AreSets};
-ghost use Rattle.transfer_set.specs.Routes.{IsTable, held, held_terms, only, routes_at};
-ghost use Rattle.route_trace.specs.Gates.{AllGiven, AllWide};
-ghost use Rattle.route_trace.specs.Routing.{AreTables};
-ghost use Rattle.route_trace.specs.Selects.{selects};
-ghost use Rattle.route_trace.specs.Stops.{IfMany, IsOver};
-ghost use Rattle.route_trace.specs.Tests.{AreEnabledAt, AreRowsWide, IsSelectedAt, IsTargetWide, sets_in, target, target_terms};
+ghost use Rattle.transfer_set.specs.Routes.{IsRouteTable, exprs_under, terms_under, only, routes_at};
+ghost use Rattle.route_trace.specs.Inner.Gates.{AllGive, AllWide};
+ghost use Rattle.route_trace.specs.Inner.Routing.{AreTables};
+ghost use Rattle.route_trace.specs.Inner.Selects.{selects};
+ghost use Rattle.route_trace.specs.Inner.Stops.{IfMany, IsOver};
+ghost use Rattle.route_trace.specs.Inner.Tests.{AreEnabledAt, AreRowsWide, IsSelectedAt, IsTargetWide, sets_in, target, target_terms};
 
 use crate::decide::{driver_tests, row_tests, sets_of};
 use crate::first::routes_of;
@@ -56,11 +56,11 @@ fn row_routes(
     requires high { width ≤ 64 }
     ensures book { Extends book.old book.new }
     ensures pool { Grows pool.old pool.new }
-    ensures table { IfOk result (λ out. IsTable book.new pool.new out) }
-    ensures one { IfOk result (λ out. (word : ℕ) → word < 2 ^ book.old.bits → length (held book.new out word) ≤ 1) }
+    ensures table { IfOk result (λ out. IsRouteTable book.new pool.new out) }
+    ensures one { IfOk result (λ out. (word : ℕ) → word < 2 ^ book.old.bits → length (exprs_under book.new out word) ≤ 1) }
     ensures wide { IfOk result (λ out. AllWide pool.new width out) }
     ensures terms { IfOk result (λ out. (word : ℕ) → word < 2 ^ book.old.bits →
-        held_terms book.new pool.new out word ≡ target_terms book.old pool.old nets.now legal width net word) }
+        terms_under book.new pool.new out word ≡ target_terms book.old pool.old nets.now legal width net word) }
 {
     match net {
         Some(net) => {
@@ -95,15 +95,15 @@ fn select_routes(
     requires high { width ≤ 64 }
     ensures book { Extends book.old book.new }
     ensures pool { Grows pool.old pool.new }
-    ensures table { IfOk result (λ out. IsTable book.new pool.new out) }
+    ensures table { IfOk result (λ out. IsRouteTable book.new pool.new out) }
     ensures terms { IfOk result (λ out. (word : ℕ) → word < 2 ^ book.old.bits →
-        held_terms book.new pool.new out word ≡
+        terms_under book.new pool.new out word ≡
         (if has_word book.old legal word
-        then selects (held_terms book.old pool.old (routes_at nets.now sel) word) (target_terms book.old pool.old nets.now legal width one word) (target_terms book.old pool.old nets.now legal width zero word)
+        then selects (terms_under book.old pool.old (routes_at nets.now sel) word) (target_terms book.old pool.old nets.now legal width one word) (target_terms book.old pool.old nets.now legal width zero word)
         else [])) }
     ensures many { IfErr result (λ stop. IfMany stop (IsOver book.new pool.new (λ word terms. terms ≡
         (if has_word book.old legal word
-        then selects (held_terms book.old pool.old (routes_at nets.now sel) word) (target_terms book.old pool.old nets.now legal width one word) (target_terms book.old pool.old nets.now legal width zero word)
+        then selects (terms_under book.old pool.old (routes_at nets.now sel) word) (target_terms book.old pool.old nets.now legal width one word) (target_terms book.old pool.old nets.now legal width zero word)
         else [])))) }
 {
     let mut out = Items::new(alloc);
@@ -123,7 +123,8 @@ fn select_routes(
     Ok(out)
 }
 
-// The routes of a case: by its tests where the selector has sets, and by the selector's expressions otherwise.
+// The routes of a case: by its tests where the selector has sets, and by the selector's expressions
+// otherwise.
 pub(crate) fn case_routes(
     alloc: Global,
     controls: &ControlBits,
@@ -147,16 +148,16 @@ pub(crate) fn case_routes(
     requires high { width ≤ 64 }
     ensures book { Extends book.old book.new }
     ensures pool { Grows pool.old pool.new }
-    ensures table { IfOk result (λ out. IsTable book.new pool.new out) }
+    ensures table { IfOk result (λ out. IsRouteTable book.new pool.new out) }
     ensures terms { IfOk result (λ out. (t : ℕ → Term) → (u : ℕ → ℕ) → (f : ℕ → Bool) → (word : ℕ) → word < 2 ^ book.old.bits →
-        AllGiven book.old pool.old nets.now controls.now.legal t word (sel ∷ row_nets rows.now rest) →
+        AllGive book.old pool.old nets.now controls.now.legal t word (sel ∷ row_nets rows.now rest) →
         IsSelectedAt book.old (sets_in controls.now.bits sel) word u f sel →
-        held_terms book.new pool.new out word ≡
+        terms_under book.new pool.new out word ≡
         only book.old controls.now.legal word
         (if f sel then case_term t width (u sel) rows.now rest
         else select (t sel) (case_term t width 1 rows.now rest) (case_term t width 0 rows.now rest))) }
     ensures many { IfErr result (λ stop. IfMany stop (IsOver book.new pool.new (λ word terms. (t : ℕ → Term) → (u : ℕ → ℕ) → (f : ℕ → Bool) →
-        AllGiven book.old pool.old nets.now controls.now.legal t word (sel ∷ row_nets rows.now rest) →
+        AllGive book.old pool.old nets.now controls.now.legal t word (sel ∷ row_nets rows.now rest) →
         IsSelectedAt book.old (sets_in controls.now.bits sel) word u f sel →
         terms ≡
         only book.old controls.now.legal word
@@ -203,13 +204,13 @@ pub(crate) fn bus_routes(
     requires high { width ≤ 64 }
     ensures book { Extends book.old book.new }
     ensures pool { Grows pool.old pool.new }
-    ensures table { IfOk result (λ out. IsTable book.new pool.new out) }
+    ensures table { IfOk result (λ out. IsRouteTable book.new pool.new out) }
     ensures terms { IfOk result (λ out. (t : ℕ → Term) → (u : ℕ → ℕ) → (word : ℕ) → word < 2 ^ book.old.bits →
-        AllGiven book.old pool.old nets.now controls.now.legal t word (driver_nets drivers.now) →
+        AllGive book.old pool.old nets.now controls.now.legal t word (driver_nets drivers.now) →
         AreEnabledAt book.old controls.now.bits word u drivers.now →
-        held_terms book.new pool.new out word ≡ only book.old controls.now.legal word (bus_term t u width drivers.now)) }
+        terms_under book.new pool.new out word ≡ only book.old controls.now.legal word (bus_term t u width drivers.now)) }
     ensures many { IfErr result (λ stop. IfMany stop (IsOver book.new pool.new (λ word terms. (t : ℕ → Term) → (u : ℕ → ℕ) →
-        AllGiven book.old pool.old nets.now controls.now.legal t word (driver_nets drivers.now) →
+        AllGive book.old pool.old nets.now controls.now.legal t word (driver_nets drivers.now) →
         AreEnabledAt book.old controls.now.bits word u drivers.now →
         terms ≡ only book.old controls.now.legal word (bus_term t u width drivers.now)))) }
 {

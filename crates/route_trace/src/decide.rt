@@ -4,9 +4,9 @@ ghost use Rattle.std.specs.Prelude.{◌≡◌, ℕ, ◌^◌, ◌<◌, ◌≤◌,
 ghost use Rattle.std.specs.List.{AllByRecursion};
 ghost use Rattle.bit_bdd.specs.Diagrams.{Extends};
 ghost use Rattle.ctl_bdd.specs.Bits.{AreSets, number_at};
-ghost use Rattle.route_trace.specs.Gates.{DriverTests, RowTests};
-ghost use Rattle.route_trace.specs.Routing.{AllTests};
-ghost use Rattle.route_trace.specs.Tests.{sets_in};
+ghost use Rattle.route_trace.specs.Inner.Gates.{DriverTests, RowTests};
+ghost use Rattle.route_trace.specs.Inner.Routing.{AllTests};
+ghost use Rattle.route_trace.specs.Inner.Tests.{sets_in};
 
 use bit_bdd::{Book, SetId};
 use ctl_bdd::{ControlBits, equals};
@@ -25,7 +25,8 @@ pub(crate) fn sets_of(controls: &ControlBits, net: u32) -> &[SetId]
     &[]
 }
 
-// The test of each row of a case: the words under which the selector of these bits has the row's number.
+// The test of each row of a case: the words under which the selector of these bits has the row's
+// number.
 pub(crate) fn row_tests(
     alloc: Global,
     book: &mut Book,

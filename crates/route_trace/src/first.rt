@@ -3,9 +3,9 @@
 ghost use Rattle.std.specs.Prelude.{◌≡◌, ℕ, ◌+◌, ◌^◌, ◌<◌, ◌≤◌, ◌&&◌, not, [], length, IfErr, IfOk, OnOk, true, if◌then◌else◌};
 ghost use Rattle.bit_bdd.specs.Diagrams.{Extends, has_word};
 ghost use Rattle.sym_expr.specs.Pools.{Grows};
-ghost use Rattle.route_trace.specs.Routing.{AllTests, AreTables, first_terms, passes};
-ghost use Rattle.route_trace.specs.Stops.{IfMany, IsOver};
-ghost use Rattle.transfer_set.specs.Routes.{IsTable, held, held_terms, routes_at};
+ghost use Rattle.route_trace.specs.Inner.Routing.{AllTests, AreTables, first_terms, passes};
+ghost use Rattle.route_trace.specs.Inner.Stops.{IfMany, IsOver};
+ghost use Rattle.transfer_set.specs.Routes.{IsRouteTable, exprs_under, terms_under, routes_at};
 
 use crate::heads::Head;
 use crate::product::add_all;
@@ -37,14 +37,16 @@ pub(crate) fn without(
     requires other { other < length book.old.nodes }
     ensures book { Extends book.old book.new }
     ensures within { IfOk result (λ id. id < length book.new.nodes) }
-    ensures words { IfOk result (λ id. (word : ℕ) → has_word book.new id word ≡ (has_word book.old set word && not (has_word book.old other word))) }
+    ensures words { IfOk result (λ id.
+        (word : ℕ) → has_word book.new id word ≡ (has_word book.old set word && not (has_word book.old other word))) }
 {
     let outside = book.not(alloc, other)?;
     let id = book.and(alloc, set, outside)?;
     Ok(id)
 }
 
-// Adds the words of a set, each with the routes of the first net whose test holds it, and gives the words that no test holds.
+// Adds the words of a set, each with the routes of the first net whose test holds it, and gives the
+// words that no test holds.
 pub(crate) fn add_first(
     alloc: Global,
     book: &mut Book,
@@ -57,15 +59,18 @@ pub(crate) fn add_first(
     requires set { set < length book.old.nodes }
     requires tests { AllTests book.old tests.now }
     requires nets { AreTables book.old pool.old nets.now }
-    requires table { IsTable book.old pool.old out.old }
-    requires apart { (word : ℕ) → word < 2 ^ book.old.bits → has_word book.old set word ≡ true → held book.old out.old word ≡ [] }
+    requires table { IsRouteTable book.old pool.old out.old }
+    requires apart { (word : ℕ) → word < 2 ^ book.old.bits → has_word book.old set word ≡ true → exprs_under book.old out.old word ≡ [] }
     ensures book { Extends book.old book.new }
     ensures pool { Grows pool.old pool.new }
-    ensures table { OnOk result (IsTable book.new pool.new out.new) }
-    ensures terms { OnOk result ((word : ℕ) → word < 2 ^ book.old.bits → held_terms book.new pool.new out.new word ≡ (if has_word book.old set word then first_terms book.old pool.old nets.now word tests.now else held_terms book.old pool.old out.old word)) }
+    ensures table { OnOk result (IsRouteTable book.new pool.new out.new) }
+    ensures terms { OnOk result ((word : ℕ) → word < 2 ^ book.old.bits →
+        terms_under book.new pool.new out.new word ≡ (if has_word book.old set word then first_terms book.old pool.old nets.now word tests.now else terms_under book.old pool.old out.old word)) }
     ensures left_within { IfOk result (λ left. left < length book.new.nodes) }
-    ensures left { IfOk result (λ left. (word : ℕ) → word < 2 ^ book.old.bits → has_word book.new left word ≡ (has_word book.old set word && not (passes book.old word tests.now))) }
-    ensures many { IfErr result (λ stop. IfMany stop (IsOver book.new pool.new (λ word terms. terms ≡ (if has_word book.old set word then first_terms book.old pool.old nets.now word tests.now else held_terms book.old pool.old out.old word)))) }
+    ensures left { IfOk result (λ left. (word : ℕ) → word < 2 ^ book.old.bits →
+        has_word book.new left word ≡ (has_word book.old set word && not (passes book.old word tests.now))) }
+    ensures many { IfErr result (λ stop. IfMany stop (IsOver book.new pool.new (λ word terms.
+        terms ≡ (if has_word book.old set word then first_terms book.old pool.old nets.now word tests.now else terms_under book.old pool.old out.old word)))) }
 {
     let mut left = set;
     for test in tests {

@@ -2,12 +2,12 @@
 
 ghost use Rattle.std.specs.Prelude.{◌≡◌, ℕ, ◌+◌, ◌^◌, ◌<◌, ◌≤◌, ◌&&◌, not, [], ◌∷◌, map, length, IfErr, IfOk, OnOk, true, if◌then◌else◌};
 ghost use Rattle.bit_bdd.specs.Diagrams.{Extends, has_word};
-ghost use Rattle.sym_expr.specs.Pools.{AllBelow, Grows, HeadFits, node_term, parts_of, term_at};
-ghost use Rattle.route_trace.specs.Heads.{head_parts, head_term, two_parts};
-ghost use Rattle.route_trace.specs.Routing.{AllFit, AllTests, AllTwoFit, AreTables, first_terms, passes, pairs};
-ghost use Rattle.route_trace.specs.Stops.{IfMany, IsOver};
-ghost use Rattle.transfer_set.specs.Routes.{IsTable, held, held_terms, routes_at};
-ghost use Rattle.route_trace.specs.Gates.{rest_terms};
+ghost use Rattle.sym_expr.specs.Pools.{AllBelow, Grows, HeadFits, node_term, children_of, term_at};
+ghost use Rattle.route_trace.specs.Inner.Heads.{head_parts, head_term, two_parts};
+ghost use Rattle.route_trace.specs.Inner.Routing.{AllFit, AllTests, AllBinaryFit, AreTables, first_terms, passes, pairs};
+ghost use Rattle.route_trace.specs.Inner.Stops.{IfMany, IsOver};
+ghost use Rattle.transfer_set.specs.Routes.{IsRouteTable, exprs_under, terms_under, routes_at};
+ghost use Rattle.route_trace.specs.Inner.Gates.{rest_terms};
 
 use crate::first::{add_first, routes_of};
 use crate::heads::{Head, Two};
@@ -31,14 +31,15 @@ fn add_leaf(
     node: Node,
 ) -> Result<(), NoMemory>
     requires set { set < length book.old.nodes }
-    requires leaf { parts_of node ≡ [] }
+    requires leaf { children_of node ≡ [] }
     requires fits { HeadFits (node_term node (term_at pool.old)) }
-    requires table { IsTable book.old pool.old out.old }
-    requires apart { (word : ℕ) → word < 2 ^ book.old.bits → has_word book.old set word ≡ true → held book.old out.old word ≡ [] }
+    requires table { IsRouteTable book.old pool.old out.old }
+    requires apart { (word : ℕ) → word < 2 ^ book.old.bits → has_word book.old set word ≡ true → exprs_under book.old out.old word ≡ [] }
     ensures book { Extends book.old book.new }
     ensures pool { Grows pool.old pool.new }
-    ensures table { OnOk result (IsTable book.new pool.new out.new) }
-    ensures terms { OnOk result ((word : ℕ) → word < 2 ^ book.old.bits → held_terms book.new pool.new out.new word ≡ (if has_word book.old set word then node_term node (term_at pool.old) ∷ [] else held_terms book.old pool.old out.old word)) }
+    ensures table { OnOk result (IsRouteTable book.new pool.new out.new) }
+    ensures terms { OnOk result ((word : ℕ) → word < 2 ^ book.old.bits →
+        terms_under book.new pool.new out.new word ≡ (if has_word book.old set word then node_term node (term_at pool.old) ∷ [] else terms_under book.old pool.old out.old word)) }
 {
     match book.least(set) {
         None => Ok(()),
@@ -59,12 +60,13 @@ pub(crate) fn leaf_routes(
     node: Node,
 ) -> Result<Items<Route>, NoMemory>
     requires legal { legal < length book.old.nodes }
-    requires leaf { parts_of node ≡ [] }
+    requires leaf { children_of node ≡ [] }
     requires fits { HeadFits (node_term node (term_at pool.old)) }
     ensures book { Extends book.old book.new }
     ensures pool { Grows pool.old pool.new }
-    ensures table { IfOk result (λ out. IsTable book.new pool.new out) }
-    ensures terms { IfOk result (λ out. (word : ℕ) → word < 2 ^ book.old.bits → held_terms book.new pool.new out word ≡ (if has_word book.old legal word then node_term node (term_at pool.old) ∷ [] else [])) }
+    ensures table { IfOk result (λ out. IsRouteTable book.new pool.new out) }
+    ensures terms { IfOk result (λ out. (word : ℕ) → word < 2 ^ book.old.bits →
+        terms_under book.new pool.new out word ≡ (if has_word book.old legal word then node_term node (term_at pool.old) ∷ [] else [])) }
 {
     let mut out = Items::new(alloc);
     add_leaf(alloc, book, pool, &mut out, legal, node)?;
@@ -87,9 +89,11 @@ pub(crate) fn routes_under(
     requires fits { AllFit head pool.old (routes_at nets.now a) }
     ensures book { Extends book.old book.new }
     ensures pool { Grows pool.old pool.new }
-    ensures table { IfOk result (λ out. IsTable book.new pool.new out) }
-    ensures terms { IfOk result (λ out. (word : ℕ) → word < 2 ^ book.old.bits → held_terms book.new pool.new out word ≡ (if has_word book.old legal word then map (head_term head (term_at pool.old)) (held_terms book.old pool.old (routes_at nets.now a) word) else [])) }
-    ensures many { IfErr result (λ stop. IfMany stop (IsOver book.new pool.new (λ word terms. terms ≡ (if has_word book.old legal word then map (head_term head (term_at pool.old)) (held_terms book.old pool.old (routes_at nets.now a) word) else [])))) }
+    ensures table { IfOk result (λ out. IsRouteTable book.new pool.new out) }
+    ensures terms { IfOk result (λ out. (word : ℕ) → word < 2 ^ book.old.bits →
+        terms_under book.new pool.new out word ≡ (if has_word book.old legal word then map (head_term head (term_at pool.old)) (terms_under book.old pool.old (routes_at nets.now a) word) else [])) }
+    ensures many { IfErr result (λ stop. IfMany stop (IsOver book.new pool.new (λ word terms.
+        terms ≡ (if has_word book.old legal word then map (head_term head (term_at pool.old)) (terms_under book.old pool.old (routes_at nets.now a) word) else [])))) }
 {
     let mut out = Items::new(alloc);
     let routes = routes_of(nets, a);
@@ -111,12 +115,14 @@ pub(crate) fn routes_over(
     requires legal { legal < length book.old.nodes }
     requires parts { AllBelow (length pool.old) (two_parts two) }
     requires nets { AreTables book.old pool.old nets.now }
-    requires fits { AllTwoFit two pool.old (routes_at nets.now a) (routes_at nets.now b) }
+    requires fits { AllBinaryFit two pool.old (routes_at nets.now a) (routes_at nets.now b) }
     ensures book { Extends book.old book.new }
     ensures pool { Grows pool.old pool.new }
-    ensures table { IfOk result (λ out. IsTable book.new pool.new out) }
-    ensures terms { IfOk result (λ out. (word : ℕ) → word < 2 ^ book.old.bits → held_terms book.new pool.new out word ≡ (if has_word book.old legal word then pairs two (term_at pool.old) (held_terms book.old pool.old (routes_at nets.now a) word) (held_terms book.old pool.old (routes_at nets.now b) word) else [])) }
-    ensures many { IfErr result (λ stop. IfMany stop (IsOver book.new pool.new (λ word terms. terms ≡ (if has_word book.old legal word then pairs two (term_at pool.old) (held_terms book.old pool.old (routes_at nets.now a) word) (held_terms book.old pool.old (routes_at nets.now b) word) else [])))) }
+    ensures table { IfOk result (λ out. IsRouteTable book.new pool.new out) }
+    ensures terms { IfOk result (λ out. (word : ℕ) → word < 2 ^ book.old.bits →
+        terms_under book.new pool.new out word ≡ (if has_word book.old legal word then pairs two (term_at pool.old) (terms_under book.old pool.old (routes_at nets.now a) word) (terms_under book.old pool.old (routes_at nets.now b) word) else [])) }
+    ensures many { IfErr result (λ stop. IfMany stop (IsOver book.new pool.new (λ word terms.
+        terms ≡ (if has_word book.old legal word then pairs two (term_at pool.old) (terms_under book.old pool.old (routes_at nets.now a) word) (terms_under book.old pool.old (routes_at nets.now b) word) else [])))) }
 {
     let mut out = Items::new(alloc);
     let firsts = routes_of(nets, a);
@@ -143,9 +149,11 @@ pub(crate) fn routes_of_first(
     requires high { width ≤ 64 }
     ensures book { Extends book.old book.new }
     ensures pool { Grows pool.old pool.new }
-    ensures table { IfOk result (λ out. IsTable book.new pool.new out) }
-    ensures terms { IfOk result (λ out. (word : ℕ) → word < 2 ^ book.old.bits → held_terms book.new pool.new out word ≡ (if has_word book.old legal word then (if passes book.old word tests.now then first_terms book.old pool.old nets.now word tests.now else rest_terms book.old pool.old nets.now width rest word) else [])) }
-    ensures many { IfErr result (λ stop. IfMany stop (IsOver book.new pool.new (λ word terms. terms ≡ (if has_word book.old legal word then (if passes book.old word tests.now then first_terms book.old pool.old nets.now word tests.now else rest_terms book.old pool.old nets.now width rest word) else [])))) }
+    ensures table { IfOk result (λ out. IsRouteTable book.new pool.new out) }
+    ensures terms { IfOk result (λ out. (word : ℕ) → word < 2 ^ book.old.bits →
+        terms_under book.new pool.new out word ≡ (if has_word book.old legal word then (if passes book.old word tests.now then first_terms book.old pool.old nets.now word tests.now else rest_terms book.old pool.old nets.now width rest word) else [])) }
+    ensures many { IfErr result (λ stop. IfMany stop (IsOver book.new pool.new (λ word terms.
+        terms ≡ (if has_word book.old legal word then (if passes book.old word tests.now then first_terms book.old pool.old nets.now word tests.now else rest_terms book.old pool.old nets.now width rest word) else [])))) }
 {
     let mut out = Items::new(alloc);
     let left = add_first(alloc, book, pool, &mut out, legal, tests, nets)?;

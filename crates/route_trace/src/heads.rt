@@ -4,7 +4,7 @@ ghost use Rattle.std.specs.Prelude.{◌≡◌, ℕ, ◌<◌, ◌≤◌, length, 
 ghost use Rattle.net_model.specs.Symbolic.{sliced};
 ghost use Rattle.net_model.specs.Terms.{term_width};
 ghost use Rattle.sym_expr.specs.Pools.{AllBelow, Grows, term_at};
-ghost use Rattle.route_trace.specs.Heads.{LastFits, head_parts, head_term, slice_parts, two_head};
+ghost use Rattle.route_trace.specs.Inner.Heads.{LastFits, head_parts, head_term, slice_parts, two_head};
 
 use rec_bits::{NoMemory, Op1, Op2};
 use std::alloc::Global;

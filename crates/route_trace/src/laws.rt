@@ -12,7 +12,8 @@ pub fn law_of_words()
     ensures { AreWhole }
 {}
 
-/// What a route's expression means is the net's value, in each state, under each word of the route's set.
+/// What a route's expression means is the net's value, in each state, under each word of the
+/// route's set.
 pub fn law_of_meaning()
     ensures { RoutesMean }
 {}

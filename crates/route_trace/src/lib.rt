@@ -2,8 +2,8 @@
 //!
 //! Promise: the routes of each net that `trace` gives partition the words without a clash by the
 //! net's symbolic value (`routes`: `AreRoutes`); N12 and N13 are kept (`limits`: `KeepsLimits`), or
-//! the net is told that is named for one of them (`refusal`: `IsRefusal`). The laws `law_of_sets`,
-//! `law_of_words` and `law_of_meaning` say what follows for each route.
+//! the net is told that is named for one of them (`refusal`: `IsRouteFault`). The laws
+//! `law_of_sets`, `law_of_words` and `law_of_meaning` say what follows for each route.
 //!
 //! Invariant: nets are gone over in the order of the checked netlist, and at each word at most one
 //! route of a net holds it: so routes are right for each word by itself, operators are maps over
@@ -24,9 +24,9 @@
 //! - `all_nets`: `trace`, net by net.
 //! - `laws`: the three laws.
 //! - `lib`: `RouteFault`.
-//! - `specs/`: `Laws` and `Limits` are cited by public contracts, and routes are
-//!   `transfer_set/specs/Routes`; `Routing`, `Heads`, `Lookups`, `Selects`, `Gates`, `Tests`,
-//!   `Stops` and `Verdicts` mirror loops.
+//! - `specs/`: `Laws` and `Limits`, cited by public contracts, and routes are
+//!   `transfer_set/specs/Routes`. `specs/Inner/`: `Routing`, `Heads`, `Lookups`, `Selects`,
+//!   `Gates`, `Tests`, `Stops` and `Verdicts`, which go with loops.
 //! - `proofs/`: `Exact` carries the promise and the laws, from `Turns` (one net more) over `Given`,
 //!   `Deciding`, `Products` and `Selecting` to it; `Judging` and `Stopping` carry the limits.
 #![tactic(auto)]

@@ -2,7 +2,7 @@
 
 ghost use Rattle.std.specs.Prelude.{◌≡◌, ℕ, ◌^◌, ◌==◌, ◌<◌, ◌≤◌, [], position, ◌∷◌, length, IfOk, OnOk, true, if◌then◌else◌};
 ghost use Rattle.bit_bdd.specs.Diagrams.{Extends, has_word};
-ghost use Rattle.transfer_set.specs.Routes.{AllExprs, IsRoutes, IsSet, held};
+ghost use Rattle.transfer_set.specs.Routes.{AllExprs, IsRoutes, IsSet, exprs_under};
 
 use bit_bdd::{Book, SetId};
 use rec_bits::{Items, NoMemory};
@@ -27,11 +27,12 @@ pub(crate) fn add_route(
 ) -> Result<(), NoMemory>
     requires set { IsSet book.old set }
     requires routes { IsRoutes book.old out.old }
-    requires apart { (word : ℕ) → word < 2 ^ book.old.bits → has_word book.old set word ≡ true → held book.old out.old word ≡ [] }
+    requires apart { (word : ℕ) → word < 2 ^ book.old.bits → has_word book.old set word ≡ true → exprs_under book.old out.old word ≡ [] }
     ensures grows { Extends book.old book.new }
     ensures routes { OnOk result (IsRoutes book.new out.new) }
     ensures exprs { OnOk result ((size : ℕ) → expr < size → AllExprs size out.old → AllExprs size out.new) }
-    ensures held { OnOk result ((word : ℕ) → word < 2 ^ book.old.bits → held book.new out.new word ≡ (if has_word book.old set word then expr ∷ [] else held book.old out.old word)) }
+    ensures held { OnOk result ((word : ℕ) → word < 2 ^ book.old.bits →
+        exprs_under book.new out.new word ≡ (if has_word book.old set word then expr ∷ [] else exprs_under book.old out.old word)) }
 {
     match find(out.as_slice(), expr) {
         Some(place) => {

@@ -3,10 +3,10 @@
 ghost use Rattle.std.specs.Prelude.{◌≡◌, ℕ, ◌+◌, ◌^◌, ◌<◌, ◌≤◌, ◌&&◌, not, [], map, length, IfErr, IfOk, OnOk, true, if◌then◌else◌};
 ghost use Rattle.bit_bdd.specs.Diagrams.{Extends, has_word};
 ghost use Rattle.sym_expr.specs.Pools.{AllBelow, Grows, term_at};
-ghost use Rattle.route_trace.specs.Heads.{head_parts, head_term, two_head, two_parts};
-ghost use Rattle.route_trace.specs.Routing.{AllFit, AllTwoFit, pairs};
-ghost use Rattle.route_trace.specs.Stops.{IfMany, IsOver};
-ghost use Rattle.transfer_set.specs.Routes.{IsTable, held, held_terms};
+ghost use Rattle.route_trace.specs.Inner.Heads.{head_parts, head_term, two_head, two_parts};
+ghost use Rattle.route_trace.specs.Inner.Routing.{AllFit, AllBinaryFit, pairs};
+ghost use Rattle.route_trace.specs.Inner.Stops.{IfMany, IsOver};
+ghost use Rattle.transfer_set.specs.Routes.{IsRouteTable, exprs_under, terms_under};
 
 use crate::first::without;
 use crate::heads::{Head, Two, with_first};
@@ -19,8 +19,8 @@ use std::alloc::Global;
 use sym_expr::Pool;
 use transfer_set::Route;
 
-// Adds the words of a set that are in another, with what some routes give them under a head, and gives the other words
-// of the set.
+// Adds the words of a set that are in another, with what some routes give them under a head, and
+// gives the other words of the set.
 fn add_part(
     alloc: Global,
     book: &mut Book,
@@ -35,18 +35,22 @@ fn add_part(
     requires set { set < length book.old.nodes }
     requires part { part < length book.old.nodes }
     requires parts { AllBelow (length pool.old) (head_parts head) }
-    requires source { IsTable book.old pool.old routes.now }
-    requires one { (word : ℕ) → word < 2 ^ book.old.bits → length (held book.old routes.now word) ≤ 1 }
+    requires source { IsRouteTable book.old pool.old routes.now }
+    requires one { (word : ℕ) → word < 2 ^ book.old.bits → length (exprs_under book.old routes.now word) ≤ 1 }
     requires fits { AllFit head pool.old routes.now }
-    requires table { IsTable book.old pool.old out.old }
-    requires apart { (word : ℕ) → word < 2 ^ book.old.bits → (has_word book.old set word && has_word book.old part word) ≡ true → held book.old out.old word ≡ [] }
+    requires table { IsRouteTable book.old pool.old out.old }
+    requires apart { (word : ℕ) → word < 2 ^ book.old.bits → (has_word book.old set word && has_word book.old part word) ≡ true →
+        exprs_under book.old out.old word ≡ [] }
     ensures book { Extends book.old book.new }
     ensures pool { Grows pool.old pool.new }
-    ensures table { OnOk result (IsTable book.new pool.new out.new) }
-    ensures terms { OnOk result ((word : ℕ) → word < 2 ^ book.old.bits → held_terms book.new pool.new out.new word ≡ (if has_word book.old set word && has_word book.old part word then map (head_term head (term_at pool.old)) (held_terms book.old pool.old routes.now word) else held_terms book.old pool.old out.old word)) }
+    ensures table { OnOk result (IsRouteTable book.new pool.new out.new) }
+    ensures terms { OnOk result ((word : ℕ) → word < 2 ^ book.old.bits →
+        terms_under book.new pool.new out.new word ≡ (if has_word book.old set word && has_word book.old part word then map (head_term head (term_at pool.old)) (terms_under book.old pool.old routes.now word) else terms_under book.old pool.old out.old word)) }
     ensures left_within { IfOk result (λ left. left < length book.new.nodes) }
-    ensures left { IfOk result (λ left. (word : ℕ) → has_word book.new left word ≡ (has_word book.old set word && not (has_word book.old part word))) }
-    ensures many { IfErr result (λ stop. IfMany stop (IsOver book.new pool.new (λ word terms. terms ≡ (if has_word book.old set word && has_word book.old part word then map (head_term head (term_at pool.old)) (held_terms book.old pool.old routes.now word) else held_terms book.old pool.old out.old word)))) }
+    ensures left { IfOk result (λ left.
+        (word : ℕ) → has_word book.new left word ≡ (has_word book.old set word && not (has_word book.old part word))) }
+    ensures many { IfErr result (λ stop. IfMany stop (IsOver book.new pool.new (λ word terms.
+        terms ≡ (if has_word book.old set word && has_word book.old part word then map (head_term head (term_at pool.old)) (terms_under book.old pool.old routes.now word) else terms_under book.old pool.old out.old word)))) }
 {
     let left = without(alloc, book, set, part)?;
     let both = book.and(alloc, set, part)?;
@@ -54,8 +58,9 @@ fn add_part(
     Ok(left)
 }
 
-// Adds the words of a set, with an operator over what two lists of routes give them. Only pairs with a word of the set
-// are looked up, from the place `start` on, and the second of a pair from the place of the first on.
+// Adds the words of a set, with an operator over what two lists of routes give them. Only pairs
+// with a word of the set are looked up, from the place `start` on, and the second of a pair from
+// the place of the first on.
 pub(crate) fn add_pairs(
     alloc: Global,
     book: &mut Book,
@@ -69,18 +74,20 @@ pub(crate) fn add_pairs(
 ) -> Result<(), Stop>
     requires set { set < length book.old.nodes }
     requires parts { AllBelow (length pool.old) (two_parts two) }
-    requires first { IsTable book.old pool.old firsts.now }
-    requires first_one { (word : ℕ) → word < 2 ^ book.old.bits → length (held book.old firsts.now word) ≤ 1 }
-    requires second { IsTable book.old pool.old seconds.now }
-    requires second_one { (word : ℕ) → word < 2 ^ book.old.bits → length (held book.old seconds.now word) ≤ 1 }
-    requires fits { AllTwoFit two pool.old firsts.now seconds.now }
-    requires table { IsTable book.old pool.old out.old }
-    requires apart { (word : ℕ) → word < 2 ^ book.old.bits → has_word book.old set word ≡ true → held book.old out.old word ≡ [] }
+    requires first { IsRouteTable book.old pool.old firsts.now }
+    requires first_one { (word : ℕ) → word < 2 ^ book.old.bits → length (exprs_under book.old firsts.now word) ≤ 1 }
+    requires second { IsRouteTable book.old pool.old seconds.now }
+    requires second_one { (word : ℕ) → word < 2 ^ book.old.bits → length (exprs_under book.old seconds.now word) ≤ 1 }
+    requires fits { AllBinaryFit two pool.old firsts.now seconds.now }
+    requires table { IsRouteTable book.old pool.old out.old }
+    requires apart { (word : ℕ) → word < 2 ^ book.old.bits → has_word book.old set word ≡ true → exprs_under book.old out.old word ≡ [] }
     ensures book { Extends book.old book.new }
     ensures pool { Grows pool.old pool.new }
-    ensures table { OnOk result (IsTable book.new pool.new out.new) }
-    ensures terms { OnOk result ((word : ℕ) → word < 2 ^ book.old.bits → held_terms book.new pool.new out.new word ≡ (if has_word book.old set word then pairs two (term_at pool.old) (held_terms book.old pool.old firsts.now word) (held_terms book.old pool.old seconds.now word) else held_terms book.old pool.old out.old word)) }
-    ensures many { IfErr result (λ stop. IfMany stop (IsOver book.new pool.new (λ word terms. terms ≡ (if has_word book.old set word then pairs two (term_at pool.old) (held_terms book.old pool.old firsts.now word) (held_terms book.old pool.old seconds.now word) else held_terms book.old pool.old out.old word)))) }
+    ensures table { OnOk result (IsRouteTable book.new pool.new out.new) }
+    ensures terms { OnOk result ((word : ℕ) → word < 2 ^ book.old.bits →
+        terms_under book.new pool.new out.new word ≡ (if has_word book.old set word then pairs two (term_at pool.old) (terms_under book.old pool.old firsts.now word) (terms_under book.old pool.old seconds.now word) else terms_under book.old pool.old out.old word)) }
+    ensures many { IfErr result (λ stop. IfMany stop (IsOver book.new pool.new (λ word terms.
+        terms ≡ (if has_word book.old set word then pairs two (term_at pool.old) (terms_under book.old pool.old firsts.now word) (terms_under book.old pool.old seconds.now word) else terms_under book.old pool.old out.old word)))) }
 {
     let mut left = set;
     let mut start = start;

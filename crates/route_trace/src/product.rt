@@ -4,11 +4,11 @@ ghost use Rattle.std.specs.Prelude.{◌≡◌, ℕ, ◌+◌, ◌^◌, ◌<◌, �
 ghost use Rattle.bit_bdd.specs.Diagrams.{Extends, has_word};
 ghost use Rattle.net_model.specs.Terms.{term_width};
 ghost use Rattle.sym_expr.specs.Pools.{AllBelow, Grows, term_at};
-ghost use Rattle.route_trace.specs.Heads.{LastFits, head_parts, head_term};
-ghost use Rattle.route_trace.specs.Lookups.{Meet};
-ghost use Rattle.route_trace.specs.Routing.{AllFit};
-ghost use Rattle.route_trace.specs.Stops.{IfMany, IsOver};
-ghost use Rattle.transfer_set.specs.Routes.{IsTable, held, held_terms};
+ghost use Rattle.route_trace.specs.Inner.Heads.{LastFits, head_parts, head_term};
+ghost use Rattle.route_trace.specs.Inner.Lookups.{Meet};
+ghost use Rattle.route_trace.specs.Inner.Routing.{AllFit};
+ghost use Rattle.route_trace.specs.Inner.Stops.{IfMany, IsOver};
+ghost use Rattle.transfer_set.specs.Routes.{IsRouteTable, exprs_under, terms_under};
 
 use crate::first::without;
 use crate::heads::{Head, close};
@@ -22,8 +22,8 @@ use std::alloc::Global;
 use sym_expr::Pool;
 use transfer_set::Route;
 
-// Adds the words of a set that are in a route, with the route's expression under a head, and gives the other words of
-// the set. There are such words.
+// Adds the words of a set that are in a route, with the route's expression under a head, and gives
+// the other words of the set. There are such words.
 fn add_one(
     alloc: Global,
     book: &mut Book,
@@ -39,14 +39,17 @@ fn add_one(
     requires route_expr { route.expr < length pool.old }
     requires meet { Meet book.old set route.set }
     requires fits { LastFits head (term_at pool.old) (term_width (term_at pool.old route.expr)) }
-    requires table { IsTable book.old pool.old out.old }
-    requires apart { (word : ℕ) → word < 2 ^ book.old.bits → (has_word book.old set word && has_word book.old route.set word) ≡ true → held book.old out.old word ≡ [] }
+    requires table { IsRouteTable book.old pool.old out.old }
+    requires apart { (word : ℕ) → word < 2 ^ book.old.bits →
+        (has_word book.old set word && has_word book.old route.set word) ≡ true → exprs_under book.old out.old word ≡ [] }
     ensures book { Extends book.old book.new }
     ensures pool { Grows pool.old pool.new }
-    ensures table { OnOk result (IsTable book.new pool.new out.new) }
-    ensures terms { OnOk result ((word : ℕ) → word < 2 ^ book.old.bits → held_terms book.new pool.new out.new word ≡ (if has_word book.old set word && has_word book.old route.set word then head_term head (term_at pool.old) (term_at pool.old route.expr) ∷ [] else held_terms book.old pool.old out.old word)) }
+    ensures table { OnOk result (IsRouteTable book.new pool.new out.new) }
+    ensures terms { OnOk result ((word : ℕ) → word < 2 ^ book.old.bits →
+        terms_under book.new pool.new out.new word ≡ (if has_word book.old set word && has_word book.old route.set word then head_term head (term_at pool.old) (term_at pool.old route.expr) ∷ [] else terms_under book.old pool.old out.old word)) }
     ensures left_within { IfOk result (λ left. left < length book.new.nodes) }
-    ensures left { IfOk result (λ left. (word : ℕ) → has_word book.new left word ≡ (has_word book.old set word && not (has_word book.old route.set word))) }
+    ensures left { IfOk result (λ left.
+        (word : ℕ) → has_word book.new left word ≡ (has_word book.old set word && not (has_word book.old route.set word))) }
 {
     let left = without(alloc, book, set, route.set)?;
     let both = book.and(alloc, set, route.set)?;
@@ -55,8 +58,9 @@ fn add_one(
     Ok(left)
 }
 
-// Adds the words of a set, with what some routes give them under a head, and gives up once there are too many routes.
-// Only routes with a word of the set are looked up, by the least word that is left, from the place `start` on.
+// Adds the words of a set, with what some routes give them under a head, and gives up once there
+// are too many routes. Only routes with a word of the set are looked up, by the least word that is
+// left, from the place `start` on.
 pub(crate) fn add_all(
     alloc: Global,
     book: &mut Book,
@@ -69,16 +73,18 @@ pub(crate) fn add_all(
 ) -> Result<(), Stop>
     requires set { set < length book.old.nodes }
     requires parts { AllBelow (length pool.old) (head_parts head) }
-    requires source { IsTable book.old pool.old routes.now }
-    requires one { (word : ℕ) → word < 2 ^ book.old.bits → length (held book.old routes.now word) ≤ 1 }
+    requires source { IsRouteTable book.old pool.old routes.now }
+    requires one { (word : ℕ) → word < 2 ^ book.old.bits → length (exprs_under book.old routes.now word) ≤ 1 }
     requires fits { AllFit head pool.old routes.now }
-    requires table { IsTable book.old pool.old out.old }
-    requires apart { (word : ℕ) → word < 2 ^ book.old.bits → has_word book.old set word ≡ true → held book.old out.old word ≡ [] }
+    requires table { IsRouteTable book.old pool.old out.old }
+    requires apart { (word : ℕ) → word < 2 ^ book.old.bits → has_word book.old set word ≡ true → exprs_under book.old out.old word ≡ [] }
     ensures book { Extends book.old book.new }
     ensures pool { Grows pool.old pool.new }
-    ensures table { OnOk result (IsTable book.new pool.new out.new) }
-    ensures terms { OnOk result ((word : ℕ) → word < 2 ^ book.old.bits → held_terms book.new pool.new out.new word ≡ (if has_word book.old set word then map (head_term head (term_at pool.old)) (held_terms book.old pool.old routes.now word) else held_terms book.old pool.old out.old word)) }
-    ensures many { IfErr result (λ stop. IfMany stop (IsOver book.new pool.new (λ word terms. terms ≡ (if has_word book.old set word then map (head_term head (term_at pool.old)) (held_terms book.old pool.old routes.now word) else held_terms book.old pool.old out.old word)))) }
+    ensures table { OnOk result (IsRouteTable book.new pool.new out.new) }
+    ensures terms { OnOk result ((word : ℕ) → word < 2 ^ book.old.bits →
+        terms_under book.new pool.new out.new word ≡ (if has_word book.old set word then map (head_term head (term_at pool.old)) (terms_under book.old pool.old routes.now word) else terms_under book.old pool.old out.old word)) }
+    ensures many { IfErr result (λ stop. IfMany stop (IsOver book.new pool.new (λ word terms.
+        terms ≡ (if has_word book.old set word then map (head_term head (term_at pool.old)) (terms_under book.old pool.old routes.now word) else terms_under book.old pool.old out.old word)))) }
 {
     let mut left = set;
     let mut start = start;

@@ -3,9 +3,9 @@
 ghost use Rattle.std.specs.Prelude.{◌≡◌, ℕ, ◌+◌, ◌^◌, ◌<◌, ◌≤◌, [], length, IfErr, OnOk, true, if◌then◌else◌};
 ghost use Rattle.bit_bdd.specs.Diagrams.{Extends, has_word};
 ghost use Rattle.sym_expr.specs.Pools.{Grows, term_at};
-ghost use Rattle.transfer_set.specs.Routes.{IsTable, held, held_terms};
-ghost use Rattle.route_trace.specs.Selects.{AllSelectFit, selects};
-ghost use Rattle.route_trace.specs.Stops.{IfMany, IsOver};
+ghost use Rattle.transfer_set.specs.Routes.{IsRouteTable, exprs_under, terms_under};
+ghost use Rattle.route_trace.specs.Inner.Selects.{AllSelectFit, selects};
+ghost use Rattle.route_trace.specs.Inner.Stops.{IfMany, IsOver};
 
 use crate::heads::Two;
 use crate::pairs::add_pairs;
@@ -16,7 +16,8 @@ use std::alloc::Global;
 use sym_expr::Pool;
 use transfer_set::Route;
 
-// Adds the words of a set, with the choice by what one list of routes gives between what two others give.
+// Adds the words of a set, with the choice by what one list of routes gives between what two others
+// give.
 pub(crate) fn add_selects(
     alloc: Global,
     book: &mut Book,
@@ -28,20 +29,22 @@ pub(crate) fn add_selects(
     seconds: &[Route],
 ) -> Result<(), Stop>
     requires set { set < length book.old.nodes }
-    requires choice { IsTable book.old pool.old choices.now }
-    requires choice_one { (word : ℕ) → word < 2 ^ book.old.bits → length (held book.old choices.now word) ≤ 1 }
-    requires first { IsTable book.old pool.old firsts.now }
-    requires first_one { (word : ℕ) → word < 2 ^ book.old.bits → length (held book.old firsts.now word) ≤ 1 }
-    requires second { IsTable book.old pool.old seconds.now }
-    requires second_one { (word : ℕ) → word < 2 ^ book.old.bits → length (held book.old seconds.now word) ≤ 1 }
+    requires choice { IsRouteTable book.old pool.old choices.now }
+    requires choice_one { (word : ℕ) → word < 2 ^ book.old.bits → length (exprs_under book.old choices.now word) ≤ 1 }
+    requires first { IsRouteTable book.old pool.old firsts.now }
+    requires first_one { (word : ℕ) → word < 2 ^ book.old.bits → length (exprs_under book.old firsts.now word) ≤ 1 }
+    requires second { IsRouteTable book.old pool.old seconds.now }
+    requires second_one { (word : ℕ) → word < 2 ^ book.old.bits → length (exprs_under book.old seconds.now word) ≤ 1 }
     requires fits { AllSelectFit pool.old choices.now firsts.now seconds.now }
-    requires table { IsTable book.old pool.old out.old }
-    requires apart { (word : ℕ) → word < 2 ^ book.old.bits → has_word book.old set word ≡ true → held book.old out.old word ≡ [] }
+    requires table { IsRouteTable book.old pool.old out.old }
+    requires apart { (word : ℕ) → word < 2 ^ book.old.bits → has_word book.old set word ≡ true → exprs_under book.old out.old word ≡ [] }
     ensures book { Extends book.old book.new }
     ensures pool { Grows pool.old pool.new }
-    ensures table { OnOk result (IsTable book.new pool.new out.new) }
-    ensures terms { OnOk result ((word : ℕ) → word < 2 ^ book.old.bits → held_terms book.new pool.new out.new word ≡ (if has_word book.old set word then selects (held_terms book.old pool.old choices.now word) (held_terms book.old pool.old firsts.now word) (held_terms book.old pool.old seconds.now word) else held_terms book.old pool.old out.old word)) }
-    ensures many { IfErr result (λ stop. IfMany stop (IsOver book.new pool.new (λ word terms. terms ≡ (if has_word book.old set word then selects (held_terms book.old pool.old choices.now word) (held_terms book.old pool.old firsts.now word) (held_terms book.old pool.old seconds.now word) else held_terms book.old pool.old out.old word)))) }
+    ensures table { OnOk result (IsRouteTable book.new pool.new out.new) }
+    ensures terms { OnOk result ((word : ℕ) → word < 2 ^ book.old.bits →
+        terms_under book.new pool.new out.new word ≡ (if has_word book.old set word then selects (terms_under book.old pool.old choices.now word) (terms_under book.old pool.old firsts.now word) (terms_under book.old pool.old seconds.now word) else terms_under book.old pool.old out.old word)) }
+    ensures many { IfErr result (λ stop. IfMany stop (IsOver book.new pool.new (λ word terms.
+        terms ≡ (if has_word book.old set word then selects (terms_under book.old pool.old choices.now word) (terms_under book.old pool.old firsts.now word) (terms_under book.old pool.old seconds.now word) else terms_under book.old pool.old out.old word)))) }
 {
     for route in choices {
         let both = book.and(alloc, set, route.set)?;

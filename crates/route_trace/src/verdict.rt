@@ -1,10 +1,10 @@
 //! Whether nets keep the limits on their symbolic values.
 
 ghost use Rattle.std.specs.Prelude.{◌≡◌, ℕ, ◌^◌, ◌<◌, length, replicate, IfOk};
-ghost use Rattle.net_model.specs.Symbolic.{all_of};
+ghost use Rattle.net_model.specs.Symbolic.{all_nets};
 ghost use Rattle.sym_expr.specs.Pools.{IsOneEach};
 ghost use Rattle.transfer_set.specs.Routes.{AllExprs};
-ghost use Rattle.route_trace.specs.Verdicts.{IsJudged, fault_of, first_fault, is_kept as kept, kept_at};
+ghost use Rattle.route_trace.specs.Inner.Verdicts.{IsJudged, fault_of, first_fault, is_kept as kept, kept_at};
 ghost use Rattle.route_trace.specs.declared.verdict.Verdict.TheVariants.{Many, Skipped};
 
 use crate::RouteFault;
@@ -61,7 +61,7 @@ fn is_net_kept(verdicts: &[Verdict], net: u32) -> bool
 
 // Whether these nets keep the limits, with all that they depend on.
 pub(crate) fn all_kept(verdicts: &[Verdict], nets: &[u32]) -> bool
-    ensures { result ≡ all_of (kept_at verdicts.now) nets.now }
+    ensures { result ≡ all_nets (kept_at verdicts.now) nets.now }
 {
     for net in nets {
         if !is_net_kept(verdicts, *net) {

@@ -6,13 +6,13 @@ ghost use Rattle.net_model.specs.Terms.{Term};
 ghost use Rattle.net_model.specs.Widths.{IsTyped, NetFits};
 ghost use Rattle.net_model.specs.Value.{value_of};
 ghost use Rattle.net_model.specs.Nets.{gate_nets};
-ghost use Rattle.net_model.specs.Symbolic.{blank, gate_term, is_static};
+ghost use Rattle.net_model.specs.Symbolic.{no_state, gate_term, is_static};
 ghost use Rattle.sym_expr.specs.Pools.{Grows};
-ghost use Rattle.transfer_set.specs.Routes.{IsTable, held_terms, only};
-ghost use Rattle.route_trace.specs.Gates.{AllGiven, HaveWidths};
-ghost use Rattle.route_trace.specs.Routing.{AreTables};
-ghost use Rattle.route_trace.specs.Stops.{IfMany, IsOver};
-ghost use Rattle.route_trace.specs.Tests.{IsDecided};
+ghost use Rattle.transfer_set.specs.Routes.{IsRouteTable, terms_under, only};
+ghost use Rattle.route_trace.specs.Inner.Gates.{AllGive, HaveWidths};
+ghost use Rattle.route_trace.specs.Inner.Routing.{AreTables};
+ghost use Rattle.route_trace.specs.Inner.Stops.{IfMany, IsOver};
+ghost use Rattle.route_trace.specs.Inner.Tests.{IsDecided};
 
 use crate::cases::{bus_routes, case_routes};
 use crate::gates::{leaf_routes, routes_over, routes_under};
@@ -44,15 +44,15 @@ pub(crate) fn net_routes(
     requires fits { NetFits netlist.now (Some net.now) }
     ensures book { Extends book.old book.new }
     ensures pool { Grows pool.old pool.new }
-    ensures table { IfOk result (λ out. IsTable book.new pool.new out) }
+    ensures table { IfOk result (λ out. IsRouteTable book.new pool.new out) }
     ensures terms { IfOk result (λ out. (t : ℕ → Term) → (word : ℕ) → word < 2 ^ book.old.bits →
-        AllGiven book.old pool.old nets.now controls.now.legal t word (gate_nets net.now.gate) →
-        held_terms book.new pool.new out word ≡
-        only book.old controls.now.legal word (gate_term t (value_of netlist.now blank word) (is_static netlist.now) net.now.width net.now.gate)) }
+        AllGive book.old pool.old nets.now controls.now.legal t word (gate_nets net.now.gate) →
+        terms_under book.new pool.new out word ≡
+        only book.old controls.now.legal word (gate_term t (value_of netlist.now no_state word) (is_static netlist.now) net.now.width net.now.gate)) }
     ensures many { IfErr result (λ stop. IfMany stop (IsOver book.new pool.new (λ word terms. (t : ℕ → Term) →
-        AllGiven book.old pool.old nets.now controls.now.legal t word (gate_nets net.now.gate) →
+        AllGive book.old pool.old nets.now controls.now.legal t word (gate_nets net.now.gate) →
         terms ≡
-        only book.old controls.now.legal word (gate_term t (value_of netlist.now blank word) (is_static netlist.now) net.now.width net.now.gate)))) }
+        only book.old controls.now.legal word (gate_term t (value_of netlist.now no_state word) (is_static netlist.now) net.now.width net.now.gate)))) }
 {
     let legal = controls.legal;
     let width = net.width;

@@ -1,4 +1,5 @@
--- The cells that the steps of an orderly cover fill are the numbers from the first on, in their order.
+-- The cells that the steps of an orderly cover fill are the numbers from the first on, in their
+-- order.
 use Rattle.std.proofs.Common.{◌≡◌, ℕ, zero, suc, ◌+◌, ◌-◌, ◌<◌, Bool, false, List, [], ◌∷◌, ◌++◌, length, map, drop, Option, Some, refl, sym, ap, ◌∙◌, subst, arith}
 use Rattle.std.specs.Prelude.{slice_get, remove, insert}
 use Rattle.std.specs.List.{AllZip, range_with_len}

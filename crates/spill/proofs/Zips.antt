@@ -1,4 +1,5 @@
--- Lists from left to right against lists in the order of evaluation: an item put in at a place, and one taken out.
+-- Lists from left to right against lists in the order of evaluation: an item put in at a place, and
+-- one taken out.
 use Rattle.std.proofs.Common.{◌≡◌, ℕ, zero, suc, ◌+◌, List, [], ◌∷◌, length, map, Some, refl, ap, subst, arith}
 use Rattle.std.specs.Prelude.{slice_get, remove, insert}
 use Rattle.std.specs.List.{AllZip}

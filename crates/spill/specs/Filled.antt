@@ -1,4 +1,5 @@
--- The cells that the steps of a cover fill, in the order in which they are filled: where the steps put a cut into its cell, its cell stands.
+-- The cells that the steps of a cover fill, in the order in which they are filled: where the steps
+-- put a cut into its cell, its cell stands.
 use Rattle.std.specs.Prelude.{ℕ, Bool, false, List, [], ◌∷◌, ◌++◌, slice_get, remove, insert, drop}
 use Rattle.net_model.specs.Terms.{Term}
 use Rattle.form_model.specs.Rules.{Destination, into, temporary}

@@ -8,7 +8,8 @@ ghost use Rattle.form_model.specs.Covers.{IsOrderly, Stock};
 ghost use Rattle.form_model.specs.Steps.{cut_count};
 ghost use Rattle.spill.specs.Filled.{filled_cells};
 
-/// The steps of an orderly cover fill as many cells as it has cuts, all of them below this count, and none of them twice.
+/// The steps of an orderly cover fill as many cells as it has cuts, all of them below this count,
+/// and none of them twice.
 pub fn law_of_cells()
     ensures many { (stock : Stock) (plan : Plan) (destination : Destination) (tree : Term) (whole : Bool) →
         IsOrderly stock destination tree whole plan → length (filled_cells stock plan 0 destination tree whole) ≡ cut_count plan }

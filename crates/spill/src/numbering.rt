@@ -54,9 +54,10 @@ fn count_in(cover: &Cover) -> Result<u32, NoMemory>
     )
 }
 
-/// The cells of the cover's cuts: 0 for the cut that is evaluated first, 1 for the next, and so on. Cuts are evaluated in the order of the tree
-/// from left to right, a cut after those inside it, whatever the order of the operands that they stand in; the steps of an orderly cover fill
-/// these very cells. Want of memory stands also for a cover of more than 2^32 - 1 cuts.
+/// The cells of the cover's cuts: 0 for the cut that is evaluated first, 1 for the next, and so on.
+/// Cuts are evaluated in the order of the tree from left to right, a cut after those inside it,
+/// whatever the order of the operands that they stand in; the steps of an orderly cover fill these
+/// very cells. Want of memory stands also for a cover of more than 2^32 - 1 cuts.
 pub fn cells(alloc: Global, cover: &Cover) -> Result<Cells, NoMemory>
     ensures numbered { IfOk result (λ cells. cells.list.items ≡ range_with_len 0 (cut_count (plan_of cover.now))) }
     ensures filled { IfOk result (λ cells. (stock : Stock) (destination : Destination) (tree : Term) (whole : Bool) →

@@ -4,16 +4,16 @@ use Rattle.std.proofs.lemmas.Int.{ints}
 use Rattle.std.specs.Prelude.{int_le, ◌-ℤ◌, ◌+ℤ◌, ◌*ℤ◌}
 use Rattle.rec_bits.proofs.Booleans.{both}
 use Rattle.rec_bits.specs.declared.ranges.Range.{Range}
-use Rattle.rec_bits.specs.Ranges.{IsEnd, HasEnds, is_end, range_of, sums_of, differences_of, products_of}
+use Rattle.rec_bits.specs.Ranges.{IsEnd, HasEnds, is_range_end, range_of, sums_of, differences_of, products_of}
 
-end_is : (z : ℤ) → is_end z ≡ true → IsEnd z
+end_is : (z : ℤ) → is_range_end z ≡ true → IsEnd z
 end_is z h = let k = both (int_le (pos 0 -ℤ pos (2 ^ 64)) z) (int_le z (pos (2 ^ 64))) h in (omega (arith, ints, k), omega (arith, ints, k))
 
 pub bounded : (lo hi : ℤ) (r : Option Range) → r ≡ range_of lo hi → IfSome r HasEnds
-bounded lo hi r e = subst (λ (o : Option Range). IfSome o HasEnds) (sym e) (by (is_end lo && is_end hi) refl)
+bounded lo hi r e = subst (λ (o : Option Range). IfSome o HasEnds) (sym e) (by (is_range_end lo && is_range_end hi) refl)
   where
-    by : (b : Bool) → (is_end lo && is_end hi) ≡ b → IfSome (if b then Some (record { lo = lo; hi = hi }) else None) HasEnds
-    by true h = (let k = both (is_end lo) (is_end hi) h in record { low = end_is lo k.0; high = end_is hi k.1 })
+    by : (b : Bool) → (is_range_end lo && is_range_end hi) ≡ b → IfSome (if b then Some (record { lo = lo; hi = hi }) else None) HasEnds
+    by true h = (let k = both (is_range_end lo) (is_range_end hi) h in record { low = end_is lo k.0; high = end_is hi k.1 })
     by false h = tt
 
 pub bounded_sums : (a b : Range) (r : Option Range) → r ≡ sums_of a b → IfSome r HasEnds

@@ -7,8 +7,9 @@ use Rattle.src_model.proofs.LookupLemmas.{later, later_none, later_there, lookup
 use Rattle.rec_bits.specs.Faults.{sooner, least, broken}
 use Rattle.rec_bits.proofs.Faults.{drop_item, least_append, sooner_assoc, sooner_none}
 use Rattle.src_model.specs.declared.program.Var.{Var as Declared}
-use Rattle.src_model.specs.Names.{same_name, declared, repeats}
-use Rattle.src_check.specs.Tables.{Finds}
+use Rattle.src_model.specs.Names.{declared, repeats}
+use Rattle.rec_bits.specs.Faults.{same_name}
+use Rattle.src_check.specs.Inner.Tables.{Finds}
 
 declared_append : (vars : List Declared) (v : Declared) (name : List ℕ) → declared (vars ++ v ∷ []) name ≡ later (declared vars name) (if same_name name v.name then Some v else None)
 declared_append [] v name = refl

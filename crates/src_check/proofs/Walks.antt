@@ -7,10 +7,10 @@ use Rattle.rec_bits.proofs.Faults.{least_append}
 use Rattle.src_model.specs.declared.program.Stmt.{Stmt, If, While, For}
 use Rattle.src_model.specs.declared.program.SrcTest.{SrcTest}
 use Rattle.src_model.specs.Written.{act_of, acts_of, test_of}
-use Rattle.src_model.specs.Loops.{Rule, Round, breaks, breaks_in, breaks_else}
+use Rattle.src_model.specs.Loops.{LoopRule, Round, breaks, breaks_in, breaks_else}
 use Rattle.src_model.proofs.Views.{act_If, act_While, act_For, else_acts}
 
-module _ (rule : Rule) (rounds : List Round) where
+module _ (rule : LoopRule) (rounds : List Round) where
   -- what is found in a statement
   abbrev pub stmt_breaks : Stmt → List ℕ
   stmt_breaks s = breaks rule rounds (act_of s)
@@ -36,7 +36,7 @@ module _ (rule : Rule) (rounds : List Round) where
       ∙ least_append (rule.tested rounds (test_of test) ++ block_breaks taken) (breaks_else rule rounds (else_acts other))
       ∙ ap (λ o. sooner o (least (breaks_else rule rounds (else_acts other)))) (least_append (rule.tested rounds (test_of test)) (block_breaks taken))
 
-pub for_least : (rule : Rule) (rounds : List Round) (s : Stmt) (counter : List ℕ) (at from to : ℕ) (body : Vec Stmt Global) → s ≡ For counter at from to body
+pub for_least : (rule : LoopRule) (rounds : List Round) (s : Stmt) (counter : List ℕ) (at from to : ℕ) (body : Vec Stmt Global) → s ≡ For counter at from to body
     → least (breaks rule rounds (act_of s)) ≡ sooner (least (rule.counted (record { counter = counter; from = from; to = to }) at (acts_of (map act_of body.items))))
     (least (breaks_in rule (record { counter = counter; from = from; to = to } ∷ rounds) (acts_of (map act_of body.items))))
 for_least rule rounds s counter at from to body is = ap (λ a. least (breaks rule rounds a)) (ap act_of is ∙ act_For counter at from to body)

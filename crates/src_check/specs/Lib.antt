@@ -1,4 +1,2 @@
-pub mod Tables
-pub mod Rounds
-pub mod Questions
 pub mod Refusals
+pub mod Inner

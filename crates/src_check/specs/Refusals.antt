@@ -7,7 +7,9 @@ use Rattle.src_model.specs.declared.fault.SrcFault.TheVariants.{Unknown, Width, 
 use Rattle.src_model.specs.declared.typed.SrcFault2.{SrcFault2}
 use Rattle.src_model.specs.declared.typed.SrcFault2.TheVariants.{Fault, Memory}
 use Rattle.src_model.specs.Written.{Listing, act_of}
-use Rattle.src_model.specs.Rules.{or_else, fault_at, unknown_names, bad_widths, bad_indexes, bad_counters, limits}
+use Rattle.src_model.specs.Rules.{unknown_names, bad_widths, bad_indexes, bad_counters, limits}
+use Rattle.rec_bits.specs.Faults.{fault_at}
+use Rattle.rec_bits.specs.Faults.{or_else}
 use Rattle.rec_bits.specs.Faults.{least}
 
 abbrev pub listing : List Declared → List Stmt → Listing
@@ -23,6 +25,6 @@ behind_duplicates word l =
     (limits l))))
 
 -- a refusal names the first fault, or says that memory is wanting
-abbrev pub IsRefusal : Option SrcFault → SrcFault2 → Type 0
-IsRefusal found (Fault fault) = found ≡ Some fault
-IsRefusal found Memory = Unit {0}
+abbrev pub IsCheckFault : Option SrcFault → SrcFault2 → Type 0
+IsCheckFault found (Fault fault) = found ≡ Some fault
+IsCheckFault found Memory = Unit {0}

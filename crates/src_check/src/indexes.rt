@@ -6,7 +6,7 @@ ghost use Rattle.rec_bits.specs.Ranges.{HasEnds};
 ghost use Rattle.src_model.specs.Names.{declared};
 ghost use Rattle.src_model.specs.Written.{shape_of, spot_shape};
 ghost use Rattle.src_model.specs.Indexes.{between, times, product_range, masked_range, range_by, index_range, counted_range, length_of, is_within, loose};
-ghost use Rattle.src_check.specs.Rounds.{rounds_of};
+ghost use Rattle.src_check.specs.Inner.Rounds.{rounds_of};
 
 use crate::names::Table;
 use crate::rounds::Rounds;
@@ -85,7 +85,8 @@ fn masked(n: Option<u64>, m: Option<u64>) -> Option<Range>
     }
 }
 
-// The range of an operator's values, given its operands where they are numbers alone, and their ranges.
+// The range of an operator's values, given its operands where they are numbers alone, and their
+// ranges.
 fn range_by(
     op: Op2,
     n: Option<u64>,

@@ -2,12 +2,12 @@
 //!
 //! Promise: `check` gives a program back as `Typed` only where none of S1 to S6 is broken (`taken`:
 //! `first_fault` of `src_model/specs/Rules`), and otherwise answers the first rule that is, with
-//! the least offset at which it is broken, or with its count and bound (`refused`: `IsRefusal`), or
-//! want of memory.
+//! the least offset at which it is broken, or with its count and bound (`refused`: `IsCheckFault`),
+//! or want of memory.
 //!
-//! Invariant: a table of names finds the first declaration of each (`Finds` in `specs/Tables`).
-//! `walk` goes over the statements once for each rule, with the loops round a statement as a chain
-//! of references on the stack, the innermost first.
+//! Invariant: a table of names finds the first declaration of each (`Finds` in
+//! `specs/Inner/Tables`). `walk` goes over the statements once for each rule, with the loops round
+//! a statement as a chain of references on the stack, the innermost first.
 //!
 //! Files:
 //!
@@ -18,8 +18,8 @@
 //! - `rounds`: the loops round a statement.
 //! - `walk`: S2 to S5 statement by statement: a `Question` is the rule that is asked.
 //! - `whole`: the rules in their order, with S6 and what is asked of declarations, and `check`.
-//! - `specs/`: of `Refusals` public contracts cite `IsRefusal`, and the rules are
-//!   `src_model/specs`; `Questions`, `Rounds` and `Tables` mirror the walk.
+//! - `specs/`: `Refusals`, cited by public contracts, and the rules are `src_model/specs`.
+//!   `specs/Inner/`: `Questions`, `Rounds` and `Tables`, which go with the walk.
 //! - `proofs/`: `Walks` and `Tables` one statement and one declaration further, `Ranges`, `Lengths`
 //!   and `Weights` for the rules by themselves.
 #![tactic(auto)]

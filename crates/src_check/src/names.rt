@@ -11,7 +11,8 @@ use src_model::{Spot, SrcExpr, SrcNode, Var};
 use std::alloc::Global;
 use std::marker::Model;
 
-/// The declarations of a program, with a table of their names. Contracts see the list of the declarations.
+/// The declarations of a program, with a table of their names. Contracts see the list of the
+/// declarations.
 #[derive(Drop)]
 pub struct Table<'a> {
     vars: &'a [Var],
@@ -21,7 +22,7 @@ pub struct Table<'a> {
 impl<'a> Model for Table<'a> {
     ghost use Rattle.std.specs.Prelude.{List};
     ghost use Rattle.src_model.specs.declared.program.Var.{Var as Declared};
-    ghost use Rattle.src_check.specs.Tables.{Finds};
+    ghost use Rattle.src_check.specs.Inner.Tables.{Finds};
 
     ghost Value = { List Declared };
 

@@ -2,12 +2,12 @@
 
 ghost use Rattle.std.specs.Prelude.{◌≡◌, ◌+◌, ◌^◌, ◌||◌, nat_lt, nat_le, map};
 ghost use Rattle.rec_bits.specs.Faults.{least};
-ghost use Rattle.src_model.specs.Names.{same_name};
+ghost use Rattle.rec_bits.specs.Faults.{same_name};
 ghost use Rattle.src_model.specs.Widths.{misfit};
 ghost use Rattle.src_model.specs.Written.{place_of, phrase_of, test_of, act_of, acts_of};
 ghost use Rattle.src_model.specs.Loops.{breaks, breaks_in};
-ghost use Rattle.src_check.specs.Rounds.{rounds_of};
-ghost use Rattle.src_check.specs.Questions.{rule_of, round};
+ghost use Rattle.src_check.specs.Inner.Rounds.{rounds_of};
+ghost use Rattle.src_check.specs.Inner.Questions.{rule_of, round};
 
 use crate::indexes::{loose, loose_spot};
 use crate::names::{Table, is_plain, unknown, unknown_spot};
@@ -16,7 +16,8 @@ use crate::widths::{fits, sides, spot_wide, whole, wide};
 use rec_bits::{Name, broken, sooner};
 use src_model::{Spot, SrcExpr, SrcTest, Stmt};
 
-/// A rule, with what it needs: the declarations, the number of bits of a word, or the name of a variable.
+/// A rule, with what it needs: the declarations, the number of bits of a word, or the name of a
+/// variable.
 #[derive(Drop)]
 pub enum Question<'a> {
     /// S2: which names don't stand for what is asked of them.

@@ -6,10 +6,12 @@ ghost use Rattle.src_model.specs.Written.{act_of, acts_of, listing_of};
 ghost use Rattle.src_model.specs.Widths.{empty_array};
 ghost use Rattle.src_model.specs.Loops.{breaks_in};
 ghost use Rattle.src_model.specs.Sizes.{longest};
-ghost use Rattle.src_model.specs.Rules.{above, limits, bad_widths, fault_at, first_fault, or_else};
+ghost use Rattle.src_model.specs.Rules.{above, limits, bad_widths, first_fault};
+ghost use Rattle.rec_bits.specs.Faults.{fault_at};
+ghost use Rattle.rec_bits.specs.Faults.{or_else};
 ghost use Rattle.src_model.specs.declared.fault.SrcFault.TheVariants.{Duplicate};
-ghost use Rattle.src_check.specs.Questions.{rule_of};
-ghost use Rattle.src_check.specs.Refusals.{listing, behind_duplicates, IsRefusal};
+ghost use Rattle.src_check.specs.Inner.Questions.{rule_of};
+ghost use Rattle.src_check.specs.Refusals.{listing, behind_duplicates, IsCheckFault};
 
 use crate::names::{Table, declare};
 use crate::rounds::Rounds;
@@ -136,16 +138,16 @@ fn first_fault(alloc: Global, program: &Program, word: u64) -> Result<Option<Src
 
 /// Checks a program against the rules S1 to S6, for words of `width` bits, 1 to 64.
 ///
-/// A program that breaks none is given back as checked. Otherwise the first rule that is broken is answered, S1 to S5 with the least offset
-/// at which it is, and S6 with the count and its bound; a count past the greatest number of 64 bits stands there. A program that is refused is
-/// given up.
+/// A program that breaks none is given back as checked. Otherwise the first rule that is broken is
+/// answered, S1 to S5 with the least offset at which it is, and S6 with the count and its bound; a
+/// count past the greatest number of 64 bits stands there. A program that is refused is given up.
 pub fn check(alloc: Global, program: Program, width: u8) -> Result<Typed, SrcFault2>
     requires some { 1 ≤ width }
     requires most { width ≤ 64 }
     ensures taken { IfOk result (λ typed. first_fault width (listing_of program) ≡ None) }
     ensures program { IfOk result (λ typed. typed.program ≡ program) }
     ensures width { IfOk result (λ typed. typed.width ≡ width) }
-    ensures refused { IfErr result (IsRefusal (first_fault width (listing_of program))) }
+    ensures refused { IfErr result (IsCheckFault (first_fault width (listing_of program))) }
 {
     if let Some(fault) = first_fault(alloc, &program, u64::from(width))? {
         return Err(SrcFault2::Fault(fault));

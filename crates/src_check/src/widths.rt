@@ -56,7 +56,8 @@ fn lowered(to: u64, at: u64, width: Result<u64, u64>) -> Result<u64, u64>
     }
 }
 
-/// The width of an expression, or the least offset at which the rule of widths is broken in it. A literal has the width `asked`.
+/// The width of an expression, or the least offset at which the rule of widths is broken in it. A
+/// literal has the width `asked`.
 #[cycle(wide)]
 pub fn wide(word: u64, asked: u64, e: &SrcExpr) -> Result<u64, u64>
     ensures { result ≡ wide word asked e.now.at (shape_of e.now.node) }
@@ -88,7 +89,8 @@ pub fn spot_wide(word: u64, spot: &Spot) -> Result<u64, u64>
     }
 }
 
-/// The width of two operands, or of the sides of a test. A literal has the width of the other one, and two literals have a word's.
+/// The width of two operands, or of the sides of a test. A literal has the width of the other one,
+/// and two literals have a word's.
 #[cycle(wide)]
 pub fn sides(word: u64, x: &SrcExpr, y: &SrcExpr) -> Result<u64, u64>
     ensures { result ≡ sides word (phrase_of x.now) (phrase_of y.now) }

@@ -1,4 +1,5 @@
--- The steps of a statement as they are built: its parts as they are borrowed, and its trees as they are counted.
+-- The steps of a statement as they are built: its parts as they are borrowed, and its trees as they
+-- are counted.
 use Rattle.std.proofs.Common.{◌≡◌, ℕ, ◌+◌, Bool, List, length, Option, Some, None, refl, sym, ap, subst, ◌∙◌}
 use Rattle.std.specs.declared.alloc.Global.{Global}
 use Rattle.std.specs.declared.vec.Vec.{Vec}
@@ -10,12 +11,12 @@ use Rattle.src_model.specs.declared.program.Stmt.{Stmt, If, While, For}
 use Rattle.src_model.specs.declared.program.Stmt.TheVariants.{Assign as AssignMade}
 use Rattle.src_model.specs.Written.{Act, assign, choice, while, count, without, otherwise, act_of, test_of, place_of, phrase_of}
 use Rattle.src_model.specs.Sizes.{statements}
-use Rattle.src_model.specs.Fitting.{FitsAct, FitsActs}
+use Rattle.src_model.specs.Inner.Fitting.{FitsAct, FitsActs}
 use Rattle.src_model.specs.Meaning.{assigned, holds}
 use Rattle.src_model.specs.Trace.{started, stepped, counting}
 use Rattle.src_model.proofs.Views.{act_If, act_While, act_For, else_acts}
 use Rattle.src_eval.specs.declared.machine.Step.{Step}
-use Rattle.src_eval.specs.Laid.{IsDoing, IsAsking, entry, Laid, LaidIn, Pushed, Ready, Built}
+use Rattle.src_eval.specs.Inner.Laid.{IsDoing, IsAsking, entry, Laid, LaidIn, Pushed, Ready, Built}
 use Rattle.src_eval.proofs.BuildLemmas.{block_acts, trees_of, asking_one, assign_built, while_ready, while_built, taken_ready, if_built, other_ready, else_built, Started, for_started, for_ready, for_built}
 
 -- what holds of a statement, by how it is seen

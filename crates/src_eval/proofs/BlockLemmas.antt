@@ -4,16 +4,17 @@ use Rattle.src_model.specs.declared.program.Var.{Var as Declared}
 use Rattle.src_model.specs.declared.program.Stmt.{Stmt}
 use Rattle.src_model.specs.Written.{act_of}
 use Rattle.src_model.specs.Sizes.{statements}
-use Rattle.src_model.specs.Fitting.{FitsAct, FitsActs}
+use Rattle.src_model.specs.Inner.Fitting.{FitsAct, FitsActs}
 use Rattle.src_eval.specs.declared.machine.Step.{Step}
-use Rattle.src_eval.specs.Laid.{Extends, entry, Laid, LaidIn, Ready, Built}
+use Rattle.src_eval.specs.Inner.Laid.{Extends, entry, Laid, LaidIn, Ready, Built}
 use Rattle.src_model.specs.Ways.{finish}
 use Rattle.src_model.specs.Trace.{run_in}
 use Rattle.src_eval.specs.Steps.{ahead}
 use Rattle.src_eval.proofs.LaidLemmas.{whole_ahead}
 use Rattle.src_eval.proofs.BuildLemmas.{block_acts, trees_of, extends_all, behind_kept, behind_itself}
 
--- the statements left may be built as a block of their own, and make with what was built the steps of the whole
+-- the statements left may be built as a block of their own, and make with what was built the steps
+-- of the whole
 pub record Going (word : ℕ) (vars : List Declared) (old steps : List Step) (block left : List Stmt) (next : ℕ) : Type 0 where
   pub grown : length steps + trees_of left ≡ length old + trees_of block
   pub longer : length old ≤ length steps

@@ -14,8 +14,8 @@ use Rattle.src_model.specs.Trace.{started, stepped, counting}
 use Rattle.src_model.proofs.Views.{act_If, act_While, act_For, else_acts}
 use Rattle.src_eval.specs.declared.machine.Step.{Step}
 use Rattle.src_eval.specs.declared.machine.Step.TheVariants.{Assign, Test as Asking}
-use Rattle.src_eval.specs.Steps.{AllFit, FitsStep, is_test}
-use Rattle.src_eval.specs.Laid.{IsDoing, IsAsking, Has, entry, Laid, LaidIn, Extends, FitsParts, Pushed, IsBehind, Ready, Built}
+use Rattle.src_eval.specs.Inner.Steps.{StepsFit, FitsStep, is_test}
+use Rattle.src_eval.specs.Inner.Laid.{IsDoing, IsAsking, Has, entry, Laid, LaidIn, Extends, FitsParts, Pushed, IsBehind, Ready, Built}
 use Rattle.src_eval.proofs.FlowLemmas.{within}
 
 -- ---- how many trees
@@ -107,7 +107,7 @@ fits_kept word old new ext at (Some (Assign first index value next)) f = (f.0, f
     by false false is h = absurd (cc h)
 
 -- a longer list fits, where its last step does
-pub all_pushed : (word : ℕ) (old new : List Step) (s : Step) → new ≡ old ++ s ∷ [] → AllFit word old → FitsStep word new (length old) (Some s) → AllFit word new
+pub all_pushed : (word : ℕ) (old new : List Step) (s : Step) → new ≡ old ++ s ∷ [] → StepsFit word old → FitsStep word new (length old) (Some s) → StepsFit word new
 all_pushed word old new s is all f at = by (nat_lt at (length old)) (nat_lt (length old) at) refl refl
   where
     by : (a b : Bool) → nat_lt at (length old) ≡ a → nat_lt (length old) at ≡ b → FitsStep word new at (slice_get new at)
@@ -138,10 +138,10 @@ fits_test word steps at question yes_to no_to (Assign first index value to) d f 
 pub record One (word : ℕ) (old new : List Step) (Is : Step → Type 0) : Type 0 where
   pub longer : length new ≡ length old + 1
   pub keeps : Extends old new
-  pub all : AllFit word new
+  pub all : StepsFit word new
   pub has : (last : List Step) → Extends new last → Has last (length old) Is
 
-pub doing_one : (word : ℕ) (old new : List Step) (change : List ℕ → List ℕ) (next : ℕ) → Pushed word old new (IsDoing change next) → AllFit word old → IsBehind old (length old + 1) next → One word old new (IsDoing change next)
+pub doing_one : (word : ℕ) (old new : List Step) (change : List ℕ → List ℕ) (next : ℕ) → Pushed word old new (IsDoing change next) → StepsFit word old → IsBehind old (length old + 1) next → One word old new (IsDoing change next)
 doing_one word old new change next p all good =
     let ext = pushed_keeps old new p.step p.pushed in
     let longer = pushed_length old new p.step p.pushed in
@@ -153,7 +153,7 @@ doing_one word old new change next p all good =
       has = λ last more. record { step = p.step; there = more (length old) (omega (arith, longer)) ∙ pushed_there old new p.step p.pushed; is = p.is };
     }
 
-pub asking_one : (word : ℕ) (old new : List Step) (question : List ℕ → Bool) (yes_to no_to : ℕ) → Pushed word old new (IsAsking question yes_to no_to) → AllFit word old → One word old new (IsAsking question yes_to no_to)
+pub asking_one : (word : ℕ) (old new : List Step) (question : List ℕ → Bool) (yes_to no_to : ℕ) → Pushed word old new (IsAsking question yes_to no_to) → StepsFit word old → One word old new (IsAsking question yes_to no_to)
 asking_one word old new question yes_to no_to p all =
     let longer = pushed_length old new p.step p.pushed in
     record {

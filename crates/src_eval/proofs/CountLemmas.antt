@@ -3,7 +3,8 @@ use Rattle.std.proofs.Common.{ℕ, suc, ◌≡◌, ap, refl, ◌∙◌, length}
 use Rattle.src_model.specs.declared.checkpoint.Checkpoint.{Checkpoint}
 use Rattle.src_model.specs.declared.checkpoint.Checkpoint.TheVariants.{End}
 use Rattle.src_eval.specs.declared.machine.Machine.{Machine}
-use Rattle.src_eval.specs.Steps.{Passes, ahead, ahead_of, shown}
+use Rattle.src_eval.specs.Steps.{ahead, ahead_of, shown}
+use Rattle.src_eval.specs.Inner.Steps.{Passes}
 
 -- none, where none is asked for
 pub none_ahead : (m : Machine) → length (ahead_of m 0) ≡ 0

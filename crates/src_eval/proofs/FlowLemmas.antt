@@ -8,8 +8,9 @@ use Rattle.src_eval.specs.declared.formula.Formula.{Formula}
 use Rattle.src_eval.specs.declared.formula.Comparison.{Comparison}
 use Rattle.src_eval.specs.declared.machine.Step.{Step}
 use Rattle.src_eval.specs.declared.machine.Step.TheVariants.{Assign, Test}
-use Rattle.src_eval.specs.Formulas.{mean, stored, met, Fits, FitsComparison}
-use Rattle.src_eval.specs.Steps.{act_at, go, ahead, is_test, FitsStep, AllFit}
+use Rattle.src_eval.specs.Formulas.{formula_value, stored, met, FormulaFits, FitsComparison}
+use Rattle.src_eval.specs.Steps.{act_at, go, ahead}
+use Rattle.src_eval.specs.Inner.Steps.{is_test, FitsStep, StepsFit}
 
 -- so many steps are enough to come to a checkpoint
 abbrev pub need : List Step → ℕ → ℕ
@@ -35,7 +36,7 @@ need_next steps at next lt h = by (is_test (slice_get steps next)) (nat_lt at ne
     by false true e t = (let k : at < next = grind (arith, nat_tests, e) in omega (arith, lt, k))
     by false false e t = absurd (cc t)
 
-module _ (word : ℕ) (steps : List Step) (fits : AllFit word steps) where
+module _ (word : ℕ) (steps : List Step) (fits : StepsFit word steps) where
   pub need_here : (at : ℕ) (first : ℕ) (index value : Formula) (next : ℕ) → slice_get steps at ≡ Some (Assign first index value next) → need steps at ≡ suc (length steps - at)
   need_here at first index value next is = ap (λ (o : Option Step). if is_test o then 1 else suc (length steps - at)) is
 
@@ -99,7 +100,7 @@ over_false steps at test on_true on_false is m cells h =
     ∙ ap (λ (b : Bool). record { label = At at; cells = cells } ∷ (if b then ahead steps m on_true cells else ahead steps m on_false cells)) h
 
 -- a run before an assignment
-pub need_less : (word : ℕ) (steps : List Step) → AllFit word steps → (at first : ℕ) (index value : Formula) (next : ℕ) → slice_get steps at ≡ Some (Assign first index value next) → need steps next < need steps at
+pub need_less : (word : ℕ) (steps : List Step) → StepsFit word steps → (at first : ℕ) (index value : Formula) (next : ℕ) → slice_get steps at ≡ Some (Assign first index value next) → need steps next < need steps at
 need_less word steps fits at first index value next is =
     let lt = within steps at (Assign first index value next) is in
     let f : FitsStep word steps at (Some (Assign first index value next)) = subst (FitsStep word steps at) is (fits at) in
@@ -124,17 +125,17 @@ over_choice steps at test on_true on_false is m cells = by (met test cells) refl
     by false e = over_false steps at test on_true on_false is m cells e
 
 -- what is kept of an assignment, and of a test
-pub assign_fits : (word : ℕ) (steps : List Step) → AllFit word steps → (at first : ℕ) (index value : Formula) (next : ℕ) → slice_get steps at ≡ Some (Assign first index value next) → Fits word word index × Fits word word value
+pub assign_fits : (word : ℕ) (steps : List Step) → StepsFit word steps → (at first : ℕ) (index value : Formula) (next : ℕ) → slice_get steps at ≡ Some (Assign first index value next) → FormulaFits word word index × FormulaFits word word value
 assign_fits word steps fits at first index value next is =
     let f : FitsStep word steps at (Some (Assign first index value next)) = subst (FitsStep word steps at) is (fits at) in
     (f.0, f.1)
 
-pub test_fits : (word : ℕ) (steps : List Step) → AllFit word steps → (at : ℕ) (test : Comparison) (on_true on_false : ℕ) → slice_get steps at ≡ Some (Test test on_true on_false) → FitsComparison word test
+pub test_fits : (word : ℕ) (steps : List Step) → StepsFit word steps → (at : ℕ) (test : Comparison) (on_true on_false : ℕ) → slice_get steps at ≡ Some (Test test on_true on_false) → FitsComparison word test
 test_fits word steps fits at test on_true on_false is = subst (FitsStep word steps at) is (fits at)
 
 -- what is put into a cell, found in the store as it is seen
-pub stored_is : (after cells seen : List ℕ) (first : ℕ) (index value : Formula) (offset n : ℕ) → after ≡ slice_set cells (first + offset) n → offset ≡ mean seen index → n ≡ mean seen value → seen ≡ cells → after ≡ stored first index value cells
+pub stored_is : (after cells seen : List ℕ) (first : ℕ) (index value : Formula) (offset n : ℕ) → after ≡ slice_set cells (first + offset) n → offset ≡ formula_value seen index → n ≡ formula_value seen value → seen ≡ cells → after ≡ stored first index value cells
 stored_is after cells seen first index value offset n is o v same =
-    let o' = o ∙ ap (λ (cs : List ℕ). mean cs index) same in
-    let v' = v ∙ ap (λ (cs : List ℕ). mean cs value) same in
+    let o' = o ∙ ap (λ (cs : List ℕ). formula_value cs index) same in
+    let v' = v ∙ ap (λ (cs : List ℕ). formula_value cs value) same in
     is ∙ (λ j. slice_set cells (first + o' j) (v' j))

@@ -7,22 +7,23 @@ use Rattle.src_model.specs.Written.{Act, assign, choice, while, count, Acts, no_
 use Rattle.src_model.specs.Sizes.{statements, statements_in}
 use Rattle.src_model.specs.Ways.{Onward, pass, choose, loop, finish}
 use Rattle.src_model.specs.Meaning.{assigned, holds}
-use Rattle.src_model.specs.Trace.{started, stepped, counting, after, run, run_in, run_else}
+use Rattle.src_model.specs.Trace.{started, stepped, counting, after_change, run_act, run_in, run_else}
 use Rattle.src_model.proofs.WayLemmas.{Agree, Keeps, pass_agree, choose_agree, agree_less, loop_step}
 use Rattle.src_model.proofs.TraceLemmas.{body_keeps, counted_body, counted_keeps}
 use Rattle.src_eval.specs.declared.machine.Step.{Step}
 use Rattle.src_eval.specs.declared.machine.Step.TheVariants.{Assign, Test}
-use Rattle.src_eval.specs.Steps.{ahead, AllFit}
-use Rattle.src_eval.specs.Laid.{IsDoing, IsAsking, Has, entry, entry_else, Laid, LaidIn, LaidElse}
+use Rattle.src_eval.specs.Steps.{ahead}
+use Rattle.src_eval.specs.Inner.Steps.{StepsFit}
+use Rattle.src_eval.specs.Inner.Laid.{IsDoing, IsAsking, Has, entry, entry_else, Laid, LaidIn, LaidElse}
 use Rattle.src_eval.proofs.FlowLemmas.{over_assign, over_test, over_end}
 
 -- the way on from a step
 abbrev pub way : List Step → ℕ → Onward
 way steps at m cells = ahead steps m at cells
 
-module _ (word : ℕ) (steps : List Step) (fits : AllFit word steps) where
+module _ (word : ℕ) (steps : List Step) (fits : StepsFit word steps) where
   -- a step that changes the store
-  pub does : (at : ℕ) (change : List ℕ → List ℕ) (next : ℕ) → Has steps at (IsDoing change next) → (m : ℕ) (cells : List ℕ) → way steps at m cells ≡ after change (way steps next) m cells
+  pub does : (at : ℕ) (change : List ℕ → List ℕ) (next : ℕ) → Has steps at (IsDoing change next) → (m : ℕ) (cells : List ℕ) → way steps at m cells ≡ after_change change (way steps next) m cells
   does at change next h m cells = by h.step h.there h.is
     where
       by : (s : Step) → slice_get steps at ≡ Some s → IsDoing change next s → ahead steps m at cells ≡ ahead steps m next (change cells)
@@ -30,7 +31,7 @@ module _ (word : ℕ) (steps : List Step) (fits : AllFit word steps) where
       by (Assign first index value to) is d =
           over_assign word steps fits at first index value to is m cells ∙ (λ j. ahead steps m (d.0 j) (d.1 cells j))
 
-  pub does_agree : (at : ℕ) (change : List ℕ → List ℕ) (next : ℕ) → Has steps at (IsDoing change next) → (m : ℕ) (k : Onward) → Agree m (way steps next) k → Agree m (way steps at) (after change k)
+  pub does_agree : (at : ℕ) (change : List ℕ → List ℕ) (next : ℕ) → Has steps at (IsDoing change next) → (m : ℕ) (k : Onward) → Agree m (way steps next) k → Agree m (way steps at) (after_change change k)
   does_agree at change next h m k a j le cells = does at change next h j cells ∙ a j le (change cells)
 
 -- a step that asks
@@ -65,11 +66,11 @@ loop_agrees steps at question yes_to no_to body next h keeps inner (suc m) b = �
     asks_agree steps at question yes_to no_to h m (body (loop (At at) question body next)) next (inner m (loop (At at) question body next) again) less j le cells
     ∙ sym (loop_step j (At at) question body next keeps cells)
 
-module _ (word : ℕ) (vars : List Declared) (steps : List Step) (fits : AllFit word steps) where
+module _ (word : ℕ) (vars : List Declared) (steps : List Step) (fits : StepsFit word steps) where
   mutual
-    unfolding run run_in run_else
+    unfolding run_act run_in run_else
 
-    pub laid_agrees : (a : Act) (tree next : ℕ) → Laid word vars steps a tree next → (m : ℕ) (k : Onward) → Agree m (way steps next) k → Agree m (way steps tree) (run word vars a tree k)
+    pub laid_agrees : (a : Act) (tree next : ℕ) → Laid word vars steps a tree next → (m : ℕ) (k : Onward) → Agree m (way steps next) k → Agree m (way steps tree) (run_act word vars a tree k)
     laid_agrees (assign place e) tree next h m k a = does_agree word steps fits tree (assigned word vars place e) next h m k a
     laid_agrees (choice test taken other) tree next h m k a =
         agree_less (suc m) m (way steps tree)
@@ -85,7 +86,7 @@ module _ (word : ℕ) (vars : List Declared) (steps : List Step) (fits : AllFit 
         does_agree word steps fits tree (started vars counter from) (tree + 1) h.0 m (loop (At (tree + 1)) (counting vars counter to) (counted_body word vars counter body (tree + 2)) k)
         (loop_agrees steps (tree + 1) (counting vars counter to) (entry body (tree + 2) (tree + 2 + statements_in body)) next (counted_body word vars counter body (tree + 2)) k h.1
         (counted_keeps word vars counter body (tree + 2))
-        (λ i r b. in_agrees body (tree + 2) (tree + 2 + statements_in body) h.2 i (after (stepped word vars counter) r)
+        (λ i r b. in_agrees body (tree + 2) (tree + 2 + statements_in body) h.2 i (after_change (stepped word vars counter) r)
         (does_agree word steps fits (tree + 2 + statements_in body) (stepped word vars counter) (tree + 1) h.3 i r b)) m a)
 
     pub in_agrees : (list : Acts) (tree next : ℕ) → LaidIn word vars steps list tree next → (m : ℕ) (k : Onward) → Agree m (way steps next) k → Agree m (way steps (entry list tree next)) (run_in word vars list tree k)
@@ -98,7 +99,7 @@ module _ (word : ℕ) (vars : List Declared) (steps : List Step) (fits : AllFit 
     else_agrees (otherwise body) tree next h m k a = in_agrees body tree next h m k a
 
 -- a program's steps, behind which there is none
-pub whole_ahead : (word : ℕ) (vars : List Declared) (steps : List Step) → AllFit word steps → (list : Acts) (past : ℕ) → LaidIn word vars steps list 0 past → length steps ≡ statements_in list → length steps ≤ past
+pub whole_ahead : (word : ℕ) (vars : List Declared) (steps : List Step) → StepsFit word steps → (list : Acts) (past : ℕ) → LaidIn word vars steps list 0 past → length steps ≡ statements_in list → length steps ≤ past
     → (m : ℕ) (cells : List ℕ) → ahead steps m 0 cells ≡ run_in word vars list 0 finish m cells
 unfolding run_in
 whole_ahead word vars steps fits no_acts past h e le m cells = over_end steps 0 (slice_get_past steps 0 (omega (arith, e))) m cells

@@ -5,19 +5,20 @@ use Rattle.rec_bits.specs.Operators.{apply2_of, slice_of}
 use Rattle.src_model.specs.declared.program.Var.{Var as Declared}
 use Rattle.src_model.specs.declared.program.SrcExpr.{SrcExpr}
 use Rattle.src_model.specs.Written.{Shape, num, plain, element, un, bin, zext, sext, low, shape_of}
-use Rattle.src_model.specs.Meaning.{width_of, operand_width, first_cell}
+use Rattle.src_model.specs.Meaning.{shape_width, operand_width, first_cell}
 use Rattle.src_model.specs.Fitting.{Fitting}
 use Rattle.src_model.proofs.FittingLemmas.{width_wide, sides_wide}
 use Rattle.src_eval.specs.declared.formula.Formula.{Formula, Number, Cell, Bin, Low}
 use Rattle.src_eval.specs.declared.machine.Step.{Step}
 use Rattle.src_eval.specs.declared.machine.Step.TheVariants.{Assign}
-use Rattle.src_eval.specs.Formulas.{mean, Fits, IsWidth}
-use Rattle.src_eval.specs.Laid.{IsDoing, Pushed}
+use Rattle.src_eval.specs.Formulas.{formula_value, FormulaFits}
+use Rattle.rec_bits.specs.Operators.{IsWidth}
+use Rattle.src_eval.specs.Inner.Laid.{IsDoing, Pushed}
 use Rattle.src_model.specs.Trace.{stepped}
 use Rattle.std.proofs.lemmas.Nat.{pow_pos}
 use Rattle.std.proofs.Math.Nat.{pow-le-pow_right}
 use Rattle.rec_bits.specs.declared.operator.Op2.TheVariants.{Add}
-use Rattle.src_eval.specs.Resolved.{Resolves, Small}
+use Rattle.src_eval.specs.Inner.Resolved.{Resolves, Small}
 use Rattle.src_eval.proofs.FormulaLemmas.{fits_wider}
 
 -- what fits has small widths
@@ -35,14 +36,14 @@ small word asked (low at x to) w a f = let i = width_wide word word x w w f.0 in
 
 module _ (word : ℕ) (vars : List Declared) (w : IsWidth word) where
   pub zext_resolves : (asked at : ℕ) (x : Shape) (to : ℕ) → Fitting word asked (zext at x to) → (f : Formula) → Resolves word vars word x f → Resolves word vars asked (zext at x to) f
-  zext_resolves asked at x to h f r = record { value = r.value; fits = fits_wider word (width_of word word x) to f (omega (arith, h.1)) r.fits }
+  zext_resolves asked at x to h f r = record { value = r.value; fits = fits_wider word (shape_width word word x) to f (omega (arith, h.1)) r.fits }
 
   pub low_resolves : (asked at : ℕ) (x : Shape) (to : ℕ) → Fitting word asked (low at x to) → (b : Box Formula) → Resolves word vars word x b.value → Resolves word vars asked (low at x to) (Low to b)
   low_resolves asked at x to h b r =
       let i = width_wide word word x w w h.0 in
       record {
-        value = λ cells. low_slice (mean cells b.value) to h.1 ∙ ap (λ n. n % 2 ^ to) (r.value cells);
-        fits = ((h.1, omega (arith, i, h.2)), omega arith, fits_wider word (width_of word word x) 64 b.value i.1 r.fits);
+        value = λ cells. low_slice (formula_value cells b.value) to h.1 ∙ ap (λ n. n % 2 ^ to) (r.value cells);
+        fits = ((h.1, omega (arith, i, h.2)), omega arith, fits_wider word (shape_width word word x) 64 b.value i.1 r.fits);
       }
     where
       low_slice : (n to : ℕ) → 1 ≤ to → slice_of n (to - 1) 0 ≡ n % 2 ^ to
@@ -61,15 +62,15 @@ pub step_pushed : (word : ℕ) (vars : List Declared) (counter : List ℕ) (next
 step_pushed word vars counter next f old new n one is e a b w = record {
   step = Assign f (Number 0) (Bin Add word n one) next;
   pushed = is;
-  is = (refl, λ cells. λ j. slice_set cells (at j) (apply2_of Add word (count cells j) (mean cells (b j))));
-  fits = (pow_pos word, (w, omega arith, subst (Fits word word) (sym a) (omega arith), subst (Fits word word) (sym b) small_one));
+  is = (refl, λ cells. λ j. slice_set cells (at j) (apply2_of Add word (count cells j) (formula_value cells (b j))));
+  fits = (pow_pos word, (w, omega arith, subst (FormulaFits word word) (sym a) (omega arith), subst (FormulaFits word word) (sym b) small_one));
 }
   where
     at : f + 0 ≡ first_cell vars counter
     at = omega (arith, e)
 
-    count : (cells : List ℕ) → mean cells n.value ≡ slice_index cells (first_cell vars counter)
-    count cells = ap (mean cells) a ∙ ap (slice_index cells) e
+    count : (cells : List ℕ) → formula_value cells n.value ≡ slice_index cells (first_cell vars counter)
+    count cells = ap (formula_value cells) a ∙ ap (slice_index cells) e
 
     small_one : 1 < 2 ^ word
     small_one = let p : 2 ^ 1 ≤ 2 ^ word = pow-le-pow_right (lit< tt) w.0 in omega (arith, p)

@@ -12,13 +12,13 @@ abbrev pub ahead_in : Runner → ℕ → List Passed
 ahead_in run = ahead_of run.machine
 
 -- what its variables hold
-abbrev pub store_in : Runner → Store
-store_in run = run.machine.store
+abbrev pub runner_store : Runner → Store
+runner_store run = run.machine.store
 
 -- from the one, a run passes a checkpoint to the other
-abbrev pub Leads : Runner → Checkpoint → Runner → Type 0
-Leads old label new = (more : ℕ) → ahead_in old (suc more) ≡ shown label (store_in new).cells (ahead_in new more)
+abbrev pub Advances : Runner → Checkpoint → Runner → Type 0
+Advances old label new = (more : ℕ) → ahead_in old (suc more) ≡ shown label (runner_store new).cells (ahead_in new more)
 
 -- the end is all that is ahead
 abbrev pub HasEnded : Runner → Type 0
-HasEnded run = (more : ℕ) → ahead_in run (suc more) ≡ record { label = End; cells = (store_in run).cells } ∷ []
+HasEnded run = (more : ℕ) → ahead_in run (suc more) ≡ record { label = End; cells = (runner_store run).cells } ∷ []

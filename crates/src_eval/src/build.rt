@@ -6,9 +6,10 @@ ghost use Rattle.src_model.specs.Loops.{place_shape};
 ghost use Rattle.src_model.specs.Sizes.{statements, statements_in};
 ghost use Rattle.src_model.specs.Meaning.{assigned, holds};
 ghost use Rattle.src_model.specs.Trace.{started, stepped, counting};
-ghost use Rattle.src_model.specs.Fitting.{Fitting, FitsWord, FitsSides, FitsCount, FitsAct, FitsActs};
-ghost use Rattle.src_eval.specs.Formulas.{IsWidth};
-ghost use Rattle.src_eval.specs.Laid.{IsDoing, IsAsking, entry, Laid, LaidIn, Pushed, Ready, Built};
+ghost use Rattle.src_model.specs.Fitting.{Fitting, FitsWord, FitsSides};
+ghost use Rattle.src_model.specs.Inner.Fitting.{FitsCount, FitsAct, FitsActs};
+ghost use Rattle.rec_bits.specs.Operators.{IsWidth};
+ghost use Rattle.src_eval.specs.Inner.Laid.{IsDoing, IsAsking, entry, Laid, LaidIn, Pushed, Ready, Built};
 
 use crate::formula::{Comparison, Formula};
 use crate::machine::Step;
@@ -189,7 +190,8 @@ pub fn build(
 ) -> Result<(), NoMemory>
     requires ready { Ready word steps.old (statements (act_of statement.now)) next }
     requires fits { FitsAct word (act_of statement.now) }
-    ensures { OnOk result (Built word steps.old steps.new (statements (act_of statement.now)) (λ last. Laid word table.now last (act_of statement.now) (length steps.old) next)) }
+    ensures { OnOk result (Built word steps.old steps.new (statements (act_of statement.now)) (λ last.
+        Laid word table.now last (act_of statement.now) (length steps.old) next)) }
 {
     match statement {
         Stmt::Assign { place, value } => {
@@ -251,7 +253,8 @@ pub fn build_block(
 ) -> Result<(), NoMemory>
     requires ready { Ready word steps.old (statements_in (acts_of (map act_of block.now))) next }
     requires fits { FitsActs word (acts_of (map act_of block.now)) }
-    ensures { OnOk result (Built word steps.old steps.new (statements_in (acts_of (map act_of block.now))) (λ last. LaidIn word table.now last (acts_of (map act_of block.now)) (length steps.old) next)) }
+    ensures { OnOk result (Built word steps.old steps.new (statements_in (acts_of (map act_of block.now))) (λ last.
+        LaidIn word table.now last (acts_of (map act_of block.now)) (length steps.old) next)) }
 {
     let mut left = block;
     while let Some((statement, rest)) = left.split_first() {

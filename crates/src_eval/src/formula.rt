@@ -2,7 +2,7 @@
 
 ghost use Rattle.std.specs.Prelude.{◌≡◌, ◌+◌, ◌^◌, ◌<◌, ◌≤◌, slice_index, slice_set, if◌then◌else◌};
 ghost use Rattle.src_model.specs.Meaning.{compares};
-ghost use Rattle.src_eval.specs.Formulas.{Sound, mean, met, SoundSides};
+ghost use Rattle.src_eval.specs.Formulas.{Sound, formula_value, met, SoundSides};
 
 use rec_bits::{Items, Op1, Op2, apply1, apply2, sext, slice};
 use src_model::Cmp;
@@ -49,7 +49,7 @@ impl Formula {
     /// The value of an expression in a store. Its operators' operands fit their widths.
     pub fn value(&self, cells: &[u64]) -> u64
         requires { Sound cells.now self.now }
-        ensures { result ≡ mean cells.now self.now }
+        ensures { result ≡ formula_value cells.now self.now }
     {
         match self {
             Formula::Number(n) => *n,

@@ -2,13 +2,13 @@
 //!
 //! Promise: `Runner::new` has ahead of it exactly the checkpoints that the checked program passes
 //! from its store (`ahead`: `strace`), and the calls of `next` give them one after the other
-//! (`passes`: `Leads`), and after the end the end again (`ended`: `HasEnded`). Each call returns,
-//! also of a program that loops for ever, and takes no memory. `count` gives their number up to a
-//! limit.
+//! (`passes`: `Advances`), and after the end the end again (`ended`: `HasEnded`). Each call
+//! returns, also of a program that loops for ever, and takes no memory. `count` gives their number
+//! up to a limit.
 //!
-//! Invariant: a `Runner` keeps `Kept` in `specs/Steps`: the operands of each step fit their widths,
-//! each assignment is followed by a later step or by a test, which is why `next` returns, and each
-//! cell holds a word. A step's place in the list is the number of its tree.
+//! Invariant: a `Runner` keeps `MachineFits` in `specs/Inner/Steps`: the operands of each step fit
+//! their widths, each assignment is followed by a later step or by a test, which is why `next`
+//! returns, and each cell holds a word. A step's place in the list is the number of its tree.
 //!
 //! Files:
 //!
@@ -18,9 +18,9 @@
 //! - `machine`: a program as steps, and a run through them.
 //! - `build`: the steps of statements, each with where the run goes on.
 //! - `run`: `Runner`, as callers see it.
-//! - `specs/`: `Runs`, and of `Steps` and `Formulas` what is ahead of a run, are cited by public
-//!   contracts; `Laid`, `Resolved`, `Tables` and `Props` mirror the building, and the rest what a
-//!   run keeps.
+//! - `specs/`, cited by public contracts: `Runs`, and of `Steps` and `Formulas` what is ahead of a
+//!   run. `specs/Inner/`: `Laid`, `Resolved`, `Tables` and `Props`, which go with the building, and
+//!   `Steps`, what a run keeps.
 //! - `proofs/`: `LaidLemmas` and `FlowLemmas` from steps to checkpoints, `BuildLemmas`,
 //!   `AssembleLemmas` and `BlockLemmas` for the building, `FormulaLemmas` and `ResolveLemmas` for
 //!   values.

@@ -1,13 +1,15 @@
 //! A program as steps, and a run through them.
 
 ghost use Rattle.std.specs.Prelude.{◌≡◌, ◌∷◌, [], ℕ, suc, length};
-ghost use Rattle.src_eval.specs.Steps.{Kept, Passes, Ended, SameAhead, SameSteps, ahead_of};
+ghost use Rattle.src_eval.specs.Steps.{ahead_of};
+ghost use Rattle.src_eval.specs.Inner.Steps.{MachineFits, Passes, Ended, SameAhead, SameSteps};
 
 use crate::formula::{Comparison, Formula, put};
 use rec_bits::Items;
 use src_model::{Checkpoint, Store, Typed};
 
-/// An assignment or a test, with where the run goes on. Its place in the list of steps is the number of its tree.
+/// An assignment or a test, with where the run goes on. Its place in the list of steps is the
+/// number of its tree.
 #[derive(Drop)]
 pub enum Step {
     /// The value goes into a cell, so far behind the first.
@@ -36,8 +38,8 @@ pub struct Machine<'a> {
 impl<'a> Machine<'a> {
     /// Runs to the next checkpoint. Where that is a test, it also decides the test.
     pub fn advance(&mut self) -> Checkpoint
-        requires { Kept self.old }
-        ensures kept { Kept self.new }
+        requires { MachineFits self.old }
+        ensures kept { MachineFits self.new }
         ensures same { SameSteps self.old self.new }
         ensures passes { Passes self.old result self.new }
         ensures ended { result ≡ Checkpoint.End → Ended self.new }
@@ -73,9 +75,10 @@ impl<'a> Machine<'a> {
         }
     }
 
-    /// Runs to the end, and counts the checkpoints on the way, the end among them, up to `limit` of them.
+    /// Runs to the end, and counts the checkpoints on the way, the end among them, up to `limit` of
+    /// them.
     pub fn count(mut self, limit: u32) -> u32
-        requires { Kept self }
+        requires { MachineFits self }
         ensures { result ≡ length (ahead_of self.entry limit) }
     {
         for passed in 0..limit {

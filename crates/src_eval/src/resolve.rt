@@ -2,10 +2,10 @@
 
 ghost use Rattle.std.specs.Prelude.{◌≡◌, List, IfOk};
 ghost use Rattle.src_model.specs.Written.{shape_of, spot_shape, place_of, test_of};
-ghost use Rattle.src_model.specs.Meaning.{width_of, operand_width, holds};
+ghost use Rattle.src_model.specs.Meaning.{shape_width, operand_width, holds};
 ghost use Rattle.src_model.specs.Fitting.{Fitting, FitsSides};
-ghost use Rattle.src_eval.specs.Formulas.{IsWidth};
-ghost use Rattle.src_eval.specs.Resolved.{Resolves, ResolvesIndex, ResolvesTest, Small};
+ghost use Rattle.rec_bits.specs.Operators.{IsWidth};
+ghost use Rattle.src_eval.specs.Inner.Resolved.{Resolves, ResolvesIndex, ResolvesTest, Small};
 
 use crate::formula::{Comparison, Formula};
 use crate::table::Table;
@@ -16,7 +16,7 @@ use std::alloc::Global;
 // The width of an expression; a literal has the width `asked`.
 fn written_width(word: u8, asked: u8, e: &SrcExpr) -> u8
     requires { Small (shape_of e.now.node) }
-    ensures { result ≡ width_of word asked (shape_of e.now.node) }
+    ensures { result ≡ shape_width word asked (shape_of e.now.node) }
 {
     match &e.node {
         SrcNode::Num(_) => asked,
@@ -35,13 +35,14 @@ fn width_of(word: u8, asked: u8, e: &SrcExpr) -> u8
     requires word { IsWidth word }
     requires asked { IsWidth asked }
     requires fitting { Fitting word asked (shape_of e.now.node) }
-    ensures value { result ≡ width_of word asked (shape_of e.now.node) }
+    ensures value { result ≡ shape_width word asked (shape_of e.now.node) }
     ensures wide { IsWidth result }
 {
     written_width(word, asked, e)
 }
 
-// The width of both operands: a literal has that of the other one, and two literals have the word's.
+// The width of both operands: a literal has that of the other one, and two literals have the
+// word's.
 fn operand_width(word: u8, x: &SrcExpr, y: &SrcExpr) -> u8
     requires word { IsWidth word }
     requires left { Fitting word (operand_width word (shape_of x.now.node) (shape_of y.now.node)) (shape_of x.now.node) }

@@ -1,7 +1,7 @@
 //! A run of a program, as its caller sees it.
 
-ghost use Rattle.src_eval.specs.Steps.{Kept};
-ghost use Rattle.src_eval.specs.Props.{kept_prop};
+ghost use Rattle.src_eval.specs.Inner.Steps.{MachineFits};
+ghost use Rattle.src_eval.specs.Inner.Props.{kept_prop};
 
 use crate::build::build_block;
 use crate::machine::Machine;
@@ -10,11 +10,12 @@ use rec_bits::{Items, NoMemory};
 use src_model::{Checkpoint, Store, Typed};
 use std::alloc::Global;
 
-/// A run of a program, which stops at each checkpoint. Contracts see the checkpoints that are ahead of it, and its store.
+/// A run of a program, which stops at each checkpoint. Contracts see the checkpoints that are ahead
+/// of it, and its store.
 #[derive(Drop)]
 pub struct Runner<'a> {
     machine: Machine<'a>,
-    ghost kept: { Kept machine } by { kept_prop machine },
+    ghost kept: { MachineFits machine } by { kept_prop machine },
 }
 
 impl<'a> Runner<'a> {
@@ -22,13 +23,15 @@ impl<'a> Runner<'a> {
     ghost use Rattle.src_model.specs.Written.{listing_of};
     ghost use Rattle.src_model.specs.Meaning.{FitsStore};
     ghost use Rattle.src_model.specs.Trace.{strace};
-    ghost use Rattle.src_eval.specs.Runs.{HasEnded, Leads, ahead_in, store_in};
+    ghost use Rattle.src_eval.specs.Runs.{HasEnded, Advances, ahead_in, runner_store};
 
-    /// A run from this store that has not begun. The store has as many cells as the program's variables, and each holds a word.
+    /// A run from this store that has not begun. The store has as many cells as the program's
+    /// variables, and each holds a word.
     pub fn new(alloc: Global, typed: &'a Typed, store: Store) -> Result<Runner<'a>, NoMemory>
         requires { FitsStore typed.now.width typed.now.program.vars store.cells }
-        ensures cells { IfOk result (λ run. store_in run ≡ store) }
-        ensures ahead { IfOk result (λ run. (m : ℕ) → ahead_in run m ≡ strace typed.now.width (listing_of typed.now.program) store.cells m) }
+        ensures cells { IfOk result (λ run. runner_store run ≡ store) }
+        ensures ahead { IfOk result (λ run.
+            (m : ℕ) → ahead_in run m ≡ strace typed.now.width (listing_of typed.now.program) store.cells m) }
     {
         let word = typed.width();
         let program = typed.program();
@@ -44,16 +47,17 @@ impl<'a> Runner<'a> {
         Ok(Runner { machine })
     }
 
-    /// Runs to the next checkpoint, and answers it: a test that is about to be evaluated, with its tree's number, or the end. After the end it
-    /// answers the end again.
+    /// Runs to the next checkpoint, and answers it: a test that is about to be evaluated, with its
+    /// tree's number, or the end. After the end it answers the end again.
     pub fn next(&mut self) -> Checkpoint
-        ensures passes { Leads self.old result self.new }
+        ensures passes { Advances self.old result self.new }
         ensures ended { result ≡ Checkpoint.End → HasEnded self.new }
     {
         self.machine.advance()
     }
 
-    /// Runs to the end, and tells how many checkpoints it passed, the end included. After `limit` checkpoints it stops, and answers that.
+    /// Runs to the end, and tells how many checkpoints it passed, the end included. After `limit`
+    /// checkpoints it stops, and answers that.
     pub fn count(self, limit: u32) -> u32
         ensures { result ≡ length (ahead_in self.entry limit) }
     {
@@ -62,7 +66,7 @@ impl<'a> Runner<'a> {
 
     /// What the variables hold now.
     pub fn store(&self) -> &Store
-        ensures { result.now ≡ store_in self.now }
+        ensures { result.now ≡ runner_store self.now }
     {
         &self.machine.store
     }

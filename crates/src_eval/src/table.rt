@@ -9,7 +9,8 @@ use src_model::Var;
 use std::alloc::Global;
 use std::marker::Model;
 
-/// The declarations of a program, with a table of their first cells. Contracts see the list of the declarations.
+/// The declarations of a program, with a table of their first cells. Contracts see the list of the
+/// declarations.
 #[derive(Drop)]
 pub struct Table<'a> {
     vars: &'a [Var],
@@ -20,13 +21,13 @@ pub struct Table<'a> {
 impl<'a> Model for Table<'a> {
     ghost use Rattle.std.specs.Prelude.{List};
     ghost use Rattle.src_model.specs.declared.program.Var.{Var as Declared};
-    ghost use Rattle.src_eval.specs.Tables.{IsTable};
+    ghost use Rattle.src_eval.specs.Inner.Tables.{IsCellTable};
 
     ghost Value = { List Declared };
 
     ghost view = { λ table. table.vars.now };
 
-    ghost invariant = { λ table. IsTable table.first.entries table.total table.vars.now };
+    ghost invariant = { λ table. IsCellTable table.first.entries table.total table.vars.now };
 }
 
 impl<'a> Table<'a> {

@@ -14,16 +14,16 @@ use Rattle.lexing.specs.declared.token.Kind.{Kind}
 use Rattle.lexing.specs.declared.token.Kind.TheVariants.{Name, Reserved, Number, Sign, Bad}
 use Rattle.lexing.specs.Bytes.{begins_with, is_letter, is_name_byte}
 use Rattle.lexing.specs.Laws.{IsKind, IsTokenOf, IsWord}
-use Rattle.lexing.specs.Words.{lexed_of, or_else, word_of}
+use Rattle.lexing.specs.Words.{lexed_of, or_word, word_of}
 use Rattle.lexing.proofs.TokenLaws.{are_tokens}
 use Rattle.text_lines.specs.Fields.{is_name}
 use Rattle.src_lexer.specs.Programs.{programs, src_tokens}
 use Rattle.src_model.specs.declared.program.Var.{Var as Declared}
 use Rattle.src_model.specs.declared.words.Key.TheVariants.{Operator as Operates, Compare as Compares, Call as Calls}
 use Rattle.src_model.specs.declared.words.Symbol.TheVariants.{Comma}
-use Rattle.src_model.specs.Grammar.{Lexed, Word, IsDecl, IsDecls, IsLines, IsText}
+use Rattle.src_model.specs.Grammar.{Lexed, Word, IsDecl, IsDecls, IsLines, IsListing}
 use Rattle.src_model.specs.Written.{Listing}
-use Rattle.src_parser.specs.Texts.{words_of, IsSrcText}
+use Rattle.src_parser.specs.Texts.{src_lexed, IsSrcText}
 use Rattle.src_parser.specs.Words.{call_of, compare_of, operator_of, reserved_of, sign_of, sign_word, signed_of, symbol_of}
 use Rattle.src_front.specs.Fronts.{AreNamed, IsNamed}
 
@@ -56,21 +56,21 @@ NamedToken token = NamedWord token.word
 abbrev NamedTokens : List Lexed → Type 0
 NamedTokens = AllByRecursion NamedToken
 
-named_else : {A : Type 0} (make : A → Word) → ((a : A) → NamedWord (make a)) → (found : Option A) (next : Word) → NamedWord next → NamedWord (or_else make found next)
+named_else : {A : Type 0} (make : A → Word) → ((a : A) → NamedWord (make a)) → (found : Option A) (next : Word) → NamedWord next → NamedWord (or_word make found next)
 named_else make each None next named = named
 named_else make each (Some a) next named = each a
 
 named_reserved : (text : List ℕ) → NamedWord (reserved_of text)
 named_reserved text =
-    let symbols = or_else Shows (symbol_of text) Other in
-    let calls = or_else (λ call. Keyed (Calls call)) (call_of text) symbols in
+    let symbols = or_word Shows (symbol_of text) Other in
+    let calls = or_word (λ call. Keyed (Calls call)) (call_of text) symbols in
     named_else (λ cmp. Keyed (Compares cmp)) (λ cmp. tt) (signed_of text) calls
     (named_else (λ call. Keyed (Calls call)) (λ call. tt) (call_of text) symbols (named_else Shows (λ symbol. tt) (symbol_of text) Other tt))
 
 named_sign : (text : List ℕ) → NamedWord (sign_word text)
 named_sign text =
-    let symbols = or_else Shows (sign_of text) Other in
-    let operators = or_else (λ op. Keyed (Operates op)) (operator_of text) symbols in
+    let symbols = or_word Shows (sign_of text) Other in
+    let operators = or_word (λ op. Keyed (Operates op)) (operator_of text) symbols in
     named_else (λ cmp. Keyed (Compares cmp)) (λ cmp. tt) (compare_of text) operators
     (named_else (λ op. Keyed (Operates op)) (λ op. tt) (operator_of text) symbols (named_else Shows (λ symbol. tt) (sign_of text) Other tt))
 
@@ -81,9 +81,9 @@ named_word Number n bytes long is = tt
 named_word Sign n bytes long is = named_sign (take n bytes)
 named_word Bad n bytes long is = tt
 
-named_words : (bytes : List ℕ) → NamedTokens (words_of bytes)
+named_words : (bytes : List ℕ) → NamedTokens (src_lexed bytes)
 named_words bytes =
-    recursion_from_All NamedToken (words_of bytes)
+    recursion_from_All NamedToken (src_lexed bytes)
     (All-map NamedToken (lexed_of reserved_of sign_word bytes) (src_tokens bytes)
     (All-weaker (IsTokenOf programs bytes) (λ token. NamedToken (lexed_of reserved_of sign_word bytes token))
     (λ token is. named_word token.kind token.len (drop token.at bytes) is.some is.kind)
@@ -132,10 +132,10 @@ named_lines ts vars named (some {us = us} {b = b} {zs = zs} {w = w} is rest) =
     let both = named_parts us zs named in
     all_append IsNamed b w (named_decls us b both.0 is) (named_lines zs w both.1 rest)
 
-named_text : (ts : List Lexed) (listing : Listing) → NamedTokens ts → IsText ts listing → AreNamed listing.vars
+named_text : (ts : List Lexed) (listing : Listing) → NamedTokens ts → IsListing ts listing → AreNamed listing.vars
 named_text ts listing named is =
     subst (λ (l : Listing). AreNamed l.vars) (sym is.second.second.same) (named_lines is.front is.value (named_front is named) is.first)
 
 -- the variables of a program text are named by names
 pub source_names : (bytes : List ℕ) (listing : Listing) → IsSrcText bytes listing → AreNamed listing.vars
-source_names bytes listing text = named_text (words_of bytes) listing (named_words bytes) text.spelled
+source_names bytes listing text = named_text (src_lexed bytes) listing (named_words bytes) text.spelled

@@ -33,9 +33,11 @@ fn program(alloc: Global, bytes: &[u8]) -> Result<Program, SrcRefusal>
     }
 }
 
-/// The program of a text, checked for words of `width` bits, 1 to 64. `Text` comes exactly where the bytes are no program text, with the
-/// offset of the first token such that those before it begin some text and with it they don't, or the length of the bytes where all of
-/// them begin one. `Fault` comes exactly where they are one that breaks a rule, with the first. `Memory` is want of memory.
+/// The program of a text, checked for words of `width` bits, 1 to 64. `Text` comes exactly where
+/// the bytes are no program text, with the offset of the first token such that those before it
+/// begin some text and with it they don't, or the length of the bytes where all of them begin one.
+/// `Fault` comes exactly where they are one that breaks a rule, with the first. `Memory` is want of
+/// memory.
 pub fn read_src(alloc: Global, bytes: &[u8], width: u8) -> Result<Typed, SrcRefusal>
     requires short { length bytes.now < 2 ^ 32 }
     requires some { 1 ≤ width }

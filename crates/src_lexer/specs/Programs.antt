@@ -1,11 +1,11 @@
 -- The tokens of programs.
 use Rattle.std.specs.Prelude.{ℕ, List, [], ◌∷◌, map, codes}
 use Rattle.lexing.specs.declared.token.Token.{Token}
-use Rattle.lexing.specs.Table.{Table}
+use Rattle.lexing.specs.Table.{Lexicon}
 use Rattle.lexing.specs.Tokens.{tokens_of}
 
 -- the reserved words and the signs of programs
-unfoldable pub programs : Table
+unfoldable pub programs : Lexicon
 programs = record {
   reserved = map codes ("var" ∷ "if" ∷ "else" ∷ "while" ∷ "for" ∷ "to" ∷ "zext" ∷ "sext" ∷ "low" ∷ "slt" ∷ "sle" ∷ "sgt" ∷ "sge" ∷ []);
   signs = map codes ("=" ∷ ";" ∷ "," ∷ "[" ∷ "]" ∷ "{" ∷ "}" ∷ "(" ∷ ")" ∷ "==" ∷ "!=" ∷ "<" ∷ "<=" ∷ ">" ∷ ">=" ∷ "|" ∷ "^" ∷ "&" ∷ "<<" ∷ ">>" ∷ ">>>" ∷ "+" ∷ "-" ∷ "*" ∷ "~" ∷ []);

@@ -12,7 +12,9 @@ use Rattle.src_model.specs.Widths.{is_literal}
 use Rattle.src_model.specs.Indexes.{number_of}
 use Rattle.src_model.specs.Sizes.{Root, value, store, compare, difference, nodes, nodes_of, read_nodes, part, read_part, sided, all_of, is_word, temps_of, greatest, roots_in, longest}
 use Rattle.rec_bits.specs.Counts.{capped}
-use Rattle.src_model.specs.Rules.{RulesHold, first_fault, or_else, fault_at, above, limits, duplicates, unknown_names, bad_widths, bad_indexes, bad_counters, statement_count, node_count, temp_count}
+use Rattle.src_model.specs.Rules.{RulesHold, first_fault, above, limits, duplicate_names, unknown_names, bad_widths, bad_indexes, bad_counters, statement_count, node_count, temp_count}
+use Rattle.rec_bits.specs.Faults.{fault_at}
+use Rattle.rec_bits.specs.Faults.{or_else}
 use Rattle.rec_bits.specs.Faults.{least}
 use Rattle.rec_bits.proofs.Faults.{least_none}
 
@@ -88,7 +90,7 @@ none_broken rule offsets h = least_none offsets (none (least offsets) h)
 module _ (word : ℕ) (l : Listing) (h : first_fault word l ≡ None) where
   behind_first : or_else (fault_at Unknown (least (unknown_names l))) (or_else (fault_at Width (least (bad_widths word l)))
       (or_else (fault_at Index (least (bad_indexes l))) (or_else (fault_at Counter (least (bad_counters word l))) (limits l)))) ≡ None
-  behind_first = or_else_none (fault_at Duplicate (least (duplicates l))) _ h
+  behind_first = or_else_none (fault_at Duplicate (least (duplicate_names l))) _ h
 
   behind_second : or_else (fault_at Width (least (bad_widths word l)))
       (or_else (fault_at Index (least (bad_indexes l))) (or_else (fault_at Counter (least (bad_counters word l))) (limits l))) ≡ None
@@ -112,7 +114,7 @@ module _ (word : ℕ) (l : Listing) (h : first_fault word l ≡ None) where
       let s = above_none Statements (capped (statement_count l)) 65536 (or_else_first (above Statements (capped (statement_count l)) 65536) _ behind_lengths) in
       let n = above_none Nodes (capped (node_count l)) 255 (or_else_none (above Statements (capped (statement_count l)) 65536) _ behind_lengths) in
       record {
-        names_once = none_broken Duplicate (duplicates l) (or_else_first (fault_at Duplicate (least (duplicates l))) _ h);
+        names_once = none_broken Duplicate (duplicate_names l) (or_else_first (fault_at Duplicate (least (duplicate_names l))) _ h);
         names_known = none_broken Unknown (unknown_names l) (or_else_first (fault_at Unknown (least (unknown_names l))) _ behind_first);
         widths_fit = none_broken Width (bad_widths word l) (or_else_first (fault_at Width (least (bad_widths word l))) _ behind_second);
         indexes_within = none_broken Index (bad_indexes l) (or_else_first (fault_at Index (least (bad_indexes l))) _ behind_third);

@@ -2,7 +2,8 @@
 use Rattle.std.proofs.Common.{ℕ, ◌≡◌, ◌≤◌, ◌<◌, ◌+◌, Bool, true, false, if◌then◌else◌, List, [], ◌∷◌, Option, Some, None, refl, sym, ◌∙◌, ap, arith, unwrap_or, is_some, not}
 use Rattle.std.proofs.lemmas.Slice.Eq.{bytes_eq-Decides}
 use Rattle.src_model.specs.declared.program.Var.{Var as Declared}
-use Rattle.src_model.specs.Names.{same_name, declared, is_plain, is_array}
+use Rattle.src_model.specs.Names.{declared, is_plain, is_array}
+use Rattle.rec_bits.specs.Faults.{same_name}
 use Rattle.src_model.specs.Indexes.{length_of}
 use Rattle.src_model.specs.Meaning.{cells_in, cell_count, first_cell}
 

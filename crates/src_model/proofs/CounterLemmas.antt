@@ -8,10 +8,10 @@ use Rattle.src_model.specs.declared.program.Var.{Var as Declared}
 use Rattle.src_model.specs.Written.{Phrase, Place, shape_at}
 use Rattle.src_model.specs.Names.{declared, is_plain}
 use Rattle.src_model.specs.Loops.{Round, place_shape}
-use Rattle.src_model.specs.Meaning.{FitsStore, value_of, index_value, assigned, cells_in, first_cell}
+use Rattle.src_model.specs.Meaning.{FitsStore, shape_value, index_value, assigned, cells_in, first_cell}
 use Rattle.src_model.specs.Trace.{counter_value, started, stepped, counting}
 use Rattle.src_model.specs.Inside.{Known, is_inside}
-use Rattle.src_model.specs.Sound.{Counts, Holds, Turns, Frees, SoundAssign, SoundCount}
+use Rattle.src_model.specs.Inner.Sound.{Counts, Holds, Turns, Frees, SoundAssign, SoundCount}
 use Rattle.src_model.proofs.CellLemmas.{first_within, cells_apart, plain_var, array_var}
 use Rattle.src_model.proofs.ValueLemmas.{value_fits}
 
@@ -49,7 +49,7 @@ module _ (bits : ℕ) (vars : List Declared) (rounds : List Round) where
   assign_holds place e cells f i h =
       let v = spot bits vars cells place.name place.at place.index f.left.known i in
       record {
-        fits = fits_set bits vars cells _ _ h.fits (subst (λ n. value_of bits vars cells bits e.shape < 2 ^ n) f.width (value_fits bits vars cells h.fits.below bits e.shape f.right.fits));
+        fits = fits_set bits vars cells _ _ h.fits (subst (λ n. shape_value bits vars cells bits e.shape < 2 ^ n) f.width (value_fits bits vars cells h.fits.below bits e.shape f.right.fits));
         counts = counts_set vars cells place.name v.0 (index_value bits vars cells place.index) _ v.1 v.2 rounds f.free h.counts;
       }
 

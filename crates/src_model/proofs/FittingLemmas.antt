@@ -1,4 +1,5 @@
--- A program that keeps the rules of widths and counters: what is known of its expressions and statements.
+-- A program that keeps the rules of widths and counters: what is known of its expressions and
+-- statements.
 use Rattle.std.proofs.Common.{◌≡◌, ℕ, ◌+◌, ◌≤◌, ◌<◌, ◌^◌, Bool, true, false, ◌||◌, nat_lt, nat_le, ◌==◌, if◌then◌else◌, is_some, List, [], ◌∷◌, ◌++◌, None, Result, Ok, Err, refl, sym, ap, subst, ◌∙◌, arith, eqb-true}
 use Rattle.std.proofs.lemmas.Bool.Decides.{nat_tests}
 use Rattle.rec_bits.specs.Operators.{result_width}
@@ -7,10 +8,11 @@ use Rattle.rec_bits.specs.declared.operator.Op2.TheVariants.{Add, Sub, Mul, And,
 use Rattle.rec_bits.specs.Faults.{broken, least}
 use Rattle.src_model.specs.Written.{Shape, num, plain, element, un, bin, zext, sext, low, Phrase, Place, Act, assign, choice, while, count, Acts, no_acts, act, Otherwise, without, otherwise, Listing, acts_of}
 use Rattle.src_model.specs.Widths.{is_literal, whole, alike, asking, operated, extended, lowered, side_by_side, wide, sides, misfit}
-use Rattle.src_model.specs.Loops.{Round, place_shape, breaks, breaks_in, breaks_else, changes, miscounted, counters}
+use Rattle.src_model.specs.Loops.{Round, place_shape, breaks, breaks_in, breaks_else, changes_rule, miscounted, counters}
 use Rattle.src_model.specs.Rules.{widths, first_fault}
-use Rattle.src_model.specs.Meaning.{width_of, operand_width}
-use Rattle.src_model.specs.Fitting.{Fitting, FitsWord, FitsSides, FitsCount, FitsAct, FitsActs, FitsElse}
+use Rattle.src_model.specs.Meaning.{shape_width, operand_width}
+use Rattle.src_model.specs.Fitting.{Fitting, FitsWord, FitsSides}
+use Rattle.src_model.specs.Inner.Fitting.{FitsCount, FitsAct, FitsActs, FitsElse}
 use Rattle.src_model.proofs.Bounds.{rules_hold}
 
 ok_is : (a b : ℕ) → (let r : Result ℕ ℕ = Ok a in r) ≡ Ok b → a ≡ b
@@ -30,7 +32,7 @@ chosen false a b c e = not_ok b c e
 
 -- ---- literals
 
-literal_width : (word asked : ℕ) (e : Shape) → is_literal e ≡ true → width_of word asked e ≡ asked
+literal_width : (word asked : ℕ) (e : Shape) → is_literal e ≡ true → shape_width word asked e ≡ asked
 literal_width word asked (num n) h = refl
 literal_width word asked (un op at x) h = literal_width word asked x h
 literal_width word asked (plain name at) h = absurd (cc h)
@@ -41,7 +43,7 @@ literal_width word asked (sext at x width) h = absurd (cc h)
 literal_width word asked (low at x width) h = absurd (cc h)
 
 -- what is asked for is nothing to any other expression
-other_width : (word a b : ℕ) (e : Shape) → is_literal e ≡ false → width_of word a e ≡ width_of word b e
+other_width : (word a b : ℕ) (e : Shape) → is_literal e ≡ false → shape_width word a e ≡ shape_width word b e
 other_width word a b (num n) h = absurd (cc h)
 other_width word a b (un op at x) h = other_width word a b x h
 other_width word a b (plain name at) h = refl
@@ -66,7 +68,7 @@ other_fitting word a b (low at x width) h f = f
 -- an expression that keeps the rule has this width
 pub record Wide (word asked : ℕ) (e : Shape) (width : ℕ) : Type 0 where
   pub parts : Fitting word asked e
-  pub is : width_of word asked e ≡ width
+  pub is : shape_width word asked e ≡ width
 
 -- the sides of an operator or a test
 pub record Sided (word : ℕ) (x y : Shape) (width : ℕ) : Type 0 where
@@ -79,8 +81,8 @@ sides_at word width x y o l r = record {
   sides = record {
     left = subst (λ w. Fitting word w x) (sym o) l.parts;
     right = subst (λ w. Fitting word w y) (sym o) r.parts;
-    left_width = subst (λ w. width_of word w x ≡ w) (sym o) l.is;
-    right_width = subst (λ w. width_of word w y ≡ w) (sym o) r.is;
+    left_width = subst (λ w. shape_width word w x ≡ w) (sym o) l.is;
+    right_width = subst (λ w. shape_width word w y ≡ w) (sym o) r.is;
   };
   is = o;
 }
@@ -88,11 +90,11 @@ sides_at word width x y o l r = record {
 at_other : (word a b : ℕ) (e : Shape) (width : ℕ) → is_literal e ≡ false → Wide word a e width → Wide word b e width
 at_other word a b e width h w = record { parts = other_fitting word a b e h w.parts; is = sym (other_width word a b e h) ∙ w.is }
 
-first_side : (word : ℕ) (x y : Shape) → is_literal x ≡ false → operand_width word x y ≡ width_of word word x
-first_side word x y h = ap (λ (b : Bool). if b then width_of word word y else width_of word word x) h
+first_side : (word : ℕ) (x y : Shape) → is_literal x ≡ false → operand_width word x y ≡ shape_width word word x
+first_side word x y h = ap (λ (b : Bool). if b then shape_width word word y else shape_width word word x) h
 
-second_side : (word : ℕ) (x y : Shape) → is_literal x ≡ true → operand_width word x y ≡ width_of word word y
-second_side word x y h = ap (λ (b : Bool). if b then width_of word word y else width_of word word x) h
+second_side : (word : ℕ) (x y : Shape) → is_literal x ≡ true → operand_width word x y ≡ shape_width word word y
+second_side word x y h = ap (λ (b : Bool). if b then shape_width word word y else shape_width word word x) h
 
 sided : (word : ℕ) (x y : Shape) (at to width : ℕ) (lx ly : Bool) → is_literal x ≡ lx → is_literal y ≡ ly
     → ((asked w : ℕ) → wide word asked at x ≡ Ok w → Wide word asked x w) → ((asked w : ℕ) → wide word asked to y ≡ Ok w → Wide word asked y w)
@@ -240,8 +242,8 @@ former_false true b h = absurd (cc h)
 
 count_fits : (word : ℕ) (round : Round) (body : Acts) → miscounted word round body ≡ false → FitsCount word round.from round.to
 count_fits word round body h =
-    let t = later_false (is_some (least (breaks_in (changes round.counter) [] body)) || nat_lt (round.to + 1) round.from) (nat_le (2 ^ word) (round.to + 1)) h in
-    let s = later_false (is_some (least (breaks_in (changes round.counter) [] body))) (nat_lt (round.to + 1) round.from) (former_false _ _ h) in
+    let t = later_false (is_some (least (breaks_in (changes_rule round.counter) [] body)) || nat_lt (round.to + 1) round.from) (nat_le (2 ^ word) (round.to + 1)) h in
+    let s = later_false (is_some (least (breaks_in (changes_rule round.counter) [] body))) (nat_lt (round.to + 1) round.from) (former_false _ _ h) in
     record { order = grind (arith, nat_tests, s); below = grind (arith, nat_tests, t) }
 
 mutual
@@ -283,7 +285,7 @@ abbrev pub IsWide : ℕ → Type 0
 IsWide width = (1 ≤ width) × (width ≤ 64)
 
 operands_wide : (word : ℕ) (x y : Shape) (lx ly : Bool) → is_literal x ≡ lx → is_literal y ≡ ly → IsWide word
-    → (Fitting word word x → IsWide (width_of word word x)) → (Fitting word word y → IsWide (width_of word word y))
+    → (Fitting word word x → IsWide (shape_width word word x)) → (Fitting word word y → IsWide (shape_width word word y))
     → Fitting word (operand_width word x y) x → Fitting word (operand_width word x y) y → IsWide (operand_width word x y)
 operands_wide word x y true true hx hy w fx fy l r = subst IsWide (sym (literal_width word word y hy) ∙ sym (second_side word x y hx)) w
 operands_wide word x y true false hx hy w fx fy l r = subst IsWide (sym (second_side word x y hx)) (fy (other_fitting word (operand_width word x y) word y hy r))
@@ -304,7 +306,7 @@ result_wide Shr width w = w
 result_wide Sar width w = w
 
 -- an expression that fits has such a width
-pub width_wide : (word asked : ℕ) (e : Shape) → IsWide word → IsWide asked → Fitting word asked e → IsWide (width_of word asked e)
+pub width_wide : (word asked : ℕ) (e : Shape) → IsWide word → IsWide asked → Fitting word asked e → IsWide (shape_width word asked e)
 width_wide word asked (num n) w a f = a
 width_wide word asked (plain name at) w a f = w
 width_wide word asked (element name at to x) w a f = w

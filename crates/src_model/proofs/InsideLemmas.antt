@@ -10,9 +10,9 @@ use Rattle.src_model.specs.Loops.{Round, place_shape}
 use Rattle.src_model.specs.Rules.{first_fault}
 use Rattle.src_model.specs.Meaning.{FitsStore, assigned, holds}
 use Rattle.src_model.specs.Ways.{Passed, Onward, pass, choose, turns, loop, finish}
-use Rattle.src_model.specs.Trace.{started, stepped, counting, after, run, run_in, run_else, strace}
-use Rattle.src_model.specs.Inside.{assign_inside, test_inside, only, run_inside, all_inside, else_inside, strace_inside}
-use Rattle.src_model.specs.Sound.{Holds, Turns, SoundAssign, SoundTest, Sound, SoundIn, SoundElse}
+use Rattle.src_model.specs.Trace.{started, stepped, counting, after_change, run_act, run_in, run_else, strace}
+use Rattle.src_model.specs.Inside.{assign_inside, test_inside, if_holds, run_inside, all_inside, else_inside, strace_inside}
+use Rattle.src_model.specs.Inner.Sound.{Holds, Turns, SoundAssign, SoundTest, Sound, SoundIn, SoundElse}
 use Rattle.src_model.proofs.RangeLemmas.{inside}
 use Rattle.src_model.proofs.CounterLemmas.{assign_holds, start_turns, turn_holds, step_turns}
 use Rattle.src_model.proofs.SoundLemmas.{program_sound}
@@ -29,7 +29,7 @@ pass_agree m label P k k' h zero le cells p = refl
 pass_agree m label P k k' h (suc j) le cells p = ap (λ (rest : List Passed). record { label = label; cells = cells } ∷ rest) (h j (omega arith) cells p)
 
 -- a question that is answered with yes
-only_agree : (m : ℕ) (question : List ℕ → Bool) (P : List ℕ → Type 0) (k k' : Onward) → ((cells : List ℕ) → P cells → question cells ≡ true) → Agree m P k k' → Agree m P (only question k) k'
+only_agree : (m : ℕ) (question : List ℕ → Bool) (P : List ℕ → Type 0) (k k' : Onward) → ((cells : List ℕ) → P cells → question cells ≡ true) → Agree m P k k' → Agree m P (if_holds question k) k'
 only_agree m question P k k' yes_to h j le cells p = ap (λ b. if b then k j cells else []) (yes_to cells p) ∙ h j le cells p
 
 -- what a store keeps that passes a test, or doesn't
@@ -65,28 +65,28 @@ module _ (bits : ℕ) (vars : List Declared) where
   test_is rounds test f cells h = both_true (inside bits vars cells h.fits.below rounds h.counts _ test.left.shape f.sides.left f.left_known f.left_within) (inside bits vars cells h.fits.below rounds h.counts _ test.right.shape f.sides.right f.right_known f.right_within)
 
   mutual
-    unfolding run run_in run_else run_inside all_inside else_inside
+    unfolding run_act run_in run_else run_inside all_inside else_inside
 
-    run_agree : (rounds : List Round) (a : Act) → Sound bits vars rounds a → (tree m : ℕ) (k k' : Onward) → Agree m (Holds bits vars rounds) k k' → Agree m (Holds bits vars rounds) (run_inside bits vars a tree k) (run bits vars a tree k')
+    run_agree : (rounds : List Round) (a : Act) → Sound bits vars rounds a → (tree m : ℕ) (k k' : Onward) → Agree m (Holds bits vars rounds) k k' → Agree m (Holds bits vars rounds) (run_inside bits vars a tree k) (run_act bits vars a tree k')
     run_agree rounds (assign place e) f tree m k k' h =
-        only_agree m (assign_inside bits vars place e) (Holds bits vars rounds) (after (assigned bits vars place e) k) (after (assigned bits vars place e) k') (assign_is rounds place e f)
+        only_agree m (assign_inside bits vars place e) (Holds bits vars rounds) (after_change (assigned bits vars place e) k) (after_change (assigned bits vars place e) k') (assign_is rounds place e f)
         (λ j le cells p. h j le (assigned bits vars place e cells)
         (assign_holds bits vars rounds place e cells f (inside bits vars cells p.fits.below rounds p.counts bits (place_shape place) f.left.fits f.left.known f.left.within) p))
     run_agree rounds (choice test taken other) f tree m k k' h =
-        pass_agree m (At tree) (Holds bits vars rounds) (only (test_inside bits vars test) (choose (holds bits vars test) (all_inside bits vars taken (tree + 1) k) (else_inside bits vars other (tree + 1 + statements_in taken) k)))
+        pass_agree m (At tree) (Holds bits vars rounds) (if_holds (test_inside bits vars test) (choose (holds bits vars test) (all_inside bits vars taken (tree + 1) k) (else_inside bits vars other (tree + 1 + statements_in taken) k)))
         (choose (holds bits vars test) (run_in bits vars taken (tree + 1) k') (run_else bits vars other (tree + 1 + statements_in taken) k'))
         (only_agree m (test_inside bits vars test) (Holds bits vars rounds) _ _ (test_is rounds test f.0)
         (choose_agree m (holds bits vars test) (Holds bits vars rounds) _ _ _ _
         (λ j le cells p. in_agree rounds taken f.1 (tree + 1) m k k' h j le cells p.0)
         (λ j le cells p. else_agree rounds other f.2 (tree + 1 + statements_in taken) m k k' h j le cells p.0)))
     run_agree rounds (while test body) f tree m k k' h =
-        loop_agree m (At tree) (holds bits vars test) (Holds bits vars rounds) (λ again. only (test_inside bits vars test) (all_inside bits vars body (tree + 1) again)) (run_in bits vars body (tree + 1)) (only (test_inside bits vars test) k) k'
+        loop_agree m (At tree) (holds bits vars test) (Holds bits vars rounds) (λ again. if_holds (test_inside bits vars test) (all_inside bits vars body (tree + 1) again)) (run_in bits vars body (tree + 1)) (if_holds (test_inside bits vars test) k) k'
         (λ i r r' a. only_agree i (test_inside bits vars test) (Passing (Holds bits vars rounds) (holds bits vars test) true) (all_inside bits vars body (tree + 1) r) (run_in bits vars body (tree + 1) r') (λ cells p. test_is rounds test f.0 cells p.0)
         (λ j le cells p. in_agree rounds body f.1 (tree + 1) i r r' a j le cells p.0))
         (only_agree m (test_inside bits vars test) (Passing (Holds bits vars rounds) (holds bits vars test) false) k k' (λ cells p. test_is rounds test f.0 cells p.0) (λ j le cells p. h j le cells p.0))
     run_agree rounds (count counter at from to body) f tree m k k' h = λ j le cells p.
-        loop_agree m (At (tree + 1)) (counting vars counter to) (Turns bits vars rounds counter from to) (λ again. all_inside bits vars body (tree + 2) (after (stepped bits vars counter) again)) (counted_body bits vars counter body (tree + 2)) k k'
-        (λ i r r' a j le cells q. in_agree (record { counter = counter; from = from; to = to } ∷ rounds) body f.1 (tree + 2) i (after (stepped bits vars counter) r) (after (stepped bits vars counter) r')
+        loop_agree m (At (tree + 1)) (counting vars counter to) (Turns bits vars rounds counter from to) (λ again. all_inside bits vars body (tree + 2) (after_change (stepped bits vars counter) again)) (counted_body bits vars counter body (tree + 2)) k k'
+        (λ i r r' a j le cells q. in_agree (record { counter = counter; from = from; to = to } ∷ rounds) body f.1 (tree + 2) i (after_change (stepped bits vars counter) r) (after_change (stepped bits vars counter) r')
         (λ j le cells t. a j le (stepped bits vars counter cells) (step_turns bits vars rounds counter from to f.0 cells t)) j le cells (turn_holds bits vars rounds counter from to f.0 cells q.0 q.1))
         (λ j le cells q. h j le cells q.0.holds)
         j le (started vars counter from cells) (start_turns bits vars rounds counter from to f.0 cells p)

@@ -13,17 +13,18 @@ use Rattle.rec_bits.specs.Faults.{broken}
 use Rattle.rec_bits.specs.Operators.{apply2_of, result_width}
 use Rattle.rec_bits.specs.declared.operator.Op2.{Op2}
 use Rattle.rec_bits.specs.declared.operator.Op2.TheVariants.{Add, Sub, Mul, And, Or, Xor, Shl, Shr, Sar, Eq, Ltu, Lts}
-use Rattle.rec_bits.specs.Ranges.{is_end, range_of}
+use Rattle.rec_bits.specs.Ranges.{is_range_end, range_of}
 use Rattle.src_model.specs.declared.program.Var.{Var as Declared}
 use Rattle.src_model.specs.Written.{Shape, num, plain, element, un as un_of, bin as bin_of, zext as zext_of, sext as sext_of, low}
-use Rattle.src_model.specs.Names.{declared, same_name}
+use Rattle.src_model.specs.Names.{declared}
+use Rattle.rec_bits.specs.Faults.{same_name}
 use Rattle.src_model.specs.Loops.{Round}
 use Rattle.src_model.specs.Indexes.{number_of, between, counted_range, of_both, times, product_range, masked_range, range_by, index_range, length_of, is_within, loose}
-use Rattle.src_model.specs.Meaning.{width_of, operand_width, value_of}
+use Rattle.src_model.specs.Meaning.{shape_width, operand_width, shape_value}
 use Rattle.src_model.specs.Trace.{counter_value}
 use Rattle.src_model.specs.Fitting.{Fitting}
 use Rattle.src_model.specs.Inside.{Known, is_inside}
-use Rattle.src_model.specs.Sound.{Counts}
+use Rattle.src_model.specs.Inner.Sound.{Counts}
 use Rattle.src_model.proofs.ValueLemmas.{value_fits, number_value}
 use Rattle.std.proofs.lemmas.Slice.Eq.{bytes_eq-Decides}
 
@@ -59,7 +60,8 @@ record Ranged (range : Range) (P v : ℕ) : Type 0 where
   low : range.lo ≤ℤ number
   high : number ≤ℤ range.hi
 
--- of whole numbers that aren't negative a value below P that differs by multiples of it is at most as great
+-- of whole numbers that aren't negative a value below P that differs by multiples of it is at most
+-- as great
 least_is : (n v less more P : ℕ) → v < P → n + less * P ≡ v + more * P → v ≤ n
 least_is n v less more P lv e = by (nat_lt more less) refl
   where
@@ -103,7 +105,7 @@ split x P lt = omega arith
 -- ---- operators
 
 ends_of : (lo hi : ℤ) (range : Range) → range_of lo hi ≡ Some range → (let a : Range = record { lo = lo; hi = hi } in a) ≡ range
-ends_of lo hi range e = by (is_end lo && is_end hi) e
+ends_of lo hi range e = by (is_range_end lo && is_range_end hi) e
   where
     by : (b : Bool) → (if b then Some (record { lo = lo; hi = hi }) else None) ≡ Some range → (let a : Range = record { lo = lo; hi = hi } in a) ≡ range
     by true e = cc
@@ -232,18 +234,18 @@ module _ (bits : ℕ) (vars : List Declared) (cells : List ℕ) (words : (cell :
           (subst (λ x. Ranged (between round.from (max round.from round.to)) P (counter_value vars x cells)) s (exactly round.from (max round.from round.to) P (counter_value vars round.counter cells) c.0.least (let l = c.0.most in omega (arith, l))))
       by more false is e = more e
 
-  ranged : (x : Shape) (range : Range) → Fitting bits bits x → width_of bits bits x ≡ bits → index_range rounds x ≡ Some range → Ranged range (2 ^ bits) (value_of bits vars cells bits x)
+  ranged : (x : Shape) (range : Range) → Fitting bits bits x → shape_width bits bits x ≡ bits → index_range rounds x ≡ Some range → Ranged range (2 ^ bits) (shape_value bits vars cells bits x)
   ranged (num n) range f w e = at_range (between n n) range (2 ^ bits) n e (exactly n n (2 ^ bits) n (omega arith) (omega arith))
   ranged (plain name at) range f w e = counted (2 ^ bits) rounds counts name range e
   ranged (bin_of op at x to y) range f w e =
       let o : operand_width bits x y ≡ bits = index_width op (operand_width bits x y) bits _ _ _ _ range e w in
       let fx : Fitting bits bits x = subst (λ n. Fitting bits n x) o f.0 in
       let fy : Fitting bits bits y = subst (λ n. Fitting bits n y) o f.1 in
-      let wx : width_of bits bits x ≡ bits = subst (λ n. width_of bits n x ≡ n) o f.2 in
-      let wy : width_of bits bits y ≡ bits = subst (λ n. width_of bits n y ≡ n) o f.3 in
-      let lt : value_of bits vars cells bits y < 2 ^ bits = subst (λ n. value_of bits vars cells bits y < 2 ^ n) wy (value_fits bits vars cells words bits y fy) in
-      subst (λ n. Ranged range (2 ^ bits) (apply2_of op n (value_of bits vars cells n x) (value_of bits vars cells n y))) (sym o)
-      (operated op bits (value_of bits vars cells bits x) (value_of bits vars cells bits y) (number_of x) (number_of y) (index_range rounds x) (index_range rounds y) range lt
+      let wx : shape_width bits bits x ≡ bits = subst (λ n. shape_width bits n x ≡ n) o f.2 in
+      let wy : shape_width bits bits y ≡ bits = subst (λ n. shape_width bits n y ≡ n) o f.3 in
+      let lt : shape_value bits vars cells bits y < 2 ^ bits = subst (λ n. shape_value bits vars cells bits y < 2 ^ n) wy (value_fits bits vars cells words bits y fy) in
+      subst (λ n. Ranged range (2 ^ bits) (apply2_of op n (shape_value bits vars cells n x) (shape_value bits vars cells n y))) (sym o)
+      (operated op bits (shape_value bits vars cells bits x) (shape_value bits vars cells bits y) (number_of x) (number_of y) (index_range rounds x) (index_range rounds y) range lt
       (record { number = λ k h. number_value bits vars cells x k h; ranged = λ a h. ranged x a fx wx h })
       (record { number = λ k h. number_value bits vars cells y k h; ranged = λ a h. ranged y a fy wy h }) e)
   ranged (element name at to x) range f w e = absurd (cc e)
@@ -252,7 +254,8 @@ module _ (bits : ℕ) (vars : List Declared) (cells : List ℕ) (words : (cell :
   ranged (sext_of at x width) range f w e = absurd (cc e)
   ranged (low at x width) range f w e = absurd (cc e)
 
-  -- the indexes of an expression that keeps the rule lie in their arrays, where the loops' counters lie in their ranges
+  -- the indexes of an expression that keeps the rule lie in their arrays, where the loops' counters
+  -- lie in their ranges
   pub inside : (asked : ℕ) (e : Shape) → Fitting bits asked e → Known vars e → loose vars rounds e ≡ [] → is_inside bits vars cells e ≡ true
   inside asked (num n) f k h = refl
   inside asked (plain name at) f k h = refl
@@ -260,10 +263,10 @@ module _ (bits : ℕ) (vars : List Declared) (cells : List ℕ) (words : (cell :
       let p = append_none _ _ h in
       both_true (inside bits x f.0 k.1 p.1) (lt-ltb _ _ (by (index_range rounds x) refl (kept _ to p.0)))
     where
-      by : (o : Option Range) → index_range rounds x ≡ o → is_within (length_of (declared vars name)) o ≡ true → value_of bits vars cells bits x < length_of (declared vars name)
+      by : (o : Option Range) → index_range rounds x ≡ o → is_within (length_of (declared vars name)) o ≡ true → shape_value bits vars cells bits x < length_of (declared vars name)
       by None is e = absurd (cc e)
       by (Some range) is e =
-          ranged_below range (2 ^ bits) _ _ (subst (λ n. value_of bits vars cells bits x < 2 ^ n) f.1 (value_fits bits vars cells words bits x f.0)) (ranged x range f.0 f.1 is) e
+          ranged_below range (2 ^ bits) _ _ (subst (λ n. shape_value bits vars cells bits x < 2 ^ n) f.1 (value_fits bits vars cells words bits x f.0)) (ranged x range f.0 f.1 is) e
   inside asked (un_of op at x) f k h = inside asked x f k h
   inside asked (bin_of op at x to y) f k h = let p = append_none _ _ h in both_true (inside (operand_width bits x y) x f.0 k.0 p.0) (inside (operand_width bits x y) y f.1 k.1 p.1)
   inside asked (zext_of at x width) f k h = inside bits x f.0 k h

@@ -1,4 +1,5 @@
--- The trace of a program: of two ways on that agree the program makes two that agree, and what is asked for more adds at the end.
+-- The trace of a program: of two ways on that agree the program makes two that agree, and what is
+-- asked for more adds at the end.
 use Rattle.std.proofs.Common.{ℕ, ◌+◌, List}
 use Rattle.src_model.specs.declared.checkpoint.Checkpoint.TheVariants.{At}
 use Rattle.src_model.specs.declared.program.Var.{Var as Declared}
@@ -6,20 +7,20 @@ use Rattle.src_model.specs.Written.{Act, assign, choice, while, count, Acts, no_
 use Rattle.src_model.specs.Sizes.{statements, statements_in}
 use Rattle.src_model.specs.Ways.{Onward, choose, loop}
 use Rattle.src_model.specs.Meaning.{assigned, holds}
-use Rattle.src_model.specs.Trace.{started, stepped, counting, after, run, run_in, run_else}
+use Rattle.src_model.specs.Trace.{started, stepped, counting, after_change, run_act, run_in, run_else}
 use Rattle.src_model.proofs.WayLemmas.{Agree, Keeps, pass_agree_here, choose_agree, loop_agree, Whole, pass_whole, choose_whole, whole_less, loop_whole, Steady, pass_steady, choose_steady, steady_less, loop_steady}
 
-pub after_agree : (m : ℕ) (change : List ℕ → List ℕ) (k k' : Onward) → Agree m k k' → Agree m (after change k) (after change k')
+pub after_agree : (m : ℕ) (change : List ℕ → List ℕ) (k k' : Onward) → Agree m k k' → Agree m (after_change change k) (after_change change k')
 after_agree m change k k' h j le cells = h j le (change cells)
 
 -- the body of a `for`: its statements, and then the step
 abbrev pub counted_body : ℕ → List Declared → List ℕ → Acts → ℕ → Onward → Onward
-counted_body word vars counter body tree again = run_in word vars body tree (after (stepped word vars counter) again)
+counted_body word vars counter body tree again = run_in word vars body tree (after_change (stepped word vars counter) again)
 
 mutual
-  unfolding run run_in run_else
+  unfolding run_act run_in run_else
 
-  pub run_agree : (word : ℕ) (vars : List Declared) (a : Act) (tree m : ℕ) (k k' : Onward) → Agree m k k' → Agree m (run word vars a tree k) (run word vars a tree k')
+  pub run_agree : (word : ℕ) (vars : List Declared) (a : Act) (tree m : ℕ) (k k' : Onward) → Agree m k k' → Agree m (run_act word vars a tree k) (run_act word vars a tree k')
   run_agree word vars (assign place e) tree m k k' h = after_agree m (assigned word vars place e) k k' h
   run_agree word vars (choice test taken other) tree m k k' h =
       pass_agree_here m (At tree)
@@ -35,7 +36,7 @@ mutual
       (loop (At (tree + 1)) (counting vars counter to) (counted_body word vars counter body (tree + 2)) k)
       (loop (At (tree + 1)) (counting vars counter to) (counted_body word vars counter body (tree + 2)) k')
       (loop_agree m (At (tree + 1)) (counting vars counter to) (counted_body word vars counter body (tree + 2)) k k'
-      (λ i r r' a. in_agree word vars body (tree + 2) i (after (stepped word vars counter) r) (after (stepped word vars counter) r') (after_agree i (stepped word vars counter) r r' a)) h)
+      (λ i r r' a. in_agree word vars body (tree + 2) i (after_change (stepped word vars counter) r) (after_change (stepped word vars counter) r') (after_agree i (stepped word vars counter) r r' a)) h)
 
   pub in_agree : (word : ℕ) (vars : List Declared) (list : Acts) (tree m : ℕ) (k k' : Onward) → Agree m k k' → Agree m (run_in word vars list tree k) (run_in word vars list tree k')
   in_agree word vars no_acts tree m k k' h = h
@@ -51,17 +52,17 @@ body_keeps word vars body tree m k k' h = in_agree word vars body tree m k k' h
 
 pub counted_keeps : (word : ℕ) (vars : List Declared) (counter : List ℕ) (body : Acts) (tree : ℕ) → Keeps (counted_body word vars counter body tree)
 counted_keeps word vars counter body tree m k k' h =
-    in_agree word vars body tree m (after (stepped word vars counter) k) (after (stepped word vars counter) k') (after_agree m (stepped word vars counter) k k' h)
+    in_agree word vars body tree m (after_change (stepped word vars counter) k) (after_change (stepped word vars counter) k') (after_agree m (stepped word vars counter) k k' h)
 
 -- ---- as many checkpoints as are asked for, or the end among them
 
-after_whole : (m : ℕ) (change : List ℕ → List ℕ) (k : Onward) → Whole m k → Whole m (after change k)
+after_whole : (m : ℕ) (change : List ℕ → List ℕ) (k : Onward) → Whole m k → Whole m (after_change change k)
 after_whole m change k h j le cells = h j le (change cells)
 
 mutual
-  unfolding run run_in run_else
+  unfolding run_act run_in run_else
 
-  run_whole : (word : ℕ) (vars : List Declared) (a : Act) (tree m : ℕ) (k : Onward) → Whole m k → Whole m (run word vars a tree k)
+  run_whole : (word : ℕ) (vars : List Declared) (a : Act) (tree m : ℕ) (k : Onward) → Whole m k → Whole m (run_act word vars a tree k)
   run_whole word vars (assign place e) tree m k h = after_whole m (assigned word vars place e) k h
   run_whole word vars (choice test taken other) tree m k h =
       let chosen : Onward = choose (holds word vars test) (run_in word vars taken (tree + 1) k) (run_else word vars other (tree + 1 + statements_in taken) k) in
@@ -74,7 +75,7 @@ mutual
   run_whole word vars (count counter at from to body) tree m k h =
       after_whole m (started vars counter from) (loop (At (tree + 1)) (counting vars counter to) (counted_body word vars counter body (tree + 2)) k)
       (loop_whole m (At (tree + 1)) (counting vars counter to) (counted_body word vars counter body (tree + 2)) k (counted_keeps word vars counter body (tree + 2))
-      (λ i r a. in_whole word vars body (tree + 2) i (after (stepped word vars counter) r) (after_whole i (stepped word vars counter) r a)) h)
+      (λ i r a. in_whole word vars body (tree + 2) i (after_change (stepped word vars counter) r) (after_whole i (stepped word vars counter) r a)) h)
 
   pub in_whole : (word : ℕ) (vars : List Declared) (list : Acts) (tree m : ℕ) (k : Onward) → Whole m k → Whole m (run_in word vars list tree k)
   in_whole word vars no_acts tree m k h = h
@@ -86,13 +87,13 @@ mutual
 
 -- ---- what is asked for more adds at the end
 
-after_steady : (m : ℕ) (change : List ℕ → List ℕ) (k : Onward) → Steady m k → Steady m (after change k)
+after_steady : (m : ℕ) (change : List ℕ → List ℕ) (k : Onward) → Steady m k → Steady m (after_change change k)
 after_steady m change k h j le cells = h j le (change cells)
 
 mutual
-  unfolding run run_in run_else
+  unfolding run_act run_in run_else
 
-  run_steady : (word : ℕ) (vars : List Declared) (a : Act) (tree m : ℕ) (k : Onward) → Steady m k → Steady m (run word vars a tree k)
+  run_steady : (word : ℕ) (vars : List Declared) (a : Act) (tree m : ℕ) (k : Onward) → Steady m k → Steady m (run_act word vars a tree k)
   run_steady word vars (assign place e) tree m k h = after_steady m (assigned word vars place e) k h
   run_steady word vars (choice test taken other) tree m k h =
       let chosen : Onward = choose (holds word vars test) (run_in word vars taken (tree + 1) k) (run_else word vars other (tree + 1 + statements_in taken) k) in
@@ -105,7 +106,7 @@ mutual
   run_steady word vars (count counter at from to body) tree m k h =
       after_steady m (started vars counter from) (loop (At (tree + 1)) (counting vars counter to) (counted_body word vars counter body (tree + 2)) k)
       (loop_steady m (At (tree + 1)) (counting vars counter to) (counted_body word vars counter body (tree + 2)) k (counted_keeps word vars counter body (tree + 2))
-      (λ i r a. in_steady word vars body (tree + 2) i (after (stepped word vars counter) r) (after_steady i (stepped word vars counter) r a)) h)
+      (λ i r a. in_steady word vars body (tree + 2) i (after_change (stepped word vars counter) r) (after_steady i (stepped word vars counter) r a)) h)
 
   pub in_steady : (word : ℕ) (vars : List Declared) (list : Acts) (tree m : ℕ) (k : Onward) → Steady m k → Steady m (run_in word vars list tree k)
   in_steady word vars no_acts tree m k h = h

@@ -1,4 +1,5 @@
--- The grammar of programs. `levels` counts the blocks, brackets, parentheses, calls and unary signs that may still be opened.
+-- The grammar of programs. `levels` counts the blocks, brackets, parentheses, calls and unary signs
+-- that may still be opened.
 use Rattle.std.specs.Prelude.{◌≡◌, ℕ, zero, suc, List, [], ◌∷◌, ◌++◌, Option, Some, None, ◌==◌, if◌then◌else◌}
 use Rattle.grammar.specs.Reading.{Return, Token, ◌>>=◌, Within, Maybe, Many, ListOf, Chain}
 use Rattle.rec_bits.specs.declared.operator.Op1.{Op1}
@@ -201,8 +202,8 @@ IsDecls = do
 abbrev pub IsLines : List Lexed → List Declared → Type 0
 IsLines = Many IsDecls [] (λ line vars. line ++ vars)
 
-abbrev pub IsText : List Lexed → Listing → Type 0
-IsText = do
+abbrev pub IsListing : List Lexed → Listing → Type 0
+IsListing = do
   vars ← IsLines
   body ← IsBody 64
   Return (record { vars = vars; body = body })

@@ -7,7 +7,8 @@ use Rattle.rec_bits.specs.Ranges.{sums_of, differences_of, products_of}
 use Rattle.rec_bits.specs.Faults.{broken}
 use Rattle.src_model.specs.declared.program.Var.{Var as Declared}
 use Rattle.src_model.specs.Written.{Shape, num, plain, element, un, bin, zext, sext, low}
-use Rattle.src_model.specs.Names.{same_name, declared}
+use Rattle.src_model.specs.Names.{declared}
+use Rattle.rec_bits.specs.Faults.{same_name}
 use Rattle.src_model.specs.Loops.{Round}
 
 -- the number that a number alone is

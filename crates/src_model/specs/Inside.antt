@@ -8,8 +8,8 @@ use Rattle.src_model.specs.Loops.{place_shape}
 use Rattle.src_model.specs.Indexes.{length_of}
 use Rattle.src_model.specs.Sizes.{statements, statements_in}
 use Rattle.src_model.specs.Ways.{Passed, Onward, pass, choose, loop, finish}
-use Rattle.src_model.specs.Meaning.{value_of, assigned, holds}
-use Rattle.src_model.specs.Trace.{started, stepped, counting, after}
+use Rattle.src_model.specs.Meaning.{shape_value, assigned, holds}
+use Rattle.src_model.specs.Trace.{started, stepped, counting, after_change}
 
 -- ---- expressions
 
@@ -28,7 +28,7 @@ Known vars (low at x width) = Known vars x
 abbrev pub is_inside : ℕ → List Declared → List ℕ → Shape → Bool
 is_inside word vars cells (num n) = true
 is_inside word vars cells (plain name at) = true
-is_inside word vars cells (element name at to x) = is_inside word vars cells x && nat_lt (value_of word vars cells word x) (length_of (declared vars name))
+is_inside word vars cells (element name at to x) = is_inside word vars cells x && nat_lt (shape_value word vars cells word x) (length_of (declared vars name))
 is_inside word vars cells (un op at x) = is_inside word vars cells x
 is_inside word vars cells (bin op at x to y) = is_inside word vars cells x && is_inside word vars cells y
 is_inside word vars cells (zext at x width) = is_inside word vars cells x
@@ -45,19 +45,19 @@ test_inside word vars test cells = is_inside word vars cells test.left.shape && 
 -- ---- runs
 
 -- a way on from the stores that pass a test; from any other one nothing is passed
-abbrev pub only : (List ℕ → Bool) → Onward → Onward
-only test next more cells = if test cells then next more cells else []
+abbrev pub if_holds : (List ℕ → Bool) → Onward → Onward
+if_holds test next more cells = if test cells then next more cells else []
 
 -- the way on through a statement that stops where an index is used that doesn't lie in its array
 unfoldable mutual
   pub run_inside : ℕ → List Declared → Act → ℕ → Onward → Onward
-  run_inside word vars (assign place e) tree next = only (assign_inside word vars place e) (after (assigned word vars place e) next)
-  run_inside word vars (choice test taken other) tree next = pass (At tree) (only (test_inside word vars test) (choose (holds word vars test)
+  run_inside word vars (assign place e) tree next = if_holds (assign_inside word vars place e) (after_change (assigned word vars place e) next)
+  run_inside word vars (choice test taken other) tree next = pass (At tree) (if_holds (test_inside word vars test) (choose (holds word vars test)
       (all_inside word vars taken (tree + 1) next) (else_inside word vars other (tree + 1 + statements_in taken) next)))
   run_inside word vars (while test body) tree next = loop (At tree) (holds word vars test)
-      (λ again. only (test_inside word vars test) (all_inside word vars body (tree + 1) again)) (only (test_inside word vars test) next)
-  run_inside word vars (count counter at from to body) tree next = after (started vars counter from)
-      (loop (At (tree + 1)) (counting vars counter to) (λ again. all_inside word vars body (tree + 2) (after (stepped word vars counter) again)) next)
+      (λ again. if_holds (test_inside word vars test) (all_inside word vars body (tree + 1) again)) (if_holds (test_inside word vars test) next)
+  run_inside word vars (count counter at from to body) tree next = after_change (started vars counter from)
+      (loop (At (tree + 1)) (counting vars counter to) (λ again. all_inside word vars body (tree + 2) (after_change (stepped word vars counter) again)) next)
 
   pub all_inside : ℕ → List Declared → Acts → ℕ → Onward → Onward
   all_inside word vars no_acts tree next = next
@@ -67,6 +67,7 @@ unfoldable mutual
   else_inside word vars without tree next = next
   else_inside word vars (otherwise body) tree next = all_inside word vars body tree next
 
--- the first m checkpoints that a program passes from a store before it uses an index that doesn't lie in its array
+-- the first m checkpoints that a program passes from a store before it uses an index that doesn't
+-- lie in its array
 abbrev pub strace_inside : ℕ → Listing → List ℕ → ℕ → List Passed
 strace_inside word listing cells m = all_inside word listing.vars (acts_of listing.body) 0 finish m cells

@@ -11,7 +11,7 @@ pub mod Meaning
 pub mod Trace
 pub mod Fitting
 pub mod Inside
-pub mod Sound
 pub mod WorkedRules
 pub mod WorkedTrace
 pub mod WorkedInside
+pub mod Inner

@@ -1,12 +1,13 @@
--- What the expressions, places, assignments and tests of a program mean in a store. A store is the list of the cells of all variables, in the
--- order of their declarations. A value is a number below 2 to its width.
-use Rattle.std.specs.Prelude.{ℕ, ◌+◌, ◌%◌, ◌^◌, ◌<◌, ◌≡◌, unwrap_or, Bool, not, ◌==◌, nat_lt, nat_le, int_lt, int_le, if◌then◌else◌, List, [], ◌∷◌, length, slice_index, slice_set, Option, Some, None}
+-- What the expressions, places, assignments and tests of a program mean in a store. A store is the
+-- list of the cells of all variables, in the order of their declarations. A value is a number below
+-- 2 to its width.
+use Rattle.std.specs.Prelude.{ℕ, ◌+◌, ◌%◌, ◌^◌, ◌<◌, ◌≡◌, unwrap_or, Bool, not, ◌==◌, nat_lt, nat_le, int_lt, int_le, if◌then◌else◌, List, [], ◌∷◌, length, slice_index, slice_set, Option, Some, None, replicate}
 use Rattle.rec_bits.specs.Operators.{apply1_of, apply2_of, sext_of, signed_of, result_width}
 use Rattle.src_model.specs.declared.program.Cmp.{Cmp}
 use Rattle.src_model.specs.declared.program.Cmp.TheVariants.{Eq, Ne, Lt, Le, Gt, Ge, Slt, Sle, Sgt, Sge}
 use Rattle.src_model.specs.declared.program.Var.{Var as Declared}
 use Rattle.src_model.specs.Written.{Shape, num, plain, element, un, bin, zext, sext, low, Phrase, Place, Test}
-use Rattle.src_model.specs.Names.{same_name}
+use Rattle.rec_bits.specs.Faults.{same_name}
 use Rattle.src_model.specs.Widths.{is_literal}
 
 -- ---- cells
@@ -33,48 +34,49 @@ pub record FitsStore (word : ℕ) (vars : List Declared) (cells : List ℕ) : Ty
 -- ---- widths
 
 -- the width of an expression, given that of a word and that asked of a literal
-abbrev pub width_of : ℕ → ℕ → Shape → ℕ
-width_of word asked (num n) = asked
-width_of word asked (plain name at) = word
-width_of word asked (element name at to x) = word
-width_of word asked (un op at x) = width_of word asked x
-width_of word asked (bin op at x to y) = result_width op (if is_literal x then width_of word word y else width_of word word x)
-width_of word asked (zext at x width) = width
-width_of word asked (sext at x width) = width
-width_of word asked (low at x width) = width
+abbrev pub shape_width : ℕ → ℕ → Shape → ℕ
+shape_width word asked (num n) = asked
+shape_width word asked (plain name at) = word
+shape_width word asked (element name at to x) = word
+shape_width word asked (un op at x) = shape_width word asked x
+shape_width word asked (bin op at x to y) = result_width op (if is_literal x then shape_width word word y else shape_width word word x)
+shape_width word asked (zext at x width) = width
+shape_width word asked (sext at x width) = width
+shape_width word asked (low at x width) = width
 
 -- the width of both operands: a literal has that of the other one, and two literals have the word's
 abbrev pub operand_width : ℕ → Shape → Shape → ℕ
-operand_width word x y = if is_literal x then width_of word word y else width_of word word x
+operand_width word x y = if is_literal x then shape_width word word y else shape_width word word x
 
 -- ---- expressions
 
 -- the value of an expression
-abbrev pub value_of : ℕ → List Declared → List ℕ → ℕ → Shape → ℕ
-value_of word vars cells asked (num n) = n
-value_of word vars cells asked (plain name at) = slice_index cells (first_cell vars name)
-value_of word vars cells asked (element name at to x) = slice_index cells (first_cell vars name + value_of word vars cells word x)
-value_of word vars cells asked (un op at x) = apply1_of op (width_of word asked x) (value_of word vars cells asked x)
-value_of word vars cells asked (bin op at x to y) = apply2_of op (operand_width word x y)
-    (value_of word vars cells (operand_width word x y) x) (value_of word vars cells (operand_width word x y) y)
-value_of word vars cells asked (zext at x width) = value_of word vars cells word x
-value_of word vars cells asked (sext at x width) = sext_of (value_of word vars cells word x) (width_of word word x) width
-value_of word vars cells asked (low at x width) = value_of word vars cells word x % 2 ^ width
+abbrev pub shape_value : ℕ → List Declared → List ℕ → ℕ → Shape → ℕ
+shape_value word vars cells asked (num n) = n
+shape_value word vars cells asked (plain name at) = slice_index cells (first_cell vars name)
+shape_value word vars cells asked (element name at to x) = slice_index cells (first_cell vars name + shape_value word vars cells word x)
+shape_value word vars cells asked (un op at x) = apply1_of op (shape_width word asked x) (shape_value word vars cells asked x)
+shape_value word vars cells asked (bin op at x to y) = apply2_of op (operand_width word x y)
+    (shape_value word vars cells (operand_width word x y) x) (shape_value word vars cells (operand_width word x y) y)
+shape_value word vars cells asked (zext at x width) = shape_value word vars cells word x
+shape_value word vars cells asked (sext at x width) = sext_of (shape_value word vars cells word x) (shape_width word word x) width
+shape_value word vars cells asked (low at x width) = shape_value word vars cells word x % 2 ^ width
 
 -- ---- statements
 
 -- how far an index is from the first cell
 abbrev pub index_value : ℕ → List Declared → List ℕ → Option Phrase → ℕ
 index_value word vars cells None = 0
-index_value word vars cells (Some x) = value_of word vars cells word x.shape
+index_value word vars cells (Some x) = shape_value word vars cells word x.shape
 
 -- the cell of a place
 abbrev pub cell_of : ℕ → List Declared → List ℕ → Place → ℕ
 cell_of word vars cells place = first_cell vars place.name + index_value word vars cells place.index
 
--- the store after an assignment: the value goes into the place's cell, and both are found in the store before it
+-- the store after an assignment: the value goes into the place's cell, and both are found in the
+-- store before it
 abbrev pub assigned : ℕ → List Declared → Place → Phrase → List ℕ → List ℕ
-assigned word vars place e cells = slice_set cells (cell_of word vars cells place) (value_of word vars cells word e.shape)
+assigned word vars place e cells = slice_set cells (cell_of word vars cells place) (shape_value word vars cells word e.shape)
 
 -- two values compared, as numbers or in two's complement
 abbrev pub compares : Cmp → ℕ → ℕ → ℕ → Bool
@@ -92,5 +94,9 @@ compares Sge width a b = int_le (signed_of width b) (signed_of width a)
 -- whether a test holds
 abbrev pub holds : ℕ → List Declared → Test → List ℕ → Bool
 holds word vars test cells = compares test.cmp (operand_width word test.left.shape test.right.shape)
-    (value_of word vars cells (operand_width word test.left.shape test.right.shape) test.left.shape)
-    (value_of word vars cells (operand_width word test.left.shape test.right.shape) test.right.shape)
+    (shape_value word vars cells (operand_width word test.left.shape test.right.shape) test.left.shape)
+    (shape_value word vars cells (operand_width word test.left.shape test.right.shape) test.right.shape)
+
+-- the store of nothing but zeros
+abbrev pub zeros : List Declared → List ℕ
+zeros vars = replicate (cell_count vars) 0

@@ -1,12 +1,11 @@
--- The names of a program: which declaration a name has, where a name is declared again, and where it doesn't stand for what its place asks for.
+-- The names of a program: which declaration a name has, where a name is declared again, and where
+-- it doesn't stand for what its place asks for.
 use Rattle.std.specs.Prelude.{ℕ, Bool, false, not, is_some, nat_eq, if◌then◌else◌, List, [], ◌∷◌, ◌++◌, Option, Some, None}
 use Rattle.std.specs.Cmp.Lexicographic.{pointwise}
 use Rattle.rec_bits.specs.Faults.{broken}
 use Rattle.src_model.specs.declared.program.Var.{Var as Declared}
 use Rattle.src_model.specs.Written.{Shape, num, plain, element, un, bin, zext, sext, low}
-
-abbrev pub same_name : List ℕ → List ℕ → Bool
-same_name = pointwise nat_eq
+use Rattle.rec_bits.specs.Faults.{same_name}
 
 -- the first declaration of a name
 abbrev pub declared : List Declared → List ℕ → Option Declared
@@ -26,7 +25,8 @@ abbrev pub repeats : List Declared → List Declared → List ℕ
 repeats before [] = []
 repeats before (v ∷ rest) = broken (is_some (declared before v.name)) v.at ++ repeats (before ++ v ∷ []) rest
 
--- S2 in an expression: the names that aren't declared, the arrays without an index, and the plain variables with one
+-- S2 in an expression: the names that aren't declared, the arrays without an index, and the plain
+-- variables with one
 abbrev pub unknown : List Declared → Shape → List ℕ
 unknown vars (num n) = []
 unknown vars (plain name at) = broken (not (is_plain (declared vars name))) at

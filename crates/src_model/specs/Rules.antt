@@ -1,4 +1,5 @@
--- The rules S1 to S6: each is the list of the offsets at which it is broken, and the fault is the least of the first list that isn't empty.
+-- The rules S1 to S6: each is the list of the offsets at which it is broken, and the fault is the
+-- least of the first list that isn't empty.
 use Rattle.std.specs.Prelude.{◌≡◌, ◌≤◌, ℕ, not, nat_lt, if◌then◌else◌, List, [], ◌++◌, Option, Some, None}
 use Rattle.rec_bits.specs.Faults.{least, gather, broken}
 use Rattle.src_model.specs.declared.program.Program.{Program}
@@ -10,13 +11,15 @@ use Rattle.src_model.specs.declared.fault.SrcKind.TheVariants.{Length, Statement
 use Rattle.src_model.specs.Written.{Listing, listing_of, acts_of}
 use Rattle.src_model.specs.Names.{declared, is_plain, repeats, unknown}
 use Rattle.src_model.specs.Widths.{wide, whole, sides, misfit, empty_array}
-use Rattle.src_model.specs.Loops.{Rule, place_shape, breaks_in, counters}
+use Rattle.src_model.specs.Loops.{LoopRule, place_shape, breaks_in, counters}
 use Rattle.src_model.specs.Indexes.{loose}
 use Rattle.src_model.specs.Sizes.{roots_in, greatest, nodes_of, temps_of, statements_in, longest}
 use Rattle.rec_bits.specs.Counts.{capped}
+use Rattle.rec_bits.specs.Faults.{or_else}
+use Rattle.rec_bits.specs.Faults.{fault_at}
 
 -- S2, statement by statement: a counter is a plain variable
-abbrev pub names : List Declared → Rule
+abbrev pub names : List Declared → LoopRule
 names vars = record {
   assigned = λ rounds place e. unknown vars (place_shape place) ++ unknown vars e.shape;
   tested = λ rounds test. unknown vars test.left.shape ++ unknown vars test.right.shape;
@@ -24,7 +27,7 @@ names vars = record {
 }
 
 -- S3: a value is as wide as a word
-abbrev pub widths : ℕ → Rule
+abbrev pub widths : ℕ → LoopRule
 widths word = record {
   assigned = λ rounds place e. misfit (wide word word place.at (place_shape place)) ++ misfit (whole word e.at (wide word word e.at e.shape));
   tested = λ rounds test. misfit (sides word test.left test.right);
@@ -32,15 +35,15 @@ widths word = record {
 }
 
 -- S4
-abbrev pub indexes : List Declared → Rule
+abbrev pub indexes : List Declared → LoopRule
 indexes vars = record {
   assigned = λ rounds place e. loose vars rounds (place_shape place) ++ loose vars rounds e.shape;
   tested = λ rounds test. loose vars rounds test.left.shape ++ loose vars rounds test.right.shape;
   counted = λ round at body. [];
 }
 
-abbrev pub duplicates : Listing → List ℕ
-duplicates l = repeats [] l.vars
+abbrev pub duplicate_names : Listing → List ℕ
+duplicate_names l = repeats [] l.vars
 
 abbrev pub unknown_names : Listing → List ℕ
 unknown_names l = breaks_in (names l.vars) [] (acts_of l.body)
@@ -65,14 +68,6 @@ node_count l = greatest nodes_of (roots_in (acts_of l.body))
 abbrev pub temp_count : ℕ → Listing → ℕ
 temp_count word l = greatest (temps_of word) (roots_in (acts_of l.body))
 
-abbrev pub or_else : Option SrcFault → Option SrcFault → Option SrcFault
-or_else None later = later
-or_else (Some fault) later = Some fault
-
-abbrev pub fault_at : (ℕ → SrcFault) → Option ℕ → Option SrcFault
-fault_at rule None = None
-fault_at rule (Some at) = Some (rule at)
-
 abbrev pub above : SrcKind → ℕ → ℕ → Option SrcFault
 above kind count bound = if nat_lt bound count then Some (Limit kind count bound) else None
 
@@ -83,10 +78,11 @@ beyond lengths statements nodes = or_else (above Length lengths 65536) (or_else 
 abbrev pub limits : Listing → Option SrcFault
 limits l = beyond (longest l.vars) (capped (statement_count l)) (capped (node_count l))
 
--- the first rule that is broken, at its least offset or with its count; None where S1 to S6 are kept
+-- the first rule that is broken, at its least offset or with its count; None where S1 to S6 are
+-- kept
 abbrev pub first_fault : ℕ → Listing → Option SrcFault
 first_fault word l =
-    or_else (fault_at Duplicate (least (duplicates l)))
+    or_else (fault_at Duplicate (least (duplicate_names l)))
     (or_else (fault_at Unknown (least (unknown_names l)))
     (or_else (fault_at Width (least (bad_widths word l)))
     (or_else (fault_at Index (least (bad_indexes l)))
@@ -95,7 +91,7 @@ first_fault word l =
 
 -- the rules S1 to S6 of a program, one by one
 pub record RulesHold (word : ℕ) (l : Listing) : Type 0 where
-  pub names_once : duplicates l ≡ []
+  pub names_once : duplicate_names l ≡ []
   pub names_known : unknown_names l ≡ []
   pub widths_fit : bad_widths word l ≡ []
   pub indexes_within : bad_indexes l ≡ []
@@ -111,7 +107,7 @@ pub record Kept : Type 0 where
   pub program : Program
   pub width : ℕ
 
-pub record KeepsRules (width : ℕ) (program : Program) : Type 0 where
+pub record KeepsSrcRules (width : ℕ) (program : Program) : Type 0 where
   pub some : 1 ≤ width
   pub most : width ≤ 64
   pub kept : first_fault width (listing_of program) ≡ None

@@ -1,4 +1,5 @@
--- The sizes of a program: its statements, the nodes of its trees, and the temporary cells that the trees may need.
+-- The sizes of a program: its statements, the nodes of its trees, and the temporary cells that the
+-- trees may need.
 use Rattle.std.specs.Prelude.{ℕ, ◌+◌, ◌*◌, max, unwrap_or, Bool, true, false, ◌==◌, if◌then◌else◌, List, [], ◌∷◌, ◌++◌, Option, Some, None}
 use Rattle.rec_bits.specs.Operators.{result_width}
 use Rattle.rec_bits.specs.declared.operator.Op2.TheVariants.{Add}
@@ -43,7 +44,8 @@ compared cmp x y = compare x y ∷ []
 abbrev pub tested_roots : Test → List Root
 tested_roots test = compared test.cmp test.left.shape test.right.shape
 
--- before the body of a `for` its counter is set and compared with the number past the last one, and behind the body 1 is added
+-- before the body of a `for` its counter is set and compared with the number past the last one, and
+-- behind the body 1 is added
 abbrev pub start_roots : List ℕ → ℕ → ℕ → ℕ → List Root
 start_roots counter at from to = value (num from) ∷ compared Ne (plain counter at) (num (to + 1))
 
@@ -72,7 +74,8 @@ greatest f (r ∷ rest) = max (f r) (greatest f rest)
 
 -- ---- nodes
 
--- a read at a literal address is one node; any other has its address: a slice of a sum of the index and the array's address
+-- a read at a literal address is one node; any other has its address: a slice of a sum of the index
+-- and the array's address
 abbrev pub read_nodes : Option ℕ → ℕ → ℕ
 read_nodes (Some n) index = 1
 read_nodes None index = 4 + index
@@ -105,7 +108,8 @@ node word width below = record { width = width; own = is_word word width; below 
 abbrev pub all_of : Subtree → ℕ
 all_of p = p.own + p.below
 
--- the address of a read that isn't at a literal address has a sum and the array's address besides the index
+-- the address of a read that isn't at a literal address has a sum and the array's address besides
+-- the index
 abbrev pub read_part : ℕ → Option ℕ → Subtree → Subtree
 read_part word (Some n) index = record { width = word; own = 0; below = 0 }
 read_part word None index = node word word (2 + all_of index)

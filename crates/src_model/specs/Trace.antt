@@ -1,5 +1,6 @@
--- The checkpoints that a program passes when it runs. The trees of its assignments and tests are numbered from 0 in the order of the text, with
--- three for a `for`: its start, its test, those of its body, and its step.
+-- The checkpoints that a program passes when it runs. The trees of its assignments and tests are
+-- numbered from 0 in the order of the text, with three for a `for`: its start, its test, those of
+-- its body, and its step.
 use Rattle.std.specs.Prelude.{ℕ, ◌+◌, Bool, not, ◌==◌, List, slice_index, slice_set}
 use Rattle.rec_bits.specs.Operators.{apply2_of}
 use Rattle.rec_bits.specs.declared.operator.Op2.TheVariants.{Add}
@@ -28,24 +29,24 @@ abbrev pub counting : List Declared → List ℕ → ℕ → List ℕ → Bool
 counting vars counter to cells = not (counter_value vars counter cells == to + 1)
 
 -- a way on from a changed store
-abbrev pub after : (List ℕ → List ℕ) → Onward → Onward
-after change next more cells = next more (change cells)
+abbrev pub after_change : (List ℕ → List ℕ) → Onward → Onward
+after_change change next more cells = next more (change cells)
 
 -- ---- statements
 
 -- the way on through a statement, whose first tree has this number, and then a way on from its end
 unfoldable mutual
-  pub run : ℕ → List Declared → Act → ℕ → Onward → Onward
-  run word vars (assign place e) tree next = after (assigned word vars place e) next
-  run word vars (choice test taken other) tree next = pass (At tree) (choose (holds word vars test)
+  pub run_act : ℕ → List Declared → Act → ℕ → Onward → Onward
+  run_act word vars (assign place e) tree next = after_change (assigned word vars place e) next
+  run_act word vars (choice test taken other) tree next = pass (At tree) (choose (holds word vars test)
       (run_in word vars taken (tree + 1) next) (run_else word vars other (tree + 1 + statements_in taken) next))
-  run word vars (while test body) tree next = loop (At tree) (holds word vars test) (run_in word vars body (tree + 1)) next
-  run word vars (count counter at from to body) tree next = after (started vars counter from)
-      (loop (At (tree + 1)) (counting vars counter to) (λ again. run_in word vars body (tree + 2) (after (stepped word vars counter) again)) next)
+  run_act word vars (while test body) tree next = loop (At tree) (holds word vars test) (run_in word vars body (tree + 1)) next
+  run_act word vars (count counter at from to body) tree next = after_change (started vars counter from)
+      (loop (At (tree + 1)) (counting vars counter to) (λ again. run_in word vars body (tree + 2) (after_change (stepped word vars counter) again)) next)
 
   pub run_in : ℕ → List Declared → Acts → ℕ → Onward → Onward
   run_in word vars no_acts tree next = next
-  run_in word vars (act a rest) tree next = run word vars a tree (run_in word vars rest (tree + statements a) next)
+  run_in word vars (act a rest) tree next = run_act word vars a tree (run_in word vars rest (tree + statements a) next)
 
   pub run_else : ℕ → List Declared → Otherwise → ℕ → Onward → Onward
   run_else word vars without tree next = next

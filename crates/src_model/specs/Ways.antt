@@ -1,5 +1,6 @@
--- The checkpoints that a program passes, by ways on: what it passes from here, given how many checkpoints are still asked for and the
--- variables' cells. A program's parts are ways on after each other; only a loop counts, and its count is what is still asked for.
+-- The checkpoints that a program passes, by ways on: what it passes from here, given how many
+-- checkpoints are still asked for and the variables' cells. A program's parts are ways on after
+-- each other; only a loop counts, and its count is what is still asked for.
 use Rattle.std.specs.Prelude.{ℕ, zero, suc, Bool, List, [], ◌∷◌, if◌then◌else◌}
 use Rattle.src_model.specs.declared.checkpoint.Checkpoint.{Checkpoint}
 use Rattle.src_model.specs.declared.checkpoint.Checkpoint.TheVariants.{End}
@@ -21,7 +22,8 @@ pass label next (suc more) cells = record { label = label; cells = cells } ∷ n
 abbrev pub choose : (List ℕ → Bool) → Onward → Onward → Onward
 choose test taken other more cells = if test cells then taken more cells else other more cells
 
--- a loop of at most so many turns; each passes a checkpoint, so as many turns as checkpoints are enough
+-- a loop of at most so many turns; each passes a checkpoint, so as many turns as checkpoints are
+-- enough
 abbrev pub turns : ℕ → Checkpoint → (List ℕ → Bool) → (Onward → Onward) → Onward → Onward
 turns zero label test body next more cells = []
 turns (suc n) label test body next more cells =

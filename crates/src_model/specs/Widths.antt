@@ -1,5 +1,6 @@
--- S3, the rule of widths. One function is the rule and the width at once: the width of what keeps the rule, and otherwise the least offset at
--- which it is broken within. What has a broken part has no width, and breaks nothing itself.
+-- S3, the rule of widths. One function is the rule and the width at once: the width of what keeps
+-- the rule, and otherwise the least offset at which it is broken within. What has a broken part has
+-- no width, and breaks nothing itself.
 use Rattle.std.specs.Prelude.{ℕ, ◌^◌, min, Bool, true, false, ◌&&◌, ◌==◌, nat_lt, nat_le, if◌then◌else◌, List, [], ◌∷◌, Option, Some, None, Result, Ok, Err}
 use Rattle.rec_bits.specs.Operators.{result_width}
 use Rattle.rec_bits.specs.Faults.{broken}
@@ -48,14 +49,16 @@ abbrev pub lowered : ℕ → ℕ → Result ℕ ℕ → Result ℕ ℕ
 lowered to at (Ok width) = if nat_lt 0 to && nat_lt to width then Ok to else Err at
 lowered to at (Err fault) = Err fault
 
--- the width of both operands: a literal has that of the other operand, and two literals have the word's
+-- the width of both operands: a literal has that of the other operand, and two literals have the
+-- word's
 abbrev pub side_by_side : Bool → Bool → ℕ → Result ℕ ℕ → Result ℕ ℕ → (ℕ → Result ℕ ℕ) → (ℕ → Result ℕ ℕ) → Result ℕ ℕ
 side_by_side true false to left right left_at right_at = asking right left_at
 side_by_side false true to left right left_at right_at = asking left right_at
 side_by_side true true to left right left_at right_at = alike to left right
 side_by_side false false to left right left_at right_at = alike to left right
 
--- the width of an expression: that of a word, what is asked of a literal, where it stands, and what it is
+-- the width of an expression: that of a word, what is asked of a literal, where it stands, and what
+-- it is
 abbrev pub wide : ℕ → ℕ → ℕ → Shape → Result ℕ ℕ
 wide word asked here (num n) = fitting asked here n
 wide word asked here (plain name at) = Ok word

@@ -3,7 +3,7 @@ use Rattle.std.specs.Prelude.{◌≡◌, refl, ℕ, List, [], ◌∷◌, length,
 use Rattle.rec_bits.specs.declared.operator.Op2.TheVariants.{Add}
 use Rattle.src_model.specs.declared.program.Cmp.TheVariants.{Ne}
 use Rattle.src_model.specs.Written.{Shape, num, plain, element, bin, Phrase, assign, while, count, acts_of, Listing}
-use Rattle.src_model.specs.Trace.{strace, run, run_in, run_else}
+use Rattle.src_model.specs.Trace.{strace, run_act, run_in, run_else}
 use Rattle.src_model.specs.Inside.{strace_inside, run_inside, all_inside, else_inside}
 
 abbrev phrase : Shape → Phrase
@@ -27,7 +27,7 @@ summed to = record {
 
 -- four checkpoints: the test three times, and the end
 within_the_array : strace_inside 8 (summed 1) (0 ∷ 0 ∷ 5 ∷ 6 ∷ []) 9 ≡ strace 8 (summed 1) (0 ∷ 0 ∷ 5 ∷ 6 ∷ []) 9
-unfolding run run_in run_else run_inside all_inside else_inside
+unfolding run_act run_in run_else run_inside all_inside else_inside
 within_the_array = refl
 
 -- of a program that breaks the rule the run stops at x[2], behind the third of five checkpoints
@@ -36,7 +36,7 @@ unfolding run_inside all_inside else_inside
 past_the_array = refl
 
 whole_run : length (strace 8 (summed 2) (0 ∷ 0 ∷ 5 ∷ 6 ∷ []) 9) ≡ 5
-unfolding run run_in run_else
+unfolding run_act run_in run_else
 whole_run = refl
 
 -- var x[2], i; while x[i] != 0 { i = 7; }

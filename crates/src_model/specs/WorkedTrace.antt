@@ -8,8 +8,8 @@ use Rattle.src_model.specs.declared.program.Cmp.{Cmp}
 use Rattle.src_model.specs.declared.program.Var.{Var as Declared}
 use Rattle.src_model.specs.Written.{Shape, num, plain, element, bin, sext, low, Phrase, Act, assign, count, acts_of, Listing}
 use Rattle.src_model.specs.Ways.{Passed}
-use Rattle.src_model.specs.Meaning.{value_of, holds}
-use Rattle.src_model.specs.Trace.{strace, run, run_in, run_else}
+use Rattle.src_model.specs.Meaning.{shape_value, holds}
+use Rattle.src_model.specs.Trace.{strace, run_act, run_in, run_else}
 
 abbrev phrase : Shape → Phrase
 phrase shape = record { at = 0; shape = shape }
@@ -47,12 +47,12 @@ summed = record { vars = vars; body = count i 0 1 2 (acts_of (into s (bin Add 0 
 summed_trace : strace 8 summed (9 ∷ 9 ∷ 0 ∷ 100 ∷ 200 ∷ 0 ∷ []) 10 ≡
     at_label (At 1) (9 ∷ 1 ∷ 0 ∷ 100 ∷ 200 ∷ 0 ∷ []) ∷ at_label (At 1) (109 ∷ 2 ∷ 0 ∷ 100 ∷ 200 ∷ 0 ∷ [])
     ∷ at_label (At 1) (53 ∷ 3 ∷ 0 ∷ 100 ∷ 200 ∷ 0 ∷ []) ∷ at_label End (53 ∷ 3 ∷ 0 ∷ 100 ∷ 200 ∷ 0 ∷ []) ∷ []
-unfolding run run_in run_else
+unfolding run_act run_in run_else
 summed_trace = refl
 
 -- as many as are asked for
 summed_front : strace 8 summed (9 ∷ 9 ∷ 0 ∷ 100 ∷ 200 ∷ 0 ∷ []) 1 ≡ at_label (At 1) (9 ∷ 1 ∷ 0 ∷ 100 ∷ 200 ∷ 0 ∷ []) ∷ []
-unfolding run run_in run_else
+unfolding run_act run_in run_else
 summed_front = refl
 
 abbrev numbers_of : List Passed → List ℕ
@@ -65,13 +65,13 @@ numbers_of (p ∷ rest) = number p.label ∷ numbers_of rest
 
 -- a trace with one turn less is another one
 wrong_turns : numbers_of (strace 8 summed (9 ∷ 9 ∷ 0 ∷ 100 ∷ 200 ∷ 0 ∷ []) 10) ≡ 1 ∷ 1 ∷ 99 ∷ [] → ⊥
-unfolding run run_in run_else
+unfolding run_act run_in run_else
 wrong_turns e = cc e
 
 -- for i = 3 to 2 { }: no turn, and the counter is set all the same
 no_turns : strace 8 (record { vars = vars; body = count i 0 3 2 (acts_of []) ∷ [] }) (0 ∷ 0 ∷ 0 ∷ 0 ∷ 0 ∷ 0 ∷ []) 10 ≡
     at_label (At 1) (0 ∷ 3 ∷ 0 ∷ 0 ∷ 0 ∷ 0 ∷ []) ∷ at_label End (0 ∷ 3 ∷ 0 ∷ 0 ∷ 0 ∷ 0 ∷ []) ∷ []
-unfolding run run_in run_else
+unfolding run_act run_in run_else
 no_turns = refl
 
 -- of -128 and 127: which is less
@@ -85,12 +85,12 @@ greater_unsigned : ends Gt ≡ true
 greater_unsigned = refl
 
 -- by the width and more
-shifted : value_of 8 vars (128 ∷ 9 ∷ 0 ∷ 0 ∷ 0 ∷ 0 ∷ []) 8 (bin Sar 0 (read s) 0 (read i)) ≡ 255
+shifted : shape_value 8 vars (128 ∷ 9 ∷ 0 ∷ 0 ∷ 0 ∷ 0 ∷ []) 8 (bin Sar 0 (read s) 0 (read i)) ≡ 255
 shifted = refl
 
-shifted_out : value_of 8 vars (128 ∷ 9 ∷ 0 ∷ 0 ∷ 0 ∷ 0 ∷ []) 8 (bin Shr 0 (read s) 0 (read i)) ≡ 0
+shifted_out : shape_value 8 vars (128 ∷ 9 ∷ 0 ∷ 0 ∷ 0 ∷ 0 ∷ []) 8 (bin Shr 0 (read s) 0 (read i)) ≡ 0
 shifted_out = refl
 
 -- low(sext(s, 16) - 1, 8): the literal is 16 bits wide
-narrowed : value_of 8 vars (128 ∷ 0 ∷ 0 ∷ 0 ∷ 0 ∷ 0 ∷ []) 8 (low 0 (bin Sub 0 (sext 0 (read s) 16) 0 (num 1)) 8) ≡ 127
+narrowed : shape_value 8 vars (128 ∷ 0 ∷ 0 ∷ 0 ∷ 0 ∷ 0 ∷ []) 8 (low 0 (bin Sub 0 (sext 0 (read s) 16) 0 (num 1)) 8) ≡ 127
 narrowed = refl

@@ -65,12 +65,12 @@ abbrev pub index_of : Option (Box SrcExpr) → Option Phrase
 index_of None = None
 index_of (Some b) = Some (phrase_of b.value)
 
-abbrev pub held_index : Held-Spot-index → Option Phrase
-held_index NoIndex' = None
-held_index (Index' p to x) = Some (record { at = to; shape = shape_of x })
+abbrev pub boxed_index : Held-Spot-index → Option Phrase
+boxed_index NoIndex' = None
+boxed_index (Index' p to x) = Some (record { at = to; shape = shape_of x })
 
 abbrev pub place_of : Spot → Place
-place_of (Spot' name at index) = record { name = name; at = at; index = held_index index }
+place_of (Spot' name at index) = record { name = name; at = at; index = boxed_index index }
 
 -- ---- statements
 

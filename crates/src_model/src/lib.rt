@@ -2,9 +2,10 @@
 //! programs are written, the rules that they keep, and what they pass when they run.
 //!
 //! Promise: whoever holds a `Typed` has a program that keeps S1 to S6 for words of its width
-//! (`kept`: `KeepsRules`). `law_of_indexes`: in each run of such a program every index lies in its
-//! array, so that the run which stops at the first index that doesn't passes the same checkpoints
-//! (`strace_inside`). `block_sizes`, `is_literal`, `number_of` and `temps` tell sizes exactly.
+//! (`kept`: `KeepsSrcRules`). `law_of_indexes`: in each run of such a program every index lies in
+//! its array, so that the run which stops at the first index that doesn't passes the same
+//! checkpoints (`strace_inside`). `block_sizes`, `is_literal`, `number_of` and `temps` tell sizes
+//! exactly.
 //!
 //! Invariant: the `ghost` fields of `Typed`: a width of 1 to 64, and no first fault. `Typed::new`
 //! is the one way to make one; `src_check` calls it.
@@ -18,10 +19,10 @@
 //! - `sizes`: statements, nodes of trees, and temporary cells.
 //! - `typed`: `Typed`, a program that was checked.
 //! - `laws`: the law of indexes.
-//! - `specs/`: `Written`, `Grammar`, the rules (`Names`, `Widths`, `Loops`, `Indexes`, `Sizes`,
-//!   `Rules`), what a run passes (`Meaning`, `Ways`, `Trace`), `Inside`, and of `Fitting` what a
-//!   width asks are cited by public contracts, here and above. The rest of `Fitting`, and `Sound`,
-//!   say what the rules leave to be known, for proofs. `Worked..` are computed.
+//! - `specs/`, cited by public contracts, here and above: `Written`, `Grammar`, the rules (`Names`,
+//!   `Widths`, `Loops`, `Indexes`, `Sizes`, `Rules`), what a run passes (`Meaning`, `Ways`,
+//!   `Trace`), `Inside`, `Fitting`. `Worked..` are computed. `specs/Inner/`: `Fitting` and `Sound`,
+//!   what the rules leave to be known, for proofs.
 //! - `proofs/`: `InsideLemmas`, `CounterLemmas` and `RangeLemmas` carry the law; `SoundLemmas` and
 //!   `FittingLemmas` what each statement of a checked program keeps; `TraceLemmas` and `WayLemmas`
 //!   what callers cite of runs.

@@ -37,7 +37,8 @@ pub enum Stmt {
         test: SrcTest,
         body: Vec<Stmt>,
     },
-    /// The statements, with the counter at each number from `from` to `to`. `at` is the offset of the counter's name.
+    /// The statements, with the counter at each number from `from` to `to`. `at` is the offset of
+    /// the counter's name.
     For {
         counter: Name,
         at: u64,

@@ -10,8 +10,8 @@ ghost use Rattle.rec_bits.specs.Counts.{capped};
 use crate::{Cmp, Spot, SrcExpr, SrcNode, SrcTest, Stmt};
 use rec_bits::written_result_width;
 
-// What a tree tells: its width, and how many nodes of a word's width there are, at its root and below it. Reads at literal addresses are
-// left out.
+// What a tree tells: its width, and how many nodes of a word's width there are, at its root and
+// below it. Reads at literal addresses are left out.
 #[derive(Drop)]
 struct Subtree {
     width: u64,
@@ -169,7 +169,8 @@ pub struct Sizes {
     pub statements: u64,
     /// The greatest number of nodes of a tree.
     pub nodes: u64,
-    /// The greatest number of nodes of a word's width below the root of a tree, reads at literal addresses left out.
+    /// The greatest number of nodes of a word's width below the root of a tree, reads at literal
+    /// addresses left out.
     pub temps: u64,
 }
 

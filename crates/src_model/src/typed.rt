@@ -2,7 +2,7 @@
 
 ghost use Rattle.std.specs.Prelude.{◌≡◌, ◌≤◌, None};
 ghost use Rattle.src_model.specs.Written.{listing_of};
-ghost use Rattle.src_model.specs.Rules.{KeepsRules, first_fault, temp_count};
+ghost use Rattle.src_model.specs.Rules.{KeepsSrcRules, first_fault, temp_count};
 ghost use Rattle.src_model.specs.declared.typed.SrcFault2.{SrcFault2};
 
 use crate::sizes::block_sizes;
@@ -22,7 +22,7 @@ pub struct Typed {
 impl Typed {
     /// A program that keeps the rules for words of `width` bits, 1 to 64.
     pub fn new(program: Program, width: u8) -> Typed
-        requires { KeepsRules width program }
+        requires { KeepsSrcRules width program }
         ensures program { result.program ≡ program }
         ensures width { result.width ≡ width }
     {
@@ -32,7 +32,7 @@ impl Typed {
     /// The program.
     pub fn program(&self) -> &Program
         ensures value { result.now ≡ self.now.program }
-        ensures kept { KeepsRules self.now.width self.now.program }
+        ensures kept { KeepsSrcRules self.now.width self.now.program }
     {
         &self.program
     }
@@ -40,13 +40,13 @@ impl Typed {
     /// The number of bits of a word.
     pub fn width(&self) -> u8
         ensures value { result ≡ self.now.width }
-        ensures kept { KeepsRules self.now.width self.now.program }
+        ensures kept { KeepsSrcRules self.now.width self.now.program }
     {
         self.width
     }
 
-    /// The number of temporary cells: the greatest number of nodes of a word's width below the root of a tree, where a read at a literal
-    /// address isn't counted.
+    /// The number of temporary cells: the greatest number of nodes of a word's width below the root
+    /// of a tree, where a read at a literal address isn't counted.
     pub fn temps(&self) -> u32
         ensures { result ≡ temp_count self.now.width (listing_of self.now.program) }
     {

@@ -15,7 +15,8 @@ pub type Lexed = grammar::Lexed<Symbol, Key>;
 /// A word that takes operands.
 #[derive(Clone, Copy, Debug, PartialEq, Eq)]
 pub enum Key {
-    /// An operator between two operands. That of `-`, which also stands before one operand, is `Sub`.
+    /// An operator between two operands. That of `-`, which also stands before one operand, is
+    /// `Sub`.
     Operator(Op2),
     Compare(Cmp),
     Call(Call),

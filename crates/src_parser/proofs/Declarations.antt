@@ -11,7 +11,7 @@ use Rattle.grammar.specs.declared.words.Word.TheVariants.{Name, Symbol as Shows}
 use Rattle.src_model.specs.declared.words.Symbol.TheVariants.{Comma, Semicolon, LeftBracket, Var, If, Else, While, For}
 use Rattle.src_model.specs.Written.{Act, Listing}
 use Rattle.grammar.specs.Tokens.{Behind, Before}
-use Rattle.src_parser.specs.Steps.{bracket_word, decls_word, var_word, act_word, acts_word, text_word, after_decl, after_decls, after_lines, after_acts, after_text}
+use Rattle.src_parser.specs.Inner.Steps.{bracket_word, decls_word, var_word, act_word, acts_word, text_word, after_decl, after_decls, after_lines, after_acts, after_text}
 use Rattle.grammar.proofs.Tokens.{Shown, begun, there_name}
 use Rattle.src_parser.proofs.Statements.{acted}
 

@@ -24,7 +24,7 @@ use Rattle.src_model.specs.Written.{Phrase, num, shape_of, shape_at, index_of}
 use Rattle.grammar.specs.Tokens.{Behind, Before, ByWord, Sign, IsNothing, IsNumber, BeginsWith}
 use Rattle.src_parser.specs.declared.expression.Opening.{Opening}
 use Rattle.src_parser.specs.declared.expression.Opening.TheVariants.{Sign as Signs, Paren, Call as Asks}
-use Rattle.src_parser.specs.Steps.{InExpr, OpenBehind, OpensIndex, opening_of, least_of, word_rank, may_follow, after}
+use Rattle.src_parser.specs.Inner.Steps.{InExpr, OpenBehind, OpensIndex, opening_of, least_of, word_rank, may_follow, after}
 use Rattle.src_parser.proofs.Rooms.{Short, AtLeast, AtMost, word_within, word_ends, word_misses, none_within, maybe_within, token_least, token_most, return_most, any_least, bind_least, bind_most, short_token, short_return, short_bind}
 
 -- ---- ranks

@@ -22,7 +22,7 @@ use Rattle.grammar.specs.Tokens.{Behind, Before, IsNothing, BeginsWith, BeginsSo
 use Rattle.src_model.proofs.Views.{act_If, act_While, act_For, else_acts}
 use Rattle.src_parser.specs.declared.statement.Compound.{Compound}
 use Rattle.src_parser.specs.declared.statement.Compound.TheVariants.{If as Chooses, While as Repeats, For as Counts}
-use Rattle.src_parser.specs.Steps.{OpensBracket, CompoundBehind, compound_of, act_word, cmp_of, else_word, acts_word, may_follow, after, after_else, after_acts, others_of}
+use Rattle.src_parser.specs.Inner.Steps.{OpensBracket, CompoundBehind, compound_of, act_word, cmp_of, else_word, acts_word, may_follow, after, after_else, after_acts, others_of}
 use Rattle.grammar.proofs.Tokens.{Shown, begun, there_behind, there_before, there_word, word_leads, word_ended, word_missed}
 use Rattle.src_parser.proofs.Expressions.{short_chain, some_is}
 

@@ -4,7 +4,7 @@ use Rattle.std.specs.Str.{bytes_eq}
 use Rattle.rec_bits.specs.declared.operator.Op2.{Op2}
 use Rattle.rec_bits.specs.declared.operator.Op2.TheVariants.{Add, Sub, Mul, And, Or, Xor, Shl, Shr, Sar}
 use Rattle.lexing.specs.declared.token.Token.{Token}
-use Rattle.lexing.specs.Words.{or_else, lexed_all}
+use Rattle.lexing.specs.Words.{or_word, lexed_all}
 use Rattle.src_model.specs.declared.program.Cmp.{Cmp}
 use Rattle.src_model.specs.declared.program.Cmp.TheVariants.{Eq, Ne, Lt, Le, Gt, Ge, Slt, Sle, Sgt, Sge}
 use Rattle.src_model.specs.Grammar.{Lexed, Word}
@@ -85,15 +85,15 @@ sign_of text =
 
 abbrev pub reserved_of : List ℕ → Word
 reserved_of text =
-    or_else (λ cmp. Keyed (Compares cmp)) (signed_of text) (
-    or_else (λ call. Keyed (Calls call)) (call_of text) (
-    or_else Shows (symbol_of text) Other))
+    or_word (λ cmp. Keyed (Compares cmp)) (signed_of text) (
+    or_word (λ call. Keyed (Calls call)) (call_of text) (
+    or_word Shows (symbol_of text) Other))
 
 abbrev pub sign_word : List ℕ → Word
 sign_word text =
-    or_else (λ cmp. Keyed (Compares cmp)) (compare_of text) (
-    or_else (λ op. Keyed (Operates op)) (operator_of text) (
-    or_else Shows (sign_of text) Other))
+    or_word (λ cmp. Keyed (Compares cmp)) (compare_of text) (
+    or_word (λ op. Keyed (Operates op)) (operator_of text) (
+    or_word Shows (sign_of text) Other))
 
 -- all tokens of a program's text, with the words that they are
 abbrev pub src_words : List ℕ → List Token → List Lexed

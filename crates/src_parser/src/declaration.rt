@@ -5,7 +5,7 @@ ghost use Rattle.grammar.specs.Reading.{Gives, Maybe, never};
 ghost use Rattle.src_model.specs.declared.words.Symbol.TheVariants.{LeftBracket, RightBracket};
 ghost use Rattle.grammar.specs.Tokens.{Before, Behind, IsNumber};
 ghost use Rattle.src_model.specs.Grammar.{DeclsBehind, IsDecl, IsDecls, IsLines};
-ghost use Rattle.src_parser.specs.Steps.{after_decl, after_decls, after_lines};
+ghost use Rattle.src_parser.specs.Inner.Steps.{after_decl, after_decls, after_lines};
 
 use grammar::{Stop, begins_with, expect, name, number};
 use src_model::{Lexed, Symbol, Var};

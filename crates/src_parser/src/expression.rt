@@ -1,4 +1,5 @@
-//! Expressions. `levels` is how many levels may still be opened, and `room` how many tokens may still be used.
+//! Expressions. `levels` is how many levels may still be opened, and `room` how many tokens may
+//! still be used.
 
 ghost use Rattle.std.specs.Prelude.{◌≡◌, ◌≤◌, ◌-◌, ◌↔◌, IsTrue, IfOk, IfErr, false};
 ghost use Rattle.grammar.specs.Reading.{Gives, Tail, Within, never};
@@ -8,7 +9,7 @@ ghost use Rattle.src_model.specs.declared.words.Symbol.TheVariants.{Comma, LeftB
 ghost use Rattle.grammar.specs.Tokens.{Before, Behind, IsNothing};
 ghost use Rattle.src_model.specs.Grammar.{Called, Chains, Enclosed, IsExpr, IsIndex, IsOuter, IsUnary, PlaceBehind, Signed, UnaryBehind, join, op_at, op_of, rank};
 ghost use Rattle.src_model.specs.Written.{index_of, phrase_of, place_of};
-ghost use Rattle.src_parser.specs.Steps.{HasRoom, InExpr, OpensIndex, OpenBehind, after, least_of, may_follow, opening_of};
+ghost use Rattle.src_parser.specs.Inner.Steps.{HasRoom, InExpr, OpensIndex, OpenBehind, after, least_of, may_follow, opening_of};
 
 use grammar::{Stop, begins_with, expect, front, number_between};
 use rec_bits::{Items, Name, Op1, Op2};
@@ -94,7 +95,8 @@ fn joined(alloc: Global, a: SrcExpr, op: Op2, b: SrcExpr) -> Result<SrcExpr, Sto
 
 /// A call of an expression and a number of bits.
 fn called(alloc: Global, call: Call, at: u64, a: SrcExpr, width: u64) -> Result<SrcExpr, Stop>
-    ensures made { IfOk result (λ e. phrase_of e ≡ record { at = at; shape = Rattle.src_model.specs.Grammar.called call (phrase_of a) width }) }
+    ensures made { IfOk result (λ e.
+        phrase_of e ≡ record { at = at; shape = Rattle.src_model.specs.Grammar.called call (phrase_of a) width }) }
     ensures refused { IfErr result (λ stop. stop ≡ Exhausted) }
 {
     let a = Box::new(alloc, a)?;
@@ -166,7 +168,8 @@ fn tail(
 ) -> Result<(SrcExpr, &[Lexed]), Stop>
     requires some { 1 ≤ k }
     requires ranked { k ≤ 6 }
-    ensures { Gives (λ x. (phrase_of x.0, x.1.now)) (Within room (Tail (Chains (k - 1) (IsUnary levels)) (op_at k) join (phrase_of first))) (after k) ts.now result }
+    ensures { Gives (λ x.
+        (phrase_of x.0, x.1.now)) (Within room (Tail (Chains (k - 1) (IsUnary levels)) (op_at k) join (phrase_of first))) (after k) ts.now result }
 {
     let mut left = first;
     let mut spare = room;
@@ -213,7 +216,8 @@ fn bracket(
     ts: &[Lexed],
 ) -> Result<(SrcExpr, &[Lexed]), Stop>
     requires { 3 ≤ room }
-    ensures { Gives (λ x. (phrase_of x.0, x.1.now)) (Within room (Behind LeftBracket (Before (IsExpr levels) RightBracket))) never ts.now result }
+    ensures { Gives (λ x.
+        (phrase_of x.0, x.1.now)) (Within room (Behind LeftBracket (Before (IsExpr levels) RightBracket))) never ts.now result }
 {
     let rest = expect(Symbol::LeftBracket, ts)?;
     closed(alloc, Symbol::RightBracket, levels, room - 1, rest)
@@ -248,7 +252,8 @@ fn named<'a>(
     room: usize,
     ts: &'a [Lexed],
 ) -> Result<(SrcExpr, &'a [Lexed]), Stop>
-    ensures { Gives (λ x. (phrase_of x.0, x.1.now)) (Within room (UnaryBehind IsNothing (InExpr levels) (Named name.now) at)) (after 0) ts.now result }
+    ensures { Gives (λ x.
+        (phrase_of x.0, x.1.now)) (Within room (UnaryBehind IsNothing (InExpr levels) (Named name.now) at)) (after 0) ts.now result }
 {
     let (index, rest) = index(alloc, levels, room, ts)?;
     let name = Items::from_slice(alloc, name.as_slice())?;
@@ -335,7 +340,8 @@ fn opened(
     ts: &[Lexed],
 ) -> Result<(SrcExpr, &[Lexed]), Stop>
     requires { least_of opening - 1 ≤ room }
-    ensures { Gives (λ x. (phrase_of x.0, x.1.now)) (Within room (OpenBehind (IsUnary levels) (IsExpr levels) opening at)) (after 0) ts.now result }
+    ensures { Gives (λ x.
+        (phrase_of x.0, x.1.now)) (Within room (OpenBehind (IsUnary levels) (IsExpr levels) opening at)) (after 0) ts.now result }
 {
     match opening {
         Opening::Sign(op) => signed(alloc, op, at, levels, room, ts),

@@ -3,7 +3,7 @@
 //! Promise: `read` answers the one program that the bytes say (`found`, `only`: `IsSrcText`), with
 //! the limits of 64 levels and of 1,024 tokens an expression exact; where they say none, the offset
 //! is that of the first token such that those before it begin some text and with it they don't, or
-//! the text's length (`fault`: `IsReadFault`). `parse` promises the same of tokens.
+//! the text's length (`fault`: `IsSrcTextFault`). `parse` promises the same of tokens.
 //!
 //! Invariant: every reader in this crate keeps `Reads` and `Fails` of `grammar` for its production
 //! of `src_model/specs/Grammar`. `levels` is how many levels may still be opened, and `room` how
@@ -16,8 +16,8 @@
 //! - `declaration`: the lines of variables.
 //! - `statement`: tests, assignments, blocks and what stands round them.
 //! - `whole`, `text`: programs of a list of tokens, and of bytes.
-//! - `specs/`: `Texts` and `Words` are cited by public contracts, together with the grammar in
-//!   `src_model/specs/Grammar`; `Steps` mirrors the readers, part by part.
+//! - `specs/`: `Texts` and `Words`, cited by public contracts together with the grammar in
+//!   `src_model/specs/Grammar`. `specs/Inner/`: `Steps`, which goes with the readers, part by part.
 //! - `proofs/`: `Expressions`, `Declarations` and `Statements` by what is read, `Rooms` for the
 //!   limit on tokens, `TextFaults` for bytes.
 #![tactic(auto)]

@@ -7,7 +7,7 @@ ghost use Rattle.src_parser.specs.declared.statement.Compound.TheVariants.{For a
 ghost use Rattle.src_model.specs.Grammar.{ActBehind, IsAct, IsBlock, IsBody, IsCmp, IsElse, IsIndex, IsInner, IsOuter, IsTest};
 ghost use Rattle.grammar.specs.Tokens.{Before, Behind, IsNothing, BeginsSo};
 ghost use Rattle.src_model.specs.Written.{act_of, index_of, phrase_of, test_of};
-ghost use Rattle.src_parser.specs.Steps.{CompoundBehind, OpensBracket, act_word, after, after_acts, after_else, cmp_of, compound_of, may_follow, others_of};
+ghost use Rattle.src_parser.specs.Inner.Steps.{CompoundBehind, OpensBracket, act_word, after, after_acts, after_else, cmp_of, compound_of, may_follow, others_of};
 
 use crate::expression::expr;
 use grammar::{Stop, begins_with, expect, front, name, number_behind};

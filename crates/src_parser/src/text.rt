@@ -3,7 +3,7 @@
 ghost use Rattle.std.specs.Prelude.{◌≡◌, ◌^◌, ◌<◌, length, IfOk, IfErr, MatchResult};
 ghost use Rattle.rec_bits.specs.declared.fault.ParseFault.{ParseFault};
 ghost use Rattle.src_model.specs.Written.{Listing, listing_of};
-ghost use Rattle.src_parser.specs.Texts.{IsSrcText, IsReadFault};
+ghost use Rattle.src_parser.specs.Texts.{IsSrcText, IsSrcTextFault};
 
 use crate::whole::parse;
 use rec_bits::ParseFault;
@@ -11,19 +11,20 @@ use src_lexer::tokens;
 use src_model::Program;
 use std::alloc::Global;
 
-/// The program of a text. `Text` comes exactly where the bytes are none, with the offset of the first token such that those
-/// before it begin some text and with it they don't, or the length of the bytes where all of them begin one. `Memory` is want of
-/// memory.
+/// The program of a text. `Text` comes exactly where the bytes are none, with the offset of the
+/// first token such that those before it begin some text and with it they don't, or the length of
+/// the bytes where all of them begin one. `Memory` is want of memory.
 pub fn read(alloc: Global, bytes: &[u8]) -> Result<Program, ParseFault>
     requires { length bytes.now < 2 ^ 32 }
     // What is answered is what the bytes say.
     ensures found { IfOk result (λ program. IsSrcText bytes.now (listing_of program)) }
 
     // Whatever they say is answered, and nothing else, unless memory runs out.
-    ensures only { (listing : Listing) → IsSrcText bytes.now listing → MatchResult result (λ program. listing_of program ≡ listing) (λ fault. fault ≡ ParseFault.Memory) }
+    ensures only { (listing : Listing) → IsSrcText bytes.now listing →
+        MatchResult result (λ program. listing_of program ≡ listing) (λ fault. fault ≡ ParseFault.Memory) }
 
     // Where they are no text, the fault is at the first token that shows it.
-    ensures fault { IfErr result (IsReadFault bytes.now) }
+    ensures fault { IfErr result (IsSrcTextFault bytes.now) }
 {
     let tokens = tokens(alloc, bytes)?;
     parse(alloc, bytes, &tokens)

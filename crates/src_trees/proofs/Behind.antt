@@ -5,7 +5,7 @@ use Rattle.rec_bits.specs.Operators.{apply1_of, apply2_of, slice_of, cat_of, sex
 use Rattle.net_model.specs.Terms.{Term, word, reg, const, read, un, bin, slice, cat, zext, sext, select, term_width}
 use Rattle.form_model.specs.Rules.{Destination, into, cell, stored, temporary, tested}
 use Rattle.src_trees.specs.Lowered.{Work}
-use Rattle.src_trees.specs.Seen.{tree_value, ReadsFrom}
+use Rattle.src_trees.specs.Seen.{tree_value, ReadsCells}
 use Rattle.src_trees.specs.Doing.{job_value, put_at, done, all_done, AllRead, DestinationLies, Lies, AllLie}
 
 -- two memories of one length that agree from an address on
@@ -19,7 +19,7 @@ cell_behind at a cells others e le =
     ap (slice_index cells) (sym z) ∙ sym (get_or-drop at cells (a - at) 0) ∙ ap (λ xs. slice_index xs (a - at)) e ∙ get_or-drop at others (a - at) 0 ∙ ap (slice_index others) z
 
 module _ (at : ℕ) (cells others : List ℕ) (alike : Alike at cells others) where
-  pub value_behind : (t : Term) → ReadsFrom at cells t → tree_value cells t ≡ tree_value others t
+  pub value_behind : (t : Term) → ReadsCells at cells t → tree_value cells t ≡ tree_value others t
   value_behind (word w) r = refl
   value_behind (reg n w) r = refl
   value_behind (const w v) r = refl
@@ -36,7 +36,7 @@ module _ (at : ℕ) (cells others : List ℕ) (alike : Alike at cells others) wh
       let s = value_behind b r.2 in
       (λ j. if p j == 1 then q j else s j)
 
-  pub reads_behind : (t : Term) → ReadsFrom at cells t → ReadsFrom at others t
+  pub reads_behind : (t : Term) → ReadsCells at cells t → ReadsCells at others t
   reads_behind (word w) r = tt
   reads_behind (reg n w) r = tt
   reads_behind (const w v) r = tt

@@ -1,8 +1,10 @@
--- The cells of variables: where they stand in a store and in memory, and that those of two variables are apart.
+-- The cells of variables: where they stand in a store and in memory, and that those of two
+-- variables are apart.
 use Rattle.std.proofs.Common.{ℕ, zero, suc, ◌≡◌, ◌≤◌, ◌<◌, ◌+◌, Bool, true, false, if◌then◌else◌, List, [], ◌∷◌, length, take, drop, Some, refl, sym, ◌∙◌, ap, subst, arith, slice_index}
 use Rattle.std.proofs.lemmas.List.{get_or-take, get_or-drop, length-take, length-drop}
 use Rattle.src_model.specs.declared.program.Var.{Var as Declared}
-use Rattle.src_model.specs.Names.{same_name, declared}
+use Rattle.src_model.specs.Names.{declared}
+use Rattle.rec_bits.specs.Faults.{same_name}
 use Rattle.src_model.specs.Meaning.{cells_in, cell_count, first_cell}
 use Rattle.code_model.specs.Places.{cells_at, cells_of, places_from}
 use Rattle.code_model.specs.Layout.{variables_of}

@@ -14,7 +14,7 @@ use Rattle.form_model.specs.declared.flow.Flow.{Flow}
 use Rattle.src_trees.specs.Lowered.{MemoryMap, Work, works, works_in}
 use Rattle.src_trees.specs.Flows.{places_for, flow_in}
 use Rattle.src_trees.specs.Jobs.{works_of}
-use Rattle.src_trees.specs.Lowering.{IsPlain, ArePlain, IsReady, IsLowered, AreLowered}
+use Rattle.src_trees.specs.Inner.Lowering.{IsPlain, ArePlain, IsReady, IsLowered, AreLowered}
 use Rattle.src_trees.proofs.Parts.{flow_length, in_length, works_length, works_in_length}
 use Rattle.src_trees.proofs.LowerLemmas.{places_few, in_few, jobs_length}
 

@@ -10,7 +10,7 @@ use Rattle.form_model.specs.declared.flow.Flow.TheVariants.{Assign, Jump}
 use Rattle.src_trees.specs.Lowered.{MemoryMap, Work, test_work, start_work, counting_work, step_work, works_in}
 use Rattle.src_trees.specs.Flows.{places_for, places_in, places_else, asked, flow_in}
 use Rattle.src_trees.specs.Jobs.{work_of, works_of}
-use Rattle.src_trees.specs.Lowering.{IsLowered, AreLowered}
+use Rattle.src_trees.specs.Inner.Lowering.{IsLowered, AreLowered}
 use Rattle.src_trees.proofs.Parts.{in_length, works_in_length}
 
 -- ---- counts

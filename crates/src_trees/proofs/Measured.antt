@@ -1,4 +1,5 @@
--- The trees of a program's jobs are trees, need at most the program's temporary cells, and are small.
+-- The trees of a program's jobs are trees, need at most the program's temporary cells, and are
+-- small.
 use Rattle.std.proofs.Common.{ℕ, ◌≡◌, ◌≤◌, ◌<◌, ◌+◌, ◌-◌, ◌*◌, Bool, true, false, ◌&&◌, nat_lt, if◌then◌else◌, List, [], ◌∷◌, ◌++◌, Option, Some, None, refl, sym, ◌∙◌, ap, arith, eq-eqb}
 use Rattle.std.proofs.lemmas.Bool.{ne_eqb}
 use Rattle.std.proofs.lemmas.Bool.Decides.{nat_tests}
@@ -17,15 +18,15 @@ use Rattle.src_model.specs.Written.{Shape, num, plain, element, un as un_of, bin
 use Rattle.src_model.specs.Widths.{is_literal}
 use Rattle.src_model.specs.Indexes.{number_of}
 use Rattle.src_model.specs.Loops.{Round, place_shape}
-use Rattle.src_model.specs.Meaning.{width_of, operand_width}
+use Rattle.src_model.specs.Meaning.{shape_width, operand_width}
 use Rattle.src_model.specs.Fitting.{Fitting}
 use Rattle.src_model.specs.Sizes.{Root, value, assigned_root, indexed_root, compared as compared_roots, tested_roots, start_roots, step_roots, roots, roots_in, roots_else, greatest, nodes, nodes_of, read_nodes, is_word, node, all_of, part, read_part, sided, side_parts, temps_of}
 use Rattle.src_model.specs.Rules.{first_fault, temp_count}
 use Rattle.form_model.specs.Trees.{is_tree, is_number}
 use Rattle.form_model.specs.Rules.{cell, tested}
-use Rattle.src_trees.specs.Lowered.{MemoryMap, Work, base_of, narrowed, computed_address, element_address, tree_of, element_destination, assigned_destination, assign_work, compared, step_work, works, works_in, works_else}
-use Rattle.src_trees.specs.Seen.{memory_of, InReach}
-use Rattle.src_model.specs.Sound.{Sound, SoundIn, SoundElse}
+use Rattle.src_trees.specs.Lowered.{MemoryMap, Work, base_of, narrowed, computed_address, element_address, tree_of, element_destination, assigned_destination, assign_work, compared_trees, step_work, works, works_in, works_else}
+use Rattle.src_trees.specs.Seen.{memory_map, InReach}
+use Rattle.src_model.specs.Inner.Sound.{Sound, SoundIn, SoundElse}
 use Rattle.src_trees.specs.Measures.{wide_nodes, wide_below, TreesAre, IsSmall, AllSmall}
 use Rattle.src_trees.proofs.Meant.{tree_width}
 
@@ -39,7 +40,7 @@ own_word bits = ap (λ b. if b then 1 else 0) (eq-eqb bits bits refl)
 
 module _ (bits addr temps : ℕ) (vars : List Declared) (inreach : InReach bits addr temps vars) where
   abbrev mem : MemoryMap
-  mem = memory_of bits addr temps vars
+  mem = memory_map bits addr temps vars
 
   -- ---- trees
 
@@ -134,7 +135,7 @@ module _ (bits addr temps : ℕ) (vars : List Declared) (inreach : InReach bits 
       }
 
   -- the part at its own width
-  at_own : (e : Shape) → part bits (width_of bits bits e) e ≡ part bits bits e
+  at_own : (e : Shape) → part bits (shape_width bits bits e) e ≡ part bits bits e
   at_own (num n) = refl
   at_own (plain name at) = refl
   at_own (element name at to x) = refl
@@ -144,7 +145,7 @@ module _ (bits addr temps : ℕ) (vars : List Declared) (inreach : InReach bits 
   at_own (sext_of at x width) = refl
   at_own (low at x width) = refl
 
-  part_width : (asked : ℕ) (e : Shape) → (part bits asked e).width ≡ width_of bits asked e
+  part_width : (asked : ℕ) (e : Shape) → (part bits asked e).width ≡ shape_width bits asked e
   part_width asked (num n) = refl
   part_width asked (plain name at) = refl
   part_width asked (element name at to x) = by (number_of x)
@@ -155,8 +156,8 @@ module _ (bits addr temps : ℕ) (vars : List Declared) (inreach : InReach bits 
   part_width asked (un_of op at x) = part_width asked x
   part_width asked (bin_of op at x to y) = by (is_literal x) (part_width bits x) (part_width bits y)
     where
-      by : (b : Bool) → (part bits bits x).width ≡ width_of bits bits x → (part bits bits y).width ≡ width_of bits bits y
-          → result_width op (sided b (part bits bits x) (part bits bits y) (λ w. part bits w x) (λ w. part bits w y)).width ≡ result_width op (if b then width_of bits bits y else width_of bits bits x)
+      by : (b : Bool) → (part bits bits x).width ≡ shape_width bits bits x → (part bits bits y).width ≡ shape_width bits bits y
+          → result_width op (sided b (part bits bits x) (part bits bits y) (λ w. part bits w x) (λ w. part bits w y)).width ≡ result_width op (if b then shape_width bits bits y else shape_width bits bits x)
       by true p q = ap (result_width op) q
       by false p q = ap (result_width op) p
   part_width asked (zext_of at x width) = refl
@@ -168,13 +169,13 @@ module _ (bits addr temps : ℕ) (vars : List Declared) (inreach : InReach bits 
       → ((sided b (part bits bits x) (part bits bits y) (λ w. part bits w x) (λ w. part bits w y)).below ≡ all_of (part bits (operand_width bits x y) x) + all_of (part bits (operand_width bits x y) y))
       × ((sided b (part bits bits x) (part bits bits y) (λ w. part bits w x) (λ w. part bits w y)).width ≡ operand_width bits x y)
   sided_is x y true e =
-      let o : operand_width bits x y ≡ width_of bits bits y = ap (λ (b : Bool). if b then width_of bits bits y else width_of bits bits x) e in
+      let o : operand_width bits x y ≡ shape_width bits bits y = ap (λ (b : Bool). if b then shape_width bits bits y else shape_width bits bits x) e in
       let q = part_width bits y in
       let l : all_of (part bits (part bits bits y).width x) ≡ all_of (part bits (operand_width bits x y) x) = ap (λ w. all_of (part bits w x)) (q ∙ sym o) in
       let r : all_of (part bits (operand_width bits x y) y) ≡ all_of (part bits bits y) = ap (λ w. all_of (part bits w y)) o ∙ ap all_of (at_own y) in
       (omega (arith, l, r), q ∙ sym o)
   sided_is x y false e =
-      let o : operand_width bits x y ≡ width_of bits bits x = ap (λ (b : Bool). if b then width_of bits bits y else width_of bits bits x) e in
+      let o : operand_width bits x y ≡ shape_width bits bits x = ap (λ (b : Bool). if b then shape_width bits bits y else shape_width bits bits x) e in
       let q = part_width bits x in
       let r : all_of (part bits (part bits bits x).width y) ≡ all_of (part bits (operand_width bits x y) y) = ap (λ w. all_of (part bits w y)) (q ∙ sym o) in
       let l : all_of (part bits (operand_width bits x y) x) ≡ all_of (part bits bits x) = ap (λ w. all_of (part bits w x)) o ∙ ap all_of (at_own x) in
@@ -233,9 +234,9 @@ module _ (bits addr temps : ℕ) (vars : List Declared) (inreach : InReach bits 
         let o : is_word bits (term_width a) ≡ is_word bits w = ap (is_word bits) e in
         (both_true _ _ p q, omega arith, omega arith, (both_true _ _ (both_true _ _ p q) refl, omega (arith, o), omega arith, tt))
 
-    compared_small : (cmp : Cmp) (x y : Shape) → Fitting bits (operand_width bits x y) x → Fitting bits (operand_width bits x y) y → width_of bits (operand_width bits x y) x ≡ operand_width bits x y
+    compared_small : (cmp : Cmp) (x y : Shape) → Fitting bits (operand_width bits x y) x → Fitting bits (operand_width bits x y) y → shape_width bits (operand_width bits x y) x ≡ operand_width bits x y
         → greatest (temps_of bits) (compared_roots cmp x y) ≤ t → greatest nodes_of (compared_roots cmp x y) ≤ most
-        → TreesAre bits t (2 * most) tested (compared cmp (operand_width bits x y) (tree_of mem (operand_width bits x y) x) (tree_of mem (operand_width bits x y) y))
+        → TreesAre bits t (2 * most) tested (compared_trees cmp (operand_width bits x y) (tree_of mem (operand_width bits x y) x) (tree_of mem (operand_width bits x y) y))
     compared_small cmp x y f g w h k =
         by cmp (is_tree_of (operand_width bits x y) x) (is_tree_of (operand_width bits x y) y) (tree_width bits addr temps vars (operand_width bits x y) x f ∙ w) (sides_same x y f g) (tree_small (operand_width bits x y) x) (tree_small (operand_width bits x y) y) h k
       where
@@ -243,7 +244,7 @@ module _ (bits addr temps : ℕ) (vars : List Declared) (inreach : InReach bits 
             → (wide_nodes bits (tree_of mem (operand_width bits x y) x) + wide_nodes bits (tree_of mem (operand_width bits x y) y) ≡ (side_parts bits x y).below) × ((side_parts bits x y).width ≡ operand_width bits x y)
             → size_of (tree_of mem (operand_width bits x y) x) ≤ 2 * nodes x → size_of (tree_of mem (operand_width bits x y) y) ≤ 2 * nodes y
             → greatest (temps_of bits) (compared_roots cmp x y) ≤ t → greatest nodes_of (compared_roots cmp x y) ≤ most
-            → TreesAre bits t (2 * most) tested (compared cmp (operand_width bits x y) (tree_of mem (operand_width bits x y) x) (tree_of mem (operand_width bits x y) y))
+            → TreesAre bits t (2 * most) tested (compared_trees cmp (operand_width bits x y) (tree_of mem (operand_width bits x y) x) (tree_of mem (operand_width bits x y) y))
         by Eq p q e s a b h k = let o = ap (is_word bits) s.1 in two_small (operand_width bits x y) _ _ (nodes x + nodes y) p q e (omega (arith, s.0, o)) (omega arith) (omega arith)
         by Ne p q e s a b h k = let o = ap (is_word bits) s.1 in two_small (operand_width bits x y) _ _ (nodes x + nodes y) p q e (omega (arith, s.0, o)) (omega arith) (omega arith)
         by Lt p q e s a b h k = one_small Ltu _ _ (nodes x + nodes y) p q (omega (arith, s.0)) (omega arith) (omega arith)
@@ -266,7 +267,7 @@ module _ (bits addr temps : ℕ) (vars : List Declared) (inreach : InReach bits 
         → IsSmall bits t (2 * most) (assign_work mem place e)
     assign_small place e fp fe h k = by place.index fp h k
       where
-        stored_small : (x : Shape) (o : Option ℕ) → Fitting bits bits x → width_of bits bits x ≡ bits → temps_of bits (indexed_root o x e.shape) ≤ t → nodes_of (indexed_root o x e.shape) ≤ most
+        stored_small : (x : Shape) (o : Option ℕ) → Fitting bits bits x → shape_width bits bits x ≡ bits → temps_of bits (indexed_root o x e.shape) ≤ t → nodes_of (indexed_root o x e.shape) ≤ most
             → IsSmall bits t (2 * most) (record { destination = element_destination mem place.name o (tree_of mem bits x); trees = tree_of mem bits e.shape ∷ [] })
         stored_small x (Some n) f w h k = value_small e.shape (base_of mem.places place.name + n) fe h k
         stored_small x None f w h k =
@@ -336,6 +337,6 @@ module _ (bits addr temps : ℕ) (vars : List Declared) (inreach : InReach bits 
       else_small rounds (otherwise body) f h k = acts_small rounds body f h k
 
 -- the jobs of a program that keeps the rules
-pub program_small : (bits addr temps : ℕ) (l : Listing) → first_fault bits l ≡ None → InReach bits addr temps l.vars → AllSmall bits (temp_count bits l) 510 (program_works (memory_of bits addr temps l.vars) l)
+pub program_small : (bits addr temps : ℕ) (l : Listing) → first_fault bits l ≡ None → InReach bits addr temps l.vars → AllSmall bits (temp_count bits l) 510 (program_works (memory_map bits addr temps l.vars) l)
 program_small bits addr temps l kept inreach =
     acts_small bits addr temps l.vars inreach (temp_count bits l) 255 [] (acts_of l.body) (program_sound bits l kept) (omega arith) (rules_hold bits l kept).few_nodes

@@ -13,14 +13,14 @@ use Rattle.src_model.specs.Names.{declared, is_array}
 use Rattle.src_model.specs.Indexes.{number_of, index_range, is_within, length_of, loose}
 use Rattle.src_model.specs.Loops.{Round, place_shape}
 use Rattle.src_model.specs.Meaning.{cell_count}
-use Rattle.src_model.specs.Rules.{KeepsRules}
+use Rattle.src_model.specs.Rules.{KeepsSrcRules}
 use Rattle.code_model.specs.declared.image.Places.{Places}
 use Rattle.code_model.specs.Places.{places_from}
 use Rattle.code_model.specs.Layout.{variables_of, layout_of, need_of}
 use Rattle.src_model.specs.Inside.{Known}
-use Rattle.src_trees.specs.Near.{IsNear, IsNearAt}
-use Rattle.src_model.specs.Sound.{Sound, SoundIn, SoundElse}
-use Rattle.src_trees.specs.Lowering.{IsPlain, ArePlain, IsPlainElse}
+use Rattle.src_trees.specs.Inner.Near.{IsNear, IsNearAt}
+use Rattle.src_model.specs.Inner.Sound.{Sound, SoundIn, SoundElse}
+use Rattle.src_trees.specs.Inner.Lowering.{IsPlain, ArePlain, IsPlainElse}
 use Rattle.src_model.proofs.CellLemmas.{first_within, array_var}
 use Rattle.src_trees.proofs.Cells.{base_is}
 use Rattle.src_model.proofs.RangeLemmas.{append_none, kept}
@@ -75,13 +75,13 @@ module _ (bits temps : ℕ) (vars : List Declared) (wide : bits ≤ 64) (few : t
     plain_else rounds (otherwise body) f = plain_in rounds body f
 
 -- a checked program, with the places of its layout
-pub program_plain : (width : ℕ) (program : Program) (places : Places) → KeepsRules width program → places ≡ layout_of width (listing_of program) → need_of width (listing_of program) < 2 ^ 32 → ArePlain width places.list (acts_of (listing_of program).body)
+pub program_plain : (width : ℕ) (program : Program) (places : Places) → KeepsSrcRules width program → places ≡ layout_of width (listing_of program) → need_of width (listing_of program) < 2 ^ 32 → ArePlain width places.list (acts_of (listing_of program).body)
 program_plain width program places k e lt =
     subst (λ p. ArePlain width p.list (acts_of (listing_of program).body)) (sym e)
     (plain_in width (layout_of width (listing_of program)).temps (listing_of program).vars k.most lt [] (acts_of (listing_of program).body) (program_sound width (listing_of program) k.kept))
 
 -- as its parts are looked at
-pub body_plain : (width w : ℕ) (program p : Program) (places : Places) (list : List VariablePlace) (body : List Stmt) → w ≡ width → p ≡ program → body ≡ p.body.items → list ≡ places.list → KeepsRules width program → places ≡ layout_of width (listing_of program)
+pub body_plain : (width w : ℕ) (program p : Program) (places : Places) (list : List VariablePlace) (body : List Stmt) → w ≡ width → p ≡ program → body ≡ p.body.items → list ≡ places.list → KeepsSrcRules width program → places ≡ layout_of width (listing_of program)
     → need_of width (listing_of program) < 2 ^ 32 → ArePlain w list (acts_of (map act_of body))
 body_plain width w program p places list body ew ep eb el k e lt =
     let h = program_plain width program places k e lt in

@@ -15,14 +15,14 @@ use Rattle.src_model.specs.Sizes.{statements, statements_in}
 use Rattle.src_model.specs.Loops.{Round, place_shape}
 use Rattle.src_model.specs.Meaning.{cell_count, assigned, holds}
 use Rattle.src_model.specs.Ways.{Onward, pass, choose, loop, finish}
-use Rattle.src_model.specs.Trace.{started, stepped, counting, after, run, run_in, run_else}
+use Rattle.src_model.specs.Trace.{started, stepped, counting, after_change, run_act, run_in, run_else}
 use Rattle.src_model.proofs.WayLemmas.{Keeps}
 use Rattle.src_model.proofs.TraceLemmas.{counted_body, body_keeps, counted_keeps}
 use Rattle.code_model.specs.declared.image.Image.{Image}
 use Rattle.code_model.specs.Places.{words_of, label_at, cells_at, places_from}
 use Rattle.code_model.specs.Layout.{variables_of}
 use Rattle.code_model.specs.Machine.{store_in, IsAt}
-use Rattle.code_model.specs.Flow.{Follows, Stands, Leads, Tests}
+use Rattle.code_model.specs.Inner.Flow.{Follows, Stands, Leads, Tests}
 use Rattle.code_model.proofs.Flowing.{block_stands, end_stands, test_stands, loop_stands, stands_less}
 use Rattle.form_model.specs.declared.flow.Flow.{Flow}
 use Rattle.form_model.specs.declared.flow.Flow.TheVariants.{Assign, Test, Jump, End}
@@ -43,11 +43,11 @@ use Rattle.src_model.proofs.SoundLemmas.{program_sound}
 use Rattle.src_model.proofs.TraceLemmas.{in_whole, in_steady}
 use Rattle.src_trees.proofs.Parts.{stand_all}
 use Rattle.src_trees.specs.Flows.{places_for, places_in, places_else, else_entry, asked, flow_of, flow_in, flow_else}
-use Rattle.src_trees.specs.Seen.{memory_of, seen, tree_value, InReach}
+use Rattle.src_trees.specs.Seen.{memory_map, seen_store, tree_value, InReach}
 use Rattle.src_trees.specs.Doing.{done, all_done, Lies, AllLie, AllAre}
-use Rattle.src_model.specs.Sound.{Holds, Turns, SoundAssign, SoundTest, SoundCount, Sound, SoundIn, SoundElse}
-use Rattle.src_trees.specs.Blocks.{is_assign, enters, continues, IsBlock, job_of, job_at, jobs_at}
-use Rattle.src_trees.specs.Placed.{Comes, DoesJobs, DoesTest, DoesJump, IsPlaced}
+use Rattle.src_model.specs.Inner.Sound.{Holds, Turns, SoundAssign, SoundTest, SoundCount, Sound, SoundIn, SoundElse}
+use Rattle.src_trees.specs.Blocks.{is_assign, enters, continues, IsAssignBlock, job_list, job_at, jobs_at}
+use Rattle.src_trees.specs.Placed.{Comes, DoesJobs, DoesTest, JumpComes, IsPlaced}
 use Rattle.src_trees.proofs.Cells.{seen_behind}
 use Rattle.src_model.specs.Fitting.{FitsSides}
 use Rattle.src_trees.proofs.Cells.{seen_length, seen_below}
@@ -88,19 +88,20 @@ entry_within (otherwise list) at = omega arith
 module _ (netlist : Netlist) (image : Image) (bits addr temps : ℕ) (vars : List Declared) (flow : List Flow) (jobs : List Work) (starts : ℕ → ℕ) (end : ℕ)
     (room : temps + cell_count vars ≤ memory_size netlist.storages) (places : image.places ≡ places_from temps (variables_of vars)) (placed : IsPlaced netlist image temps flow jobs starts end) where
   abbrev mem : MemoryMap
-  mem = memory_of bits addr temps vars
+  mem = memory_map bits addr temps vars
 
-  store_is : (s : State) → store_in image s ≡ seen mem s.cells
+  store_is : (s : State) → store_in image s ≡ seen_store mem s.cells
   store_is s = ap (λ ps. cells_at ps s.cells) places
 
-  -- up to a place i, the block that begins at b has n assignments; at b the store keeps c, they change it by g, and then it keeps j
+  -- up to a place i, the block that begins at b has n assignments; at b the store keeps c, they
+  -- change it by g, and then it keeps j
   record Pending (i b n : ℕ) (c j : Phase) (g : List ℕ → List ℕ) : Type 0 where
     here : b + n ≡ i
     first : continues flow b ≡ false
     inner : (k : ℕ) → k < n → 0 < k → continues flow (b + k) ≡ true
     assigns : (k : ℕ) → k < n → is_assign (slice_get flow (b + k)) ≡ true
     lie : (s : State) → IsAt netlist (starts b) s → Meets bits vars c (store_in image s) → AllLie temps s.cells (jobs_at flow jobs b n)
-    store : (s : State) → IsAt netlist (starts b) s → Meets bits vars c (store_in image s) → seen mem (all_done (jobs_at flow jobs b n) s.cells) ≡ g (store_in image s)
+    store : (s : State) → IsAt netlist (starts b) s → Meets bits vars c (store_in image s) → seen_store mem (all_done (jobs_at flow jobs b n) s.cells) ≡ g (store_in image s)
     meets : (s : State) → IsAt netlist (starts b) s → Meets bits vars c (store_in image s) → Meets bits vars j (g (store_in image s))
 
   -- the states at a place where a block or something else begins
@@ -139,7 +140,7 @@ module _ (netlist : Netlist) (image : Image) (bits addr temps : ℕ) (vars : Lis
       subst (λ (x : ℕ). Follows netlist image (starts end) (starts end - starts x) s (way k (g (store_in image s)))) f
       (subst (λ cells. Follows netlist image (starts end) (starts end - starts i) s (way k cells)) same (h k le s (here, meets)))
   closed i j way m within e h b (suc n) c g p =
-      let block : IsBlock flow b (suc n) =
+      let block : IsAssignBlock flow b (suc n) =
       record { some = omega arith; assigns = p.assigns; first = p.first; inner = p.inner; last = subst (λ x. continues flow x ≡ false) (sym p.here) e } in
       let d : DoesJobs netlist image temps (jobs_at flow jobs b (suc n)) (starts b) (starts i) =
       subst (λ x. DoesJobs netlist image temps (jobs_at flow jobs b (suc n)) (starts b) (starts x)) p.here (placed.blocks b (suc n) block) in
@@ -155,8 +156,8 @@ module _ (netlist : Netlist) (image : Image) (bits addr temps : ℕ) (vars : Lis
 
   -- a job that does what an assignment says
   record Does (work : Work) (j k : Phase) (change : List ℕ → List ℕ) : Type 0 where
-    lies : (cells : List ℕ) → temps + cell_count vars ≤ length cells → Meets bits vars j (seen mem cells) → Lies temps cells work
-    is : (cells : List ℕ) → temps + cell_count vars ≤ length cells → Meets bits vars j (seen mem cells) → seen mem (done work cells) ≡ change (seen mem cells)
+    lies : (cells : List ℕ) → temps + cell_count vars ≤ length cells → Meets bits vars j (seen_store mem cells) → Lies temps cells work
+    is : (cells : List ℕ) → temps + cell_count vars ≤ length cells → Meets bits vars j (seen_store mem cells) → seen_store mem (done work cells) ≡ change (seen_store mem cells)
     keeps : (store : List ℕ) → Meets bits vars j store → Meets bits vars k (change store)
 
   one_more : (i b n : ℕ) (c j k : Phase) (g change : List ℕ → List ℕ) (tree : ℕ) (work : Work) → slice_get flow i ≡ Some (Assign tree) → slice_get jobs tree ≡ Some work → Does work j k change
@@ -165,7 +166,7 @@ module _ (netlist : Netlist) (image : Image) (bits addr temps : ℕ) (vars : Lis
       let h = p.here in
       let item : slice_get flow (b + n) ≡ Some (Assign tree) = ap (slice_get flow) h ∙ at_flow in
       let more : jobs_at flow jobs b (suc n) ≡ jobs_at flow jobs b n ++ work ∷ [] =
-      ap (λ o. jobs_at flow jobs b n ++ job_at jobs o) item ∙ ap (λ o. jobs_at flow jobs b n ++ job_of o) at_jobs in
+      ap (λ o. jobs_at flow jobs b n ++ job_at jobs o) item ∙ ap (λ o. jobs_at flow jobs b n ++ job_list o) at_jobs in
       record {
         here = omega arith;
         first = p.first;
@@ -173,7 +174,7 @@ module _ (netlist : Netlist) (image : Image) (bits addr temps : ℕ) (vars : Lis
         assigns = λ x lt. by_assigns x item (order x n lt);
         lie = λ s a m. subst (AllLie temps s.cells) (sym more) (all_lie_more temps (jobs_at flow jobs b n) work s.cells (p.lie s a m) (does.lies _ (long s a) (met s a m)));
         store = λ s a m.
-            ap (λ ts. seen mem (all_done ts s.cells)) more ∙ ap (seen mem) (all_done_more (jobs_at flow jobs b n) work s.cells) ∙ does.is _ (long s a) (met s a m) ∙ ap change (p.store s a m);
+            ap (λ ts. seen_store mem (all_done ts s.cells)) more ∙ ap (seen_store mem) (all_done_more (jobs_at flow jobs b n) work s.cells) ∙ does.is _ (long s a) (met s a m) ∙ ap change (p.store s a m);
         meets = λ s a m. does.keeps _ (p.meets s a m);
       }
     where
@@ -199,17 +200,17 @@ module _ (netlist : Netlist) (image : Image) (bits addr temps : ℕ) (vars : Lis
       long : (s : State) → IsAt netlist (starts b) s → temps + cell_count vars ≤ length (all_done (jobs_at flow jobs b n) s.cells)
       long s a = let e = all_done_length (jobs_at flow jobs b n) s.cells in let f = a.state.cells in omega (arith, room)
 
-      met : (s : State) → IsAt netlist (starts b) s → Meets bits vars c (store_in image s) → Meets bits vars j (seen mem (all_done (jobs_at flow jobs b n) s.cells))
+      met : (s : State) → IsAt netlist (starts b) s → Meets bits vars c (store_in image s) → Meets bits vars j (seen_store mem (all_done (jobs_at flow jobs b n) s.cells))
       met s a m = subst (Meets bits vars j) (sym (p.store s a m)) (p.meets s a m)
 
   assigned_stands : (i : ℕ) (j k : Phase) (change : List ℕ → List ℕ) (tree : ℕ) (work : Work) (way : Onward) (m : ℕ) → i ≤ end → slice_get flow i ≡ Some (Assign tree) → slice_get jobs tree ≡ Some work → Does work j k change
-      → StandsIn (i + 1) k way m → StandsIn i j (after change way) m
+      → StandsIn (i + 1) k way m → StandsIn i j (after_change change way) m
   assigned_stands i j k change tree work way m within at_flow at_jobs does h b n c g p = by (continues flow i) refl
     where
-      by : (t : Bool) → continues flow i ≡ t → Stands netlist image (starts end) (starts end - starts b) (Stated b c) (λ more cells. after change way more (g cells)) m
+      by : (t : Bool) → continues flow i ≡ t → Stands netlist image (starts end) (starts end - starts b) (Stated b c) (λ more cells. after_change change way more (g cells)) m
       by true e = h b (suc n) c (λ cells. change (g cells)) (one_more i b n c j k g change tree work at_flow at_jobs does (inr e) p)
       by false e =
-          closed i j (after change way) m within e (h i 1 j change (one_more i i 0 j j k (λ cells. cells) change tree work at_flow at_jobs does (inl refl) (nothing_pending i j e))) b n c g p
+          closed i j (after_change change way) m within e (h i 1 j change (one_more i i 0 j j k (λ cells. cells) change tree work at_flow at_jobs does (inl refl) (nothing_pending i j e))) b n c g p
 
   -- ---- jumps
 
@@ -221,7 +222,7 @@ module _ (netlist : Netlist) (image : Image) (bits addr temps : ℕ) (vars : Lis
 
   jumped : (i to : ℕ) (j : Phase) (way : Onward) (m : ℕ) → i < to → to ≤ end → slice_get flow i ≡ Some (Jump to) → StandsAt to j way m → StandsIn i j way m
   jumped i to j way m lt within at_flow h =
-      let d : DoesJump netlist image temps (starts i) (starts to) = placed.jumps i to at_flow in
+      let d : JumpComes netlist image temps (starts i) (starts to) = placed.jumps i to at_flow in
       let a = placed.behind_jump i to at_flow in
       let b = placed.rises (i + 1) to (omega arith) in
       let c = placed.rises to end within in
@@ -231,7 +232,7 @@ module _ (netlist : Netlist) (image : Image) (bits addr temps : ℕ) (vars : Lis
 
   jumped_back : (i to : ℕ) (j : Phase) (way : Onward) (m : ℕ) → i + 1 ≤ end → slice_get flow i ≡ Some (Jump to) → Stands netlist image (starts end) 0 (Stated to j) way m → StandsIn i j way m
   jumped_back i to j way m within at_flow h =
-      let d : DoesJump netlist image temps (starts i) (starts to) = placed.jumps i to at_flow in
+      let d : JumpComes netlist image temps (starts i) (starts to) = placed.jumps i to at_flow in
       let a = placed.behind_jump i to at_flow in
       let b = placed.rises (i + 1) end within in
       closed i j way m (omega arith) (begins_other flow i (Jump to) at_flow refl)
@@ -242,8 +243,8 @@ module _ (netlist : Netlist) (image : Image) (bits addr temps : ℕ) (vars : Lis
 
   -- a job whose trees tell a test, and what the store keeps behind it
   record Tells (work : Work) (cmp : Cmp) (test : List ℕ → Bool) (j k other : Phase) : Type 0 where
-    lies : (cells : List ℕ) → temps + cell_count vars ≤ length cells → Meets bits vars j (seen mem cells) → Lies temps cells work
-    are : (cells : List ℕ) → temps + cell_count vars ≤ length cells → Meets bits vars j (seen mem cells) → AllAre (bit_of (answer cmp (test (seen mem cells)))) cells work.trees
+    lies : (cells : List ℕ) → temps + cell_count vars ≤ length cells → Meets bits vars j (seen_store mem cells) → Lies temps cells work
+    are : (cells : List ℕ) → temps + cell_count vars ≤ length cells → Meets bits vars j (seen_store mem cells) → AllAre (bit_of (answer cmp (test (seen_store mem cells)))) cells work.trees
     on_true : (store : List ℕ) → Meets bits vars j store → test store ≡ true → Meets bits vars k store
     on_false : (store : List ℕ) → Meets bits vars j store → test store ≡ false → Meets bits vars other store
 
@@ -261,7 +262,7 @@ module _ (netlist : Netlist) (image : Image) (bits addr temps : ℕ) (vars : Lis
       long : (s : State) → Stated i j s → temps + cell_count vars ≤ length s.cells
       long s q = let f = q.0.state.cells in omega (arith, room)
 
-      met : (s : State) → Stated i j s → Meets bits vars j (seen mem s.cells)
+      met : (s : State) → Stated i j s → Meets bits vars j (seen_store mem s.cells)
       met s q = subst (Meets bits vars j) (store_is s) q.1
 
       value : (b : Bool) → holds_at_one cmp ≡ b → (s : State) → Stated i j s → (used : Term) (which : ℕ) → slice_get work.trees which ≡ Some used → (h : Bool) → test (store_in image s) ≡ h
@@ -340,8 +341,8 @@ module _ (netlist : Netlist) (image : Image) (bits addr temps : ℕ) (vars : Lis
         let at_place = λ (store : List ℕ) (h : Holds bits vars rounds store). inside bits vars store h.fits.below rounds h.counts bits (place_shape place) f.left.fits f.left.known f.left.within in
         let at_value = λ (store : List ℕ) (h : Holds bits vars rounds store). inside bits vars store h.fits.below rounds h.counts bits e.shape f.right.fits f.right.known f.right.within in
         record {
-          lies = λ cells long h. (assign_done bits addr temps vars inreach cells long place e f.left.fits f.right.fits f.left.known f.right.known (at_place (seen mem cells) h) (at_value (seen mem cells) h)).lies;
-          is = λ cells long h. (assign_done bits addr temps vars inreach cells long place e f.left.fits f.right.fits f.left.known f.right.known (at_place (seen mem cells) h) (at_value (seen mem cells) h)).is;
+          lies = λ cells long h. (assign_done bits addr temps vars inreach cells long place e f.left.fits f.right.fits f.left.known f.right.known (at_place (seen_store mem cells) h) (at_value (seen_store mem cells) h)).lies;
+          is = λ cells long h. (assign_done bits addr temps vars inreach cells long place e f.left.fits f.right.fits f.left.known f.right.known (at_place (seen_store mem cells) h) (at_value (seen_store mem cells) h)).is;
           keeps = λ store h. assign_holds bits vars rounds place e store f (at_place store h) h;
         }
 
@@ -362,10 +363,10 @@ module _ (netlist : Netlist) (image : Image) (bits addr temps : ℕ) (vars : Lis
 
     test_tells : (rounds : List Round) (test : Tested) → SoundTest bits vars rounds test → Tells (test_work mem test) test.cmp (holds bits vars test) (body rounds) (body rounds) (body rounds)
     test_tells rounds test f =
-        let told = λ (cells : List ℕ) (long : temps + cell_count vars ≤ length cells) (h : Holds bits vars rounds (seen mem cells)).
+        let told = λ (cells : List ℕ) (long : temps + cell_count vars ≤ length cells) (h : Holds bits vars rounds (seen_store mem cells)).
         test_asked bits addr temps vars inreach cells long test h.fits.below f.sides f.left_known f.right_known
-        (inside bits vars (seen mem cells) h.fits.below rounds h.counts _ test.left.shape f.sides.left f.left_known f.left_within)
-        (inside bits vars (seen mem cells) h.fits.below rounds h.counts _ test.right.shape f.sides.right f.right_known f.right_within) in
+        (inside bits vars (seen_store mem cells) h.fits.below rounds h.counts _ test.left.shape f.sides.left f.left_known f.left_within)
+        (inside bits vars (seen_store mem cells) h.fits.below rounds h.counts _ test.right.shape f.sides.right f.right_known f.right_within) in
         record { lies = λ cells long h. (told cells long h).lies; are = λ cells long h. (told cells long h).are; on_true = λ store h e. h; on_false = λ store h e. h }
 
     counting_tells : (rounds : List Round) (counter : List ℕ) (at from to : ℕ) → SoundCount bits vars rounds counter from to
@@ -388,10 +389,10 @@ module _ (netlist : Netlist) (image : Image) (bits addr temps : ℕ) (vars : Lis
     -- ---- statements
 
     mutual
-      unfolding run run_in run_else
+      unfolding run_act run_in run_else
 
       act_stands : (rounds : List Round) (a : Act) (tree at : ℕ) → Sound bits vars rounds a → at + places_for a ≤ end → Stand flow at (flow_of a tree at) → Stand jobs tree (works mem a) → (way : Onward) (m : ℕ)
-          → StandsIn (at + places_for a) (body rounds) way m → StandsIn at (body rounds) (run bits vars a tree way) m
+          → StandsIn (at + places_for a) (body rounds) way m → StandsIn at (body rounds) (run_act bits vars a tree way) m
       act_stands rounds (assign place e) tree at f le in_flow in_jobs way m h =
           assigned_stands at (body rounds) (body rounds) (assigned bits vars place e) tree (assign_work mem place e) way m (omega arith) in_flow.0 in_jobs.0 (assign_does rounds place e f) h
       act_stands rounds (choice test taken other) tree at f le in_flow in_jobs way m h =
@@ -448,8 +449,8 @@ module _ (netlist : Netlist) (image : Image) (bits addr temps : ℕ) (vars : Lis
           (loop_in (at + 1) (tree + 1) (at + 2) (at + 2 + places_in inner + 2) Ne (counting vars counter to) (turn rounds counter from to) (body (round ∷ rounds)) (body rounds) (counted_body bits vars counter inner (tree + 2)) way m
           (omega arith) (omega arith) (omega arith) in_flow.1.0 k (counted_keeps bits vars counter inner (tree + 2))
           (λ next n again.
-          opened (at + 2) (body (round ∷ rounds)) (run_in bits vars inner (tree + 2) (after (stepped bits vars counter) next)) n (begins_behind flow (at + 1) (at + 2) test_item (omega arith) in_flow.1.0 (asked_other Ne (tree + 1) (at + 2) (at + 2 + places_in inner + 2)))
-          (acts_stand (round ∷ rounds) inner (tree + 2) (at + 2) f.1 (omega arith) flow_inner jobs_inner (after (stepped bits vars counter) next) n
+          opened (at + 2) (body (round ∷ rounds)) (run_in bits vars inner (tree + 2) (after_change (stepped bits vars counter) next)) n (begins_behind flow (at + 1) (at + 2) test_item (omega arith) in_flow.1.0 (asked_other Ne (tree + 1) (at + 2) (at + 2 + places_in inner + 2)))
+          (acts_stand (round ∷ rounds) inner (tree + 2) (at + 2) f.1 (omega arith) flow_inner jobs_inner (after_change (stepped bits vars counter) next) n
           (assigned_stands (at + 2 + places_in inner) (body (round ∷ rounds)) (turn rounds counter from to) (stepped bits vars counter) (tree + 2 + statements_in inner) (step_work mem counter) next n (omega arith) flow_back.0 jobs_step
           (step_does rounds counter from to f.0)
           (jumped_back (at + 2 + places_in inner + 1) (at + 1) (turn rounds counter from to) next n (omega arith) flow_back.1.0 again))))
@@ -502,10 +503,10 @@ start_fits netlist image bits temps vars s wide room places h =
 -- words that do what a program's flow says trace the program
 pub placed_right : (netlist : Netlist) (image : Image) (bits addr temps : ℕ) (l : Listing) (starts : ℕ → ℕ) → IsSound netlist → first_fault bits l ≡ None → memory_width netlist.storages ≡ bits → InReach bits addr temps l.vars
     → temps + cell_count l.vars ≤ memory_size netlist.storages → image.places ≡ places_from temps (variables_of l.vars)
-    → IsPlaced netlist image temps (program_flow l) (program_works (memory_of bits addr temps l.vars) l) starts (places_in (acts_of l.body)) → TracesRight netlist image (strace bits l)
+    → IsPlaced netlist image temps (program_flow l) (program_works (memory_map bits addr temps l.vars) l) starts (places_in (acts_of l.body)) → TracesRight netlist image (strace bits l)
 placed_right netlist image bits addr temps l starts sound kept wide inreach room places placed =
     let acts : Acts = acts_of l.body in
-    let m : MemoryMap = memory_of bits addr temps l.vars in
+    let m : MemoryMap = memory_map bits addr temps l.vars in
     let end : ℕ = places_in (acts_of l.body) in
     let in_flow : Stand (program_flow l) 0 (flow_in (acts_of l.body) 0 0) = stand_left (program_flow l) 0 (flow_in (acts_of l.body) 0 0) (End ∷ []) (stand_all (program_flow l)) in
     let at_end : slice_get (program_flow l) (places_in (acts_of l.body)) ≡ Some End =

@@ -8,17 +8,17 @@ use Rattle.src_model.specs.declared.program.Var.{Var as Declared}
 use Rattle.src_model.specs.Written.{Shape, num, plain, bin as bin_of, Phrase, Place, shape_at, Act, assign, choice, while, count, Acts, no_acts, act, Otherwise, without, otherwise, Listing, acts_of}
 use Rattle.src_model.specs.Indexes.{number_of}
 use Rattle.src_model.specs.Loops.{Round, place_shape}
-use Rattle.src_model.specs.Meaning.{width_of, operand_width}
+use Rattle.src_model.specs.Meaning.{shape_width, operand_width}
 use Rattle.src_model.specs.Fitting.{Fitting}
 use Rattle.src_model.specs.Sizes.{value, assigned_root, indexed_root, compared as compared_roots, tested_roots, start_roots, step_roots, roots, roots_in, roots_else, greatest, is_word, side_parts, temps_of}
 use Rattle.src_model.specs.Rules.{first_fault, temp_count}
-use Rattle.src_model.specs.Sound.{Sound, SoundIn, SoundElse}
+use Rattle.src_model.specs.Inner.Sound.{Sound, SoundIn, SoundElse}
 use Rattle.src_model.proofs.Measures.{greatest_append}
 use Rattle.src_model.proofs.SoundLemmas.{program_sound}
 use Rattle.form_model.specs.Rules.{cell, tested}
-use Rattle.src_trees.specs.Lowered.{MemoryMap, Work, base_of, tree_of, element_destination, assigned_destination, compared, step_work, works, works_in, works_else}
+use Rattle.src_trees.specs.Lowered.{MemoryMap, Work, base_of, tree_of, element_destination, assigned_destination, compared_trees, step_work, works, works_in, works_else}
 use Rattle.src_trees.specs.Flows.{program_works}
-use Rattle.src_trees.specs.Seen.{memory_of, InReach}
+use Rattle.src_trees.specs.Seen.{memory_map, InReach}
 use Rattle.src_trees.specs.Measures.{wide_nodes, trees_temps, most_temps}
 use Rattle.src_trees.proofs.Meant.{tree_width}
 use Rattle.src_trees.proofs.Measured.{same_part, sides_same, computed_wide}
@@ -29,7 +29,7 @@ most_append bits (x ∷ xs) ys = let h = most_append bits xs ys in omega (arith,
 
 module _ (bits addr temps : ℕ) (vars : List Declared) (inreach : InReach bits addr temps vars) where
   abbrev mem : MemoryMap
-  mem = memory_of bits addr temps vars
+  mem = memory_map bits addr temps vars
 
   value_temps : (e : Shape) (address : ℕ) → Fitting bits bits e → trees_temps bits (cell address) (tree_of mem bits e ∷ []) ≡ temps_of bits (value e)
   value_temps e address f = let b = (same_part bits addr temps vars inreach bits e f).below in omega (arith, b)
@@ -38,7 +38,7 @@ module _ (bits addr temps : ℕ) (vars : List Declared) (inreach : InReach bits 
       → trees_temps bits (assigned_destination mem place.name place.index) (tree_of mem bits e.shape ∷ []) ≡ temps_of bits (assigned_root place.index e.shape)
   assign_temps place e fp fe = by place.index fp
     where
-      stored_temps : (x : Shape) (o : Option ℕ) → Fitting bits bits x → width_of bits bits x ≡ bits
+      stored_temps : (x : Shape) (o : Option ℕ) → Fitting bits bits x → shape_width bits bits x ≡ bits
           → trees_temps bits (element_destination mem place.name o (tree_of mem bits x)) (tree_of mem bits e.shape ∷ []) ≡ temps_of bits (indexed_root o x e.shape)
       stored_temps x (Some n) f w = value_temps e.shape (base_of mem.places place.name + n) fe
       stored_temps x None f w =
@@ -52,15 +52,15 @@ module _ (bits addr temps : ℕ) (vars : List Declared) (inreach : InReach bits 
       by (Some x) fp = stored_temps x.shape (number_of x.shape) fp.0 fp.1
 
   -- a comparison, either way round
-  compared_temps : (cmp : Cmp) (x y : Shape) → Fitting bits (operand_width bits x y) x → Fitting bits (operand_width bits x y) y → width_of bits (operand_width bits x y) x ≡ operand_width bits x y
-      → trees_temps bits tested (compared cmp (operand_width bits x y) (tree_of mem (operand_width bits x y) x) (tree_of mem (operand_width bits x y) y)) ≡ greatest (temps_of bits) (compared_roots cmp x y)
+  compared_temps : (cmp : Cmp) (x y : Shape) → Fitting bits (operand_width bits x y) x → Fitting bits (operand_width bits x y) y → shape_width bits (operand_width bits x y) x ≡ operand_width bits x y
+      → trees_temps bits tested (compared_trees cmp (operand_width bits x y) (tree_of mem (operand_width bits x y) x) (tree_of mem (operand_width bits x y) y)) ≡ greatest (temps_of bits) (compared_roots cmp x y)
   compared_temps cmp x y f g w =
       let s = sides_same bits addr temps vars inreach x y f g in
       by cmp s.0 (ap (is_word bits) (tree_width bits addr temps vars (operand_width bits x y) x f ∙ w)) (ap (is_word bits) s.1)
     where
       by : (cmp : Cmp) → wide_nodes bits (tree_of mem (operand_width bits x y) x) + wide_nodes bits (tree_of mem (operand_width bits x y) y) ≡ (side_parts bits x y).below
           → is_word bits (term_width (tree_of mem (operand_width bits x y) x)) ≡ is_word bits (operand_width bits x y) → is_word bits (side_parts bits x y).width ≡ is_word bits (operand_width bits x y)
-          → trees_temps bits tested (compared cmp (operand_width bits x y) (tree_of mem (operand_width bits x y) x) (tree_of mem (operand_width bits x y) y)) ≡ greatest (temps_of bits) (compared_roots cmp x y)
+          → trees_temps bits tested (compared_trees cmp (operand_width bits x y) (tree_of mem (operand_width bits x y) x) (tree_of mem (operand_width bits x y) y)) ≡ greatest (temps_of bits) (compared_roots cmp x y)
       by Eq s o p = omega (arith, s, o, p)
       by Ne s o p = omega (arith, s, o, p)
       by Lt s o p = omega (arith, s)
@@ -114,5 +114,5 @@ module _ (bits addr temps : ℕ) (vars : List Declared) (inreach : InReach bits 
     else_temps rounds (otherwise body) f = in_temps rounds body f
 
 -- the temporary cells of a program that keeps the rules are those that one of its trees may need
-pub program_temps : (bits addr temps : ℕ) (l : Listing) → first_fault bits l ≡ None → InReach bits addr temps l.vars → temp_count bits l ≡ most_temps bits (program_works (memory_of bits addr temps l.vars) l)
+pub program_temps : (bits addr temps : ℕ) (l : Listing) → first_fault bits l ≡ None → InReach bits addr temps l.vars → temp_count bits l ≡ most_temps bits (program_works (memory_map bits addr temps l.vars) l)
 program_temps bits addr temps l kept inreach = sym (in_temps bits addr temps l.vars inreach [] (acts_of l.body) (program_sound bits l kept))

@@ -19,12 +19,13 @@ abbrev pub is_entered : List Flow → ℕ → Bool
 is_entered [] at = false
 is_entered (f ∷ rest) at = enters f at || is_entered rest at
 
--- a place continues the block of the place before it: both are assignments, and nothing enters there
+-- a place continues the block of the place before it: both are assignments, and nothing enters
+-- there
 abbrev pub continues : List Flow → ℕ → Bool
 continues flow at = nat_lt 0 at && (is_assign (slice_get flow (at - 1)) && (is_assign (slice_get flow at) && not (is_entered flow at)))
 
 -- so many places from one on are a block
-pub record IsBlock (flow : List Flow) (at n : ℕ) : Type 0 where
+pub record IsAssignBlock (flow : List Flow) (at n : ℕ) : Type 0 where
   pub some : 1 ≤ n
   pub assigns : (k : ℕ) → k < n → is_assign (slice_get flow (at + k)) ≡ true
   pub first : continues flow at ≡ false
@@ -32,13 +33,13 @@ pub record IsBlock (flow : List Flow) (at n : ℕ) : Type 0 where
   pub last : continues flow (at + n) ≡ false
 
 -- the job of a tree's number
-abbrev pub job_of : Option Work → List Work
-job_of None = []
-job_of (Some work) = work ∷ []
+abbrev pub job_list : Option Work → List Work
+job_list None = []
+job_list (Some work) = work ∷ []
 
 -- the job at a place
 abbrev pub job_at : List Work → Option Flow → List Work
-job_at works (Some (Assign tree)) = job_of (slice_get works tree)
+job_at works (Some (Assign tree)) = job_list (slice_get works tree)
 job_at works _ = []
 
 -- the jobs at so many places from one on

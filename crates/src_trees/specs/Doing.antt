@@ -3,7 +3,7 @@ use Rattle.std.specs.Prelude.{ℕ, ◌≡◌, ◌≤◌, ◌<◌, List, [], ◌�
 use Rattle.net_model.specs.Terms.{Term}
 use Rattle.form_model.specs.Rules.{Destination, into, cell, stored, temporary, tested}
 use Rattle.src_trees.specs.Lowered.{Work}
-use Rattle.src_trees.specs.Seen.{tree_value, ReadsFrom}
+use Rattle.src_trees.specs.Seen.{tree_value, ReadsCells}
 
 -- the value of a job: that of its first tree
 abbrev pub job_value : List ℕ → List Term → ℕ
@@ -40,11 +40,11 @@ all_done (work ∷ later) cells = all_done later (done work cells)
 
 abbrev pub AllRead : ℕ → List ℕ → List Term → Type 0
 AllRead at cells [] = Unit {0}
-AllRead at cells (t ∷ trees) = ReadsFrom at cells t × AllRead at cells trees
+AllRead at cells (t ∷ trees) = ReadsCells at cells t × AllRead at cells trees
 
 abbrev pub DestinationLies : ℕ → List ℕ → Destination → Type 0
 DestinationLies at cells (cell address) = (at ≤ address) × (address < length cells)
-DestinationLies at cells (stored address) = ReadsFrom at cells address × (at ≤ tree_value cells address) × (tree_value cells address < length cells)
+DestinationLies at cells (stored address) = ReadsCells at cells address × (at ≤ tree_value cells address) × (tree_value cells address < length cells)
 DestinationLies at cells (into id) = Unit {0}
 DestinationLies at cells temporary = Unit {0}
 DestinationLies at cells tested = Unit {0}

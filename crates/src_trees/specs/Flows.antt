@@ -25,7 +25,8 @@ abbrev mutual
   places_else without = 0
   places_else (otherwise body) = 1 + places_in body
 
--- where the statements begin that are run where an `if`'s test doesn't hold, which stand from a place on
+-- where the statements begin that are run where an `if`'s test doesn't hold, which stand from a
+-- place on
 abbrev pub else_entry : Otherwise → ℕ → ℕ
 else_entry without at = at
 else_entry (otherwise body) at = at + 1

@@ -6,6 +6,5 @@ pub mod Blocks
 pub mod Placed
 pub mod Measures
 pub mod Worked
-pub mod Near
 pub mod Jobs
-pub mod Lowering
+pub mod Inner

@@ -5,13 +5,14 @@ use Rattle.net_model.specs.Terms.{Term, const, read, un, bin, slice, zext, sext}
 use Rattle.src_model.specs.declared.program.Cmp.{Cmp}
 use Rattle.src_model.specs.declared.program.Cmp.TheVariants.{Eq, Ne, Lt, Le, Gt, Ge, Slt, Sle, Sgt, Sge}
 use Rattle.src_model.specs.Written.{Shape, num, plain, element, un as un_of, bin as bin_of, zext as zext_of, sext as sext_of, low, Phrase, Place, Test, Act, assign, choice, while, count, Acts, no_acts, act, Otherwise, without, otherwise}
-use Rattle.src_model.specs.Names.{same_name}
+use Rattle.rec_bits.specs.Faults.{same_name}
 use Rattle.src_model.specs.Indexes.{number_of}
 use Rattle.src_model.specs.Meaning.{operand_width}
 use Rattle.code_model.specs.declared.image.Place.{Place as VariablePlace}
 use Rattle.form_model.specs.Rules.{Destination, cell, stored, tested}
 
--- what trees know of the data memory: the bits of a cell and of an address, and the places of the variables
+-- what trees know of the data memory: the bits of a cell and of an address, and the places of the
+-- variables
 pub record MemoryMap : Type 0 where
   pub word : ℕ
   pub addr : ℕ
@@ -67,18 +68,19 @@ assigned_destination m name (Some x) = element_destination m name (number_of x.s
 abbrev pub assign_work : MemoryMap → Place → Phrase → Work
 assign_work m place e = record { destination = assigned_destination m place.name place.index; trees = tree_of m m.word e.shape ∷ [] }
 
--- the trees of a comparison of two values of this width; one for equality has a second, which compares their difference with 0
-abbrev pub compared : Cmp → ℕ → Term → Term → List Term
-compared Eq width x y = bin Equal x y ∷ bin Equal (bin Sub x y) (const width 0) ∷ []
-compared Ne width x y = bin Equal x y ∷ bin Equal (bin Sub x y) (const width 0) ∷ []
-compared Lt width x y = bin Ltu x y ∷ []
-compared Ge width x y = bin Ltu x y ∷ []
-compared Gt width x y = bin Ltu y x ∷ []
-compared Le width x y = bin Ltu y x ∷ []
-compared Slt width x y = bin Lts x y ∷ []
-compared Sge width x y = bin Lts x y ∷ []
-compared Sgt width x y = bin Lts y x ∷ []
-compared Sle width x y = bin Lts y x ∷ []
+-- the trees of a comparison of two values of this width; one for equality has a second, which
+-- compares their difference with 0
+abbrev pub compared_trees : Cmp → ℕ → Term → Term → List Term
+compared_trees Eq width x y = bin Equal x y ∷ bin Equal (bin Sub x y) (const width 0) ∷ []
+compared_trees Ne width x y = bin Equal x y ∷ bin Equal (bin Sub x y) (const width 0) ∷ []
+compared_trees Lt width x y = bin Ltu x y ∷ []
+compared_trees Ge width x y = bin Ltu x y ∷ []
+compared_trees Gt width x y = bin Ltu y x ∷ []
+compared_trees Le width x y = bin Ltu y x ∷ []
+compared_trees Slt width x y = bin Lts x y ∷ []
+compared_trees Sge width x y = bin Lts x y ∷ []
+compared_trees Sgt width x y = bin Lts y x ∷ []
+compared_trees Sle width x y = bin Lts y x ∷ []
 
 -- whether a test holds where its tree is 1, or where it is 0
 abbrev pub holds_at_one : Cmp → Bool
@@ -98,12 +100,13 @@ abbrev pub answer : Cmp → Bool → Bool
 answer cmp holds = if holds_at_one cmp then holds else not holds
 
 abbrev pub compare_work : MemoryMap → Cmp → Shape → Shape → Work
-compare_work m cmp x y = record { destination = tested; trees = compared cmp (operand_width m.word x y) (tree_of m (operand_width m.word x y) x) (tree_of m (operand_width m.word x y) y) }
+compare_work m cmp x y = record { destination = tested; trees = compared_trees cmp (operand_width m.word x y) (tree_of m (operand_width m.word x y) x) (tree_of m (operand_width m.word x y) y) }
 
 abbrev pub test_work : MemoryMap → Test → Work
 test_work m test = compare_work m test.cmp test.left.shape test.right.shape
 
--- the three jobs of a `for`: the counter is set, compared with the number past the last one, and 1 is added to it
+-- the three jobs of a `for`: the counter is set, compared with the number past the last one, and 1
+-- is added to it
 abbrev pub start_work : MemoryMap → List ℕ → ℕ → Work
 start_work m counter from = record { destination = cell (base_of m.places counter); trees = const m.word from ∷ [] }
 

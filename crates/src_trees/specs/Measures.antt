@@ -1,4 +1,5 @@
--- The sizes of trees: the nodes of a word's width, which are those that may need a temporary cell, and all nodes.
+-- The sizes of trees: the nodes of a word's width, which are those that may need a temporary cell,
+-- and all nodes.
 use Rattle.std.specs.Prelude.{ℕ, ◌+◌, max, ◌≤◌, ◌≡◌, true, if◌then◌else◌, List, [], ◌∷◌}
 use Rattle.net_model.specs.Terms.{Term, word, reg, const, read, un, bin, slice, cat, zext, sext, select, term_width, size_of}
 use Rattle.src_model.specs.Sizes.{is_word}
@@ -6,7 +7,8 @@ use Rattle.form_model.specs.Trees.{is_tree, is_number}
 use Rattle.form_model.specs.Rules.{Destination, into, cell, stored, temporary, tested}
 use Rattle.src_trees.specs.Lowered.{Work}
 
--- the nodes of a tree that are as wide as a word; a read at a literal address isn't counted, and is one node
+-- the nodes of a tree that are as wide as a word; a read at a literal address isn't counted, and is
+-- one node
 abbrev pub wide_nodes : ℕ → Term → ℕ
 wide_nodes bits (word w) = is_word bits w
 wide_nodes bits (reg r w) = is_word bits w
@@ -34,7 +36,8 @@ wide_below bits (zext a w) = wide_nodes bits a
 wide_below bits (sext a w) = wide_nodes bits a
 wide_below bits (select c a b) = wide_nodes bits c + (wide_nodes bits a + wide_nodes bits b)
 
--- a tree of a job with this destination: with a store, whose root is the store, all nodes of both trees are below it
+-- a tree of a job with this destination: with a store, whose root is the store, all nodes of both
+-- trees are below it
 abbrev pub tree_temps : ℕ → Destination → Term → ℕ
 tree_temps bits (stored address) t = wide_nodes bits address + wide_nodes bits t
 tree_temps bits (into id) t = wide_below bits t
@@ -71,7 +74,8 @@ abbrev pub TreesAre : ℕ → ℕ → ℕ → Destination → List Term → Type
 TreesAre bits temps most destination [] = Unit {0}
 TreesAre bits temps most destination (t ∷ trees) = (is_tree t ≡ true) × (tree_temps bits destination t ≤ temps) × (tree_size destination t ≤ most) × TreesAre bits temps most destination trees
 
--- a job of trees alone, of which each needs at most so many temporary cells and has at most so many nodes
+-- a job of trees alone, of which each needs at most so many temporary cells and has at most so many
+-- nodes
 pub record IsSmall (bits temps most : ℕ) (work : Work) : Type 0 where
   pub destination : IsTreeGoal work.destination
   pub trees : TreesAre bits temps most work.destination work.trees

@@ -1,4 +1,5 @@
--- When the words of an image do what a flow says: where each place of the flow stands, and where the words there lead.
+-- When the words of an image do what a flow says: where each place of the flow stands, and where
+-- the words there lead.
 use Rattle.std.specs.Prelude.{ℕ, ◌+◌, ◌<◌, ◌≤◌, ◌≡◌, List, length, drop, slice_index, slice_get, Some}
 use Rattle.net_model.specs.declared.hardware.Netlist.{Netlist}
 use Rattle.net_model.specs.declared.states.State.{State}
@@ -16,9 +17,10 @@ use Rattle.form_model.specs.declared.flow.Flow.TheVariants.{Test, Jump}
 use Rattle.src_trees.specs.Lowered.{Work}
 use Rattle.src_trees.specs.Seen.{tree_value}
 use Rattle.src_trees.specs.Doing.{Lies, AllLie, all_done}
-use Rattle.src_trees.specs.Blocks.{IsBlock, jobs_at}
+use Rattle.src_trees.specs.Blocks.{IsAssignBlock, jobs_at}
 
--- within so many clocks, and without a mark before the last state, s comes to an address, with these cells behind the temporary ones
+-- within so many clocks, and without a mark before the last state, s comes to an address, with
+-- these cells behind the temporary ones
 pub record Comes (netlist : Netlist) (image : Image) (temps address : ℕ) (cells : List ℕ) (clocks : ℕ) (s : State) : Type 0 where
   pub taken : ℕ
   pub last : State
@@ -33,7 +35,8 @@ pub record DoesJobs (netlist : Netlist) (image : Image) (temps : ℕ) (jobs : Li
   pub later : from + clocks ≤ to
   pub does : (s : State) → IsAt netlist from s → AllLie temps s.cells jobs → Comes netlist image temps to (all_done jobs s.cells) clocks s
 
--- a state at a test's mark leads, by the value of a tree, to one of two addresses, and the cells stay
+-- a state at a test's mark leads, by the value of a tree, to one of two addresses, and the cells
+-- stay
 pub record Decides (netlist : Netlist) (image : Image) (temps tree : ℕ) (used : Term) (when_one when_zero clocks : ℕ) (s : State) : Type 0 where
   pub label : label_in netlist image s ≡ Some (At tree)
   pub next : State
@@ -52,17 +55,17 @@ pub record DoesTest (netlist : Netlist) (image : Image) (temps tree : ℕ) (job 
   pub asks : (s : State) → IsAt netlist from s → Lies temps s.cells job → Decides netlist image temps tree used when_one when_zero clocks s
 
 -- the word at an address leads to another in one clock, and the cells stay
-pub record DoesJump (netlist : Netlist) (image : Image) (temps from to : ℕ) : Type 0 where
+pub record JumpComes (netlist : Netlist) (image : Image) (temps from to : ℕ) : Type 0 where
   pub goes : (s : State) → IsAt netlist from s → Comes netlist image temps to s.cells 1 s
 
 -- each place of the flow has its address; those in the middle of a block stand for nothing
 pub record IsPlaced (netlist : Netlist) (image : Image) (temps : ℕ) (flow : List Flow) (jobs : List Work) (starts : ℕ → ℕ) (end : ℕ) : Type 0 where
   pub first : starts 0 ≡ 0
   pub rises : (i k : ℕ) → i ≤ k → starts i ≤ starts k
-  pub blocks : (at n : ℕ) → IsBlock flow at n → DoesJobs netlist image temps (jobs_at flow jobs at n) (starts at) (starts (at + n))
+  pub blocks : (at n : ℕ) → IsAssignBlock flow at n → DoesJobs netlist image temps (jobs_at flow jobs at n) (starts at) (starts (at + n))
   pub tests : (at tree when_one when_zero : ℕ) → slice_get flow at ≡ Some (Test tree when_one when_zero) → (job : Work) → slice_get jobs tree ≡ Some job
       → DoesTest netlist image temps tree job (starts at) (starts when_one) (starts when_zero)
-  pub jumps : (at to : ℕ) → slice_get flow at ≡ Some (Jump to) → DoesJump netlist image temps (starts at) (starts to)
+  pub jumps : (at to : ℕ) → slice_get flow at ≡ Some (Jump to) → JumpComes netlist image temps (starts at) (starts to)
   pub behind_jump : (at to : ℕ) → slice_get flow at ≡ Some (Jump to) → starts at + 1 ≤ starts (at + 1)
   -- the end is the last word, which goes to itself and alone has the end's mark
   pub long : length (words_of image) ≡ starts end + 1

@@ -1,4 +1,5 @@
--- Programs and the memory that holds their variables: the store that is seen there, and when a tree reads nothing below an address.
+-- Programs and the memory that holds their variables: the store that is seen there, and when a tree
+-- reads nothing below an address.
 use Rattle.std.specs.Prelude.{ℕ, ◌+◌, ◌^◌, ◌≡◌, ◌<◌, ◌≤◌, true, List, [], length, slice_index}
 use Rattle.net_model.specs.Terms.{Term, word, reg, const, read, un, bin, slice, cat, zext, sext, select}
 use Rattle.net_model.specs.Meaning.{mean}
@@ -13,30 +14,30 @@ use Rattle.src_model.specs.Inside.{Known, is_inside, test_inside}
 use Rattle.src_trees.specs.Lowered.{MemoryMap}
 
 -- the memory that holds these variables from an address on
-abbrev pub memory_of : ℕ → ℕ → ℕ → List Declared → MemoryMap
-memory_of bits addr temps vars = record { word = bits; addr = addr; places = places_from temps (variables_of vars) }
+abbrev pub memory_map : ℕ → ℕ → ℕ → List Declared → MemoryMap
+memory_map bits addr temps vars = record { word = bits; addr = addr; places = places_from temps (variables_of vars) }
 
 -- the store that it holds
-abbrev pub seen : MemoryMap → List ℕ → List ℕ
-seen m cells = cells_at m.places cells
+abbrev pub seen_store : MemoryMap → List ℕ → List ℕ
+seen_store m cells = cells_at m.places cells
 
 -- the value of a tree over the cells of the memory
 abbrev pub tree_value : List ℕ → Term → ℕ
 tree_value cells t = mean t (record { regs = []; cells = cells }) 0
 
 -- the tree reads no cell below an address
-abbrev pub ReadsFrom : ℕ → List ℕ → Term → Type 0
-ReadsFrom at cells (word w) = Unit {0}
-ReadsFrom at cells (reg r w) = Unit {0}
-ReadsFrom at cells (const w v) = Unit {0}
-ReadsFrom at cells (read a w) = ReadsFrom at cells a × (at ≤ tree_value cells a)
-ReadsFrom at cells (un o a) = ReadsFrom at cells a
-ReadsFrom at cells (bin o a b) = ReadsFrom at cells a × ReadsFrom at cells b
-ReadsFrom at cells (slice a hi lo) = ReadsFrom at cells a
-ReadsFrom at cells (cat a b) = ReadsFrom at cells a × ReadsFrom at cells b
-ReadsFrom at cells (zext a w) = ReadsFrom at cells a
-ReadsFrom at cells (sext a w) = ReadsFrom at cells a
-ReadsFrom at cells (select c a b) = ReadsFrom at cells c × ReadsFrom at cells a × ReadsFrom at cells b
+abbrev pub ReadsCells : ℕ → List ℕ → Term → Type 0
+ReadsCells at cells (word w) = Unit {0}
+ReadsCells at cells (reg r w) = Unit {0}
+ReadsCells at cells (const w v) = Unit {0}
+ReadsCells at cells (read a w) = ReadsCells at cells a × (at ≤ tree_value cells a)
+ReadsCells at cells (un o a) = ReadsCells at cells a
+ReadsCells at cells (bin o a b) = ReadsCells at cells a × ReadsCells at cells b
+ReadsCells at cells (slice a hi lo) = ReadsCells at cells a
+ReadsCells at cells (cat a b) = ReadsCells at cells a × ReadsCells at cells b
+ReadsCells at cells (zext a w) = ReadsCells at cells a
+ReadsCells at cells (sext a w) = ReadsCells at cells a
+ReadsCells at cells (select c a b) = ReadsCells at cells c × ReadsCells at cells a × ReadsCells at cells b
 
 -- the variables have their cells in reach of an address
 pub record InReach (bits addr temps : ℕ) (vars : List Declared) : Type 0 where
@@ -64,6 +65,6 @@ pub record CanTest (bits : ℕ) (vars : List Declared) (store : List ℕ) (test 
   pub inside : test_inside bits vars test store ≡ true
 
 -- cells of the memory, with room for the variables behind the temporary ones
-pub record HasRoom (bits addr temps : ℕ) (vars : List Declared) (cells : List ℕ) : Type 0 where
+pub record HasCellRoom (bits addr temps : ℕ) (vars : List Declared) (cells : List ℕ) : Type 0 where
   pub reach : InReach bits addr temps vars
   pub room : temps + cell_count vars ≤ length cells

@@ -9,7 +9,7 @@ use Rattle.form_model.specs.Rules.{cell, stored, tested}
 use Rattle.src_model.specs.Rules.{temp_count}
 use Rattle.src_trees.specs.Lowered.{MemoryMap, computed_address, tree_of, assign_work, test_work}
 use Rattle.src_trees.specs.Flows.{asked, program_flow, program_works}
-use Rattle.src_trees.specs.Seen.{memory_of, tree_value}
+use Rattle.src_trees.specs.Seen.{memory_map, tree_value}
 use Rattle.src_trees.specs.Doing.{done, AllAre}
 use Rattle.src_trees.specs.Blocks.{continues}
 use Rattle.src_trees.specs.Measures.{most_temps}
@@ -37,7 +37,7 @@ counted_flow : program_flow counted ≡ Test 0 3 1 ∷ Assign 1 ∷ Jump 0 ∷ E
 counted_flow = refl
 
 -- with three temporary cells, in words of 16 bits at addresses of 8
-counted_works : program_works (memory_of 16 8 3 counted.vars) counted ≡
+counted_works : program_works (memory_map 16 8 3 counted.vars) counted ≡
     record { destination = tested; trees = bin Equal (read (const 8 3) 16) (const 16 0) ∷ bin Equal (bin Sub (read (const 8 3) 16) (const 16 0)) (const 16 0) ∷ [] }
     ∷ record { destination = cell 3; trees = bin Sub (read (const 8 3) 16) (const 16 1) ∷ [] } ∷ []
 counted_works = refl
@@ -55,7 +55,7 @@ nested_flow : program_flow nested ≡ Assign 0 ∷ Test 1 7 2 ∷ Test 2 3 5 ∷
 nested_flow = refl
 
 -- an index that isn't a literal is added to the array's address, in a word's width
-nested_works : program_works (memory_of 16 8 3 nested.vars) nested ≡
+nested_works : program_works (memory_map 16 8 3 nested.vars) nested ≡
     record { destination = cell 3; trees = const 16 0 ∷ [] }
     ∷ record { destination = tested; trees = bin Equal (read (const 8 3) 16) (const 16 3) ∷ bin Equal (bin Sub (read (const 8 3) 16) (const 16 3)) (const 16 0) ∷ [] }
     ∷ record { destination = tested; trees = bin Ltu (read (slice (bin Add (read (const 8 3) 16) (const 16 4)) 7 0) 16) (const 16 5) ∷ [] }
@@ -64,7 +64,7 @@ nested_works : program_works (memory_of 16 8 3 nested.vars) nested ≡
 nested_works = refl
 
 -- three nodes below the read, and the literal beside it
-nested_temps : most_temps 16 (program_works (memory_of 16 8 3 nested.vars) nested) ≡ 4
+nested_temps : most_temps 16 (program_works (memory_map 16 8 3 nested.vars) nested) ≡ 4
 nested_temps = refl
 
 nested_count : temp_count 16 nested ≡ 4
@@ -72,7 +72,7 @@ nested_count = refl
 
 -- an address as wide as a cell is the sum itself
 abbrev wide : MemoryMap
-wide = memory_of 16 16 3 nested.vars
+wide = memory_map 16 16 3 nested.vars
 
 wide_address : computed_address wide x (const 16 1) ≡ bin Add (const 16 1) (const 16 4)
 wide_address = refl
@@ -94,15 +94,15 @@ abbrev cells : List ℕ
 cells = 0 ∷ 0 ∷ 0 ∷ 2 ∷ 10 ∷ 20 ∷ 30 ∷ 40 ∷ []
 
 -- x[a]
-read_element : tree_value cells (tree_of (memory_of 16 8 3 nested.vars) 16 (element x 0 0 (plain a 0))) ≡ 30
+read_element : tree_value cells (tree_of (memory_map 16 8 3 nested.vars) 16 (element x 0 0 (plain a 0))) ≡ 30
 read_element = refl
 
 -- x[a] = x[3];
-stored_element : done (assign_work (memory_of 16 8 3 nested.vars) (record { name = x; at = 0; index = Some (phrase (plain a 0)) }) (phrase (element x 0 0 (num 3)))) cells ≡ 0 ∷ 0 ∷ 0 ∷ 2 ∷ 10 ∷ 20 ∷ 40 ∷ 40 ∷ []
+stored_element : done (assign_work (memory_map 16 8 3 nested.vars) (record { name = x; at = 0; index = Some (phrase (plain a 0)) }) (phrase (element x 0 0 (num 3)))) cells ≡ 0 ∷ 0 ∷ 0 ∷ 2 ∷ 10 ∷ 20 ∷ 40 ∷ 40 ∷ []
 stored_element = refl
 
 -- both trees of a == 2
-compared_twice : AllAre 1 cells (test_work (memory_of 16 8 3 nested.vars) (record { cmp = Eq; left = phrase (plain a 0); right = phrase (num 2) })).trees
+compared_twice : AllAre 1 cells (test_work (memory_map 16 8 3 nested.vars) (record { cmp = Eq; left = phrase (plain a 0); right = phrase (num 2) })).trees
 compared_twice = (refl, (refl, tt))
 
 -- if a == 1 { a = 2; } a = 3; a = 4;

@@ -10,7 +10,7 @@ ghost use Rattle.src_trees.specs.Lowered.{holds_at_one, works_in};
 ghost use Rattle.src_trees.specs.Flows.{asked, flow_in, program_flow, program_works};
 ghost use Rattle.src_trees.specs.Seen.{InReach};
 ghost use Rattle.src_trees.specs.Jobs.{works_of};
-ghost use Rattle.src_trees.specs.Lowering.{IsPlain, ArePlain, IsReady, IsLowered, AreLowered};
+ghost use Rattle.src_trees.specs.Inner.Lowering.{IsPlain, ArePlain, IsReady, IsLowered, AreLowered};
 
 use crate::jobs::{assign_job, counting_job, start_job, step_job, test_job};
 use crate::memory::DataMemory;
@@ -110,7 +110,8 @@ fn else_flow(
     other: &[Flow],
 ) -> Result<Items<Flow>, NoMemory>
     requires { at + length taken.now + length other.now + 8 < 2 ^ 32 }
-    ensures { IfOk result (λ flow. flow ≡ asked cmp tree (at + 1) (at + 1 + length taken.now + 1) ∷ (taken.now ++ JumpTo (at + 1 + length taken.now + 1 + length other.now) ∷ other.now)) }
+    ensures { IfOk result (λ flow.
+        flow ≡ asked cmp tree (at + 1) (at + 1 + length taken.now + 1) ∷ (taken.now ++ JumpTo (at + 1 + length taken.now + 1 + length other.now) ∷ other.now)) }
 {
     let over = at + 1 + taken.len() as u32 + 1;
     let test = asked(cmp, tree, at + 1, over);
@@ -119,7 +120,8 @@ fn else_flow(
     Ok(flow)
 }
 
-// The flow of a `for` whose start stands at `at`, from that of its body; the start's tree and the step's have these numbers.
+// The flow of a `for` whose start stands at `at`, from that of its body; the start's tree and the
+// step's have these numbers.
 fn for_flow(
     alloc: Global,
     tree: u32,
@@ -129,7 +131,8 @@ fn for_flow(
 ) -> Result<Items<Flow>, NoMemory>
     requires few { at + length inner.now + 8 < 2 ^ 32 }
     requires tree { tree + 1 < 2 ^ 32 }
-    ensures { IfOk result (λ flow. flow ≡ AssignAt tree ∷ (asked Ne (tree + 1) (at + 2) (at + 2 + length inner.now + 2) ∷ (inner.now ++ AssignAt step ∷ (JumpTo (at + 1) ∷ [])))) }
+    ensures { IfOk result (λ flow.
+        flow ≡ AssignAt tree ∷ (asked Ne (tree + 1) (at + 2) (at + 2 + length inner.now + 2) ∷ (inner.now ++ AssignAt step ∷ (JumpTo (at + 1) ∷ [])))) }
 {
     let mut flow = Items::new(alloc);
     flow.push(Flow::Assign(tree))?;
@@ -309,8 +312,9 @@ fn lower_block(
     Ok(flow)
 }
 
-/// The flow and the jobs of a program whose variables stand at the places of its layout, for addresses of `addr_width` bits, 1 to the
-/// program's width. The cells of the places lie below 2 to the address width, and below 2^32. The only error is want of memory.
+/// The flow and the jobs of a program whose variables stand at the places of its layout, for
+/// addresses of `addr_width` bits, 1 to the program's width. The cells of the places lie below 2 to
+/// the address width, and below 2^32. The only error is want of memory.
 pub fn lower(
     alloc: Global,
     typed: &Typed,
@@ -321,7 +325,8 @@ pub fn lower(
     requires reach { InReach typed.now.width addr_width places.now.temps (listing_of typed.now.program).vars }
     requires few { need_of typed.now.width (listing_of typed.now.program) < 2 ^ 32 }
     ensures flow { IfOk result (λ blocks. blocks.flow ≡ program_flow (listing_of typed.now.program)) }
-    ensures jobs { IfOk result (λ blocks. works_of blocks.jobs.items ≡ program_works (record { word = typed.now.width; addr = addr_width; places = places.now.list }) (listing_of typed.now.program)) }
+    ensures jobs { IfOk result (λ blocks.
+        works_of blocks.jobs.items ≡ program_works (record { word = typed.now.width; addr = addr_width; places = places.now.list }) (listing_of typed.now.program)) }
 {
     let memory = DataMemory::new(typed.width(), addr_width, places.list.as_slice());
     lower_body(alloc, &memory, typed.program().body.as_slice())

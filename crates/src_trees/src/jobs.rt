@@ -8,7 +8,7 @@ ghost use Rattle.src_model.specs.Fitting.{Fitting, FitsSides};
 ghost use Rattle.form_model.specs.Trees.{tree_term};
 ghost use Rattle.form_model.specs.Rules.{destination_of};
 ghost use Rattle.src_trees.specs.Lowered.{base_of, assigned_destination, assign_work, compare_work, test_work, start_work, counting_work, step_work};
-ghost use Rattle.src_trees.specs.Near.{IsNear};
+ghost use Rattle.src_trees.specs.Inner.Near.{IsNear};
 ghost use Rattle.src_trees.specs.Jobs.{work_of};
 
 use crate::memory::DataMemory;
@@ -22,7 +22,8 @@ use std::alloc::Global;
 fn aim(alloc: Global, memory: &DataMemory<'_>, spot: &Spot) -> Result<Aim, NoMemory>
     requires fitting { Fitting memory.now.word memory.now.word (spot_shape spot.now) }
     requires near { IsNear memory.now.places (spot_shape spot.now) }
-    ensures { IfOk result (λ made. destination_of made ≡ assigned_destination memory.now (place_of spot.now).name (place_of spot.now).index) }
+    ensures { IfOk result (λ made.
+        destination_of made ≡ assigned_destination memory.now (place_of spot.now).name (place_of spot.now).index) }
 {
     let first = memory.base(&spot.name);
     match &spot.index {
@@ -84,7 +85,8 @@ fn equality(
     x_again: Tree,
     y_again: Tree,
 ) -> Result<Vec<Tree>, NoMemory>
-    ensures { IfOk result (λ made. map tree_term made.items ≡ bin Equal (tree_term x) (tree_term y) ∷ bin Equal (bin Sub (tree_term x_again) (tree_term y_again)) (const width 0) ∷ []) }
+    ensures { IfOk result (λ made.
+        map tree_term made.items ≡ bin Equal (tree_term x) (tree_term y) ∷ bin Equal (bin Sub (tree_term x_again) (tree_term y_again)) (const width 0) ∷ []) }
 {
     let first = over(alloc, Op2::Eq, x, y)?;
     let difference = over(alloc, Op2::Sub, x_again, y_again)?;
@@ -116,7 +118,8 @@ fn compared(
     requires sides { FitsSides memory.now.word (shape_of x.now.node) (shape_of y.now.node) }
     requires near_left { IsNear memory.now.places (shape_of x.now.node) }
     requires near_right { IsNear memory.now.places (shape_of y.now.node) }
-    ensures { IfOk result (λ made. map tree_term made.items ≡ (compare_work memory.now cmp (shape_of x.now.node) (shape_of y.now.node)).trees) }
+    ensures { IfOk result (λ made.
+        map tree_term made.items ≡ (compare_work memory.now cmp (shape_of x.now.node) (shape_of y.now.node)).trees) }
 {
     let width = operand_width(memory.word(), x, y);
     let left = tree(alloc, memory, width, x)?;

@@ -21,8 +21,8 @@
 //! - `flow`: the flow of statements, and `lower`.
 //! - `laws`: the laws above.
 //! - `specs/`, cited by public contracts: `Lowered` (trees over a memory map), `Jobs`, `Flows`,
-//!   `Blocks`, `Placed`, `Seen` (the store that memory holds), `Doing` and `Measures`. `Lowering`
-//!   and `Near` mirror the lowering; `Worked` is computed.
+//!   `Blocks`, `Placed`, `Seen` (the store that memory holds), `Doing` and `Measures`; `Worked` is
+//!   computed. `specs/Inner/`: `Lowering` and `Near`, which go with the lowering.
 //! - `proofs/`: `Standing` carries the law of flow, by induction over statements with a list of
 //!   pending assignments; `Meant`, `Done`, `Values` and `Behind` the laws of trees and jobs,
 //!   `Measured` and `Temps` that of temporary cells; `LowerLemmas` and `LowerCases` the lowering.

@@ -2,13 +2,14 @@
 
 ghost use Rattle.std.specs.Prelude.{◌≡◌, ◌≤◌};
 ghost use Rattle.src_trees.specs.Lowered.{base_of};
-ghost use Rattle.src_trees.specs.Near.{IsWidth};
+ghost use Rattle.rec_bits.specs.Operators.{IsWidth};
 
 use code_model::Place;
 use rec_bits::Name;
 use std::marker::Model;
 
-/// The data memory: how wide its cells and its addresses are, and where the variables stand. Contracts see these three.
+/// The data memory: how wide its cells and its addresses are, and where the variables stand.
+/// Contracts see these three.
 #[derive(Drop)]
 pub(crate) struct DataMemory<'a> {
     word: u8,
@@ -19,7 +20,7 @@ pub(crate) struct DataMemory<'a> {
 impl<'a> Model for DataMemory<'a> {
     ghost use Rattle.std.specs.Prelude.{◌≤◌};
     ghost use Rattle.src_trees.specs.Lowered.{MemoryMap};
-    ghost use Rattle.src_trees.specs.Near.{IsWidth};
+    ghost use Rattle.rec_bits.specs.Operators.{IsWidth};
 
     ghost Value = { MemoryMap };
 
@@ -29,7 +30,8 @@ impl<'a> Model for DataMemory<'a> {
 }
 
 impl<'a> DataMemory<'a> {
-    /// The memory with cells of `word` bits and addresses of `addr` bits, each 1 to 64, that holds variables at these places.
+    /// The memory with cells of `word` bits and addresses of `addr` bits, each 1 to 64, that holds
+    /// variables at these places.
     pub(crate) fn new(word: u8, addr: u8, places: &'a [Place]) -> DataMemory<'a>
         requires word { IsWidth word }
         requires addr { 1 ≤ addr }

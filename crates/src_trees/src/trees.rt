@@ -3,11 +3,12 @@
 ghost use Rattle.std.specs.Prelude.{◌≡◌, IfOk};
 ghost use Rattle.net_model.specs.Terms.{read};
 ghost use Rattle.src_model.specs.Written.{shape_of, spot_shape};
-ghost use Rattle.src_model.specs.Meaning.{width_of, operand_width};
+ghost use Rattle.src_model.specs.Meaning.{shape_width, operand_width};
 ghost use Rattle.src_model.specs.Fitting.{Fitting};
 ghost use Rattle.form_model.specs.Trees.{tree_term};
 ghost use Rattle.src_trees.specs.Lowered.{narrowed, computed_address, tree_of};
-ghost use Rattle.src_trees.specs.Near.{IsNear, IsWidth, IsNarrow};
+ghost use Rattle.src_trees.specs.Inner.Near.{IsNear, IsNarrow};
+ghost use Rattle.rec_bits.specs.Operators.{IsWidth};
 
 use crate::memory::DataMemory;
 use form_model::Tree;
@@ -50,7 +51,7 @@ pub(crate) fn computed(
 // The width of an expression; a literal has the width `asked`.
 fn written_width(word: u8, asked: u8, e: &SrcExpr) -> u8
     requires { IsNarrow (shape_of e.now.node) }
-    ensures { result ≡ width_of word asked (shape_of e.now.node) }
+    ensures { result ≡ shape_width word asked (shape_of e.now.node) }
 {
     match &e.node {
         SrcNode::Num(_) => asked,
@@ -64,7 +65,8 @@ fn written_width(word: u8, asked: u8, e: &SrcExpr) -> u8
     }
 }
 
-/// The width of both operands: a literal has that of the other one, and two literals have the word's.
+/// The width of both operands: a literal has that of the other one, and two literals have the
+/// word's.
 pub(crate) fn operand_width(word: u8, x: &SrcExpr, y: &SrcExpr) -> u8
     requires word { IsWidth word }
     requires left { Fitting word (operand_width word (shape_of x.now.node) (shape_of y.now.node)) (shape_of x.now.node) }
@@ -81,7 +83,8 @@ pub(crate) fn operand_width(word: u8, x: &SrcExpr, y: &SrcExpr) -> u8
     }
 }
 
-/// The tree of an expression. A literal that isn't an operand's, an index or an argument has the width `asked`.
+/// The tree of an expression. A literal that isn't an operand's, an index or an argument has the
+/// width `asked`.
 #[cycle(tree)]
 pub(crate) fn tree(
     alloc: Global,

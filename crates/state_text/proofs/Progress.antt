@@ -7,9 +7,10 @@ use Rattle.text_lines.specs.Lines.{lines_of, IsFirstLine}
 use Rattle.net_model.specs.declared.hardware.Netlist.{Netlist}
 use Rattle.net_model.specs.declared.states.State.{State}
 use Rattle.net_model.specs.CheckedRules.{KeepsRules}
-use Rattle.net_model.specs.MemoryText.{blank, Leads, AllLead, IsMemoryText, IsMemoryFault}
+use Rattle.net_model.specs.MemoryText.{blank, SetsLine, AllLead, IsMemoryText, IsMemoryFault}
 use Rattle.state_text.specs.declared.setting.Setting.{Setting}
-use Rattle.state_text.specs.Settings.{setting_of, with_setting, IsStart}
+use Rattle.state_text.specs.Settings.{IsStartState}
+use Rattle.state_text.specs.Inner.Settings.{setting_of, with_setting}
 use Rattle.state_text.proofs.Starts.{blank_start, keeps_start}
 use Rattle.state_text.proofs.Told.{leads_of, nothing_told, setting_fits}
 
@@ -18,13 +19,13 @@ pub record Progress (netlist : Netlist) (bytes rest : List ℕ) (state : State) 
   pub lines : lines_of bytes ≡ before ++ lines_of rest
   pub good : AllLead netlist (blank netlist.storages) before state
   pub place : length (concat before) + length rest ≡ length bytes
-  pub start : IsStart netlist state
+  pub start : IsStartState netlist state
 
 pub begins : (netlist : Netlist) (bytes : List ℕ) → Progress netlist bytes bytes (blank netlist.storages)
 begins netlist bytes = record { before = []; lines = refl; good = refl; place = omega arith; start = blank_start netlist }
 
-one_more : (netlist : Netlist) (s t u : State) (xs : List (List ℕ)) (line : List ℕ) → AllLead netlist s xs t → Leads netlist t line u → AllLead netlist s (xs ++ (line ∷ [])) u
-one_more netlist s t u [] line same leads = (u, subst (λ (from : State). Leads netlist from line u) (sym same) leads, refl)
+one_more : (netlist : Netlist) (s t u : State) (xs : List (List ℕ)) (line : List ℕ) → AllLead netlist s xs t → SetsLine netlist t line u → AllLead netlist s (xs ++ (line ∷ [])) u
+one_more netlist s t u [] line same leads = (u, subst (λ (from : State). SetsLine netlist from line u) (sym same) leads, refl)
 one_more netlist s t u (x ∷ xs) line (next, first, more) leads = (next, first, one_more netlist next t u xs line more leads)
 
 pub goes_on : (netlist : Netlist) (bytes rest line more : List ℕ) (s : State) (setting : Setting) → Progress netlist bytes rest s → IsFirstLine rest line more → setting_of netlist line ≡ Some setting → Progress netlist bytes more (with_setting s setting)

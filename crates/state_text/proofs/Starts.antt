@@ -11,7 +11,8 @@ use Rattle.net_model.specs.Nets.{counter_of, memory_size, memory_width, storage_
 use Rattle.net_model.specs.MemoryText.{blank}
 use Rattle.state_text.specs.declared.setting.Setting.{Setting}
 use Rattle.state_text.specs.declared.setting.Setting.TheVariants.{Entry, Cell}
-use Rattle.state_text.specs.Settings.{with_setting, SettingFits, IsWithin, IsStart}
+use Rattle.state_text.specs.Settings.{IsStartState}
+use Rattle.state_text.specs.Inner.Settings.{with_setting, SettingFits, IsWithin}
 
 zeros_at : (n i : ℕ) → get_or (replicate {A = ℕ} n 0) i 0 ≡ 0
 zeros_at zero i = refl
@@ -21,7 +22,7 @@ zeros_at (suc n) (suc i) = zeros_at n i
 some_power : (w : ℕ) → 0 < 2 ^ w
 some_power w = let p : 2 ^ 0 ≤ 2 ^ w = pow-le-pow_right {n = 2} (omega arith) {i = 0} {j = w} (omega arith) in p
 
-pub blank_start : (netlist : Netlist) → IsStart netlist (blank netlist.storages)
+pub blank_start : (netlist : Netlist) → IsStartState netlist (blank netlist.storages)
 blank_start netlist = record {
   state = record {
     regs = length-replicate (length netlist.storages) 0;
@@ -43,7 +44,7 @@ set_below (x ∷ xs) zero (suc j) v bound h k = h (suc j)
 set_below (x ∷ xs) (suc i) zero v bound h k = h 0
 set_below (x ∷ xs) (suc i) (suc j) v bound h k = set_below xs i j v (λ n. bound (suc n)) (λ n. h (suc n)) k
 
-pub keeps_start : (netlist : Netlist) (s : State) (setting : Setting) → IsStart netlist s → SettingFits netlist setting → IsStart netlist (with_setting s setting)
+pub keeps_start : (netlist : Netlist) (s : State) (setting : Setting) → IsStartState netlist s → SettingFits netlist setting → IsStartState netlist (with_setting s setting)
 keeps_start netlist s (Entry id value) h f = record {
   state = record {
     regs = length-set s.regs id value ∙ h.state.regs;
@@ -72,6 +73,6 @@ register_within [] id h = absurd h
 register_within (s ∷ storages) zero h = omega arith
 register_within (s ∷ storages) (suc id) h = omega (arith, register_within storages id h)
 
-pub is_within : (netlist : Netlist) (s : State) (setting : Setting) → IsStart netlist s → SettingFits netlist setting → IsWithin s setting
+pub is_within : (netlist : Netlist) (s : State) (setting : Setting) → IsStartState netlist s → SettingFits netlist setting → IsWithin s setting
 is_within netlist s (Entry id value) h f = omega (arith, register_within netlist.storages id f.0, h.state.regs)
 is_within netlist s (Cell address value) h f = omega (arith, f.0, h.state.cells)

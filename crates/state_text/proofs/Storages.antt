@@ -7,8 +7,9 @@ use Rattle.net_model.specs.declared.hardware.Netlist.{Netlist}
 use Rattle.net_model.specs.declared.hardware.Storage.{Storage}
 use Rattle.net_model.specs.declared.hardware.Storage.TheVariants.{Register, Memory}
 use Rattle.net_model.specs.Nets.{counter_of, memory_id, storage_bits}
-use Rattle.state_text.specs.Settings.{named_at, setting_at, setting_for}
-use Rattle.net_model.specs.CheckedRules.{StorageKeeps, IsWidth}
+use Rattle.state_text.specs.Inner.Settings.{named_at, setting_at, setting_for}
+use Rattle.net_model.specs.CheckedRules.{StorageKeeps}
+use Rattle.rec_bits.specs.Operators.{IsWidth}
 
 storage_width : (netlist : Netlist) (storage : Storage) → StorageKeeps netlist storage → IsWidth (storage_bits (Some storage))
 storage_width netlist (Register name width input when) k = k.0

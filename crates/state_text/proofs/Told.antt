@@ -20,12 +20,12 @@ use Rattle.net_model.specs.declared.hardware.Storage.TheVariants.{Register, Memo
 use Rattle.net_model.specs.declared.states.State.{State}
 use Rattle.net_model.specs.Nets.{counter_of, memory_id, memory_size, memory_width, storage_bits, storage_cells, IsRegister}
 use Rattle.net_model.specs.CheckedRules.{storage_name, KeepsRules}
-use Rattle.net_model.specs.MemoryText.{IsOneWord, SetsRegister, SetsCell, SetsNothing, Leads, blank}
+use Rattle.net_model.specs.MemoryText.{IsOneWord, SetsRegister, SetsCell, SetsNothing, SetsLine, blank}
 use Rattle.net_model.specs.Texts.{name_in, name_of, memory_name}
 use Rattle.net_model.proofs.Memories.{memory_found, memory_wide, few_cells}
 use Rattle.state_text.specs.declared.setting.Setting.{Setting}
 use Rattle.state_text.specs.declared.setting.Setting.TheVariants.{Entry, Cell}
-use Rattle.state_text.specs.Settings.{below, number_below, named_at, entry_of, cell_of, setting_at, setting_for, setting_of, with_setting, SettingFits}
+use Rattle.state_text.specs.Inner.Settings.{below, number_below, named_at, entry_of, cell_of, setting_at, setting_for, setting_of, with_setting, SettingFits}
 use Rattle.state_text.proofs.Rooms.{storage_narrow, below_64}
 use Rattle.state_text.proofs.Starts.{blank_start, register_within}
 
@@ -201,10 +201,10 @@ told netlist line setting e =
 pub setting_fits : (netlist : Netlist) (line : List ℕ) (setting : Setting) → setting_of netlist line ≡ Some setting → SettingFits netlist setting
 setting_fits netlist line setting e = (told netlist line setting e).is.fits
 
-pub leads_of : (netlist : Netlist) (s : State) (line : List ℕ) (setting : Setting) → setting_of netlist line ≡ Some setting → Leads netlist s line (with_setting s setting)
+pub leads_of : (netlist : Netlist) (s : State) (line : List ℕ) (setting : Setting) → setting_of netlist line ≡ Some setting → SetsLine netlist s line (with_setting s setting)
 leads_of netlist s line setting e = go setting (told netlist line setting e)
   where
-    go : (setting : Setting) → Told netlist line setting → Leads netlist s line (with_setting s setting)
+    go : (setting : Setting) → Told netlist line setting → SetsLine netlist s line (with_setting s setting)
     go (Entry id value) t =
         let same : t.id ≡ id = sym t.is.reads.0 in
         let written : line ≡ name_of netlist id ++ (32 ∷ (decimal value ++ (10 ∷ []))) = t.line_is ∙ ap (λ text. name_of netlist t.id ++ (32 ∷ text)) t.is.reads.1 ∙ ap (λ k. name_of netlist k ++ (32 ∷ (decimal value ++ (10 ∷ [])))) same in
@@ -294,7 +294,7 @@ module _ (netlist : Netlist) (order : List ℕ) (rules : KeepsRules netlist orde
     pub read : setting_of netlist line ≡ Some setting
     pub state : t ≡ with_setting s setting
 
-  pub leads_told : (s : State) (line : List ℕ) (t : State) → Leads netlist s line t → IsRead s line t
+  pub leads_told : (s : State) (line : List ℕ) (t : State) → SetsLine netlist s line t → IsRead s line t
   leads_told s line t (inl (id, value, h, e)) = record { setting = Entry id value; read = register_told line id value h; state = e }
   leads_told s line t (inr (address, value, h, e)) = record { setting = Cell address value; read = cell_told line address value h; state = e }
 

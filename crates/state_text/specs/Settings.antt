@@ -1,69 +1,11 @@
 -- What is read of a line of a memory text.
-use Rattle.std.specs.Prelude.{ℕ, ◌^◌, ◌≡◌, ◌≢◌, ◌<◌, ◌==◌, nat_lt, if◌then◌else◌, List, length, position, Option, Some, None, slice_get}
-use Rattle.std.specs.Str.{bytes_eq}
+use Rattle.std.specs.Prelude.{◌≡◌}
 use Rattle.net_model.specs.declared.hardware.Netlist.{Netlist}
-use Rattle.net_model.specs.declared.hardware.Storage.{Storage}
-use Rattle.net_model.specs.declared.hardware.Storage.TheVariants.{Register, Memory}
 use Rattle.net_model.specs.declared.states.State.{State}
-use Rattle.net_model.specs.Nets.{counter_of, memory_id, memory_size, memory_width, storage_bits, IsRegister}
-use Rattle.net_model.specs.CheckedRules.{storage_name}
 use Rattle.net_model.specs.Widths.{IsState}
 use Rattle.net_model.specs.Clock.{counter_in}
-use Rattle.net_model.specs.MemoryText.{with_register, with_cell}
-use Rattle.text_lines.specs.Fields.{parts_at, number_of, line_end, ◌>>=◌}
-use Rattle.state_text.specs.declared.setting.Setting.{Setting}
-use Rattle.state_text.specs.declared.setting.Setting.TheVariants.{Entry, Cell}
-
--- a number of so many bits to the end of the line, decimal without leading zeros
-abbrev pub below : ℕ → ℕ → Option ℕ
-below width n = if nat_lt n (2 ^ width) then Some n else None
-
-unfoldable pub number_below : ℕ → List ℕ → Option ℕ
-number_below width text = line_end text >>= number_of >>= below width
-
--- the first storage of this name; no two have one name
-abbrev pub named_at : List Storage → List ℕ → Option ℕ
-named_at storages name = position (λ storage. bytes_eq (storage_name storage) name) storages
-
--- behind a register's name and a space: VALUE
-unfoldable pub entry_of : ℕ → ℕ → List ℕ → Option Setting
-entry_of storage width text = number_below width text >>= λ value. Some (Entry storage value)
-
--- behind the memory's name and a space: ADDRESS VALUE
-unfoldable pub cell_of : ℕ → ℕ → List ℕ → Option Setting
-cell_of size width text =
-    parts_at 32 text >>= λ parts. number_of parts.0 >>= λ address. number_below width parts.1 >>= λ value. if nat_lt address size then Some (Cell address value) else None
-
--- what stands behind the name of this storage; nothing sets the program counter
-unfoldable pub setting_at : ℕ → ℕ → ℕ → Option Storage → List ℕ → Option Setting
-setting_at counter memory id None text = None
-setting_at counter memory id (Some (Register name width input when)) text = if id == counter then None else entry_of id width text
-setting_at counter memory id (Some (Memory name width size addr_width value addr when)) text = if id == memory then cell_of size width text else None
-
--- what stands behind a name
-unfoldable pub setting_for : Netlist → List ℕ → List ℕ → Option Setting
-setting_for netlist name text =
-    named_at netlist.storages name >>= λ id. setting_at (counter_of netlist.codes) (memory_id netlist.storages) id (slice_get netlist.storages id) text
-
--- what a line sets, if it is of the form
-unfoldable pub setting_of : Netlist → List ℕ → Option Setting
-setting_of netlist line = parts_at 32 line >>= λ parts. setting_for netlist parts.0 parts.1
-
-abbrev pub with_setting : State → Setting → State
-with_setting s (Entry storage value) = with_register s storage value
-with_setting s (Cell address value) = with_cell s address value
-
--- what a line sets fits: a register that isn't the program counter, or a cell, with a value of its width
-abbrev pub SettingFits : Netlist → Setting → Type 0
-SettingFits netlist (Entry id value) = IsRegister (slice_get netlist.storages id) × (id ≢ counter_of netlist.codes) × (value < 2 ^ storage_bits (slice_get netlist.storages id))
-SettingFits netlist (Cell address value) = (address < memory_size netlist.storages) × (value < 2 ^ memory_width netlist.storages)
-
--- there is such an entry or cell
-abbrev pub IsWithin : State → Setting → Type 0
-IsWithin s (Entry id value) = id < length s.regs
-IsWithin s (Cell address value) = address < length s.cells
 
 -- a state that fits, with the program counter at 0
-pub record IsStart (netlist : Netlist) (s : State) : Type 0 where
+pub record IsStartState (netlist : Netlist) (s : State) : Type 0 where
   pub state : IsState netlist s
   pub counter : counter_in netlist s ≡ 0

@@ -12,9 +12,9 @@
 //! - `line`: from a line to what it sets, or None.
 //! - `reading`: `read_state`, line by line, from zeros.
 //! - `writing`: `write_state` and `text_room`.
-//! - `specs/`: `Shown`, and of `Settings` `IsStart`, are cited by public contracts, and memory
-//!   texts are defined in `net_model/specs/MemoryText`; the rest of `Settings` mirrors the reading
-//!   of a line.
+//! - `specs/`: `Shown`, and of `Settings` `IsStartState`, cited by public contracts; memory texts
+//!   are defined in `net_model/specs/MemoryText`. `specs/Inner/`: `Settings`, which goes with the
+//!   reading of a line.
 //! - `proofs/`: `Told` and `Progress` for lines, `Starts` for start states, `Shown` and `Rooms` for
 //!   writing.
 #![tactic(auto)]

@@ -3,8 +3,9 @@
 ghost use Rattle.std.specs.Prelude.{◌≡◌, ◌≤◌, Some};
 ghost use Rattle.std.specs.Str.{bytes_eq};
 ghost use Rattle.net_model.specs.Nets.{storage_bits};
-ghost use Rattle.net_model.specs.CheckedRules.{storage_name, IsWidth};
-ghost use Rattle.state_text.specs.Settings.{number_below, named_at, entry_of, cell_of, setting_at, setting_for, setting_of};
+ghost use Rattle.net_model.specs.CheckedRules.{storage_name};
+ghost use Rattle.rec_bits.specs.Operators.{IsWidth};
+ghost use Rattle.state_text.specs.Inner.Settings.{number_below, named_at, entry_of, cell_of, setting_at, setting_for, setting_of};
 ghost use Rattle.text_lines.specs.Fields.{line_end};
 
 use crate::setting::Setting;
@@ -13,7 +14,7 @@ use rec_bits::mask;
 use text_lines::{cut, line_end, number};
 
 // The number of so many bits to the end of the line.
-#[tactic(auto, unfolding(crate::specs::Settings::number_below))]
+#[tactic(auto, unfolding(crate::specs::Inner::Settings::number_below))]
 fn number_below(text: &[u8], width: u8) -> Option<u64>
     requires some { 1 ≤ width }
     requires narrow { width ≤ 64 }
@@ -43,7 +44,7 @@ fn named_at(storages: &[Storage], name: &[u8]) -> Option<usize>
     storages.iter().position(|storage| is_named(storage, name))
 }
 
-#[tactic(auto, unfolding(crate::specs::Settings::entry_of))]
+#[tactic(auto, unfolding(crate::specs::Inner::Settings::entry_of))]
 fn entry_of(storage: u32, width: u8, text: &[u8]) -> Option<Setting>
     requires some { 1 ≤ width }
     requires narrow { width ≤ 64 }
@@ -53,7 +54,7 @@ fn entry_of(storage: u32, width: u8, text: &[u8]) -> Option<Setting>
     Some(Setting::Entry { storage, value })
 }
 
-#[tactic(auto, unfolding(crate::specs::Settings::cell_of))]
+#[tactic(auto, unfolding(crate::specs::Inner::Settings::cell_of))]
 fn cell_of(size: u32, width: u8, text: &[u8]) -> Option<Setting>
     requires some { 1 ≤ width }
     requires narrow { width ≤ 64 }
@@ -73,7 +74,7 @@ fn cell_of(size: u32, width: u8, text: &[u8]) -> Option<Setting>
 }
 
 // What stands behind the name of a storage.
-#[tactic(auto, unfolding(crate::specs::Settings::setting_at))]
+#[tactic(auto, unfolding(crate::specs::Inner::Settings::setting_at))]
 fn setting_at(counter: u32, memory: u32, id: u32, storage: &Storage, text: &[u8]) -> Option<Setting>
     requires { IsWidth (storage_bits (Some storage.now)) }
     ensures { result ≡ setting_at counter memory id (Some storage.now) text.now }
@@ -95,7 +96,7 @@ fn setting_at(counter: u32, memory: u32, id: u32, storage: &Storage, text: &[u8]
 }
 
 // What stands behind a name.
-#[tactic(auto, unfolding(crate::specs::Settings::setting_for))]
+#[tactic(auto, unfolding(crate::specs::Inner::Settings::setting_for))]
 fn setting_for(checked: &Checked, name: &[u8], text: &[u8]) -> Option<Setting>
     ensures { result ≡ setting_for checked.now.netlist name.now text.now }
 {
@@ -105,9 +106,10 @@ fn setting_for(checked: &Checked, name: &[u8], text: &[u8]) -> Option<Setting>
     setting_at(checked.pc(), checked.memory(), place as u32, storage, text)
 }
 
-/// What a line sets, or None where it isn't of the form: a register's name, but for the program counter's, and a value, or the memory's
-/// name, an address and a value, with single spaces between and LF behind.
-#[tactic(auto, unfolding(crate::specs::Settings::setting_of))]
+/// What a line sets, or None where it isn't of the form: a register's name, but for the program
+/// counter's, and a value, or the memory's name, an address and a value, with single spaces between
+/// and LF behind.
+#[tactic(auto, unfolding(crate::specs::Inner::Settings::setting_of))]
 pub fn setting_of(checked: &Checked, line: &[u8]) -> Option<Setting>
     ensures { result ≡ setting_of checked.now.netlist line.now }
 {

@@ -5,7 +5,8 @@ ghost use Rattle.std.proofs.Math.ListN.{replicate};
 ghost use Rattle.net_model.specs.Nets.{memory_size};
 ghost use Rattle.net_model.specs.CheckedRules.{KeepsRules};
 ghost use Rattle.net_model.specs.MemoryText.{blank, IsMemoryText, IsMemoryRefusal};
-ghost use Rattle.state_text.specs.Settings.{with_setting, IsWithin, IsStart};
+ghost use Rattle.state_text.specs.Settings.{IsStartState};
+ghost use Rattle.state_text.specs.Inner.Settings.{with_setting, IsWithin};
 
 use crate::line::setting_of;
 use crate::setting::Setting;
@@ -41,13 +42,14 @@ fn put(state: &mut State, setting: Setting)
     }
 }
 
-/// The state that a memory text sets; what it doesn't name is 0, the program counter is 0. `Text` comes exactly where a line isn't of the
-/// form, or names no storage or the program counter, or has an address past the memory or a value that is too wide, with the offset of the
-/// first such line. `Memory` is want of memory.
+/// The state that a memory text sets; what it doesn't name is 0, the program counter is 0. `Text`
+/// comes exactly where a line isn't of the form, or names no storage or the program counter, or has
+/// an address past the memory or a value that is too wide, with the offset of the first such line.
+/// `Memory` is want of memory.
 pub fn read_state(alloc: Global, bytes: &[u8], checked: &Checked) -> Result<State, ParseFault>
     requires { length bytes.now < 2 ^ 32 }
     ensures found { IfOk result (IsMemoryText checked.now.netlist bytes.now) }
-    ensures fits { IfOk result (IsStart checked.now.netlist) }
+    ensures fits { IfOk result (IsStartState checked.now.netlist) }
     ensures refused { IfErr result (IsMemoryRefusal checked.now.netlist bytes.now) }
 {
     let mut state = blank(alloc, checked)?;

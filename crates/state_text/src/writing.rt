@@ -69,7 +69,8 @@ fn put_registers(out: &mut Vec<u8>, storages: &[Storage], sim: &Sim<'_>) -> Resu
     requires few { length storages.now < 2 ^ 32 }
     ensures text { OnOk result (out.new.items ≡ out.old.items ++ register_lines sim.now.state.regs 0 storages.now) }
     ensures room { vec_capacity out.old ≤ vec_capacity out.new }
-    ensures succeeds { length out.old.items + length (register_lines sim.now.state.regs 0 storages.now) ≤ vec_capacity out.old → IsOk result }
+    ensures succeeds { length out.old.items + length (register_lines sim.now.state.regs 0 storages.now) ≤ vec_capacity out.old →
+        IsOk result }
 {
     for (id, storage) in storages.iter().enumerate() {
         put_storage(out, id, storage, sim)?;
@@ -92,8 +93,8 @@ fn put_cells(out: &mut Vec<u8>, name: &[u8], sim: &Sim<'_>) -> Result<(), NoMemo
     Ok(())
 }
 
-/// Puts the text of the simulator's state after so many cycles behind what `out` holds. It fails only where `out` has no room for all of
-/// it and gets no more.
+/// Puts the text of the simulator's state after so many cycles behind what `out` holds. It fails
+/// only where `out` has no room for all of it and gets no more.
 pub fn write_state(
     out: &mut Vec<u8>,
     checked: &Checked,
@@ -104,7 +105,8 @@ pub fn write_state(
     requires state { IsState sim.now.netlist sim.now.state }
     ensures text { OnOk result (out.new.items ≡ out.old.items ++ state_text sim.now.netlist cycles sim.now.state) }
     ensures room { vec_capacity out.old ≤ vec_capacity out.new }
-    ensures succeeds { length out.old.items + length (state_text sim.now.netlist cycles sim.now.state) ≤ vec_capacity out.old → IsOk result }
+    ensures succeeds { length out.old.items + length (state_text sim.now.netlist cycles sim.now.state) ≤ vec_capacity out.old →
+        IsOk result }
 {
     out.extend_from_slice(b"cycles")?;
     put_register(out, b"", cycles)?;
@@ -147,7 +149,8 @@ fn room_of(checked: &Checked) -> Option<usize>
 /// Room for the text of any state of the netlist, so that `write_state` into it can't fail.
 pub fn text_room(alloc: Global, checked: &Checked) -> Result<Vec<u8>, NoMemory>
     ensures empty { IfOk result (λ out. out.items ≡ []) }
-    ensures room { IfOk result (λ out. (cycles : ℕ) (state : State) → cycles < 2 ^ 64 → IsState checked.now.netlist state → length (state_text checked.now.netlist cycles state) ≤ vec_capacity out) }
+    ensures room { IfOk result (λ out. (cycles : ℕ) (state : State) → cycles < 2 ^ 64 → IsState checked.now.netlist state →
+        length (state_text checked.now.netlist cycles state) ≤ vec_capacity out) }
 {
     let Some(room) = room_of(checked) else {
         return Err(NoMemory);

@@ -11,7 +11,7 @@ use Rattle.rec_bits.proofs.Fits.{apply1_fits, apply2_fits, cat_below, sext_below
 use Rattle.net_model.specs.Meaning.{mean}
 use Rattle.sym_expr.specs.declared.pool.Node.{Node}
 use Rattle.sym_expr.specs.declared.pool.Node.TheVariants.{Word, Reg, Const, Read, Un, Bin, Slice, Cat, Zext, Sext, Select}
-use Rattle.sym_expr.specs.Pools.{node_term, parts_of, AllBelow, HeadFits, TermFits, Suits}
+use Rattle.sym_expr.specs.Pools.{node_term, children_of, AllBelow, HeadFits, TermFits, Suits}
 
 pub AllFit : (ℕ → Term) → List ℕ → Type 0
 AllFit t [] = Unit {0}
@@ -22,7 +22,7 @@ unfolding AllFit
 all_fit t n h [] b = tt
 all_fit t n h (i ∷ is) b = (h i b.0, all_fit t n h is b.1)
 
-pub whole_fits : (node : Node) (t : ℕ → Term) → HeadFits (node_term node t) → AllFit t (parts_of node) → TermFits (node_term node t)
+pub whole_fits : (node : Node) (t : ℕ → Term) → HeadFits (node_term node t) → AllFit t (children_of node) → TermFits (node_term node t)
 unfolding AllFit
 whole_fits (Word w) t h a = h
 whole_fits (Reg r w) t h a = h

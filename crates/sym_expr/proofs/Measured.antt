@@ -5,7 +5,7 @@ use Rattle.std.proofs.lemmas.List.{map-append}
 use Rattle.std.proofs.lemmas.Map.Entries.{length-keys_of, length-values_of}
 use Rattle.sym_expr.specs.declared.pool.Node.{Node}
 use Rattle.sym_expr.specs.declared.pool.Measure.{Measure}
-use Rattle.sym_expr.specs.Pools.{node_term, parts_of, AllBelow, term_at, HeadFits, IsPool}
+use Rattle.sym_expr.specs.Pools.{node_term, children_of, AllBelow, term_at, HeadFits, IsPool}
 use Rattle.sym_expr.specs.Measures.{IsMeasure, IsMeasuredPool}
 use Rattle.rec_bits.proofs.Lists.{pushed_at}
 use Rattle.sym_expr.proofs.Trees.{term_at-append, term_at-push}
@@ -18,7 +18,7 @@ module _ (es : List (Node × Measure)) (p : IsMeasuredPool es) (node : Node) (m 
   values : values_of (es ++ (node, m) ∷ []) ≡ values_of es ++ m ∷ []
   values = map-append (λ e. e.1) es ((node, m) ∷ [])
 
-  module _ (below : AllBelow (length (keys_of es)) (parts_of node)) (fits : HeadFits (node_term node (term_at (keys_of es))))
+  module _ (below : AllBelow (length (keys_of es)) (children_of node)) (fits : HeadFits (node_term node (term_at (keys_of es))))
       (absent : (i : ℕ) → slice_get (keys_of es) i ≡ Some node → ⊥) (known : IsMeasure (node_term node (term_at (keys_of es))) m) where
     measure_at : (id : ℕ) (n : Measure) → slice_get (values_of es ++ m ∷ []) id ≡ Some n → IsMeasure (term_at (keys_of es ++ node ∷ []) id) n
     measure_at id n at =

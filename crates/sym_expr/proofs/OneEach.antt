@@ -6,7 +6,7 @@ use Rattle.rec_bits.proofs.Lists.{all_weaker}
 use Rattle.net_model.specs.Terms.{Term, word, reg, const, read, un, bin, slice, cat, zext, sext, select}
 use Rattle.sym_expr.specs.declared.pool.Node.{Node}
 use Rattle.sym_expr.specs.declared.pool.Node.TheVariants.{Word, Reg, Const, Read, Un, Bin, Slice, Cat, Zext, Sext, Select}
-use Rattle.sym_expr.specs.Pools.{node_term, parts_of, AllBelow, term_at, IsPool, IsOneEach}
+use Rattle.sym_expr.specs.Pools.{node_term, children_of, AllBelow, term_at, IsPool, IsOneEach}
 use Rattle.sym_expr.proofs.Trees.{term_at-node}
 
 -- a node without its ids, and with other ids in their places
@@ -63,7 +63,7 @@ head_node (Zext a w) t is = refl
 head_node (Sext a w) t is = refl
 head_node (Select c a b) t is = refl
 
-operands_node : (node : Node) (t : ℕ → Term) → operands (node_term node t) ≡ map t (parts_of node)
+operands_node : (node : Node) (t : ℕ → Term) → operands (node_term node t) ≡ map t (children_of node)
 operands_node (Word w) t = refl
 operands_node (Reg r w) t = refl
 operands_node (Const w v) t = refl
@@ -76,7 +76,7 @@ operands_node (Zext a w) t = refl
 operands_node (Sext a w) t = refl
 operands_node (Select c a b) t = refl
 
-own_parts : (node : Node) → with_parts node (parts_of node) ≡ node
+own_parts : (node : Node) → with_parts node (children_of node) ≡ node
 own_parts (Word w) = refl
 own_parts (Reg r w) = refl
 own_parts (Const w v) = refl
@@ -104,12 +104,12 @@ same_parts t n known (i ∷ is) (j ∷ js) b c e =
 all_below : (m n : ℕ) → m ≤ n → (is : List ℕ) → AllBelow m is → AllBelow n is
 all_below m n h is b = all_weaker (λ i. i < m) (λ i. i < n) (λ i l. omega (arith, h, l)) is b
 
-same_node : (t : ℕ → Term) (n : ℕ) → ((i j : ℕ) → i < n → j < n → t i ≡ t j → i ≡ j) → (a b : Node) → AllBelow n (parts_of a) → AllBelow n (parts_of b) → node_term a t ≡ node_term b t → a ≡ b
+same_node : (t : ℕ → Term) (n : ℕ) → ((i j : ℕ) → i < n → j < n → t i ≡ t j → i ≡ j) → (a b : Node) → AllBelow n (children_of a) → AllBelow n (children_of b) → node_term a t ≡ node_term b t → a ≡ b
 same_node t n known a b below_a below_b e =
-    let parts : parts_of a ≡ parts_of b =
-    same_parts t n known (parts_of a) (parts_of b) below_a below_b (sym (operands_node a t) ∙ ap operands e ∙ operands_node b t) in
+    let parts : children_of a ≡ children_of b =
+    same_parts t n known (children_of a) (children_of b) below_a below_b (sym (operands_node a t) ∙ ap operands e ∙ operands_node b t) in
     sym (own_parts a) ∙ ap (λ is. with_parts a is) parts
-    ∙ sym (head_node a t (parts_of b)) ∙ ap (λ x. with_parts (head_of x) (parts_of b)) e ∙ head_node b t (parts_of b) ∙ own_parts b
+    ∙ sym (head_node a t (children_of b)) ∙ ap (λ x. with_parts (head_of x) (children_of b)) e ∙ head_node b t (children_of b) ∙ own_parts b
 
 module _ (nodes : List Node) (pool : IsPool nodes) where
   node_there : (id : ℕ) → id < length nodes → (node : Node) × (slice_get nodes id ≡ Some node)

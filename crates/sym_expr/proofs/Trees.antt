@@ -4,7 +4,7 @@ use Rattle.std.proofs.lemmas.List.{reverse-append, length-reverse}
 use Rattle.net_model.specs.Terms.{Term, read, un, bin, slice, cat, zext, sext, select}
 use Rattle.sym_expr.specs.declared.pool.Node.{Node}
 use Rattle.sym_expr.specs.declared.pool.Node.TheVariants.{Word, Reg, Const, Read, Un, Bin, Slice, Cat, Zext, Sext, Select}
-use Rattle.sym_expr.specs.Pools.{node_term, parts_of, AllBelow, term_of_newest, term_at}
+use Rattle.sym_expr.specs.Pools.{node_term, children_of, AllBelow, term_of_newest, term_at}
 use Rattle.rec_bits.proofs.Lists.{around}
 use borrow.Author.Tests.{eqb-true, eq-eqb}
 
@@ -42,7 +42,7 @@ AllSame : (ℕ → Term) → (ℕ → Term) → List ℕ → Type 0
 AllSame t u [] = Unit {0}
 AllSame t u (i ∷ is) = (t i ≡ u i) × AllSame t u is
 
-node_term-same : (t u : ℕ → Term) (node : Node) → AllSame t u (parts_of node) → node_term node t ≡ node_term node u
+node_term-same : (t u : ℕ → Term) (node : Node) → AllSame t u (children_of node) → node_term node t ≡ node_term node u
 unfolding AllSame
 node_term-same t u (Word w) h = refl
 node_term-same t u (Reg r w) h = refl
@@ -63,7 +63,7 @@ all_same t u n h [] b = tt
 all_same t u n h (i ∷ is) b = (h i b.0, all_same t u n h is b.1)
 
 -- the expression of the node at a place
-pub term_at-node : (nodes : List Node) (id : ℕ) (node : Node) → slice_get nodes id ≡ Some node → AllBelow id (parts_of node) → term_at nodes id ≡ node_term node (term_at nodes)
+pub term_at-node : (nodes : List Node) (id : ℕ) (node : Node) → slice_get nodes id ≡ Some node → AllBelow id (children_of node) → term_at nodes id ≡ node_term node (term_at nodes)
 term_at-node nodes id node at below =
     let r = around nodes id node at in
     let split : nodes ≡ (r.before ++ node ∷ []) ++ r.after = r.is ∙ sym (append_assoc r.before (node ∷ []) r.after) in
@@ -71,4 +71,4 @@ term_at-node nodes id node at below =
     let within : id < length (r.before ++ node ∷ []) = grind (arith, length-append) in
     ap (λ l. term_at l id) split ∙ term_at-append (r.before ++ node ∷ []) r.after id within ∙ term_at-push r.before node id (sym r.place)
     ∙ node_term-same (term_at r.before) (term_at nodes) node
-    (all_same (term_at r.before) (term_at nodes) id (λ i less. sym (ap (λ l. term_at l i) r.is ∙ term_at-append r.before (node ∷ r.after) i (omega (arith, place, less)))) (parts_of node) below)
+    (all_same (term_at r.before) (term_at nodes) id (λ i less. sym (ap (λ l. term_at l i) r.is ∙ term_at-append r.before (node ∷ r.after) i (omega (arith, place, less)))) (children_of node) below)

@@ -22,18 +22,18 @@ node_term (Sext a w) t = sext (t a) w
 node_term (Select c a b) t = select (t c) (t a) (t b)
 
 -- the ids that a node names
-abbrev pub parts_of : Node → List ℕ
-parts_of (Word w) = []
-parts_of (Reg r w) = []
-parts_of (Const w v) = []
-parts_of (Read a w) = a ∷ []
-parts_of (Un o a) = a ∷ []
-parts_of (Bin o a b) = a ∷ b ∷ []
-parts_of (Slice a h l) = a ∷ []
-parts_of (Cat a b) = a ∷ b ∷ []
-parts_of (Zext a w) = a ∷ []
-parts_of (Sext a w) = a ∷ []
-parts_of (Select c a b) = c ∷ a ∷ b ∷ []
+abbrev pub children_of : Node → List ℕ
+children_of (Word w) = []
+children_of (Reg r w) = []
+children_of (Const w v) = []
+children_of (Read a w) = a ∷ []
+children_of (Un o a) = a ∷ []
+children_of (Bin o a b) = a ∷ b ∷ []
+children_of (Slice a h l) = a ∷ []
+children_of (Cat a b) = a ∷ b ∷ []
+children_of (Zext a w) = a ∷ []
+children_of (Sext a w) = a ∷ []
+children_of (Select c a b) = c ∷ a ∷ b ∷ []
 
 -- each number is below this one
 abbrev pub AllBelow : ℕ → List ℕ → Type 0
@@ -98,7 +98,7 @@ Suits (select c a b) s i = Suits c s i × Suits a s i × Suits b s i
 
 -- the parts of each node come before it, its expression fits, and no two nodes are equal
 pub record IsPool (nodes : List Node) : Type 0 where
-  pub below : (place : ℕ) (node : Node) → slice_get nodes place ≡ Some node → AllBelow place (parts_of node)
+  pub below : (place : ℕ) (node : Node) → slice_get nodes place ≡ Some node → AllBelow place (children_of node)
   pub fits : (id : ℕ) → id < length nodes → TermFits (term_at nodes id)
   pub distinct : (i j : ℕ) (node : Node) → slice_get nodes i ≡ Some node → slice_get nodes j ≡ Some node → i ≡ j
 

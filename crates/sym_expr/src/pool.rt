@@ -4,7 +4,7 @@ ghost use Rattle.std.specs.Prelude.{◌≡◌, ℕ, ◌+◌, ◌<◌, ◌≤◌,
 ghost use Rattle.rec_bits.specs.Counts.{capped};
 ghost use Rattle.net_model.specs.Meaning.{mean};
 ghost use Rattle.net_model.specs.Terms.{size_of, term_of, term_width};
-ghost use Rattle.sym_expr.specs.Pools.{AllBelow, Grows, HeadFits, IsOneEach, KeepsTerms, Suits, TermFits, node_term, parts_of, term_at};
+ghost use Rattle.sym_expr.specs.Pools.{AllBelow, Grows, HeadFits, IsOneEach, KeepsTerms, Suits, TermFits, node_term, children_of, term_at};
 ghost use Rattle.sym_expr.specs.Measures.{IsMeasure};
 ghost use Rattle.sym_expr.specs.declared.pool.Node.{Node as TheNode};
 
@@ -17,8 +17,9 @@ use std::marker::Model;
 /// An expression, by the place of its node in a pool.
 pub type ExprId = u64;
 
-/// A leaf, or an operator over the ids of its operands, with the meanings of `net_model::Expr`. Each tells its own width: in `Word`,
-/// `Reg` and `Read` the last number is the width, in `Zext` and `Sext` the width that is reached.
+/// A leaf, or an operator over the ids of its operands, with the meanings of `net_model::Expr`.
+/// Each tells its own width: in `Word`, `Reg` and `Read` the last number is the width, in `Zext`
+/// and `Sext` the width that is reached.
 #[derive(Clone, Copy, Debug, PartialEq, Eq, Hash)]
 pub enum Node {
     Word(u8),
@@ -36,15 +37,17 @@ pub enum Node {
     Select(ExprId, ExprId, ExprId),
 }
 
-// What is known of an expression from its parts alone: its width, and how many nodes it has, 2^64 - 1 standing for more.
+// What is known of an expression from its parts alone: its width, and how many nodes it has, 2^64 -
+// 1 standing for more.
 #[derive(Clone, Copy, Debug, PartialEq, Eq)]
 struct Measure {
     width: u8,
     size: u64,
 }
 
-/// Expressions of widths from 1 to 64 bits, with one id for each. A pool only grows: an id means the same expression for as long as the
-/// pool lives, and want of memory leaves the pool as it was. All calls but `new`, `intern` and `expr` take no memory.
+/// Expressions of widths from 1 to 64 bits, with one id for each. A pool only grows: an id means
+/// the same expression for as long as the pool lives, and want of memory leaves the pool as it was.
+/// All calls but `new`, `intern` and `expr` take no memory.
 #[derive(Drop)]
 pub struct Pool {
     nodes: IndexMap<Node, Measure>,
@@ -73,10 +76,11 @@ impl Pool {
         })
     }
 
-    /// The id of an expression, of which its parts have ids below the pool's length and the widths that its operator asks for. It is the
-    /// pool's length where the expression is new, and no other is added.
+    /// The id of an expression, of which its parts have ids below the pool's length and the widths
+    /// that its operator asks for. It is the pool's length where the expression is new, and no
+    /// other is added.
     pub fn intern(&mut self, _alloc: Global, node: Node) -> Result<ExprId, NoMemory>
-        requires parts { AllBelow (length self.old) (parts_of node) }
+        requires parts { AllBelow (length self.old) (children_of node) }
         requires fits { HeadFits (node_term node (term_at self.old)) }
         ensures grows { Grows self.old self.new }
         ensures refused { OnErr result (self.new ≡ self.old) }
@@ -107,7 +111,7 @@ impl Pool {
     pub fn node(&self, id: ExprId) -> Node
         requires { id < length self.now }
         ensures term { term_at self.now id ≡ node_term result (term_at self.now) }
-        ensures below { AllBelow id (parts_of result) }
+        ensures below { AllBelow id (children_of result) }
         ensures fits { TermFits (node_term result (term_at self.now)) }
     {
         self.nodes.keys().as_slice()[id as usize]
@@ -131,8 +135,8 @@ impl Pool {
         self.measured(id).size
     }
 
-    /// The value of an expression in a state under an instruction word, where the registers, cells and the word that it names fit the
-    /// widths with which it names them.
+    /// The value of an expression in a state under an instruction word, where the registers, cells
+    /// and the word that it names fit the widths with which it names them.
     pub fn eval(&self, id: ExprId, state: &State, word: u64) -> u64
         requires id { id < length self.now }
         requires suits { Suits (term_at self.now id) state.now word }
@@ -217,7 +221,7 @@ impl Pool {
 
     // What is known of the expression that a node would be.
     fn measure(&self, node: Node) -> Measure
-        requires parts { AllBelow (length self.now) (parts_of node) }
+        requires parts { AllBelow (length self.now) (children_of node) }
         requires fits { HeadFits (node_term node (term_at self.now)) }
         ensures { IsMeasure (node_term node (term_at self.now)) result }
     {
@@ -228,7 +232,7 @@ impl Pool {
     }
 
     fn width_of(&self, node: Node) -> u8
-        requires parts { AllBelow (length self.now) (parts_of node) }
+        requires parts { AllBelow (length self.now) (children_of node) }
         requires fits { HeadFits (node_term node (term_at self.now)) }
         ensures { result ≡ term_width (node_term node (term_at self.now)) }
     {
@@ -251,7 +255,7 @@ impl Pool {
     }
 
     fn size_of(&self, node: Node) -> u64
-        requires parts { AllBelow (length self.now) (parts_of node) }
+        requires parts { AllBelow (length self.now) (children_of node) }
         ensures { result ≡ capped (size_of (node_term node (term_at self.now))) }
     {
         match node {

@@ -26,22 +26,22 @@ unfoldable pub line_end : List ℕ → Option (List ℕ)
 line_end text = parts_at 10 text >>= only_front
 
 -- the value of decimal digits behind those of n
-abbrev pub value_from : ℕ → List ℕ → ℕ
-value_from n [] = n
-value_from n (d ∷ ds) = value_from (10 * n + (d - 48)) ds
+abbrev pub decimal_from : ℕ → List ℕ → ℕ
+decimal_from n [] = n
+decimal_from n (d ∷ ds) = decimal_from (10 * n + (d - 48)) ds
 
 -- a digit or more, without a zero before another
-abbrev pub is_plain : List ℕ → Bool
-is_plain [] = false
-is_plain (d ∷ []) = true
-is_plain (d ∷ e ∷ ds) = not (d == 48)
+abbrev pub is_canonical : List ℕ → Bool
+is_canonical [] = false
+is_canonical (d ∷ []) = true
+is_canonical (d ∷ e ∷ ds) = not (d == 48)
 
 abbrev pub are_digits : List ℕ → Bool
 are_digits text = list_all is_digit text
 
 -- the number below 2^64 that a text is, in decimal digits without leading zeros
 unfoldable pub number_of : List ℕ → Option ℕ
-number_of text = if is_plain text && are_digits text then below_2_64 (value_from 0 text) else None
+number_of text = if is_canonical text && are_digits text then below_2_64 (decimal_from 0 text) else None
 
 abbrev pub are_name_bytes : List ℕ → Bool
 are_name_bytes text = list_all is_name_byte text

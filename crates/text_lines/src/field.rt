@@ -3,7 +3,7 @@
 ghost use Rattle.std.specs.Prelude.{◌≡◌, ◌==◌, not, length, take_while, option_map, option_copied};
 ghost use Rattle.lexing.specs.Bytes.{is_name_byte};
 ghost use Rattle.lexing.specs.Numbers.{below_2_64};
-ghost use Rattle.text_lines.specs.Fields.{parts_at, line_end, number_of, value_from, is_plain, are_digits, are_name_bytes, is_name};
+ghost use Rattle.text_lines.specs.Fields.{parts_at, line_end, number_of, decimal_from, is_canonical, are_digits, are_name_bytes, is_name};
 
 use lexing::{digit, letter};
 
@@ -17,7 +17,8 @@ fn bytes_before(text: &[u8], mark: u8) -> usize
     text.iter().take_while(|byte| **byte != mark).count()
 }
 
-/// What stands before the first byte `mark` and what stands behind it, or None where there is no such byte.
+/// What stands before the first byte `mark` and what stands behind it, or None where there is no
+/// such byte.
 pub fn cut(text: &[u8], mark: u8) -> Option<(&[u8], &[u8])>
     ensures { option_map (λ parts. (parts.0.now, parts.1.now)) result ≡ parts_at mark text.now }
 {
@@ -39,7 +40,7 @@ pub fn line_end(text: &[u8]) -> Option<&[u8]>
 }
 
 fn value(digits: &[u8]) -> Option<u64>
-    ensures { result ≡ below_2_64 (value_from 0 digits.now) }
+    ensures { result ≡ below_2_64 (decimal_from 0 digits.now) }
 {
     let mut number: u64 = 0;
     for digit in digits {
@@ -51,7 +52,7 @@ fn value(digits: &[u8]) -> Option<u64>
 
 // Whether there is a digit, and no zero before another one.
 fn plain(digits: &[u8]) -> bool
-    ensures { result ≡ is_plain digits.now }
+    ensures { result ≡ is_canonical digits.now }
 {
     match digits {
         [] => false,
@@ -67,7 +68,8 @@ fn all_digits(text: &[u8]) -> bool
 }
 
 #[tactic(auto, unfolding(crate::specs::Fields::number_of))]
-/// The number that is written in decimal digits, without leading zeros. None where the text isn't one below `2^64`.
+/// The number that is written in decimal digits, without leading zeros. None where the text isn't
+/// one below `2^64`.
 pub fn number(text: &[u8]) -> Option<u64>
     ensures { result ≡ number_of text.now }
 {

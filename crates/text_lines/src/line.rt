@@ -5,7 +5,8 @@ ghost use Rattle.text_lines.specs.Lines.{IsFirstLine};
 
 use crate::field::cut;
 
-/// The first line with its LF and what follows it, or the whole text where it has no LF. None where the text is empty.
+/// The first line with its LF and what follows it, or the whole text where it has no LF. None where
+/// the text is empty.
 pub fn first_line(text: &[u8]) -> Option<(&[u8], &[u8])>
     ensures some { IfSome result (λ parts. IsFirstLine text.now parts.0.now parts.1.now) }
     ensures none { IfNone result (text.now ≡ []) }

@@ -6,17 +6,18 @@ use Rattle.bit_bdd.proofs.CallerLemmas.{extends_refl, extends_trans, same_words}
 use Rattle.net_model.specs.declared.hardware.Netlist.{Netlist}
 use Rattle.net_model.specs.CheckedRules.{KeepsRules}
 use Rattle.net_model.specs.Nets.{counter_of, counter_width, memory_id}
-use Rattle.net_model.specs.Patterns.{ArePatterns, IsBefore, IsPattern, IsWordOf, Pattern}
+use Rattle.net_model.specs.Patterns.{ArePatterns, IsPatternBefore, IsPattern, IsWordOf, Pattern}
 use Rattle.net_model.specs.Texts.{move_text}
 use Rattle.net_model.specs.Transfers.{IsClean, move_at}
 use Rattle.sym_expr.specs.declared.pool.Node.{Node}
 use Rattle.transfer_set.specs.declared.entries.Entry.{Entry}
 use Rattle.transfer_set.specs.declared.row.Row.{Row}
-use Rattle.transfer_set.specs.Entries.{AreHeld, AreKnown, AreLeft, AreWhole, IsAddrKnown, IsWordsOf, entry_move, given, moves_held, patterns_of}
+use Rattle.transfer_set.specs.Entries.{IsAddrKnown, IsWordsOf}
+use Rattle.transfer_set.specs.Inner.Entries.{HaveWords, AreKnown, AreLeft, AreWhole, entry_move, list_if, moves_under, patterns_of}
 use Rattle.transfer_set.specs.Routes.{IsSet}
-use Rattle.transfer_set.specs.Rows.{AreInOrder, AreRowsOf, IsNotAfter, IsTold, entries_of, entry_of, row_move, row_pattern, told_patterns}
-use Rattle.transfer_set.specs.Sources.{changes}
-use Rattle.transfer_set.specs.Stepping.{any_step}
+use Rattle.transfer_set.specs.Rows.{AreSorted, AreRowsOf, IsNotAfter, ShowsMove, entries_of, entry_of, row_move, row_pattern, row_patterns}
+use Rattle.transfer_set.specs.Inner.Sources.{changes}
+use Rattle.transfer_set.specs.Inner.Stepping.{any_step}
 use Rattle.transfer_set.specs.Tables.{IsPatternTable, IsRow}
 use Rattle.transfer_set.specs.TextMarks.{HasPlainNames, IsMoveOf}
 use Rattle.transfer_set.proofs.Collecting.{held_entries_later, moves_later, whole_later}
@@ -33,7 +34,7 @@ both_all : {X : Type 0} (P Q R : X → Type 0) (xs : List X) → AllByRecursion 
 both_all P Q R [] p q r = tt
 both_all P Q R (x ∷ xs) p q r = ((p.0, q.0, r.0), both_all P Q R xs p.1 q.1 r.1)
 
-told_is : (pool : List Node) (rows : List Row) → told_patterns pool rows ≡ patterns_of pool (entries_of rows)
+told_is : (pool : List Node) (rows : List Row) → row_patterns pool rows ≡ patterns_of pool (entries_of rows)
 told_is pool [] = refl
 told_is pool (row ∷ rows) = ap (λ ps. row_pattern pool row ∷ ps) (told_is pool rows)
 
@@ -51,14 +52,14 @@ same_text netlist order kept plain book pool a b p q same e =
   where
     of_netlist : (row : Row) → IsRow netlist book pool row → IsMoveOf netlist (row_move pool row)
     of_netlist row is =
-        let given = (is.whole is.set.word is.set.fits).0 is.set.holds in
-        subst (IsMoveOf netlist) given.gives (move_terms netlist order kept is.set.word row.storage)
+        let list_if = (is.whole is.set.word is.set.fits).0 is.set.holds in
+        subst (IsMoveOf netlist) list_if.gives (move_terms netlist order kept is.set.word row.storage)
 
 module _ (netlist : Netlist) (order : List ℕ) (kept : KeepsRules netlist order) (book : Diagrams) (pool : List Node) (entries : List Entry)
-    (held : AreHeld book entries) (known : AreKnown (length pool) entries) (whole : AreWhole netlist pool book entries)
-    (legal : ℕ → Bool) (moves : (n word : ℕ) → word < 2 ^ book.bits → moves_held book pool entries n word ≡ given (legal word) (changes (move_at netlist word n)))
+    (held : HaveWords book entries) (known : AreKnown (length pool) entries) (whole : AreWhole netlist pool book entries)
+    (legal : ℕ → Bool) (moves : (n word : ℕ) → word < 2 ^ book.bits → moves_under book pool entries n word ≡ list_if (legal word) (changes (move_at netlist word n)))
     (every : (pattern : Pattern) → IsPattern netlist pattern → Contains (patterns_of pool entries) pattern)
-    (rows : List Row) (of : AreRowsOf entries rows) (told : All (IsTold netlist pool) rows) (ordered : AreInOrder rows) where
+    (rows : List Row) (of : AreRowsOf entries rows) (told : All (ShowsMove netlist pool) rows) (ordered : AreSorted rows) where
   abbrev Facts : Entry → Type 0
   Facts entry = IsSet book entry.set × (IsAddrKnown (length pool) entry.addr × (entry.value < length pool)) × IsWordsOf netlist book.bits entry.storage (entry_move pool entry) (λ word. has_word book entry.set word)
 
@@ -74,12 +75,12 @@ module _ (netlist : Netlist) (order : List ℕ) (kept : KeepsRules netlist order
       let f = facts k d lt in
       record { told = told k d lt; addr = f.1.0; value = f.1.1; set = f.0; whole = f.2 }
 
-  pub every_told : (pattern : Pattern) → IsPattern netlist pattern → Contains (told_patterns pool rows) pattern
+  pub every_told : (pattern : Pattern) → IsPattern netlist pattern → Contains (row_patterns pool rows) pattern
   every_told pattern is =
-      let among : Contains (told_patterns pool of.listed) pattern = subst (λ ps. Contains ps pattern) (sym (told_is pool of.listed ∙ ap (patterns_of pool) of.same)) (every pattern is) in
+      let among : Contains (row_patterns pool of.listed) pattern = subst (λ ps. Contains ps pattern) (sym (told_is pool of.listed ∙ ap (patterns_of pool) of.same)) (every pattern is) in
       images_moved (row_pattern pool) of.listed rows of.moved pattern among
 
-  pub each_told : All (IsPattern netlist) (told_patterns pool rows)
+  pub each_told : All (IsPattern netlist) (row_patterns pool rows)
   each_told = all_map (row_pattern pool) (IsPattern netlist) rows (λ k d lt. is_pattern netlist book pool (slice_index_or rows k d) (rows_are k d lt))
 
   -- two rows of one storage have no word in common
@@ -87,11 +88,11 @@ module _ (netlist : Netlist) (order : List ℕ) (kept : KeepsRules netlist order
       → (word : ℕ) → word < 2 ^ book.bits → has_word book (slice_index_or rows i d).set word ≡ true → has_word book (slice_index_or rows j d).set word ≡ true → ⊥
   apart i j d less lt same word fits hi hj =
       let id : ℕ = (slice_index_or rows j d).storage in
-      let held_listed : moves_held book pool (entries_of of.listed) id word ≡ given (legal word) (changes (move_at netlist word id)) = ap (λ es. moves_held book pool es id word) of.same ∙ moves id word fits in
+      let held_listed : moves_under book pool (entries_of of.listed) id word ≡ list_if (legal word) (changes (move_at netlist word id)) = ap (λ es. moves_under book pool es id word) of.same ∙ moves id word fits in
       let few = once_held book pool of.listed rows of.moved id word (legal word) (move_at netlist word id) held_listed in
       never_both book rows id word few i j d less lt same hi refl hj
 
-  pub once_told : AllPairs (λ p q. p ≢ q) (told_patterns pool rows)
+  pub once_told : AllPairs (λ p q. p ≢ q) (row_patterns pool rows)
   once_told = pairs_map (row_pattern pool) (λ p q. p ≢ q) rows (λ i j d less lt e. by i j d less lt e)
     where
       by : (i j : ℕ) (d : Row) → i < j → j < length rows → row_pattern pool (slice_index_or rows i d) ≡ row_pattern pool (slice_index_or rows j d) → ⊥
@@ -102,11 +103,11 @@ module _ (netlist : Netlist) (order : List ℕ) (kept : KeepsRules netlist order
           let here : IsWordOf netlist (row_pattern pool (slice_index_or rows i d)) b.set.word = subst (λ p. IsWordOf netlist p b.set.word) (sym e) there in
           apart i j d less lt (ap (λ (p : Pattern). p.storage) e) b.set.word b.set.fits ((a.whole b.set.word b.set.fits).1 here) b.set.holds
 
-  pub before_told : HasPlainNames netlist → AllPairs (IsBefore netlist) (told_patterns pool rows)
-  before_told plain = pairs_map (row_pattern pool) (IsBefore netlist) rows (λ i j d less lt. by i j d less lt (ordered i j d less lt))
+  pub before_told : HasPlainNames netlist → AllPairs (IsPatternBefore netlist) (row_patterns pool rows)
+  before_told plain = pairs_map (row_pattern pool) (IsPatternBefore netlist) rows (λ i j d less lt. by i j d less lt (ordered i j d less lt))
     where
       by : (i j : ℕ) (d : Row) → i < j → j < length rows → IsNotAfter (slice_index_or rows i d) (slice_index_or rows j d)
-          → IsBefore netlist (row_pattern pool (slice_index_or rows i d)) (row_pattern pool (slice_index_or rows j d))
+          → IsPatternBefore netlist (row_pattern pool (slice_index_or rows i d)) (row_pattern pool (slice_index_or rows j d))
       by i j d less lt (inl below) = inl below
       by i j d less lt (inr (same, later)) =
           let a = rows_are i d (omega (arith, less, lt)) in
@@ -120,14 +121,15 @@ module _ (netlist : Netlist) (order : List ℕ) (kept : KeepsRules netlist order
           apart i j d less lt same b.set.word b.set.fits ((a.whole b.set.word b.set.fits).1 here) b.set.holds) in
           inr (same, rw (sym a.told.text) (rw (sym b.told.text) (text_before (slice_index_or rows i d).text.items (slice_index_or rows j d).text.items later texts)))
 
-  pub patterns_told : HasPlainNames netlist → ArePatterns netlist (told_patterns pool rows)
+  pub patterns_told : HasPlainNames netlist → ArePatterns netlist (row_patterns pool rows)
   patterns_told plain = record { each = each_told; every = every_told; ordered = before_told plain }
 
--- over the book in which transfers were collected, the one in which the sets of storages stand, and the last
+-- over the book in which transfers were collected, the one in which the sets of storages stand, and
+-- the last
 module _ (netlist : Netlist) (order : List ℕ) (kept : KeepsRules netlist order) (old mid new last : Diagrams) (collected : Extends old mid) (left : Extends mid new) (stepped : Extends new last)
-    (pool : List Node) (entries : List Entry) (held : AreHeld mid entries) (known : AreKnown (length pool) entries) (whole : AreWhole netlist pool mid entries)
+    (pool : List Node) (entries : List Entry) (held : HaveWords mid entries) (known : AreKnown (length pool) entries) (whole : AreWhole netlist pool mid entries)
     (set : ℕ) (within : set < length old.nodes) (clean : (word : ℕ) → word < 2 ^ old.bits → (has_word old set word ≡ true) ↔ IsClean netlist word)
-    (moves : (n word : ℕ) → word < 2 ^ old.bits → moves_held mid pool entries n word ≡ given (has_word old set word) (changes (move_at netlist word n)))
+    (moves : (n word : ℕ) → word < 2 ^ old.bits → moves_under mid pool entries n word ≡ list_if (has_word old set word) (changes (move_at netlist word n)))
     (every : (pattern : Pattern) → IsPattern netlist pattern → Contains (patterns_of pool entries) pattern) where
   later : Extends mid last
   later = extends_trans mid new last left stepped
@@ -135,13 +137,13 @@ module _ (netlist : Netlist) (order : List ℕ) (kept : KeepsRules netlist order
   back : (b : ℕ) → b ≡ old.bits → (word : ℕ) → word < 2 ^ b → word < 2 ^ old.bits
   back b e word fits = subst (λ n. word < 2 ^ n) e fits
 
-  moves_in : (book : Diagrams) → Extends mid book → (n word : ℕ) → word < 2 ^ book.bits → moves_held book pool entries n word ≡ given (has_word old set word) (changes (move_at netlist word n))
+  moves_in : (book : Diagrams) → Extends mid book → (n word : ℕ) → word < 2 ^ book.bits → moves_under book pool entries n word ≡ list_if (has_word old set word) (changes (move_at netlist word n))
   moves_in book grows n word fits = moves_later mid book grows pool entries held n word ∙ moves n word (back book.bits (grows.bits ∙ collected.bits) word fits)
 
   clean_in : (book : Diagrams) → Extends mid book → (word : ℕ) → word < 2 ^ book.bits → (has_word old set word ≡ true) ↔ IsClean netlist word
   clean_in book grows word fits = clean word (back book.bits (grows.bits ∙ collected.bits) word fits)
 
-  pub table_is : (rows : List Row) → AreRowsOf entries rows → All (IsTold netlist pool) rows → AreInOrder rows
+  pub table_is : (rows : List Row) → AreRowsOf entries rows → All (ShowsMove netlist pool) rows → AreSorted rows
       → (keeps : List ℕ) → AreLeft mid new set entries (length netlist.storages) keeps
       → (counter : Counter) → counter.storage ≡ counter_of netlist.codes → counter.width ≡ counter_width netlist
       → (step : ℕ) → step < length last.nodes → ((word : ℕ) → has_word last step word ≡ any_step new pool counter entries word)

@@ -9,8 +9,9 @@ use Rattle.sym_expr.specs.declared.pool.Node.{Node}
 use Rattle.sym_expr.specs.Pools.{term_at}
 use Rattle.transfer_set.specs.declared.route.Route.{Route}
 use Rattle.transfer_set.specs.declared.entries.Entry.{Entry}
-use Rattle.transfer_set.specs.Routes.{held, held_terms, IsSet, AllSets, AllExprs}
-use Rattle.transfer_set.specs.Entries.{given, each, entry_move, moves_held, AreHeld, AreKnown, AreWhole, IsAddrKnown, IsWordsOf}
+use Rattle.transfer_set.specs.Routes.{exprs_under, terms_under, IsSet, AllSets, AllExprs}
+use Rattle.transfer_set.specs.Entries.{IsAddrKnown, IsWordsOf}
+use Rattle.transfer_set.specs.Inner.Entries.{list_if, each, entry_move, moves_under, HaveWords, AreKnown, AreWhole}
 
 -- ---- sets of a book that grows
 
@@ -22,11 +23,11 @@ set_later old new e set s = record {
   holds = same_words old new e set s.within s.word ∙ s.holds;
 }
 
-pub held_entries_later : (old new : Diagrams) → Extends old new → (entries : List Entry) → AreHeld old entries → AreHeld new entries
+pub held_entries_later : (old new : Diagrams) → Extends old new → (entries : List Entry) → HaveWords old entries → HaveWords new entries
 held_entries_later old new e [] h = tt
 held_entries_later old new e (x ∷ entries) h = (set_later old new e x.set h.0, held_entries_later old new e entries h.1)
 
-pub held_entries_push : (book : Diagrams) (entries : List Entry) (x : Entry) → AreHeld book entries → IsSet book x.set → AreHeld book (entries ++ x ∷ [])
+pub held_entries_push : (book : Diagrams) (entries : List Entry) (x : Entry) → HaveWords book entries → IsSet book x.set → HaveWords book (entries ++ x ∷ [])
 held_entries_push book [] x h s = (s, tt)
 held_entries_push book (y ∷ entries) x h s = (h.0, held_entries_push book entries x h.1 s)
 
@@ -34,19 +35,19 @@ pub known_push : (size : ℕ) (entries : List Entry) (x : Entry) → AreKnown si
 known_push size [] x h a v = ((a, v), tt)
 known_push size (y ∷ entries) x h a v = (h.0, known_push size entries x h.1 a v)
 
-pub moves_later : (old new : Diagrams) → Extends old new → (pool : List Node) (entries : List Entry) → AreHeld old entries → (id word : ℕ) → moves_held new pool entries id word ≡ moves_held old pool entries id word
+pub moves_later : (old new : Diagrams) → Extends old new → (pool : List Node) (entries : List Entry) → HaveWords old entries → (id word : ℕ) → moves_under new pool entries id word ≡ moves_under old pool entries id word
 moves_later old new e pool [] h id word = refl
 moves_later old new e pool (x ∷ entries) h id word =
     let p = same_words old new e x.set h.0.within word in
     let q = moves_later old new e pool entries h.1 id word in
-    (λ j. given ((x.storage == id) && p j) (entry_move pool x ∷ []) ++ q j)
+    (λ j. list_if ((x.storage == id) && p j) (entry_move pool x ∷ []) ++ q j)
 
 pub moves_push : (book : Diagrams) (pool : List Node) (entries : List Entry) (x : Entry) (id word : ℕ)
-    → moves_held book pool (entries ++ x ∷ []) id word ≡ moves_held book pool entries id word ++ given ((x.storage == id) && has_word book x.set word) (entry_move pool x ∷ [])
-moves_push book pool [] x id word = append-nil (given ((x.storage == id) && has_word book x.set word) (entry_move pool x ∷ []))
+    → moves_under book pool (entries ++ x ∷ []) id word ≡ moves_under book pool entries id word ++ list_if ((x.storage == id) && has_word book x.set word) (entry_move pool x ∷ [])
+moves_push book pool [] x id word = append-nil (list_if ((x.storage == id) && has_word book x.set word) (entry_move pool x ∷ []))
 moves_push book pool (y ∷ entries) x id word =
-    ap (λ l. given ((y.storage == id) && has_word book y.set word) (entry_move pool y ∷ []) ++ l) (moves_push book pool entries x id word)
-    ∙ sym (append_assoc (given ((y.storage == id) && has_word book y.set word) (entry_move pool y ∷ [])) (moves_held book pool entries id word) (given ((x.storage == id) && has_word book x.set word) (entry_move pool x ∷ [])))
+    ap (λ l. list_if ((y.storage == id) && has_word book y.set word) (entry_move pool y ∷ []) ++ l) (moves_push book pool entries x id word)
+    ∙ sym (append_assoc (list_if ((y.storage == id) && has_word book y.set word) (entry_move pool y ∷ [])) (moves_under book pool entries id word) (list_if ((x.storage == id) && has_word book x.set word) (entry_move pool x ∷ [])))
 
 -- sets that hold the same words of the same book's width
 pub words_same : (netlist : Netlist) (bits bits' storage : ℕ) (move : Move) (f g : ℕ → Bool) → bits' ≡ bits → ((word : ℕ) → g word ≡ f word) → IsWordsOf netlist bits storage move f → IsWordsOf netlist bits' storage move g
@@ -54,7 +55,7 @@ words_same netlist bits bits' storage move f g eb e w word fits =
     let h = w word (subst (λ b. word < 2 ^ b) eb fits) in
     (λ k. h.0 (sym (e word) ∙ k), λ k. e word ∙ h.1 k)
 
-pub whole_later : (old new : Diagrams) → Extends old new → (netlist : Netlist) (pool : List Node) (entries : List Entry) → AreHeld old entries → AreWhole netlist pool old entries → AreWhole netlist pool new entries
+pub whole_later : (old new : Diagrams) → Extends old new → (netlist : Netlist) (pool : List Node) (entries : List Entry) → HaveWords old entries → AreWhole netlist pool old entries → AreWhole netlist pool new entries
 whole_later old new e netlist pool [] h w = tt
 whole_later old new e netlist pool (x ∷ entries) h w = (
   words_same netlist old.bits new.bits x.storage (entry_move pool x) (λ word. has_word old x.set word) (λ word. has_word new x.set word) e.bits (λ word. same_words old new e x.set h.0.within word) w.0,
@@ -82,34 +83,34 @@ pub sets_later : (old new : Diagrams) → Extends old new → (routes : List Rou
 sets_later old new e [] h = tt
 sets_later old new e (r ∷ routes) h = (set_later old new e r.set h.0, sets_later old new e routes h.1)
 
-pub held_later : (old new : Diagrams) → Extends old new → (routes : List Route) → AllSets old routes → (word : ℕ) → held new routes word ≡ held old routes word
+pub held_later : (old new : Diagrams) → Extends old new → (routes : List Route) → AllSets old routes → (word : ℕ) → exprs_under new routes word ≡ exprs_under old routes word
 held_later old new e [] h word = refl
 held_later old new e (r ∷ routes) h word =
     let p = same_words old new e r.set h.0.within word in
     let q = held_later old new e routes h.1 word in
     (λ j. (if p j then r.expr ∷ [] else []) ++ q j)
 
-pub terms_later : (old new : Diagrams) → Extends old new → (pool : List Node) (routes : List Route) → AllSets old routes → (word : ℕ) → held_terms new pool routes word ≡ held_terms old pool routes word
+pub terms_later : (old new : Diagrams) → Extends old new → (pool : List Node) (routes : List Route) → AllSets old routes → (word : ℕ) → terms_under new pool routes word ≡ terms_under old pool routes word
 terms_later old new e pool routes h word = ap (map (term_at pool)) (held_later old new e routes h word)
 
-terms_step : (book : Diagrams) (pool : List Node) (route : Route) (rest : List ℕ) (word : ℕ) (b : Bool) → map (term_at pool) ((if b then route.expr ∷ [] else []) ++ rest) ≡ given b (term_at pool route.expr ∷ []) ++ map (term_at pool) rest
+terms_step : (book : Diagrams) (pool : List Node) (route : Route) (rest : List ℕ) (word : ℕ) (b : Bool) → map (term_at pool) ((if b then route.expr ∷ [] else []) ++ rest) ≡ list_if b (term_at pool route.expr ∷ []) ++ map (term_at pool) rest
 terms_step book pool route rest word true = refl
 terms_step book pool route rest word false = refl
 
 terms_suc : (book : Diagrams) (pool : List Node) (routes : List Route) (i : ℕ) (route : Route) → slice_get routes i ≡ Some route → (word : ℕ)
-    → held_terms book pool (take (suc i) routes) word ≡ held_terms book pool (take i routes) word ++ given (has_word book route.set word) (term_at pool route.expr ∷ [])
+    → terms_under book pool (take (suc i) routes) word ≡ terms_under book pool (take i routes) word ++ list_if (has_word book route.set word) (term_at pool route.expr ∷ [])
 terms_suc book pool [] i route at word = absurd (cc)
 terms_suc book pool (r ∷ routes) zero route at word =
-    terms_step book pool r [] word (has_word book r.set word) ∙ append-nil (given (has_word book r.set word) (term_at pool r.expr ∷ []))
-    ∙ (let e : r ≡ route = cc in λ j. given (has_word book (e j).set word) (term_at pool (e j).expr ∷ []))
+    terms_step book pool r [] word (has_word book r.set word) ∙ append-nil (list_if (has_word book r.set word) (term_at pool r.expr ∷ []))
+    ∙ (let e : r ≡ route = cc in λ j. list_if (has_word book (e j).set word) (term_at pool (e j).expr ∷ []))
 terms_suc book pool (r ∷ routes) (suc i) route at word =
-    terms_step book pool r (held book (take (suc i) routes) word) word (has_word book r.set word)
-    ∙ ap (λ l. given (has_word book r.set word) (term_at pool r.expr ∷ []) ++ l) (terms_suc book pool routes i route at word)
-    ∙ sym (append_assoc (given (has_word book r.set word) (term_at pool r.expr ∷ [])) (held_terms book pool (take i routes) word) (given (has_word book route.set word) (term_at pool route.expr ∷ [])))
-    ∙ ap (λ l. l ++ given (has_word book route.set word) (term_at pool route.expr ∷ [])) (sym (terms_step book pool r (held book (take i routes) word) word (has_word book r.set word)))
+    terms_step book pool r (exprs_under book (take (suc i) routes) word) word (has_word book r.set word)
+    ∙ ap (λ l. list_if (has_word book r.set word) (term_at pool r.expr ∷ []) ++ l) (terms_suc book pool routes i route at word)
+    ∙ sym (append_assoc (list_if (has_word book r.set word) (term_at pool r.expr ∷ [])) (terms_under book pool (take i routes) word) (list_if (has_word book route.set word) (term_at pool route.expr ∷ [])))
+    ∙ ap (λ l. l ++ list_if (has_word book route.set word) (term_at pool route.expr ∷ [])) (sym (terms_step book pool r (exprs_under book (take i routes) word) word (has_word book r.set word)))
 
 pub terms_more : (book : Diagrams) (pool : List Node) (routes : List Route) (i : ℕ) (route : Route) → slice_get routes i ≡ Some route → (word : ℕ)
-    → held_terms book pool (take (i + 1) routes) word ≡ held_terms book pool (take i routes) word ++ given (has_word book route.set word) (term_at pool route.expr ∷ [])
+    → terms_under book pool (take (i + 1) routes) word ≡ terms_under book pool (take i routes) word ++ list_if (has_word book route.set word) (term_at pool route.expr ∷ [])
 terms_more book pool routes i route at word = rw (add-one i) (terms_suc book pool routes i route at word)
 
 -- ---- a turn of a loop over routes
@@ -119,7 +120,7 @@ each-append f [] ys = refl
 each-append f (x ∷ xs) ys = ap (λ l. f x ++ l) (each-append f xs ys) ∙ sym (append_assoc (f x) (each f xs) (each f ys))
 
 turn_by : {X Y : Type 0} (f : X → List Y) (x : X) (done : List X) (before : List Y) (k b s : Bool)
-    → (before ++ given (k && b) (each f done)) ++ given (k && (b && s)) (f x) ≡ before ++ given (k && b) (each f (done ++ given s (x ∷ [])))
+    → (before ++ list_if (k && b) (each f done)) ++ list_if (k && (b && s)) (f x) ≡ before ++ list_if (k && b) (each f (done ++ list_if s (x ∷ [])))
 turn_by f x done before true true true =
     append_assoc before (each f done) (f x) ∙ ap (λ l. before ++ (each f done ++ l)) (sym (append-nil (f x))) ∙ ap (λ l. before ++ l) (sym (each-append f done (x ∷ [])))
 turn_by f x done before true true false = append-nil (before ++ each f done) ∙ ap (λ l. before ++ each f l) (sym (append-nil done))
@@ -128,19 +129,19 @@ turn_by f x done before false b s = append-nil (before ++ [])
 
 -- what was added for the routes so far, and what is added for this one
 pub turn : {X Y : Type 0} (f : X → List Y) (x : X) (done more : List X) (before now after add : List Y) (k b s c d : Bool)
-    → now ≡ before ++ given (k && b) (each f done)
+    → now ≡ before ++ list_if (k && b) (each f done)
     → c ≡ b → d ≡ s → add ≡ f x
-    → after ≡ now ++ given (k && (c && d)) add
-    → more ≡ done ++ given s (x ∷ [])
-    → after ≡ before ++ given (k && b) (each f more)
+    → after ≡ now ++ list_if (k && (c && d)) add
+    → more ≡ done ++ list_if s (x ∷ [])
+    → after ≡ before ++ list_if (k && b) (each f more)
 turn f x done more before now after add k b s c d en ec ed ea e em =
-    e ∙ (λ j. en j ++ given (k && (ec j && ed j)) (ea j)) ∙ turn_by f x done before k b s ∙ ap (λ l. before ++ given (k && b) (each f l)) (sym em)
+    e ∙ (λ j. en j ++ list_if (k && (ec j && ed j)) (ea j)) ∙ turn_by f x done before k b s ∙ ap (λ l. before ++ list_if (k && b) (each f l)) (sym em)
 
 -- nothing is added for no words
-pub nothing : {X : Type 0} (xs ys : List X) (k b : Bool) → b ≡ false → xs ≡ xs ++ given (k && b) ys
+pub nothing : {X : Type 0} (xs ys : List X) (k b : Bool) → b ≡ false → xs ≡ xs ++ list_if (k && b) ys
 nothing xs ys true true e = absurd (true≢false e)
 nothing xs ys true false e = sym (append-nil xs)
 nothing xs ys false b e = sym (append-nil xs)
 
-pub changed : {X : Type 0} (xs zs : List X) (ys us : List X) (k : Bool) → xs ≡ zs ++ given k ys → ys ≡ us → xs ≡ zs ++ given k us
-changed xs zs ys us k e f = e ∙ ap (λ l. zs ++ given k l) f
+pub changed : {X : Type 0} (xs zs : List X) (ys us : List X) (k : Bool) → xs ≡ zs ++ list_if k ys → ys ≡ us → xs ≡ zs ++ list_if k us
+changed xs zs ys us k e f = e ∙ ap (λ l. zs ++ list_if k l) f

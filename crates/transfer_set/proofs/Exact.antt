@@ -7,12 +7,12 @@ use Rattle.sym_expr.specs.declared.pool.Node.{Node}
 use Rattle.sym_expr.specs.Pools.{term_at, IsOneEach}
 use Rattle.rec_bits.proofs.Lists.{around}
 use Rattle.transfer_set.specs.declared.route.Route.{Route}
-use Rattle.transfer_set.specs.Routes.{row, held, held_terms, Fresh, NoRepeat, AllExprs, IsTable, only, Gives, RouteIs}
+use Rattle.transfer_set.specs.Routes.{row, exprs_under, terms_under, Fresh, NoRepeat, AllExprs, IsRouteTable, only, GivesTerm, RouteIs}
 use Rattle.transfer_set.proofs.Collecting.{expr_at}
 
-pub held-append : (book : Diagrams) (xs ys : List Route) (word : ℕ) → held book (xs ++ ys) word ≡ held book xs word ++ held book ys word
+pub held-append : (book : Diagrams) (xs ys : List Route) (word : ℕ) → exprs_under book (xs ++ ys) word ≡ exprs_under book xs word ++ exprs_under book ys word
 held-append book [] ys word = refl
-held-append book (x ∷ xs) ys word = ap (λ l. row book x word ++ l) (held-append book xs ys word) ∙ sym (append_assoc (row book x word) (held book xs word) (held book ys word))
+held-append book (x ∷ xs) ys word = ap (λ l. row book x word ++ l) (held-append book xs ys word) ∙ sym (append_assoc (row book x word) (exprs_under book xs word) (exprs_under book ys word))
 
 -- lists with at most one element
 single : {X : Type 0} (before after : List X) (x : X) (b : Bool) (y : X) → before ++ ((x ∷ []) ++ after) ≡ (if b then y ∷ [] else []) → (b ≡ true) × (x ≡ y)
@@ -24,30 +24,30 @@ single (z ∷ w ∷ before) after x true y e = absurd (cc)
 
 module _ (book : Diagrams) (pool : List Node) (legal : ℕ) (f : ℕ → Term) where
   -- a route that holds a word gives it its expression
-  pub holds_right : (before after : List Route) (route : Route) (word : ℕ) → held_terms book pool (before ++ route ∷ after) word ≡ only book legal word (f word)
+  pub holds_right : (before after : List Route) (route : Route) (word : ℕ) → terms_under book pool (before ++ route ∷ after) word ≡ only book legal word (f word)
       → has_word book route.set word ≡ true → (has_word book legal word ≡ true) × (term_at pool route.expr ≡ f word)
   holds_right before after route word e h =
-      single (map (term_at pool) (held book before word)) (map (term_at pool) (held book after word)) (term_at pool route.expr) (has_word book legal word) (f word)
-      (sym (ap (map (term_at pool)) (held-append book before (route ∷ after) word ∙ ap (λ b. held book before word ++ ((if b then route.expr ∷ [] else []) ++ held book after word)) h)
-      ∙ map-append (term_at pool) (held book before word) ((route.expr ∷ []) ++ held book after word)) ∙ e)
+      single (map (term_at pool) (exprs_under book before word)) (map (term_at pool) (exprs_under book after word)) (term_at pool route.expr) (has_word book legal word) (f word)
+      (sym (ap (map (term_at pool)) (held-append book before (route ∷ after) word ∙ ap (λ b. exprs_under book before word ++ ((if b then route.expr ∷ [] else []) ++ exprs_under book after word)) h)
+      ∙ map-append (term_at pool) (exprs_under book before word) ((route.expr ∷ []) ++ exprs_under book after word)) ∙ e)
 
   -- a word whose expression is that of a route is in its set
-  held_some : (routes : List Route) (word e : ℕ) → held book routes word ≡ e ∷ [] → (before after : List Route) (route : Route) → routes ≡ before ++ route ∷ after → NoRepeat routes → route.expr ≡ e → has_word book route.set word ≡ true
+  held_some : (routes : List Route) (word e : ℕ) → exprs_under book routes word ≡ e ∷ [] → (before after : List Route) (route : Route) → routes ≡ before ++ route ∷ after → NoRepeat routes → route.expr ≡ e → has_word book route.set word ≡ true
   held_some routes word e h before after route is apart same =
-      by before (subst (λ l. NoRepeat l) is apart) (sym (ap (λ l. held book l word) is) ∙ h)
+      by before (subst (λ l. NoRepeat l) is apart) (sym (ap (λ l. exprs_under book l word) is) ∙ h)
     where
-      none_of : (x : ℕ) (rs : List Route) → Fresh x rs → (ys : List ℕ) → held book rs word ≡ x ∷ ys → ⊥
+      none_of : (x : ℕ) (rs : List Route) → Fresh x rs → (ys : List ℕ) → exprs_under book rs word ≡ x ∷ ys → ⊥
       none_of x [] q ys k = absurd (cc)
       none_of x (r ∷ rs) q ys k = step (has_word book r.set word) (λ z. none_of x rs q.1 ys z) k
         where
-          step : (b : Bool) → (held book rs word ≡ x ∷ ys → ⊥) → (if b then r.expr ∷ [] else []) ++ held book rs word ≡ x ∷ ys → ⊥
+          step : (b : Bool) → (exprs_under book rs word ≡ x ∷ ys → ⊥) → (if b then r.expr ∷ [] else []) ++ exprs_under book rs word ≡ x ∷ ys → ⊥
           step true rest k = q.0 (cc)
           step false rest k = rest k
 
-      by : (before : List Route) → NoRepeat (before ++ route ∷ after) → held book (before ++ route ∷ after) word ≡ e ∷ [] → has_word book route.set word ≡ true
+      by : (before : List Route) → NoRepeat (before ++ route ∷ after) → exprs_under book (before ++ route ∷ after) word ≡ e ∷ [] → has_word book route.set word ≡ true
       by [] q k = step (has_word book route.set word) refl k
         where
-          step : (b : Bool) → has_word book route.set word ≡ b → (if b then route.expr ∷ [] else []) ++ held book after word ≡ e ∷ [] → has_word book route.set word ≡ true
+          step : (b : Bool) → has_word book route.set word ≡ b → (if b then route.expr ∷ [] else []) ++ exprs_under book after word ≡ e ∷ [] → has_word book route.set word ≡ true
           step true eb k = eb
           step false eb k = absurd (none_of route.expr after q.0 [] (k ∙ ap (λ x. x ∷ []) (sym same)))
       by (z ∷ before) q k = step (has_word book z.set word) (λ k. by before q.1 k) k
@@ -56,17 +56,17 @@ module _ (book : Diagrams) (pool : List Node) (legal : ℕ) (f : ℕ → Term) w
           fresh_at [] g = g.0
           fresh_at (x ∷ xs) g = fresh_at xs g.1
 
-          step : (b : Bool) → (held book (before ++ route ∷ after) word ≡ e ∷ [] → has_word book route.set word ≡ true)
-              → (if b then z.expr ∷ [] else []) ++ held book (before ++ route ∷ after) word ≡ e ∷ [] → has_word book route.set word ≡ true
+          step : (b : Bool) → (exprs_under book (before ++ route ∷ after) word ≡ e ∷ [] → has_word book route.set word ≡ true)
+              → (if b then z.expr ∷ [] else []) ++ exprs_under book (before ++ route ∷ after) word ≡ e ∷ [] → has_word book route.set word ≡ true
           step true rest k = absurd (fresh_at before q.0 (same ∙ sym (cc)))
           step false rest k = rest k
 
 -- an expression that some route gives is one of the pool
-held_in : (book : Diagrams) (size word : ℕ) (routes : List Route) → AllExprs size routes → (e : ℕ) (es : List ℕ) → held book routes word ≡ e ∷ es → e < size
+held_in : (book : Diagrams) (size word : ℕ) (routes : List Route) → AllExprs size routes → (e : ℕ) (es : List ℕ) → exprs_under book routes word ≡ e ∷ es → e < size
 held_in book size word [] h e es k = absurd (cc)
 held_in book size word (r ∷ routes) h e es k = by (has_word book r.set word) (λ q. held_in book size word routes h.1 e es q) k
   where
-    by : (b : Bool) → (held book routes word ≡ e ∷ es → e < size) → (if b then r.expr ∷ [] else []) ++ held book routes word ≡ e ∷ es → e < size
+    by : (b : Bool) → (exprs_under book routes word ≡ e ∷ es → e < size) → (if b then r.expr ∷ [] else []) ++ exprs_under book routes word ≡ e ∷ es → e < size
     by true rest q = (let s : r.expr ≡ e = cc in omega (arith, s, h.0))
     by false rest q = rest q
 
@@ -76,14 +76,14 @@ one_of t (x ∷ []) y k = (x, refl, cc)
 one_of t (x ∷ z ∷ xs) y k = absurd (cc)
 
 -- the set of each route is all legal words with its expression
-pub exact : (book : Diagrams) (pool : List Node) (legal : ℕ) (f : ℕ → Term) (routes : List Route) → IsOneEach pool → IsTable book pool routes → Gives book pool legal f routes
+pub exact : (book : Diagrams) (pool : List Node) (legal : ℕ) (f : ℕ → Term) (routes : List Route) → IsOneEach pool → IsRouteTable book pool routes → GivesTerm book pool legal f routes
     → (place : ℕ) (route : Route) → slice_get routes place ≡ Some route → RouteIs book pool legal f route
 exact book pool legal f routes one table g place route at word fits =
     let r = around routes place route at in
     let in_pool = expr_at (length pool) routes place route at table.exprs in (
-      λ h. holds_right book pool legal f r.before r.after route word (ap (λ l. held_terms book pool l word) (sym r.is) ∙ g word fits) h,
+      λ h. holds_right book pool legal f r.before r.after route word (ap (λ l. terms_under book pool l word) (sym r.is) ∙ g word fits) h,
       λ q.
-          let w = one_of (term_at pool) (held book routes word) (f word) (g word fits ∙ ap (λ b. if b then f word ∷ [] else []) q.0) in
+          let w = one_of (term_at pool) (exprs_under book routes word) (f word) (g word fits ∙ ap (λ b. if b then f word ∷ [] else []) q.0) in
           held_some book pool legal f routes word w.0 w.1 r.before r.after route r.is table.right.apart
           (sym ((one w.0 route.expr (held_in book (length pool) word routes table.exprs w.0 [] w.1) in_pool).0 (w.2 ∙ sym q.1))),
     )

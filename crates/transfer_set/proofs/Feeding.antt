@@ -11,7 +11,7 @@ use Rattle.ctl_bdd.specs.declared.ControlBits.{ControlBits}
 use Rattle.net_model.specs.declared.hardware.Netlist.{Netlist}
 use Rattle.net_model.specs.declared.hardware.Storage.{Storage}
 use Rattle.net_model.specs.declared.hardware.Storage.TheVariants.{Register, Memory}
-use Rattle.net_model.specs.Symbolic.{blank, sym_of}
+use Rattle.net_model.specs.Symbolic.{no_state, sym_of}
 use Rattle.net_model.specs.Terms.{Term, Move, keep, write, write_at}
 use Rattle.net_model.specs.Clock.{is_enabled}
 use Rattle.net_model.specs.Transfers.{move_at, same_reg, transfer_of}
@@ -20,9 +20,9 @@ use Rattle.net_model.specs.Widths.{StorageFits}
 use Rattle.sym_expr.specs.declared.pool.Node.{Node}
 use Rattle.sym_expr.specs.Pools.{term_at, IsOneEach}
 use Rattle.transfer_set.specs.declared.route.Route.{Route}
-use Rattle.transfer_set.specs.Routes.{RouteIs, held_terms, routes_at}
-use Rattle.transfer_set.specs.Entries.{ArePairs, AreWrites, each, given, memory_moves, register_moves}
-use Rattle.transfer_set.specs.Sources.{IsOnSet, IsSource, IsStorageKnown, IsWhenKnown, changes, when_set}
+use Rattle.transfer_set.specs.Routes.{RouteIs, terms_under, routes_at}
+use Rattle.transfer_set.specs.Inner.Entries.{ArePairs, AreWrites, each, list_if, memory_moves, register_moves}
+use Rattle.transfer_set.specs.Inner.Sources.{IsOnSet, IsSource, IsStorageKnown, IsWhenKnown, changes, when_set}
 use Rattle.transfer_set.proofs.Collecting.{sets_later, terms_later}
 use Rattle.transfer_set.proofs.Exact.{exact}
 
@@ -78,7 +78,7 @@ module _ (netlist : Netlist) (book : Diagrams) (pool : List Node) (controls : Co
     on : IsOnSet netlist book (when_set controls.bits when) when
     on = register_known.1
 
-    register_is : (word : ℕ) → move_at netlist word id ≡ (if is_enabled (value_of netlist blank word) when then (if same_reg (sym_of netlist word input) id then keep else write (sym_of netlist word input)) else keep)
+    register_is : (word : ℕ) → move_at netlist word id ≡ (if is_enabled (value_of netlist no_state word) when then (if same_reg (sym_of netlist word input) id then keep else write (sym_of netlist word input)) else keep)
     register_is word = ap (transfer_of netlist word id) at
 
     pub register_whole : AreWrites netlist pool book id (when_set controls.bits when) (routes_at nets input)
@@ -93,7 +93,7 @@ module _ (netlist : Netlist) (book : Diagrams) (pool : List Node) (controls : Co
                 ∙ ap (λ t. if same_reg t id then keep else write t) (sym r.1)
                 ∙ ap (λ s. if s then keep else write (term_at pool route.expr)) other;
           },
-      λ q. back (is_enabled (value_of netlist blank word) when) (same_reg (sym_of netlist word input) id) (on.words word fits) ((source.legal word fits).1 q.clean) (sym (register_is word) ∙ q.gives),
+      λ q. back (is_enabled (value_of netlist no_state word) when) (same_reg (sym_of netlist word input) id) (on.words word fits) ((source.legal word fits).1 q.clean) (sym (register_is word) ∙ q.gives),
     )
       where
         back : (o s : Bool) → has_word book (when_set controls.bits when) word ≡ o → has_word book controls.legal word ≡ true
@@ -107,18 +107,18 @@ module _ (netlist : Netlist) (book : Diagrams) (pool : List Node) (controls : Co
         back false s eo l e = absurd (cc)
 
     pub register_gives : (n word : ℕ) → word < 2 ^ book.bits
-        → given ((id == n) && has_word book (when_set controls.bits when) word) (each (register_moves id) (held_terms book pool (routes_at nets input) word))
-        ≡ given ((id == n) && has_word book controls.legal word) (changes (move_at netlist word id))
+        → list_if ((id == n) && has_word book (when_set controls.bits when) word) (each (register_moves id) (terms_under book pool (routes_at nets input) word))
+        ≡ list_if ((id == n) && has_word book controls.legal word) (changes (move_at netlist word id))
     register_gives n word fits =
         (let o = on.words word fits in
         let f = source.routes.gives input fit.0.0 word fits in
-        λ j. given ((id == n) && o j) (each (register_moves id) (f j)))
-        ∙ by (id == n) (is_enabled (value_of netlist blank word) when) (has_word book controls.legal word) (same_reg (sym_of netlist word input) id) refl
-        ∙ ap (λ m. given ((id == n) && has_word book controls.legal word) (changes m)) (sym (register_is word))
+        λ j. list_if ((id == n) && o j) (each (register_moves id) (f j)))
+        ∙ by (id == n) (is_enabled (value_of netlist no_state word) when) (has_word book controls.legal word) (same_reg (sym_of netlist word input) id) refl
+        ∙ ap (λ m. list_if ((id == n) && has_word book controls.legal word) (changes m)) (sym (register_is word))
       where
         by : (k o l s : Bool) → same_reg (sym_of netlist word input) id ≡ s
-            → given (k && o) (each (register_moves id) (if l then sym_of netlist word input ∷ [] else []))
-            ≡ given (k && l) (changes (if o then (if same_reg (sym_of netlist word input) id then keep else write (sym_of netlist word input)) else keep))
+            → list_if (k && o) (each (register_moves id) (if l then sym_of netlist word input ∷ [] else []))
+            ≡ list_if (k && l) (changes (if o then (if same_reg (sym_of netlist word input) id then keep else write (sym_of netlist word input)) else keep))
         by false o l s e = refl
         by true false true s e = refl
         by true false false s e = refl
@@ -134,7 +134,7 @@ module _ (netlist : Netlist) (book : Diagrams) (pool : List Node) (controls : Co
     on_memory : IsOnSet netlist book (when_set controls.bits when) when
     on_memory = memory_known.1
 
-    memory_is : (word : ℕ) → move_at netlist word id ≡ (if is_enabled (value_of netlist blank word) when then write_at (sym_of netlist word addr) (sym_of netlist word value) else keep)
+    memory_is : (word : ℕ) → move_at netlist word id ≡ (if is_enabled (value_of netlist no_state word) when then write_at (sym_of netlist word addr) (sym_of netlist word value) else keep)
     memory_is word = ap (transfer_of netlist word id) at
 
     pub memory_whole : ArePairs netlist pool book id (when_set controls.bits when) (routes_at nets addr) (routes_at nets value)
@@ -150,7 +150,7 @@ module _ (netlist : Netlist) (book : Diagrams) (pool : List Node) (controls : Co
                 ∙ ap (λ o. if o then write_at (sym_of netlist word addr) (sym_of netlist word value) else keep) (sym (on_memory.words word fits) ∙ d.0)
                 ∙ (λ j. write_at (sym r.1 j) (sym s.1 j));
           },
-      λ q. back (is_enabled (value_of netlist blank word) when) (on_memory.words word fits) ((source.legal word fits).1 q.clean) (sym (memory_is word) ∙ q.gives),
+      λ q. back (is_enabled (value_of netlist no_state word) when) (on_memory.words word fits) ((source.legal word fits).1 q.clean) (sym (memory_is word) ∙ q.gives),
     )
       where
         back : (o : Bool) → has_word book (when_set controls.bits when) word ≡ o → has_word book controls.legal word ≡ true
@@ -165,15 +165,15 @@ module _ (netlist : Netlist) (book : Diagrams) (pool : List Node) (controls : Co
         back false eo l e = absurd (cc)
 
     pub memory_gives : (n word : ℕ) → word < 2 ^ book.bits
-        → given ((id == n) && has_word book (when_set controls.bits when) word) (each (λ (a : Term). each (memory_moves a) (held_terms book pool (routes_at nets value) word)) (held_terms book pool (routes_at nets addr) word))
-        ≡ given ((id == n) && has_word book controls.legal word) (changes (move_at netlist word id))
+        → list_if ((id == n) && has_word book (when_set controls.bits when) word) (each (λ (a : Term). each (memory_moves a) (terms_under book pool (routes_at nets value) word)) (terms_under book pool (routes_at nets addr) word))
+        ≡ list_if ((id == n) && has_word book controls.legal word) (changes (move_at netlist word id))
     memory_gives n word fits =
         (let o = on_memory.words word fits in
         let f = source.routes.gives addr fit.1.0 word fits in
         let g = source.routes.gives value fit.0.0 word fits in
-        λ j. given ((id == n) && o j) (each (λ (a : Term). each (memory_moves a) (g j)) (f j)))
-        ∙ by (id == n) (is_enabled (value_of netlist blank word) when) (has_word book controls.legal word)
-        ∙ ap (λ m. given ((id == n) && has_word book controls.legal word) (changes m)) (sym (memory_is word))
+        λ j. list_if ((id == n) && o j) (each (λ (a : Term). each (memory_moves a) (g j)) (f j)))
+        ∙ by (id == n) (is_enabled (value_of netlist no_state word) when) (has_word book controls.legal word)
+        ∙ ap (λ m. list_if ((id == n) && has_word book controls.legal word) (changes m)) (sym (memory_is word))
       where
         f : Term
         f = sym_of netlist word addr
@@ -181,8 +181,8 @@ module _ (netlist : Netlist) (book : Diagrams) (pool : List Node) (controls : Co
         g : Term
         g = sym_of netlist word value
 
-        by : (k o l : Bool) → given (k && o) (each (λ (a : Term). each (memory_moves a) (if l then sym_of netlist word value ∷ [] else [])) (if l then sym_of netlist word addr ∷ [] else []))
-            ≡ given (k && l) (changes (if o then write_at (sym_of netlist word addr) (sym_of netlist word value) else keep))
+        by : (k o l : Bool) → list_if (k && o) (each (λ (a : Term). each (memory_moves a) (if l then sym_of netlist word value ∷ [] else [])) (if l then sym_of netlist word addr ∷ [] else []))
+            ≡ list_if (k && l) (changes (if o then write_at (sym_of netlist word addr) (sym_of netlist word value) else keep))
         by true true true = refl
         by true true false = refl
         by true false true = refl
@@ -191,14 +191,14 @@ module _ (netlist : Netlist) (book : Diagrams) (pool : List Node) (controls : Co
 
 -- ---- all storages
 
-pub upto : {X : Type 0} (i n : ℕ) (l : Bool) (xs : ℕ → List X) → given (nat_lt n i && l) (xs n) ++ given ((i == n) && l) (xs i) ≡ given (nat_lt n (i + 1) && l) (xs n)
+pub upto : {X : Type 0} (i n : ℕ) (l : Bool) (xs : ℕ → List X) → list_if (nat_lt n i && l) (xs n) ++ list_if ((i == n) && l) (xs i) ≡ list_if (nat_lt n (i + 1) && l) (xs n)
 upto i n l xs = by (nat_lt n i) (i == n) (nat_lt n (i + 1)) refl refl refl
   where
-    by : (a b d : Bool) → nat_lt n i ≡ a → (i == n) ≡ b → nat_lt n (i + 1) ≡ d → given (a && l) (xs n) ++ given (b && l) (xs i) ≡ given (d && l) (xs n)
+    by : (a b d : Bool) → nat_lt n i ≡ a → (i == n) ≡ b → nat_lt n (i + 1) ≡ d → list_if (a && l) (xs n) ++ list_if (b && l) (xs i) ≡ list_if (d && l) (xs n)
     by true true d ea eb ed = absurd (omega (arith, ltb-true n i ea, eqb-true i n eb))
-    by true false true ea eb ed = append-nil (given l (xs n))
+    by true false true ea eb ed = append-nil (list_if l (xs n))
     by true false false ea eb ed = absurd (omega (arith, ltb-true n i ea, ltb-false n (i + 1) ed))
-    by false true true ea eb ed = ap (λ m. given l (xs m)) (eqb-true i n eb)
+    by false true true ea eb ed = ap (λ m. list_if l (xs m)) (eqb-true i n eb)
     by false true false ea eb ed = absurd (omega (arith, eqb-true i n eb, ltb-false n (i + 1) ed))
     by false false true ea eb ed = (let e : i ≡ n = omega (arith, ltb-false n i ea, ltb-true n (i + 1) ed) in absurd (eqb-false i n eb e))
     by false false false ea eb ed = refl
@@ -209,16 +209,16 @@ slice_get-none (x ∷ xs) zero h = absurd (omega (arith, h))
 slice_get-none (x ∷ xs) (suc n) h = slice_get-none xs n (omega (arith, h))
 
 -- past the last storage nothing changes
-pub past : (netlist : Netlist) (word n i : ℕ) (l : Bool) → length netlist.storages ≤ i → given (nat_lt n i && l) (changes (move_at netlist word n)) ≡ given l (changes (move_at netlist word n))
+pub past : (netlist : Netlist) (word n i : ℕ) (l : Bool) → length netlist.storages ≤ i → list_if (nat_lt n i && l) (changes (move_at netlist word n)) ≡ list_if l (changes (move_at netlist word n))
 past netlist word n i l long = by (nat_lt n i) refl
   where
-    none : (l : Bool) → given {X = Move} l [] ≡ []
+    none : (l : Bool) → list_if {X = Move} l [] ≡ []
     none true = refl
     none false = refl
 
     gone : length netlist.storages ≤ n → changes (move_at netlist word n) ≡ []
     gone h = ap (λ s. changes (transfer_of netlist word n s)) (slice_get-none netlist.storages n h)
 
-    by : (b : Bool) → nat_lt n i ≡ b → given (b && l) (changes (move_at netlist word n)) ≡ given l (changes (move_at netlist word n))
+    by : (b : Bool) → nat_lt n i ≡ b → list_if (b && l) (changes (move_at netlist word n)) ≡ list_if l (changes (move_at netlist word n))
     by true e = refl
-    by false e = (let f = ltb-false n i e in sym (ap (λ m. given l m) (gone (omega (arith, f, long))) ∙ none l))
+    by false e = (let f = ltb-false n i e in sym (ap (λ m. list_if l m) (gone (omega (arith, f, long))) ∙ none l))

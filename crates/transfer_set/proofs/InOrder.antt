@@ -9,7 +9,7 @@ use Rattle.std.specs.declared.cmp.Ordering.TheVariants.{Less, Equal, Greater}
 use Rattle.std.specs.List.Sorted.{IsSorted}
 use Rattle.std.proofs.lemmas.List.MinMax.{ranks_by}
 use Rattle.std.proofs.lemmas.List.Sorted.{sorted_far}
-use Rattle.transfer_set.specs.Rows.{AreInOrder, IsNotAfter}
+use Rattle.transfer_set.specs.Rows.{AreSorted, IsNotAfter}
 use Rattle.transfer_set.specs.declared.row.Row.{Row}
 
 -- the derived order: field by field, as the fields stand
@@ -49,7 +49,7 @@ not_after a b e = by (nat_cmp b.storage a.storage) (ranked b.storage a.storage (
     by Equal h e = inr (sym h, less_then (slice_cmp nat_cmp b.text.items a.text.items) _ e)
     by Greater h e = inl h
 
-pub in_order : (rows : List Row) → IsSorted row_cmp rows → AreInOrder rows
+pub in_order : (rows : List Row) → IsSorted row_cmp rows → AreSorted rows
 in_order rows sorted i j d less within =
     let le : i ≤ j = omega (arith, less) in
     not_after (slice_index_or rows i d) (slice_index_or rows j d) (sorted_far _ (ranks_by rows_total (λ r. r)) rows sorted i j d le within)

@@ -8,10 +8,10 @@ use Rattle.net_model.specs.Terms.{Move, keep, write, write_at}
 use Rattle.sym_expr.specs.declared.pool.Node.{Node}
 use Rattle.transfer_set.specs.declared.entries.Entry.{Entry}
 use Rattle.transfer_set.specs.Routes.{IsSet}
-use Rattle.transfer_set.specs.Entries.{AreHeld, AreLeft, entry_move, given, keeps_all, moves_held}
-use Rattle.transfer_set.specs.Sources.{changes}
+use Rattle.transfer_set.specs.Inner.Entries.{HaveWords, AreLeft, entry_move, list_if, keeps_all, moves_under}
+use Rattle.transfer_set.specs.Inner.Sources.{changes}
 
-pub entry_at : (book : Diagrams) (entries : List Entry) (i : ℕ) (entry : Entry) → slice_get entries i ≡ Some entry → AreHeld book entries → IsSet book entry.set
+pub entry_at : (book : Diagrams) (entries : List Entry) (i : ℕ) (entry : Entry) → slice_get entries i ≡ Some entry → HaveWords book entries → IsSet book entry.set
 entry_at book [] i entry at h = absurd (cc)
 entry_at book (x ∷ entries) zero entry at h = (let e : x ≡ entry = cc in subst (λ (y : Entry). IsSet book y.set) e h.0)
 entry_at book (x ∷ entries) (suc i) entry at h = entry_at book entries i entry at h.1
@@ -51,17 +51,17 @@ is_none [] = true
 is_none (m ∷ ms) = false
 
 -- no set of the storage's transfers has the word where none of its transfers is held
-pub none_held : (book : Diagrams) (pool : List Node) (entries : List Entry) (storage word : ℕ) → keeps_all book entries storage word ≡ is_none (moves_held book pool entries storage word)
+pub none_held : (book : Diagrams) (pool : List Node) (entries : List Entry) (storage word : ℕ) → keeps_all book entries storage word ≡ is_none (moves_under book pool entries storage word)
 none_held book pool [] storage word = refl
 none_held book pool (x ∷ entries) storage word = by ((x.storage == storage) && has_word book x.set word) (none_held book pool entries storage word)
   where
-    by : (b : Bool) → keeps_all book entries storage word ≡ is_none (moves_held book pool entries storage word)
-        → (not b && keeps_all book entries storage word) ≡ is_none (given b (entry_move pool x ∷ []) ++ moves_held book pool entries storage word)
+    by : (b : Bool) → keeps_all book entries storage word ≡ is_none (moves_under book pool entries storage word)
+        → (not b && keeps_all book entries storage word) ≡ is_none (list_if b (entry_move pool x ∷ []) ++ moves_under book pool entries storage word)
     by true e = refl
     by false e = e
 
 -- the words that are left are those under which the storage keeps
-pub keeps_when : (m : Move) (l k : Bool) (held : List Move) → held ≡ given l (changes m) → k ≡ is_none held → ((l && k) ≡ true) ↔ ((l ≡ true) × (m ≡ keep))
+pub keeps_when : (m : Move) (l k : Bool) (held : List Move) → held ≡ list_if l (changes m) → k ≡ is_none held → ((l && k) ≡ true) ↔ ((l ≡ true) × (m ≡ keep))
 keeps_when m true k held is e = (λ q. (refl, only m (sym (ap is_none is) ∙ sym e ∙ q)), λ q. e ∙ ap is_none (is ∙ ap changes q.1))
   where
     only : (m : Move) → is_none (changes m) ≡ true → m ≡ keep
@@ -72,13 +72,13 @@ keeps_when m false k held is e = (λ q. absurd (true≢false (sym q)), λ q. abs
 
 -- ---- all storages
 
-keeps_later : (old new : Diagrams) → Extends old new → (entries : List Entry) → AreHeld old entries → (storage word : ℕ) → keeps_all new entries storage word ≡ keeps_all old entries storage word
+keeps_later : (old new : Diagrams) → Extends old new → (entries : List Entry) → HaveWords old entries → (storage word : ℕ) → keeps_all new entries storage word ≡ keeps_all old entries storage word
 keeps_later old new e [] h storage word = refl
 keeps_later old new e (x ∷ entries) h storage word =
     (let same = same_words old new e x.set h.0.within word in λ j. not ((x.storage == storage) && same j) && keeps_later old new e entries h.1 storage word j)
 
 -- one storage more
-pub left_push : (old mid new : Diagrams) → Extends old mid → Extends mid new → (legal : ℕ) → legal < length old.nodes → (entries : List Entry) → AreHeld old entries → (count : ℕ) (sets : List ℕ) (set : ℕ)
+pub left_push : (old mid new : Diagrams) → Extends old mid → Extends mid new → (legal : ℕ) → legal < length old.nodes → (entries : List Entry) → HaveWords old entries → (count : ℕ) (sets : List ℕ) (set : ℕ)
     → AreLeft old mid legal entries count sets → set < length new.nodes → ((word : ℕ) → has_word new set word ≡ (has_word mid legal word && keeps_all mid entries count word))
     → AreLeft old new legal entries (count + 1) (sets ++ set ∷ [])
 left_push old mid new before after legal lt entries held count sets set left within words = record {

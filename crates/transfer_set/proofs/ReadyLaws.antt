@@ -1,4 +1,5 @@
--- What is told of a netlist's patterns stays so while the book and the pool grow, and what its rows and sets are.
+-- What is told of a netlist's patterns stays so while the book and the pool grow, and what its rows
+-- and sets are.
 use Rattle.std.proofs.Common.{◌≡◌, ◌↔◌, ℕ, suc, ◌^◌, ◌<◌, true, All, AllPairs, Contains, List, [], ◌∷◌, length, Option, Some, None, slice_get, slice_index, refl, sym, ◌∙◌, ap, subst, arith}
 use Rattle.std.specs.Prelude.{◌≢◌}
 use Rattle.std.proofs.lemmas.List.Elements.{All-weaker}
@@ -16,7 +17,7 @@ use Rattle.sym_expr.specs.Pools.{Grows, term_at}
 use Rattle.sym_expr.proofs.CallerLemmas.{grows_refl, same_term}
 use Rattle.transfer_set.specs.Entries.{IsAddrKnown, ids_move}
 use Rattle.transfer_set.specs.Ready.{IsReady}
-use Rattle.transfer_set.specs.Rows.{row_move, row_pattern, told_patterns}
+use Rattle.transfer_set.specs.Rows.{row_move, row_pattern, row_patterns}
 use Rattle.transfer_set.specs.Sets.{IsKeepSet, IsStepSet}
 use Rattle.transfer_set.specs.Tables.{Table, IsPatternTable, IsRow}
 use Rattle.transfer_set.specs.declared.row.Row.{Row}
@@ -67,17 +68,17 @@ module _ (netlist : Netlist) (old new : Diagrams) (grows : Extends old new) wher
               (along (IsWordOf netlist (row_pattern pool row) word) row.set word h.set.within (h.whole word (fits_old word f)));
         }
 
-    same_patterns : (rows : List Row) → All (IsRow netlist old pool) rows → told_patterns more rows ≡ told_patterns pool rows
+    same_patterns : (rows : List Row) → All (IsRow netlist old pool) rows → row_patterns more rows ≡ row_patterns pool rows
     same_patterns [] h = refl
     same_patterns (row ∷ rows) h =
         let first : IsRow netlist old pool row = h 0 row (omega arith) in
         let m : row_move more row ≡ row_move pool row = same_move row.addr row.value first.addr first.value in
-        let later : told_patterns more rows ≡ told_patterns pool rows = same_patterns rows (λ i d lt. h (suc i) d (omega (arith, lt))) in
+        let later : row_patterns more rows ≡ row_patterns pool rows = same_patterns rows (λ i d lt. h (suc i) d (omega (arith, lt))) in
         (λ j. let p : Pattern = record { storage = row.storage; move = m j } in p ∷ later j)
 
     pub table_later : (table : Table) → IsPatternTable netlist old pool table → IsPatternTable netlist new more table
     table_later table h =
-        let same : told_patterns pool table.rows ≡ told_patterns more table.rows = sym (same_patterns table.rows h.rows) in
+        let same : row_patterns pool table.rows ≡ row_patterns more table.rows = sym (same_patterns table.rows h.rows) in
         record {
           rows = All-weaker (IsRow netlist old pool) (IsRow netlist new more) row_later table.rows h.rows;
           each = subst (All (IsPattern netlist)) same h.each;

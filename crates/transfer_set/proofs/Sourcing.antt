@@ -20,7 +20,7 @@ use Rattle.net_model.specs.Nets.{word_width}
 use Rattle.sym_expr.specs.declared.pool.Node.{Node}
 use Rattle.transfer_set.specs.declared.route.Route.{Route}
 use Rattle.transfer_set.specs.Routes.{AreRoutes}
-use Rattle.transfer_set.specs.Sources.{IsOnSet, IsSource, IsStorageKnown, IsWhenKnown, only_set}
+use Rattle.transfer_set.specs.Inner.Sources.{IsOnSet, IsSource, IsStorageKnown, IsWhenKnown, only_set}
 use Rattle.net_model.proofs.KeptRules.{sound_of}
 use Rattle.net_model.proofs.Offsets.{gathered_at}
 use Rattle.transfer_set.proofs.Feeding.{all_at}

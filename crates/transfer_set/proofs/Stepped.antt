@@ -9,9 +9,10 @@ use Rattle.net_model.specs.Terms.{Move, Term, keep, write, write_at, reg, const,
 use Rattle.sym_expr.specs.declared.pool.Node.{Node}
 use Rattle.transfer_set.specs.declared.entries.Entry.{Entry}
 use Rattle.transfer_set.specs.declared.stepping.Counter.{Counter}
-use Rattle.transfer_set.specs.Entries.{AreKnown, entry_move, given, moves_held}
-use Rattle.transfer_set.specs.Sources.{changes}
-use Rattle.transfer_set.specs.Stepping.{any_step, entry_steps, is_next, is_one, is_reg, move_steps}
+use Rattle.transfer_set.specs.Inner.Entries.{AreKnown, entry_move, list_if, moves_under}
+use Rattle.transfer_set.specs.Inner.Sources.{changes}
+use Rattle.transfer_set.specs.Stepping.{is_next, is_one, is_reg}
+use Rattle.transfer_set.specs.Inner.Stepping.{any_step, entry_steps, move_steps}
 
 or_assoc : (a b c : Bool) → (a || b) || c ≡ (a || (b || c))
 or_assoc true b c = refl
@@ -56,17 +57,17 @@ any_append p (x ∷ xs) ys = ap (λ b. p x || b) (any_append p xs ys) ∙ sym (o
 
 -- a transfer that steps has a word where it is one of the register's transfers under the word
 pub any_moves : (book : Diagrams) (pool : List Node) (counter : Counter) (word : ℕ) (entries : List Entry)
-    → any_step book pool counter entries word ≡ list_any (move_steps counter) (moves_held book pool entries counter.storage word)
+    → any_step book pool counter entries word ≡ list_any (move_steps counter) (moves_under book pool entries counter.storage word)
 any_moves book pool counter word [] = refl
 any_moves book pool counter word (x ∷ entries) =
     (λ j. one (move_steps counter) (entry_move pool x) (x.storage == counter.storage) (has_word book x.set word) j || any_moves book pool counter word entries j)
-    ∙ sym (any_append (move_steps counter) (given ((x.storage == counter.storage) && has_word book x.set word) (entry_move pool x ∷ [])) (moves_held book pool entries counter.storage word))
+    ∙ sym (any_append (move_steps counter) (list_if ((x.storage == counter.storage) && has_word book x.set word) (entry_move pool x ∷ [])) (moves_under book pool entries counter.storage word))
   where
     and_false : (a : Bool) → (a && false) ≡ false
     and_false true = refl
     and_false false = refl
 
-    one : (p : Move → Bool) (m : Move) (k h : Bool) → ((k && p m) && h) ≡ list_any p (given (k && h) (m ∷ []))
+    one : (p : Move → Bool) (m : Move) (k h : Bool) → ((k && p m) && h) ≡ list_any p (list_if (k && h) (m ∷ []))
     one p m true true = and_true (p m) ∙ sym (or_none (p m))
     one p m true false = and_false (p m)
     one p m false h = refl
@@ -109,7 +110,7 @@ module _ (counter : Counter) where
       same n = eq-eqb n n refl
 
   -- a gathered word is one under which the register becomes itself plus 1
-  pub steps_when : (m : Move) (l s : Bool) (held : List Move) → held ≡ given l (changes m) → s ≡ list_any (move_steps counter) held
+  pub steps_when : (m : Move) (l s : Bool) (held : List Move) → held ≡ list_if l (changes m) → s ≡ list_any (move_steps counter) held
       → (s ≡ true) ↔ ((l ≡ true) × ((m ≡ write (next_of counter.storage counter.width)) ⊎ (m ≡ write (swapped_next_of counter.storage counter.width))))
   steps_when m true s held is e = (
     λ q. (refl, there m (sym (ap (list_any (move_steps counter)) is) ∙ sym e ∙ q)),

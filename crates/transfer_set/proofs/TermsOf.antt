@@ -10,7 +10,7 @@ use Rattle.net_model.specs.declared.hardware.Storage.{Storage}
 use Rattle.net_model.specs.declared.hardware.Storage.TheVariants.{Register, Memory}
 use Rattle.net_model.specs.CheckedRules.{KeepsRules}
 use Rattle.net_model.specs.Nets.{code_bits, net_width, storage_bits, width_at, word_width}
-use Rattle.net_model.specs.Symbolic.{blank, bus_term, case_term, gate_term, is_static, net_term, sliced, sym_of, sym_within}
+use Rattle.net_model.specs.Symbolic.{no_state, bus_term, case_term, gate_term, is_static, net_term, sliced, sym_of, sym_within}
 use Rattle.net_model.specs.Terms.{Term, reg, slice, term_width, Move, keep, write, write_at}
 use Rattle.net_model.specs.Clock.{is_enabled}
 use Rattle.net_model.specs.Transfers.{move_at, same_reg, storage_move, transfer_of}
@@ -104,7 +104,7 @@ module _ (netlist : Netlist) (typed : IsTyped netlist) (one : length netlist.cod
   within : (i k n : ℕ) → IsTermOf netlist (sym_within k netlist i n)
   within i zero n = (small (width_at netlist n) (narrow_at n), small 0 (omega arith))
   within i (suc k) n =
-      net_of (sym_within k netlist i) (value_within k netlist blank i) (is_static netlist) (within i k) (width_is netlist i typed k) (slice_get netlist.nets n) (typed.nets n)
+      net_of (sym_within k netlist i) (value_within k netlist no_state i) (is_static netlist) (within i k) (width_is netlist i typed k) (slice_get netlist.nets n) (typed.nets n)
 
 -- the symbolic value of each net under each word; where there is no net it is a constant of no bits
 sym_terms : (netlist : Netlist) (order : List ℕ) → KeepsRules netlist order → (i n : ℕ) → IsTermOf netlist (sym_of netlist i n)
@@ -128,4 +128,4 @@ move_terms netlist order k i id = by (slice_get netlist.storages id)
   where
     by : (o : Option Storage) → IsMoveOf netlist (transfer_of netlist i id o)
     by None = tt
-    by (Some storage) = storage_of netlist (sym_of netlist i) (value_of netlist blank i) id (sym_terms netlist order k i) storage
+    by (Some storage) = storage_of netlist (sym_of netlist i) (value_of netlist no_state i) id (sym_terms netlist order k i) storage

@@ -15,7 +15,7 @@ use Rattle.net_model.specs.declared.hardware.Netlist.{Netlist}
 use Rattle.net_model.specs.declared.hardware.Code.{Code}
 use Rattle.net_model.specs.declared.hardware.Storage.{Storage}
 use Rattle.net_model.specs.declared.hardware.Storage.TheVariants.{Register, Memory}
-use Rattle.net_model.specs.CheckedRules.{NamesDiffer, names_of, storage_name}
+use Rattle.net_model.specs.CheckedRules.{NamesDiffer, storage_names, storage_name}
 use Rattle.net_model.specs.Terms.{Term, word, reg, const, read, un, bin, slice, cat, zext, sext, select}
 use Rattle.net_model.specs.Nets.{memory_id, storage_bits}
 use Rattle.net_model.specs.Texts.{first_name, memory_name, name_of, op1_text, op2_text, name_in, term_text}
@@ -236,13 +236,13 @@ code_at (storage ∷ storages) codes e = code_at storages codes e
 module _ (netlist : Netlist) (names : NamesDiffer netlist) (one : length netlist.codes ≡ 1) where
   same_register : (r q : ℕ) → r < length netlist.storages → q < length netlist.storages → name_of netlist r ≡ name_of netlist q → r ≡ q
   same_register r q a b e =
-      once (names_of netlist) names r q (name_of netlist q)
+      once (storage_names netlist) names r q (name_of netlist q)
       (registers_at netlist.storages (map (λ (code : Code). code.name) netlist.codes) r a ∙ ap Some e)
       (registers_at netlist.storages (map (λ (code : Code). code.name) netlist.codes) q b)
 
   no_code : (r : ℕ) → r < length netlist.storages → name_of netlist r ≡ first_name netlist.codes → ⊥
   no_code r lt e =
-      let same : r ≡ length netlist.storages = once (names_of netlist) names r (length netlist.storages) (first_name netlist.codes)
+      let same : r ≡ length netlist.storages = once (storage_names netlist) names r (length netlist.storages) (first_name netlist.codes)
       (registers_at netlist.storages (map (λ (code : Code). code.name) netlist.codes) r lt ∙ ap Some e)
       (code_at netlist.storages netlist.codes one) in
       omega (arith, same, lt)

@@ -1,6 +1,5 @@
 pub mod Routes
 pub mod Entries
-pub mod Sources
 pub mod Stepping
 pub mod Rows
 pub mod PatternsText
@@ -8,3 +7,4 @@ pub mod Tables
 pub mod Ready
 pub mod Sets
 pub mod TextMarks
+pub mod Inner

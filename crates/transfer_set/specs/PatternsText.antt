@@ -12,14 +12,14 @@ use Rattle.net_model.specs.Nets.{word_width}
 -- ---- the lines
 
 -- NUMBER TRANSFER ; HEX, where a word has so many bytes
-abbrev pub line_of : ℕ → List ℕ → ℕ → ℕ → List ℕ
-line_of number transfer bytes word =
+abbrev pub line_text : ℕ → List ℕ → ℕ → ℕ → List ℕ
+line_text number transfer bytes word =
     concat (decimal number ∷ codes " " ∷ transfer ∷ codes " ; " ∷ hex_of bytes word ∷ codes "\n" ∷ [])
 
 -- the line of a pattern with its number and a word
 abbrev pub pattern_line : Netlist → ℕ → Pattern → ℕ → List ℕ
 pattern_line netlist number pattern word =
-    line_of number (move_text netlist pattern.storage pattern.move) (bytes_of (word_width netlist)) word
+    line_text number (move_text netlist pattern.storage pattern.move) (bytes_of (word_width netlist)) word
 
 -- the lines of patterns with their words, numbered from a number on
 abbrev pub pattern_lines : Netlist → ℕ → List (Pattern × ℕ) → List ℕ
@@ -41,16 +41,16 @@ pub record IsLeastWord (netlist : Netlist) (pattern : Pattern) (word : ℕ) : Ty
   pub least : (other : ℕ) → IsWordOf netlist pattern other → word ≤ other
 
 -- one for each of several patterns
-abbrev pub AreLeastWords : Netlist → List Pattern → List ℕ → Type 0
-AreLeastWords netlist [] [] = Unit {0}
-AreLeastWords netlist [] (word ∷ words) = ⊥
-AreLeastWords netlist (pattern ∷ patterns) [] = ⊥
-AreLeastWords netlist (pattern ∷ patterns) (word ∷ words) = IsLeastWord netlist pattern word × AreLeastWords netlist patterns words
+abbrev pub ArePatternWords : Netlist → List Pattern → List ℕ → Type 0
+ArePatternWords netlist [] [] = Unit {0}
+ArePatternWords netlist [] (word ∷ words) = ⊥
+ArePatternWords netlist (pattern ∷ patterns) [] = ⊥
+ArePatternWords netlist (pattern ∷ patterns) (word ∷ words) = IsLeastWord netlist pattern word × ArePatternWords netlist patterns words
 
 -- the text of these patterns, numbered from 0, each with its least word
 pub record IsPatternsText (netlist : Netlist) (patterns : List Pattern) (text : List ℕ) : Type 0 where
   pub words : List ℕ
-  pub least : AreLeastWords netlist patterns words
+  pub least : ArePatternWords netlist patterns words
   pub is : text ≡ patterns_text netlist (zip patterns words)
 
 -- ---- while the text is made
@@ -64,7 +64,7 @@ pub record IsLine (netlist : Netlist) (number : ℕ) (pattern : Pattern) (line :
 -- the lines of patterns, numbered from a number on
 pub record AreLines (netlist : Netlist) (number : ℕ) (patterns : List Pattern) (lines : List ℕ) : Type 0 where
   pub words : List ℕ
-  pub least : AreLeastWords netlist patterns words
+  pub least : ArePatternWords netlist patterns words
   pub is : lines ≡ pattern_lines netlist number (zip patterns words)
 
 -- the least word of a set

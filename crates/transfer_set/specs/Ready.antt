@@ -1,4 +1,5 @@
--- What ids mean over a netlist, a book of sets, a pool of expressions and a table of patterns, together.
+-- What ids mean over a netlist, a book of sets, a pool of expressions and a table of patterns,
+-- together.
 use Rattle.std.specs.Prelude.{◌≡◌, List}
 use Rattle.bit_bdd.specs.Diagrams.{Diagrams, Extends}
 use Rattle.net_model.specs.declared.hardware.Netlist.{Netlist}
@@ -7,7 +8,8 @@ use Rattle.sym_expr.specs.declared.pool.Node.{Node}
 use Rattle.sym_expr.specs.Pools.{Grows}
 use Rattle.transfer_set.specs.Tables.{IsPatternTable, Table}
 
--- the table is that of the netlist's patterns, with its sets in a book of the netlist's words and its expressions in the pool
+-- the table is that of the netlist's patterns, with its sets in a book of the netlist's words and
+-- its expressions in the pool
 pub record IsReady (netlist : Netlist) (book : Diagrams) (pool : List Node) (table : Table) : Type 0 where
   pub patterns : IsPatternTable netlist book pool table
   pub bits : book.bits ≡ word_width netlist

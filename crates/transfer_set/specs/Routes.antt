@@ -16,12 +16,12 @@ abbrev pub row : Diagrams → Route → ℕ → List ℕ
 row book route word = if has_word book route.set word then route.expr ∷ [] else []
 
 -- the expressions of the routes whose sets hold a word
-abbrev pub held : Diagrams → List Route → ℕ → List ℕ
-held book [] word = []
-held book (route ∷ routes) word = row book route word ++ held book routes word
+abbrev pub exprs_under : Diagrams → List Route → ℕ → List ℕ
+exprs_under book [] word = []
+exprs_under book (route ∷ routes) word = row book route word ++ exprs_under book routes word
 
-abbrev pub held_terms : Diagrams → List Node → List Route → ℕ → List Term
-held_terms book pool routes word = map (term_at pool) (held book routes word)
+abbrev pub terms_under : Diagrams → List Node → List Route → ℕ → List Term
+terms_under book pool routes word = map (term_at pool) (exprs_under book routes word)
 
 -- an expression that no route has
 abbrev pub Fresh : ℕ → List Route → Type 0
@@ -55,7 +55,7 @@ pub record IsRoutes (book : Diagrams) (routes : List Route) : Type 0 where
   pub apart : NoRepeat routes
 
 -- routes over a book and a pool
-pub record IsTable (book : Diagrams) (pool : List Node) (routes : List Route) : Type 0 where
+pub record IsRouteTable (book : Diagrams) (pool : List Node) (routes : List Route) : Type 0 where
   pub right : IsRoutes book routes
   pub exprs : AllExprs (length pool) routes
 
@@ -66,8 +66,8 @@ abbrev pub only : Diagrams → ℕ → ℕ → Term → List Term
 only book legal word term = if has_word book legal word then term ∷ [] else []
 
 -- the routes give each word of a set its expression, by just one of them, and no other word any
-abbrev pub Gives : Diagrams → List Node → ℕ → (ℕ → Term) → List Route → Type 0
-Gives book pool legal f routes = (word : ℕ) → word < 2 ^ book.bits → held_terms book pool routes word ≡ only book legal word (f word)
+abbrev pub GivesTerm : Diagrams → List Node → ℕ → (ℕ → Term) → List Route → Type 0
+GivesTerm book pool legal f routes = (word : ℕ) → word < 2 ^ book.bits → terms_under book pool routes word ≡ only book legal word (f word)
 
 -- the set of a route is all words of the set with its expression
 abbrev pub RouteIs : Diagrams → List Node → ℕ → (ℕ → Term) → Route → Type 0
@@ -81,8 +81,9 @@ routes_or_none (Some routes) = routes
 abbrev pub routes_at : List (List Route) → ℕ → List Route
 routes_at nets n = routes_or_none (slice_get nets n)
 
--- the routes of each net of the netlist partition the words without clash by the net's symbolic value
+-- the routes of each net of the netlist partition the words without clash by the net's symbolic
+-- value
 pub record AreRoutes (netlist : Netlist) (book : Diagrams) (pool : List Node) (legal : ℕ) (nets : List (List Route)) : Type 0 where
   pub long : length nets ≡ length netlist.nets
-  pub tables : (n : ℕ) → IsTable book pool (routes_at nets n)
-  pub gives : (n : ℕ) → n < length netlist.nets → Gives book pool legal (λ word. sym_of netlist word n) (routes_at nets n)
+  pub tables : (n : ℕ) → IsRouteTable book pool (routes_at nets n)
+  pub gives : (n : ℕ) → n < length netlist.nets → GivesTerm book pool legal (λ word. sym_of netlist word n) (routes_at nets n)

@@ -1,4 +1,5 @@
--- Patterns as they are told: each with the text of its transfer, its words, and the instruction bits that occur in it.
+-- Patterns as they are told: each with the text of its transfer, its words, and the instruction
+-- bits that occur in it.
 use Rattle.std.specs.Prelude.{◌≡◌, ◌<◌, ◌⊎◌, List, map, AllPairs, IsPermutation}
 use Rattle.std.specs.Cmp.Lexicographic.{slice_cmp}
 use Rattle.std.specs.Ordering.{nat_cmp}
@@ -34,11 +35,11 @@ row_move pool row = ids_move pool row.addr row.value
 abbrev pub row_pattern : List Node → Row → Pattern
 row_pattern pool row = record { storage = row.storage; move = row_move pool row }
 
-abbrev pub told_patterns : List Node → List Row → List Pattern
-told_patterns pool rows = map (row_pattern pool) rows
+abbrev pub row_patterns : List Node → List Row → List Pattern
+row_patterns pool rows = map (row_pattern pool) rows
 
 -- the text is that of the transfer, and the fields are its instruction bits
-pub record IsTold (netlist : Netlist) (pool : List Node) (row : Row) : Type 0 where
+pub record ShowsMove (netlist : Netlist) (pool : List Node) (row : Row) : Type 0 where
   pub text : row.text.items ≡ move_text netlist row.storage (row_move pool row)
   pub fields : row.fields ≡ move_fields (row_move pool row)
 
@@ -46,5 +47,5 @@ pub record IsTold (netlist : Netlist) (pool : List Node) (row : Row) : Type 0 wh
 abbrev pub IsNotAfter : Row → Row → Type 0
 IsNotAfter a b = (a.storage < b.storage) ⊎ ((a.storage ≡ b.storage) × (slice_cmp nat_cmp b.text.items a.text.items ≡ Less → ⊥))
 
-abbrev pub AreInOrder : List Row → Type 0
-AreInOrder rows = AllPairs IsNotAfter rows
+abbrev pub AreSorted : List Row → Type 0
+AreSorted rows = AllPairs IsNotAfter rows

@@ -1,4 +1,5 @@
-//! Transfers with the words that give them, as they are collected from the routes of what feeds a storage.
+//! Transfers with the words that give them, as they are collected from the routes of what feeds a
+//! storage.
 
 ghost use Rattle.std.specs.Prelude.{◌≡◌, ℕ, ◌^◌, ◌==◌, ◌<◌, ◌≤◌, ◌&&◌, [], ◌∷◌, ◌++◌, map, length, IfOk, OnOk, List, Some, None, false, slice_get};
 ghost use Rattle.bit_bdd.specs.Diagrams.{Extends, has_word};
@@ -7,8 +8,9 @@ ghost use Rattle.net_model.specs.Terms.{Term, write};
 ghost use Rattle.net_model.specs.Transfers.{same_reg};
 ghost use Rattle.sym_expr.specs.declared.pool.Node.{Node as TheNode};
 ghost use Rattle.sym_expr.specs.Pools.{term_at};
-ghost use Rattle.transfer_set.specs.Routes.{AllExprs, AllSets, held_terms};
-ghost use Rattle.transfer_set.specs.Entries.{AreHeld, AreKnown, AreWhole, ArePairs, AreValues, AreWrites, IsAddrKnown, IsWordsOf, each, given, ids_move, memory_moves, moves_held, register_moves};
+ghost use Rattle.transfer_set.specs.Routes.{AllExprs, AllSets, terms_under};
+ghost use Rattle.transfer_set.specs.Entries.{IsAddrKnown, IsWordsOf, ids_move};
+ghost use Rattle.transfer_set.specs.Inner.Entries.{HaveWords, AreKnown, AreWhole, ArePairs, AreValues, AreWrites, each, list_if, memory_moves, moves_under, register_moves};
 
 use crate::route::Route;
 use bit_bdd::{Book, SetId};
@@ -16,7 +18,8 @@ use rec_bits::{Items, NoMemory};
 use std::alloc::Global;
 use sym_expr::{ExprId, Node, Pool};
 
-// A transfer of a storage, with an address where the storage is a memory, and the words that give it.
+// A transfer of a storage, with an address where the storage is a memory, and the words that give
+// it.
 #[derive(Clone, Copy, Debug, PartialEq, Eq)]
 pub(crate) struct Entry {
     pub(crate) storage: u32,
@@ -38,13 +41,13 @@ fn add_entry(
 ) -> Result<(), NoMemory>
     requires a { a < length book.old.nodes }
     requires b { b < length book.old.nodes }
-    requires held { AreHeld book.old out.old }
+    requires held { HaveWords book.old out.old }
     ensures grows { Extends book.old book.new }
-    ensures held { OnOk result (AreHeld book.new out.new) }
+    ensures held { OnOk result (HaveWords book.new out.new) }
     ensures moves { OnOk result ((pool : List TheNode) (id word : ℕ) →
-        moves_held book.new pool out.new id word ≡
-        moves_held book.old pool out.old id word ++
-        given ((storage == id) && (has_word book.old a word && has_word book.old b word)) (ids_move pool addr value ∷ [])) }
+        moves_under book.new pool out.new id word ≡
+        moves_under book.old pool out.old id word ++
+        list_if ((storage == id) && (has_word book.old a word && has_word book.old b word)) (ids_move pool addr value ∷ [])) }
     ensures whole { OnOk result ((netlist : Netlist) (pool : List TheNode) →
         AreWhole netlist pool book.old out.old →
         IsWordsOf netlist book.old.bits storage (ids_move pool addr value) (λ word. has_word book.old a word && has_word book.old b word) →
@@ -77,7 +80,8 @@ fn is_own(pool: &Pool, expr: ExprId, storage: u32) -> bool
     }
 }
 
-// Adds the transfer of a register that takes, under the words of a set, what a route gives, unless that is the register itself.
+// Adds the transfer of a register that takes, under the words of a set, what a route gives, unless
+// that is the register itself.
 fn add_write(
     alloc: Global,
     book: &mut Book,
@@ -90,13 +94,13 @@ fn add_write(
     requires on { on < length book.old.nodes }
     requires set { route.set < length book.old.nodes }
     requires expr { route.expr < length pool.now }
-    requires held { AreHeld book.old out.old }
+    requires held { HaveWords book.old out.old }
     ensures grows { Extends book.old book.new }
-    ensures held { OnOk result (AreHeld book.new out.new) }
+    ensures held { OnOk result (HaveWords book.new out.new) }
     ensures moves { OnOk result ((id word : ℕ) →
-        moves_held book.new pool.now out.new id word ≡
-        moves_held book.old pool.now out.old id word ++
-        given ((storage == id) && (has_word book.old on word && has_word book.old route.set word)) (register_moves storage (term_at pool.now route.expr))) }
+        moves_under book.new pool.now out.new id word ≡
+        moves_under book.old pool.now out.old id word ++
+        list_if ((storage == id) && (has_word book.old on word && has_word book.old route.set word)) (register_moves storage (term_at pool.now route.expr))) }
     ensures whole { OnOk result ((netlist : Netlist) →
         AreWhole netlist pool.now book.old out.old →
         (same_reg (term_at pool.now route.expr) storage ≡ false →
@@ -124,13 +128,13 @@ pub(crate) fn add_register(
     requires on { on < length book.old.nodes }
     requires sets { AllSets book.old routes.now }
     requires exprs { AllExprs (length pool.now) routes.now }
-    requires held { AreHeld book.old out.old }
+    requires held { HaveWords book.old out.old }
     ensures grows { Extends book.old book.new }
-    ensures held { OnOk result (AreHeld book.new out.new) }
+    ensures held { OnOk result (HaveWords book.new out.new) }
     ensures moves { OnOk result ((id word : ℕ) →
-        moves_held book.new pool.now out.new id word ≡
-        moves_held book.old pool.now out.old id word ++
-        given ((storage == id) && has_word book.old on word) (each (register_moves storage) (held_terms book.old pool.now routes.now word))) }
+        moves_under book.new pool.now out.new id word ≡
+        moves_under book.old pool.now out.old id word ++
+        list_if ((storage == id) && has_word book.old on word) (each (register_moves storage) (terms_under book.old pool.now routes.now word))) }
     ensures whole { OnOk result ((netlist : Netlist) →
         AreWhole netlist pool.now book.old out.old →
         AreWrites netlist pool.now book.old storage on routes.now →
@@ -143,7 +147,8 @@ pub(crate) fn add_register(
     Ok(())
 }
 
-// Adds the transfers of a memory that takes at one address, under the words of a set, what some routes give.
+// Adds the transfers of a memory that takes at one address, under the words of a set, what some
+// routes give.
 fn add_values(
     alloc: Global,
     book: &mut Book,
@@ -155,13 +160,13 @@ fn add_values(
 ) -> Result<(), NoMemory>
     requires on { on < length book.old.nodes }
     requires values { AllSets book.old values.now }
-    requires held { AreHeld book.old out.old }
+    requires held { HaveWords book.old out.old }
     ensures grows { Extends book.old book.new }
-    ensures held { OnOk result (AreHeld book.new out.new) }
+    ensures held { OnOk result (HaveWords book.new out.new) }
     ensures moves { OnOk result ((pool : List TheNode) (id word : ℕ) →
-        moves_held book.new pool out.new id word ≡
-        moves_held book.old pool out.old id word ++
-        given ((storage == id) && has_word book.old on word) (each (memory_moves (term_at pool addr)) (held_terms book.old pool values.now word))) }
+        moves_under book.new pool out.new id word ≡
+        moves_under book.old pool out.old id word ++
+        list_if ((storage == id) && has_word book.old on word) (each (memory_moves (term_at pool addr)) (terms_under book.old pool values.now word))) }
     ensures whole { OnOk result ((netlist : Netlist) (pool : List TheNode) →
         AreWhole netlist pool book.old out.old →
         AreValues netlist pool book.old storage addr on values.now →
@@ -183,7 +188,8 @@ fn add_values(
     Ok(())
 }
 
-// Adds the transfers of a memory that takes, under the words of a set, what some routes give at what others give.
+// Adds the transfers of a memory that takes, under the words of a set, what some routes give at
+// what others give.
 pub(crate) fn add_memory(
     alloc: Global,
     book: &mut Book,
@@ -196,19 +202,20 @@ pub(crate) fn add_memory(
     requires on { on < length book.old.nodes }
     requires addrs { AllSets book.old addrs.now }
     requires values { AllSets book.old values.now }
-    requires held { AreHeld book.old out.old }
+    requires held { HaveWords book.old out.old }
     ensures grows { Extends book.old book.new }
-    ensures held { OnOk result (AreHeld book.new out.new) }
+    ensures held { OnOk result (HaveWords book.new out.new) }
     ensures moves { OnOk result ((pool : List TheNode) (id word : ℕ) →
-        moves_held book.new pool out.new id word ≡
-        moves_held book.old pool out.old id word ++
-        given ((storage == id) && has_word book.old on word)
-        (each (λ a. each (memory_moves a) (held_terms book.old pool values.now word)) (held_terms book.old pool addrs.now word))) }
+        moves_under book.new pool out.new id word ≡
+        moves_under book.old pool out.old id word ++
+        list_if ((storage == id) && has_word book.old on word)
+        (each (λ a. each (memory_moves a) (terms_under book.old pool values.now word)) (terms_under book.old pool addrs.now word))) }
     ensures whole { OnOk result ((netlist : Netlist) (pool : List TheNode) →
         AreWhole netlist pool book.old out.old →
         ArePairs netlist pool book.old storage on addrs.now values.now →
         AreWhole netlist pool book.new out.new) }
-    ensures known { OnOk result ((size : ℕ) → AreKnown size out.old → AllExprs size addrs.now → AllExprs size values.now → AreKnown size out.new) }
+    ensures known { OnOk result ((size : ℕ) → AreKnown size out.old → AllExprs size addrs.now → AllExprs size values.now →
+        AreKnown size out.new) }
 {
     for route in addrs {
         let both = book.and(alloc, on, route.set)?;

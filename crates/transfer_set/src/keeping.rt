@@ -2,7 +2,7 @@
 
 ghost use Rattle.std.specs.Prelude.{◌≡◌, ℕ, ◌==◌, ◌<◌, ◌&&◌, not, length, IfOk};
 ghost use Rattle.bit_bdd.specs.Diagrams.{Extends, has_word};
-ghost use Rattle.transfer_set.specs.Entries.{AreHeld, AreLeft, keeps_all};
+ghost use Rattle.transfer_set.specs.Inner.Entries.{HaveWords, AreLeft, keeps_all};
 
 use crate::entries::Entry;
 use bit_bdd::{Book, SetId};
@@ -42,7 +42,7 @@ pub(crate) fn keep_set(
     storage: u32,
 ) -> Result<SetId, NoMemory>
     requires legal { legal < length book.old.nodes }
-    requires held { AreHeld book.old entries.now }
+    requires held { HaveWords book.old entries.now }
     ensures grows { Extends book.old book.new }
     ensures within { IfOk result (λ id. id < length book.new.nodes) }
     ensures words { IfOk result (λ id. (word : ℕ) →
@@ -64,7 +64,7 @@ pub(crate) fn keep_sets(
     count: u32,
 ) -> Result<Items<SetId>, NoMemory>
     requires legal { legal < length book.old.nodes }
-    requires held { AreHeld book.old entries.now }
+    requires held { HaveWords book.old entries.now }
     ensures grows { Extends book.old book.new }
     ensures left { IfOk result (AreLeft book.old book.new legal entries.now count) }
 {

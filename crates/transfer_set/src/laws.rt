@@ -2,7 +2,8 @@
 
 ghost use Rattle.transfer_set.specs.Ready.{StaysReady};
 
-/// What the ids of a table of patterns mean, they mean in each extension of the book and each growth of the pool.
+/// What the ids of a table of patterns mean, they mean in each extension of the book and each
+/// growth of the pool.
 pub fn law_of_growth()
     ensures { StaysReady }
 {}

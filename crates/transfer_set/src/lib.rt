@@ -22,11 +22,11 @@
 //! - `texts`: the texts of expressions and transfers.
 //! - `row`: a pattern with its text, and patterns in order.
 //! - `print`: the text of all patterns.
-//! - `patterns`, `patterns/told`: `Patterns`, with its calls, and the text of one.
+//! - `patterns`, `patterns/pattern_text`: `Patterns`, with its calls, and the text of one.
 //! - `laws`: `law_of_growth`.
-//! - `specs/`: `Routes`, `Ready`, `Tables`, `Rows`, `Sets`, `TextMarks`, `PatternsText`, and parts
-//!   of `Stepping` and `Entries` are cited by public contracts, here and above; the rest of
-//!   `Entries`, and `Sources`, mirror the collecting.
+//! - `specs/`, cited by public contracts, here and above: `Routes`, `Ready`, `Tables`, `Rows`,
+//!   `Sets`, `TextMarks`, `PatternsText`, `Stepping`, `Entries`. `specs/Inner/`: `Entries`,
+//!   `Sources` and `Stepping`, which go with the collecting.
 //! - `proofs/`: `Collecting`, `Feeding`, `Finding`, `Assembling` from routes to patterns,
 //!   `OnceEach`, `TextsDiffer`, `TransfersDiffer`, `InOrder` for their order, `ReadyLaws` for
 //!   growth.

@@ -7,9 +7,9 @@ ghost use Rattle.net_model.specs.Nets.{word_width};
 ghost use Rattle.transfer_set.specs.PatternsText.{IsPatternsText};
 ghost use Rattle.transfer_set.specs.Ready.{IsReady};
 ghost use Rattle.transfer_set.specs.Routes.{AreRoutes};
-ghost use Rattle.transfer_set.specs.Rows.{told_patterns};
+ghost use Rattle.transfer_set.specs.Rows.{row_patterns};
 
-mod told;
+mod pattern_text;
 
 use crate::keeping::keep_sets;
 use crate::print::text;
@@ -25,8 +25,9 @@ use std::alloc::Global;
 use std::marker::Model;
 use sym_expr::{ExprId, Pool};
 
-/// The patterns of a netlist: what its instruction words do to its storages, each with all words that do it. They are numbered from 0 in
-/// the order of their storages and then of the texts of their transfers.
+/// The patterns of a netlist: what its instruction words do to its storages, each with all words
+/// that do it. They are numbered from 0 in the order of their storages and then of the texts of
+/// their transfers.
 #[derive(Debug, Drop)]
 pub struct Patterns {
     rows: Vec<Row>,
@@ -46,8 +47,8 @@ impl Model for Patterns {
     ghost invariant = { λ patterns. length patterns.rows.items < 2 ^ 32 };
 }
 
-/// The patterns of a netlist, from its control bits and the routes of its nets: exactly those that it has, each with all its words. The
-/// book grows, and what it held means what it meant.
+/// The patterns of a netlist, from its control bits and the routes of its nets: exactly those that
+/// it has, each with all its words. The book grows, and what it held means what it meant.
 pub fn collect_patterns(
     alloc: Global,
     checked: &Checked,
@@ -105,29 +106,32 @@ impl Patterns {
         self.row(pattern).map(|row| row.storage)
     }
 
-    /// The words without clash that give the pattern's storage its transfer; `None` past the last pattern.
+    /// The words without clash that give the pattern's storage its transfer; `None` past the last
+    /// pattern.
     pub fn set_of(&self, pattern: u32) -> Option<SetId>
         ensures { result ≡ option_map (λ row. row.set) (slice_get self.now.rows pattern) }
     {
         self.row(pattern).map(|row| row.set)
     }
 
-    /// The address and the value of the pattern's transfer, with an address exactly where the storage is a memory; `None` past the last
-    /// pattern.
+    /// The address and the value of the pattern's transfer, with an address exactly where the
+    /// storage is a memory; `None` past the last pattern.
     pub fn expr_of(&self, pattern: u32) -> Option<(Option<ExprId>, ExprId)>
         ensures { result ≡ option_map (λ row. (row.addr, row.value)) (slice_get self.now.rows pattern) }
     {
         self.row(pattern).map(|row| (row.addr, row.value))
     }
 
-    /// The instruction bits that occur in the pattern's transfer, as a mask; `None` past the last pattern.
+    /// The instruction bits that occur in the pattern's transfer, as a mask; `None` past the last
+    /// pattern.
     pub fn fields_of(&self, pattern: u32) -> Option<u64>
         ensures { result ≡ option_map (λ row. row.fields) (slice_get self.now.rows pattern) }
     {
         self.row(pattern).map(|row| row.fields)
     }
 
-    /// The words without clash under which the storage of this number keeps what it holds; `None` past the last storage.
+    /// The words without clash under which the storage of this number keeps what it holds; `None`
+    /// past the last storage.
     pub fn keep_set(&self, storage: u32) -> Option<SetId>
         ensures { result ≡ slice_get self.now.keeps storage }
     {
@@ -148,8 +152,9 @@ impl Patterns {
         self.memory
     }
 
-    /// The text of the patterns: how many there are, and for each a line with its number, its transfer, and the least word that gives it.
-    /// They are those of this netlist over this book and this pool; the pool isn't read, as the texts were made for the order.
+    /// The text of the patterns: how many there are, and for each a line with its number, its
+    /// transfer, and the least word that gives it. They are those of this netlist over this book
+    /// and this pool; the pool isn't read, as the texts were made for the order.
     pub fn print(
         &self,
         alloc: Global,
@@ -158,7 +163,7 @@ impl Patterns {
         checked: &Checked,
     ) -> Result<Vec<u8>, NoMemory>
         requires { IsReady checked.now.netlist book.now _pool.now self.now }
-        ensures { IfOk result (λ text. IsPatternsText checked.now.netlist (told_patterns _pool.now self.now.rows) text.items) }
+        ensures { IfOk result (λ text. IsPatternsText checked.now.netlist (row_patterns _pool.now self.now.rows) text.items) }
     {
         let text = text(alloc, checked, book, &self.rows)?;
         Ok(text)

@@ -4,9 +4,9 @@ ghost use Rattle.std.specs.Prelude.{◌≡◌, ◌≤◌, All, List, length, IfO
 ghost use Rattle.code_model.specs.ImageText.{bytes_of};
 ghost use Rattle.net_model.specs.Nets.{word_width};
 ghost use Rattle.sym_expr.specs.declared.pool.Node.{Node};
-ghost use Rattle.transfer_set.specs.PatternsText.{AreLines, IsLeastOf, IsLine, IsPatternsText, line_of, text_of};
+ghost use Rattle.transfer_set.specs.PatternsText.{AreLines, IsLeastOf, IsLine, IsPatternsText, line_text, text_of};
 ghost use Rattle.transfer_set.specs.Routes.{IsSet};
-ghost use Rattle.transfer_set.specs.Rows.{row_pattern, told_patterns};
+ghost use Rattle.transfer_set.specs.Rows.{row_pattern, row_patterns};
 ghost use Rattle.transfer_set.specs.Tables.{AreSets, IsRow};
 
 use crate::row::Row;
@@ -47,7 +47,7 @@ fn pattern_line(
     word: u64,
 ) -> Result<Vec<u8>, NoMemory>
     requires { bytes ≤ WORD_BYTES }
-    ensures { IfOk result (λ line. line.items ≡ line_of number transfer.now bytes word) }
+    ensures { IfOk result (λ line. line.items ≡ line_text number transfer.now bytes word) }
 {
     let digits = hex::encode(alloc, &word.to_be_bytes()[WORD_BYTES - bytes..])?;
     let mut line = format!(in alloc; "{number} ")?.into_bytes();
@@ -85,7 +85,7 @@ fn row_lines(
     requires sets { AreSets book.now rows.now }
     requires word { book.now.bits ≡ word_width checked.now.netlist }
     ensures { IfOk result (λ lines. (pool : List Node) → All (IsRow checked.now.netlist book.now pool) rows.now →
-        AreLines checked.now.netlist 0 (told_patterns pool rows.now) lines.items) }
+        AreLines checked.now.netlist 0 (row_patterns pool rows.now) lines.items) }
 {
     let mut lines = Vec::new(alloc);
     for (number, row) in rows.iter().enumerate() {
@@ -104,7 +104,8 @@ fn whole_text(alloc: Global, count: usize, lines: &[u8]) -> Result<Vec<u8>, NoMe
     Ok(text)
 }
 
-// The text of patterns: how many there are, and for each a line with its number, from 0 on, its transfer and the least word of its set.
+// The text of patterns: how many there are, and for each a line with its number, from 0 on, its
+// transfer and the least word of its set.
 pub(crate) fn text(
     alloc: Global,
     checked: &Checked,
@@ -114,7 +115,7 @@ pub(crate) fn text(
     requires sets { AreSets book.now rows.now }
     requires word { book.now.bits ≡ word_width checked.now.netlist }
     ensures { IfOk result (λ text. (pool : List Node) → All (IsRow checked.now.netlist book.now pool) rows.now →
-        IsPatternsText checked.now.netlist (told_patterns pool rows.now) text.items) }
+        IsPatternsText checked.now.netlist (row_patterns pool rows.now) text.items) }
 {
     let lines = row_lines(alloc, checked, book, rows)?;
     let text = whole_text(alloc, rows.len(), &lines)?;

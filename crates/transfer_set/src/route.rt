@@ -4,7 +4,8 @@ use bit_bdd::SetId;
 use rec_bits::Items;
 use sym_expr::ExprId;
 
-/// An expression that a net has as its symbolic value, and the words without clash under which it has it.
+/// An expression that a net has as its symbolic value, and the words without clash under which it
+/// has it.
 #[derive(Clone, Copy, Debug, PartialEq, Eq)]
 pub struct Route {
     pub expr: ExprId,

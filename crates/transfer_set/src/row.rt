@@ -1,9 +1,10 @@
 //! Patterns in the order in which they are told.
 
 ghost use Rattle.std.specs.Prelude.{◌≡◌, ◌^◌, ◌<◌, All, length, IfOk};
-ghost use Rattle.transfer_set.specs.Entries.{AreKnown, IsAddrKnown, ids_move};
+ghost use Rattle.transfer_set.specs.Entries.{IsAddrKnown, ids_move};
+ghost use Rattle.transfer_set.specs.Inner.Entries.{AreKnown};
 ghost use Rattle.net_model.specs.Fields.{move_fields};
-ghost use Rattle.transfer_set.specs.Rows.{AreInOrder, AreRowsOf, IsTold, entries_of, entry_of};
+ghost use Rattle.transfer_set.specs.Rows.{AreSorted, AreRowsOf, ShowsMove, entries_of, entry_of};
 
 use crate::entries::Entry;
 use crate::fields::expr_fields;
@@ -14,8 +15,9 @@ use rec_bits::NoMemory;
 use std::alloc::Global;
 use sym_expr::{ExprId, Pool};
 
-/// A pattern with the text of its transfer, the words that give it, and the instruction bits that occur in it. The order is by storage
-/// and text; two patterns never have both alike where names of a netlist are names of its language.
+/// A pattern with the text of its transfer, the words that give it, and the instruction bits that
+/// occur in it. The order is by storage and text; two patterns never have both alike where names of
+/// a netlist are names of its language.
 #[derive(Debug, PartialEq, Eq, PartialOrd, Ord, Drop)]
 pub struct Row {
     pub(crate) storage: u32,
@@ -39,11 +41,11 @@ fn transfer_fields(pool: &Pool, addr: Option<ExprId>, value: ExprId) -> u64
 }
 
 // A transfer with its text.
-fn told(alloc: Global, checked: &Checked, pool: &Pool, entry: Entry) -> Result<Row, NoMemory>
+fn shown_row(alloc: Global, checked: &Checked, pool: &Pool, entry: Entry) -> Result<Row, NoMemory>
     requires addr { IsAddrKnown (length pool.now) entry.addr }
     requires value { entry.value < length pool.now }
     ensures entry { IfOk result (λ row. entry_of row ≡ entry) }
-    ensures told { IfOk result (IsTold checked.now.netlist pool.now) }
+    ensures told { IfOk result (ShowsMove checked.now.netlist pool.now) }
 {
     let text = transfer_text(alloc, checked, pool, entry.storage, entry.addr, entry.value)?;
     Ok(Row {
@@ -65,11 +67,11 @@ fn rows(
 ) -> Result<Vec<Row>, NoMemory>
     requires known { AreKnown (length pool.now) entries.now }
     ensures entries { IfOk result (λ rows. entries_of rows.items ≡ entries.now) }
-    ensures told { IfOk result (λ rows. All (IsTold checked.now.netlist pool.now) rows.items) }
+    ensures told { IfOk result (λ rows. All (ShowsMove checked.now.netlist pool.now) rows.items) }
 {
     let mut rows = Vec::new(alloc);
     for entry in entries {
-        rows.push(told(alloc, checked, pool, *entry)?)?;
+        rows.push(shown_row(alloc, checked, pool, *entry)?)?;
     }
     Ok(rows)
 }
@@ -83,8 +85,8 @@ pub(crate) fn sorted_rows(
 ) -> Result<Vec<Row>, NoMemory>
     requires known { AreKnown (length pool.now) entries.now }
     ensures same { IfOk result (λ rows. AreRowsOf entries.now rows.items) }
-    ensures told { IfOk result (λ rows. All (IsTold checked.now.netlist pool.now) rows.items) }
-    ensures ordered { IfOk result (λ rows. AreInOrder rows.items) }
+    ensures told { IfOk result (λ rows. All (ShowsMove checked.now.netlist pool.now) rows.items) }
+    ensures ordered { IfOk result (λ rows. AreSorted rows.items) }
     ensures few { IfOk result (λ rows. length rows.items < 2 ^ 32) }
 {
     let mut rows = rows(alloc, checked, pool, entries)?;

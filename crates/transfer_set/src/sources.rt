@@ -7,8 +7,8 @@ ghost use Rattle.net_model.specs.Patterns.{IsPattern, Pattern};
 ghost use Rattle.net_model.specs.Transfers.{move_at};
 ghost use Rattle.net_model.specs.Nets.{word_width};
 ghost use Rattle.transfer_set.specs.Routes.{routes_at};
-ghost use Rattle.transfer_set.specs.Entries.{AreHeld, AreKnown, AreWhole, given, moves_held, patterns_of};
-ghost use Rattle.transfer_set.specs.Sources.{HasSet, IsSource, changes, when_set as set_of_when};
+ghost use Rattle.transfer_set.specs.Inner.Entries.{HaveWords, AreKnown, AreWhole, list_if, moves_under, patterns_of};
+ghost use Rattle.transfer_set.specs.Inner.Sources.{HasSet, IsSource, changes, when_set as set_of_when};
 
 use crate::entries::{Entry, add_memory, add_register};
 use crate::route::{Route, Routes};
@@ -57,14 +57,15 @@ fn add_storage(
 ) -> Result<(), NoMemory>
     requires id { id < length checked.now.netlist.storages }
     requires source { IsSource checked.now.netlist book.old pool.now controls.now routes.now.of }
-    requires held { AreHeld book.old out.old }
+    requires held { HaveWords book.old out.old }
     ensures grows { Extends book.old book.new }
-    ensures held { OnOk result (AreHeld book.new out.new) }
+    ensures held { OnOk result (HaveWords book.new out.new) }
     ensures moves { OnOk result ((n word : ℕ) → word < 2 ^ book.old.bits →
-        moves_held book.new pool.now out.new n word ≡
-        moves_held book.old pool.now out.old n word ++
-        given ((id == n) && has_word book.old controls.now.legal word) (changes (move_at checked.now.netlist word id))) }
-    ensures whole { OnOk result (AreWhole checked.now.netlist pool.now book.old out.old → AreWhole checked.now.netlist pool.now book.new out.new) }
+        moves_under book.new pool.now out.new n word ≡
+        moves_under book.old pool.now out.old n word ++
+        list_if ((id == n) && has_word book.old controls.now.legal word) (changes (move_at checked.now.netlist word id))) }
+    ensures whole { OnOk result (AreWhole checked.now.netlist pool.now book.old out.old →
+        AreWhole checked.now.netlist pool.now book.new out.new) }
     ensures known { OnOk result (AreKnown (length pool.now) out.old → AreKnown (length pool.now) out.new) }
 {
     let _ids = pool.len();
@@ -103,14 +104,15 @@ pub(crate) fn collect_entries(
     requires source { IsSource checked.now.netlist book.old pool.now controls.now routes.now.of }
     requires bits { book.old.bits ≡ word_width checked.now.netlist }
     ensures grows { Extends book.old book.new }
-    ensures held { IfOk result (AreHeld book.new) }
+    ensures held { IfOk result (HaveWords book.new) }
     ensures moves { IfOk result (λ out. (n word : ℕ) → word < 2 ^ book.old.bits →
-        moves_held book.new pool.now out n word ≡
-        given (has_word book.old controls.now.legal word) (changes (move_at checked.now.netlist word n))) }
+        moves_under book.new pool.now out n word ≡
+        list_if (has_word book.old controls.now.legal word) (changes (move_at checked.now.netlist word n))) }
     ensures whole { IfOk result (AreWhole checked.now.netlist pool.now book.new) }
     ensures known { IfOk result (AreKnown (length pool.now)) }
     ensures each { IfOk result (λ out. AllByRecursion (IsPattern checked.now.netlist) (patterns_of pool.now out)) }
-    ensures every { IfOk result (λ out. (pattern : Pattern) → IsPattern checked.now.netlist pattern → Contains (patterns_of pool.now out) pattern) }
+    ensures every { IfOk result (λ out. (pattern : Pattern) → IsPattern checked.now.netlist pattern →
+        Contains (patterns_of pool.now out) pattern) }
 {
     let mut out = Items::new(alloc);
     let count = checked.netlist().storages.len() as u32;

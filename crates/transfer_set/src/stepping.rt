@@ -4,8 +4,9 @@ ghost use Rattle.std.specs.Prelude.{◌≡◌, ℕ, ◌==◌, ◌<◌, ◌&&◌,
 ghost use Rattle.bit_bdd.specs.Diagrams.{Extends, has_word};
 ghost use Rattle.net_model.specs.Nets.{counter_of, counter_width};
 ghost use Rattle.sym_expr.specs.Pools.{term_at};
-ghost use Rattle.transfer_set.specs.Entries.{AreHeld, AreKnown};
-ghost use Rattle.transfer_set.specs.Stepping.{any_step, entry_steps, is_next, is_one, is_reg};
+ghost use Rattle.transfer_set.specs.Inner.Entries.{HaveWords, AreKnown};
+ghost use Rattle.transfer_set.specs.Stepping.{is_next, is_one, is_reg};
+ghost use Rattle.transfer_set.specs.Inner.Stepping.{any_step, entry_steps};
 
 use crate::entries::Entry;
 use bit_bdd::{Book, SetId};
@@ -117,7 +118,7 @@ pub(crate) fn step_set(
     entries: &[Entry],
     counter: Counter,
 ) -> Result<SetId, NoMemory>
-    requires held { AreHeld book.old entries.now }
+    requires held { HaveWords book.old entries.now }
     requires known { AreKnown (length pool.now) entries.now }
     ensures grows { Extends book.old book.new }
     ensures within { IfOk result (λ id. id < length book.new.nodes) }

@@ -260,7 +260,8 @@ fn add_term(
     }
 }
 
-/// The text of a transfer of a storage: of the memory where there is an address, and otherwise of a register.
+/// The text of a transfer of a storage: of the memory where there is an address, and otherwise of a
+/// register.
 pub(crate) fn transfer_text(
     alloc: Global,
     checked: &Checked,

@@ -11,7 +11,7 @@ use Rattle.net_model.specs.Terms.{Term, word, slice, zext, sext, term_width}
 use Rattle.form_model.specs.Shapes.{field_setting, is_field, shape_setting, shows, then_some}
 use Rattle.form_model.proofs.FieldLaws.{less_true, true_less}
 use Rattle.form_model.proofs.ShapeLaws.{sext_plain}
-use Rattle.tree_grammar.specs.Settings.{extension_setting, is_word}
+use Rattle.tree_grammar.specs.Inner.Settings.{extension_setting, is_word}
 
 same_test : (a b : Bool) → (a ≡ true → b ≡ true) → (b ≡ true → a ≡ true) → a ≡ b
 same_test true b f g = sym (f refl)

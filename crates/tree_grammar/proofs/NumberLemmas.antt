@@ -3,9 +3,9 @@ use Rattle.std.proofs.Common.{◌≡◌, ℕ, zero, suc, ◌+◌, List, [], ◌�
 use Rattle.std.specs.Prelude.{slice_get, Result, OnOk}
 use Rattle.std.proofs.lemmas.Result.{on_ok_weaker}
 use Rattle.net_model.specs.Terms.{Term, word, reg, const, read, un, bin, slice, cat, zext, sext, select, size_of}
-use Rattle.tree_grammar.specs.Numbers.{subtrees, Holds}
+use Rattle.tree_grammar.specs.Numbers.{subtrees, HoldsSubtrees}
 use Rattle.tree_grammar.specs.declared.parts.Part.{Part}
-use Rattle.tree_grammar.specs.Parts.{IsAt, AreAt, Stands, value_at}
+use Rattle.tree_grammar.specs.Parts.{IsPartAt, AreAt, Stands, value_at}
 use Rattle.form_model.specs.Rules.{Destination}
 
 pub size_length : (t : Term) → length (subtrees t) ≡ size_of t
@@ -59,44 +59,44 @@ first_is (zext a w) = refl
 first_is (sext a w) = refl
 first_is (select c a b) = refl
 
-pub holds_here : (nodes : List Term) (at : ℕ) (t : Term) → Holds nodes at t → slice_get nodes at ≡ Some t
+pub holds_here : (nodes : List Term) (at : ℕ) (t : Term) → HoldsSubtrees nodes at t → slice_get nodes at ≡ Some t
 holds_here nodes at t h = let e : at + 0 ≡ at = omega arith in subst (λ i. slice_get nodes i ≡ Some t) e (h 0 t (first_is t))
 
-pub holds_read : (nodes : List Term) (at : ℕ) (a : Term) (w : ℕ) → Holds nodes at (read a w) → Holds nodes (at + 1) a
+pub holds_read : (nodes : List Term) (at : ℕ) (a : Term) (w : ℕ) → HoldsSubtrees nodes at (read a w) → HoldsSubtrees nodes (at + 1) a
 holds_read nodes at a w h = lists_tail nodes at (read a w) (subtrees a) h
 
-pub holds_left : (nodes : List Term) (at : ℕ) (x : Term) (a b : Term) → Lists nodes at (x ∷ (subtrees a ++ subtrees b)) → Holds nodes (at + 1) a
+pub holds_left : (nodes : List Term) (at : ℕ) (x : Term) (a b : Term) → Lists nodes at (x ∷ (subtrees a ++ subtrees b)) → HoldsSubtrees nodes (at + 1) a
 holds_left nodes at x a b h = lists_left nodes (at + 1) (subtrees a) (subtrees b) (lists_tail nodes at x (subtrees a ++ subtrees b) h)
 
-pub holds_right : (nodes : List Term) (at : ℕ) (x : Term) (a b : Term) → Lists nodes at (x ∷ (subtrees a ++ subtrees b)) → Holds nodes (at + 1 + size_of a) b
+pub holds_right : (nodes : List Term) (at : ℕ) (x : Term) (a b : Term) → Lists nodes at (x ∷ (subtrees a ++ subtrees b)) → HoldsSubtrees nodes (at + 1 + size_of a) b
 holds_right nodes at x a b h = lists_right nodes (at + 1) (size_of a) (subtrees a) (subtrees b) (size_length a) (lists_tail nodes at x (subtrees a ++ subtrees b) h)
 
-pub are_push : (nodes : List Term) (ps : List Part) (p : Part) → AreAt nodes ps → IsAt nodes p → AreAt nodes (ps ++ p ∷ [])
+pub are_push : (nodes : List Term) (ps : List Part) (p : Part) → AreAt nodes ps → IsPartAt nodes p → AreAt nodes (ps ++ p ∷ [])
 are_push nodes [] p h k = (k, tt)
 are_push nodes (q ∷ ps) p h k = (h.0, are_push nodes ps p h.1 k)
 
 -- what follows of numbers from what a call on the one operand says
-pub lift_inner : (t x a b : Term) (at next : ℕ) (old new : List Part) → subtrees t ≡ x ∷ subtrees a → b ≡ a → next ≡ at + 1 → ((nodes : List Term) → Holds nodes next b → AreAt nodes old → AreAt nodes new) → (nodes : List Term) → Holds nodes at t → AreAt nodes old → AreAt nodes new
+pub lift_inner : (t x a b : Term) (at next : ℕ) (old new : List Part) → subtrees t ≡ x ∷ subtrees a → b ≡ a → next ≡ at + 1 → ((nodes : List Term) → HoldsSubtrees nodes next b → AreAt nodes old → AreAt nodes new) → (nodes : List Term) → HoldsSubtrees nodes at t → AreAt nodes old → AreAt nodes new
 lift_inner t x a b at next old new e same is h nodes holds are =
-    let inner : Holds nodes (at + 1) a = lists_tail nodes at x (subtrees a) (subst (λ l. Lists nodes at l) e holds) in
-    h nodes (subst (λ n. Holds nodes n b) (sym is) (subst (λ y. Holds nodes (at + 1) y) (sym same) inner)) are
+    let inner : HoldsSubtrees nodes (at + 1) a = lists_tail nodes at x (subtrees a) (subst (λ l. Lists nodes at l) e holds) in
+    h nodes (subst (λ n. HoldsSubtrees nodes n b) (sym is) (subst (λ y. HoldsSubtrees nodes (at + 1) y) (sym same) inner)) are
 
-pub lift_left : (t x a b c : Term) (at next : ℕ) (old new : List Part) → subtrees t ≡ x ∷ (subtrees a ++ subtrees b) → c ≡ a → next ≡ at + 1 → ((nodes : List Term) → Holds nodes next c → AreAt nodes old → AreAt nodes new) → (nodes : List Term) → Holds nodes at t → AreAt nodes old → AreAt nodes new
+pub lift_left : (t x a b c : Term) (at next : ℕ) (old new : List Part) → subtrees t ≡ x ∷ (subtrees a ++ subtrees b) → c ≡ a → next ≡ at + 1 → ((nodes : List Term) → HoldsSubtrees nodes next c → AreAt nodes old → AreAt nodes new) → (nodes : List Term) → HoldsSubtrees nodes at t → AreAt nodes old → AreAt nodes new
 lift_left t x a b c at next old new e same is h nodes holds are =
-    let inner : Holds nodes (at + 1) a = holds_left nodes at x a b (subst (λ l. Lists nodes at l) e holds) in
-    h nodes (subst (λ n. Holds nodes n c) (sym is) (subst (λ y. Holds nodes (at + 1) y) (sym same) inner)) are
+    let inner : HoldsSubtrees nodes (at + 1) a = holds_left nodes at x a b (subst (λ l. Lists nodes at l) e holds) in
+    h nodes (subst (λ n. HoldsSubtrees nodes n c) (sym is) (subst (λ y. HoldsSubtrees nodes (at + 1) y) (sym same) inner)) are
 
-pub lift_right : (t x a b c : Term) (at next after : ℕ) (old new : List Part) → subtrees t ≡ x ∷ (subtrees a ++ subtrees b) → c ≡ b → next ≡ at + 1 → after ≡ next + size_of a → ((nodes : List Term) → Holds nodes after c → AreAt nodes old → AreAt nodes new) → (nodes : List Term) → Holds nodes at t → AreAt nodes old → AreAt nodes new
+pub lift_right : (t x a b c : Term) (at next after : ℕ) (old new : List Part) → subtrees t ≡ x ∷ (subtrees a ++ subtrees b) → c ≡ b → next ≡ at + 1 → after ≡ next + size_of a → ((nodes : List Term) → HoldsSubtrees nodes after c → AreAt nodes old → AreAt nodes new) → (nodes : List Term) → HoldsSubtrees nodes at t → AreAt nodes old → AreAt nodes new
 lift_right t x a b c at next after old new e same is past h nodes holds are =
-    let inner : Holds nodes (at + 1 + size_of a) b = holds_right nodes at x a b (subst (λ l. Lists nodes at l) e holds) in
+    let inner : HoldsSubtrees nodes (at + 1 + size_of a) b = holds_right nodes at x a b (subst (λ l. Lists nodes at l) e holds) in
     let f : after ≡ at + 1 + size_of a = omega (arith, is, past) in
-    h nodes (subst (λ n. Holds nodes n c) (sym f) (subst (λ y. Holds nodes (at + 1 + size_of a) y) (sym same) inner)) are
+    h nodes (subst (λ n. HoldsSubtrees nodes n c) (sym f) (subst (λ y. HoldsSubtrees nodes (at + 1 + size_of a) y) (sym same) inner)) are
 
-pub inner_ok : {T E : Type 0} (r : Result T E) (t x a b : Term) (at next : ℕ) (old new : List Part) → subtrees t ≡ x ∷ subtrees a → b ≡ a → next ≡ at + 1 → OnOk r ((nodes : List Term) → Holds nodes next b → AreAt nodes old → AreAt nodes new) → OnOk r ((nodes : List Term) → Holds nodes at t → AreAt nodes old → AreAt nodes new)
-inner_ok r t x a b at next old new e same is = on_ok_weaker {P = (nodes : List Term) → Holds nodes next b → AreAt nodes old → AreAt nodes new} {Q = (nodes : List Term) → Holds nodes at t → AreAt nodes old → AreAt nodes new} r (lift_inner t x a b at next old new e same is)
+pub inner_ok : {T E : Type 0} (r : Result T E) (t x a b : Term) (at next : ℕ) (old new : List Part) → subtrees t ≡ x ∷ subtrees a → b ≡ a → next ≡ at + 1 → OnOk r ((nodes : List Term) → HoldsSubtrees nodes next b → AreAt nodes old → AreAt nodes new) → OnOk r ((nodes : List Term) → HoldsSubtrees nodes at t → AreAt nodes old → AreAt nodes new)
+inner_ok r t x a b at next old new e same is = on_ok_weaker {P = (nodes : List Term) → HoldsSubtrees nodes next b → AreAt nodes old → AreAt nodes new} {Q = (nodes : List Term) → HoldsSubtrees nodes at t → AreAt nodes old → AreAt nodes new} r (lift_inner t x a b at next old new e same is)
 
-pub here_ok : {T E : Type 0} (r : Result T E) (t : Term) (at : ℕ) (old new : List Part) → OnOk r ((nodes : List Term) → AreAt nodes old → slice_get nodes at ≡ Some t → AreAt nodes new) → OnOk r ((nodes : List Term) → Holds nodes at t → AreAt nodes old → AreAt nodes new)
-here_ok r t at old new = on_ok_weaker {P = (nodes : List Term) → AreAt nodes old → slice_get nodes at ≡ Some t → AreAt nodes new} {Q = (nodes : List Term) → Holds nodes at t → AreAt nodes old → AreAt nodes new} r (λ h nodes holds are. h nodes are (holds_here nodes at t holds))
+pub here_ok : {T E : Type 0} (r : Result T E) (t : Term) (at : ℕ) (old new : List Part) → OnOk r ((nodes : List Term) → AreAt nodes old → slice_get nodes at ≡ Some t → AreAt nodes new) → OnOk r ((nodes : List Term) → HoldsSubtrees nodes at t → AreAt nodes old → AreAt nodes new)
+here_ok r t at old new = on_ok_weaker {P = (nodes : List Term) → AreAt nodes old → slice_get nodes at ≡ Some t → AreAt nodes new} {Q = (nodes : List Term) → HoldsSubtrees nodes at t → AreAt nodes old → AreAt nodes new} r (λ h nodes holds are. h nodes are (holds_here nodes at t holds))
 
-pub stands_ok : {T E : Type 0} (r : Result T E) (t : Term) (at : ℕ) (destination : Destination) (old new : List Part) → value_at destination at ≡ at → OnOk r ((nodes : List Term) → Holds nodes at t → AreAt nodes old → AreAt nodes new) → OnOk r ((nodes : List Term) → Stands nodes at destination t → AreAt nodes old → AreAt nodes new)
-stands_ok r t at destination old new e = on_ok_weaker {P = (nodes : List Term) → Holds nodes at t → AreAt nodes old → AreAt nodes new} {Q = (nodes : List Term) → Stands nodes at destination t → AreAt nodes old → AreAt nodes new} r (λ h nodes s are. h nodes (subst (λ n. Holds nodes n t) e s.value) are)
+pub stands_ok : {T E : Type 0} (r : Result T E) (t : Term) (at : ℕ) (destination : Destination) (old new : List Part) → value_at destination at ≡ at → OnOk r ((nodes : List Term) → HoldsSubtrees nodes at t → AreAt nodes old → AreAt nodes new) → OnOk r ((nodes : List Term) → Stands nodes at destination t → AreAt nodes old → AreAt nodes new)
+stands_ok r t at destination old new e = on_ok_weaker {P = (nodes : List Term) → HoldsSubtrees nodes at t → AreAt nodes old → AreAt nodes new} {Q = (nodes : List Term) → Stands nodes at destination t → AreAt nodes old → AreAt nodes new} r (λ h nodes s are. h nodes (subst (λ n. HoldsSubtrees nodes n t) e s.value) are)

@@ -7,7 +7,7 @@ use Rattle.std.proofs.Math.Pow.{pow_mono}
 use Rattle.std.proofs.Math.Nat.{mod-eq_of_lt}
 use Rattle.net_model.specs.Terms.{Term, word, slice, zext}
 use Rattle.form_model.specs.Shapes.{then_some, field_setting, shows, shows_below}
-use Rattle.tree_grammar.specs.Settings.{IsSteady}
+use Rattle.tree_grammar.specs.Inner.Settings.{IsSteady}
 
 and_false : (b : Bool) → (b && false) ≡ false
 and_false true = refl

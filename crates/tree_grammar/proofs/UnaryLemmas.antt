@@ -3,7 +3,7 @@ use Rattle.std.proofs.Common.{◌≡◌, ◌==◌, ◌&&◌, Bool, true, false, 
 use Rattle.net_model.specs.Terms.{Term, const, un, slice, zext, sext, term_width}
 use Rattle.form_model.specs.Matches.{same_op1}
 use Rattle.tree_grammar.specs.Numbers.{subtrees}
-use Rattle.tree_grammar.specs.Unary.{TermPair, unary_operands}
+use Rattle.tree_grammar.specs.Inner.Unary.{TermPair, unary_operands}
 
 abbrev tree_in : Option TermPair → Term
 tree_in None = const 0 0

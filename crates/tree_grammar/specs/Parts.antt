@@ -9,29 +9,29 @@ use Rattle.tree_grammar.specs.declared.parts.Part.TheVariants.{Operand, Cut}
 use Rattle.tree_grammar.specs.declared.parts.Match.{Match}
 use Rattle.tree_grammar.specs.declared.parts.Destination.{Destination as CodeDestination}
 use Rattle.tree_grammar.specs.declared.parts.Destination.TheVariants.{Register, Cell, Store, Test, Temp}
-use Rattle.tree_grammar.specs.Numbers.{Holds}
+use Rattle.tree_grammar.specs.Numbers.{HoldsSubtrees}
 
 -- the site that a part is
 abbrev pub part_of : Part → Site
 part_of (Operand id tree whole at) = operand id (tree_term tree.now) whole
 part_of (Cut shape tree at) = cut (term_of shape.now) (tree_term tree.now)
 
-abbrev pub parts_of : List Part → List Site
-parts_of parts = map part_of parts
+abbrev pub sites_of : List Part → List Site
+sites_of parts = map part_of parts
 
 -- the match
 abbrev pub found_of : Match → Found
-found_of m = record { setting = m.setting; sites = parts_of m.parts.items }
+found_of m = record { setting = m.setting; sites = sites_of m.parts.items }
 
 -- the part's tree is the one of its number
-abbrev pub IsAt : List Term → Part → Type 0
-IsAt nodes (Operand id tree whole at) = slice_get nodes at ≡ Some (tree_term tree.now)
-IsAt nodes (Cut shape tree at) = slice_get nodes at ≡ Some (tree_term tree.now)
+abbrev pub IsPartAt : List Term → Part → Type 0
+IsPartAt nodes (Operand id tree whole at) = slice_get nodes at ≡ Some (tree_term tree.now)
+IsPartAt nodes (Cut shape tree at) = slice_get nodes at ≡ Some (tree_term tree.now)
 
 -- and so of each part
 abbrev pub AreAt : List Term → List Part → Type 0
 AreAt nodes [] = Unit {0}
-AreAt nodes (p ∷ ps) = IsAt nodes p × AreAt nodes ps
+AreAt nodes (p ∷ ps) = IsPartAt nodes p × AreAt nodes ps
 
 -- the sites have become more by those of what is found, or nothing is found
 abbrev pub Taken : List Site → List Site → Option Found → Option ℕ → Type 0
@@ -56,7 +56,7 @@ value_at tested at = at
 
 -- a store's address has its numbers from `at` on
 abbrev pub AddressStands : List Term → ℕ → Destination → Type 0
-AddressStands nodes at (stored address) = Holds nodes at address
+AddressStands nodes at (stored address) = HoldsSubtrees nodes at address
 AddressStands nodes at (into id) = Unit {0}
 AddressStands nodes at (cell address) = Unit {0}
 AddressStands nodes at temporary = Unit {0}
@@ -65,7 +65,7 @@ AddressStands nodes at tested = Unit {0}
 -- the trees of a destination and of a value have their numbers from `at` on
 pub record Stands (nodes : List Term) (at : ℕ) (destination : Destination) (t : Term) : Type 0 where
   pub address : AddressStands nodes at destination
-  pub value : Holds nodes (value_at destination at) t
+  pub value : HoldsSubtrees nodes (value_at destination at) t
 
 -- whether the tree that goes there is whole
 abbrev pub is_whole : Destination → Bool

@@ -6,7 +6,7 @@ ghost use Rattle.net_model.specs.Terms.{Term, term_of};
 ghost use Rattle.form_model.specs.Trees.{tree_term};
 ghost use Rattle.form_model.specs.Rules.{rule_of};
 ghost use Rattle.form_model.specs.Matches.{address_match, both, matched, taken};
-ghost use Rattle.tree_grammar.specs.Parts.{AddressStands, AreAt, Stands, Taken, destination_at, found_of, is_whole, parts_of, value_at};
+ghost use Rattle.tree_grammar.specs.Parts.{AddressStands, AreAt, Stands, Taken, destination_at, found_of, is_whole, sites_of, value_at};
 
 use crate::parts::{Destination, Match, Part};
 use crate::shapes::{is_field_shape, setting_of, shows_all};
@@ -46,8 +46,9 @@ fn take_address<'a>(
     at: u64,
 ) -> Result<Option<u64>, NoMemory>
     ensures found { IfOk result (λ o.
-        Taken (parts_of parts.old.items) (parts_of parts.new.items) (address_match temps (Some (term_of addr.now)) (destination_at destination.entry)) o) }
-    ensures at { OnOk result ((nodes : List Term) → AddressStands nodes at (destination_at destination.entry) → AreAt nodes parts.old.items → AreAt nodes parts.new.items) }
+        Taken (sites_of parts.old.items) (sites_of parts.new.items) (address_match temps (Some (term_of addr.now)) (destination_at destination.entry)) o) }
+    ensures at { OnOk result ((nodes : List Term) → AddressStands nodes at (destination_at destination.entry) →
+        AreAt nodes parts.old.items → AreAt nodes parts.new.items) }
 {
     match destination {
         Destination::Cell(address) => {
@@ -81,10 +82,11 @@ fn take_memory<'a>(
     tree: &'a Tree,
     at: u64,
 ) -> Result<Option<u64>, NoMemory>
-    ensures found { IfOk result (λ o. Taken (parts_of parts.old.items) (parts_of parts.new.items)
+    ensures found { IfOk result (λ o. Taken (sites_of parts.old.items) (sites_of parts.new.items)
         (both (address_match temps (rule_of form.now).addr (destination_at destination.entry))
         (matched temps (rule_of form.now).value (tree_term tree.now) (is_whole (destination_at destination.entry)))) o) }
-    ensures at { OnOk result ((nodes : List Term) → Stands nodes at (destination_at destination.entry) (tree_term tree.now) → AreAt nodes parts.old.items → AreAt nodes parts.new.items) }
+    ensures at { OnOk result ((nodes : List Term) → Stands nodes at (destination_at destination.entry) (tree_term tree.now) →
+        AreAt nodes parts.old.items → AreAt nodes parts.new.items) }
 {
     let Some(addr) = &form.addr else {
         return Ok(None);
@@ -100,7 +102,8 @@ fn take_memory<'a>(
     Ok(Some(x | y))
 }
 
-// Adds the parts that a form leaves open, and gives the bits that it settles, or none where it doesn't match.
+// Adds the parts that a form leaves open, and gives the bits that it settles, or none where it
+// doesn't match.
 fn take_form<'a>(
     parts: &mut Vec<Part<'a>>,
     temps: u32,
@@ -111,8 +114,9 @@ fn take_form<'a>(
     at: u64,
 ) -> Result<Option<u64>, NoMemory>
     ensures found { IfOk result (λ o.
-        Taken (parts_of parts.old.items) (parts_of parts.new.items) (taken temps (rule_of form.now) (destination_at destination.entry) (tree_term tree.now) whole) o) }
-    ensures at { OnOk result ((nodes : List Term) → Stands nodes at (destination_at destination.entry) (tree_term tree.now) → AreAt nodes parts.old.items → AreAt nodes parts.new.items) }
+        Taken (sites_of parts.old.items) (sites_of parts.new.items) (taken temps (rule_of form.now) (destination_at destination.entry) (tree_term tree.now) whole) o) }
+    ensures at { OnOk result ((nodes : List Term) → Stands nodes at (destination_at destination.entry) (tree_term tree.now) →
+        AreAt nodes parts.old.items → AreAt nodes parts.new.items) }
 {
     match &form.goal {
         Goal::Reg(r) => {
@@ -135,10 +139,12 @@ fn take_form<'a>(
     }
 }
 
-/// What a form takes of a tree that goes to a destination, where so many temporary cells are used; none exactly where it doesn't match. A form
-/// and a tree have one match at most. `whole` is asked for a register alone: it says that the tree is the root of its job or the number that
-/// is a read's address. The trees are numbered from `at`, those of a store's address first, and each part carries the number of its tree.
-/// Want of memory stands also for a field above bit 63 of the word, and for a tree of more nodes than can be counted.
+/// What a form takes of a tree that goes to a destination, where so many temporary cells are used;
+/// none exactly where it doesn't match. A form and a tree have one match at most. `whole` is asked
+/// for a register alone: it says that the tree is the root of its job or the number that is a
+/// read's address. The trees are numbered from `at`, those of a store's address first, and each
+/// part carries the number of its tree. Want of memory stands also for a field above bit 63 of the
+/// word, and for a tree of more nodes than can be counted.
 pub fn match_at<'a>(
     alloc: Global,
     form: &'a Form,

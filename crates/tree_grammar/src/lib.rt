@@ -17,8 +17,8 @@
 //! - `shapes`: field shapes: which numbers they show, and under which bits of the word.
 //! - `terms`: what an expression of a form takes of a tree.
 //! - `forms`: what a form takes of a tree with its destination: `match_at`.
-//! - `specs/`: `Numbers`, and of `Parts` all but two definitions, are cited by public contracts;
-//!   `Settings` and `Unary` name parts of definitions for proofs.
+//! - `specs/`: `Numbers` and `Parts`, cited by public contracts. `specs/Inner/`: `Settings` and
+//!   `Unary`, parts of definitions that proofs name.
 //! - `proofs/`: `NumberLemmas` for subtrees, `ShapeLemmas` and `ExtensionLemmas` for shapes,
 //!   `UnaryLemmas`.
 #![tactic(auto)]

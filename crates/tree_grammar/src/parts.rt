@@ -10,7 +10,8 @@ use net_model::Expr;
 /// What a match leaves open, with the number of its tree among the subtrees.
 #[derive(Clone, Copy, Debug)]
 pub enum Part<'a> {
-    /// A tree that another form has to put into the register of number `id` first. A whole tree can't be a cut.
+    /// A tree that another form has to put into the register of number `id` first. A whole tree
+    /// can't be a cut.
     Operand {
         id: u32,
         tree: &'a Tree,
@@ -28,7 +29,8 @@ pub enum Part<'a> {
 /// What a form takes of a tree.
 #[derive(Debug, Drop)]
 pub struct Match<'a> {
-    /// The bits of the word that the match settles, in their places, with 0 in those that will name a temporary cell.
+    /// The bits of the word that the match settles, in their places, with 0 in those that will name
+    /// a temporary cell.
     pub setting: u64,
     /// Its parts from left to right, those of a store's address before those of its value.
     pub parts: Vec<Part<'a>>,

@@ -5,7 +5,7 @@ ghost use Rattle.std.specs.Bool.{OnTrue};
 ghost use Rattle.rec_bits.specs.Operators.{sext_of};
 ghost use Rattle.net_model.specs.Terms.{term_of, term_width};
 ghost use Rattle.form_model.specs.Shapes.{field_setting, is_field, is_shape, shape_setting, shows, shows_below};
-ghost use Rattle.tree_grammar.specs.Settings.{IsSteady, extension_setting, is_word};
+ghost use Rattle.tree_grammar.specs.Inner.Settings.{IsSteady, extension_setting, is_word};
 
 use crate::sizes::{expr_width, slice_width};
 use net_model::Expr;
@@ -34,7 +34,8 @@ fn is_field_of_word(e: &Expr) -> bool
     }
 }
 
-/// Whether the expression is a field shape: the instruction word, a slice of it, a zext or sext of one of these, or a constant.
+/// Whether the expression is a field shape: the instruction word, a slice of it, a zext or sext of
+/// one of these, or a constant.
 pub fn is_field_shape(e: &Expr) -> bool
     ensures { result ≡ is_shape (term_of e.now) }
 {
@@ -125,7 +126,8 @@ fn shows_value(shape: &Expr, value: u64) -> bool
     }
 }
 
-/// Whether the field shape takes the number of this width, in bits: it is as wide, and some word gives it this value.
+/// Whether the field shape takes the number of this width, in bits: it is as wide, and some word
+/// gives it this value.
 pub fn fits_field(shape: &Expr, width: u8, value: u64) -> bool
     ensures { result ≡ (is_shape (term_of shape.now) && ((width == term_width (term_of shape.now)) && shows (term_of shape.now) value)) }
 {
@@ -186,7 +188,8 @@ fn shifted(value: u64, places: u8) -> Result<u64, NoMemory>
     }
 }
 
-// The bits of the word, in their places, that give the field the low bits of this value, in the field's width.
+// The bits of the word, in their places, that give the field the low bits of this value, in the
+// field's width.
 fn field_bits(field: &Expr, value: u64) -> Result<u64, NoMemory>
     requires { is_field (term_of field.now) ≡ true }
     ensures { IfOk result (λ bits. field_setting (term_of field.now) (value % 2 ^ term_width (term_of field.now)) ≡ Some bits) }
@@ -212,8 +215,9 @@ fn shape_bits(shape: &Expr, value: u64) -> Result<u64, NoMemory>
     }
 }
 
-/// The bits of the word, in their places and 0 elsewhere, that give the field shape this value, and none exactly where it doesn't show it. A
-/// word has at most 64 bits, so a field that lies above bit 63 is answered as want of memory.
+/// The bits of the word, in their places and 0 elsewhere, that give the field shape this value, and
+/// none exactly where it doesn't show it. A word has at most 64 bits, so a field that lies above
+/// bit 63 is answered as want of memory.
 pub fn setting_of(shape: &Expr, value: u64) -> Result<Option<u64>, NoMemory>
     ensures { IfOk result (λ o. o ≡ shape_setting (term_of shape.now) value) }
 {

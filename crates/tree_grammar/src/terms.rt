@@ -5,9 +5,9 @@ ghost use Rattle.std.specs.Option.{option_map};
 ghost use Rattle.net_model.specs.Terms.{Term, size_of, term_of, term_width};
 ghost use Rattle.form_model.specs.Trees.{is_cell, is_number, tree_term};
 ghost use Rattle.form_model.specs.Matches.{cell_match, literal_match, matched, open_if, operand, settled, shape_match};
-ghost use Rattle.tree_grammar.specs.Numbers.{Holds};
-ghost use Rattle.tree_grammar.specs.Unary.{pair_of, unary_operands};
-ghost use Rattle.tree_grammar.specs.Parts.{AreAt, IsAt, Taken, part_of, parts_of};
+ghost use Rattle.tree_grammar.specs.Numbers.{HoldsSubtrees};
+ghost use Rattle.tree_grammar.specs.Inner.Unary.{pair_of, unary_operands};
+ghost use Rattle.tree_grammar.specs.Parts.{AreAt, IsPartAt, Taken, part_of, sites_of};
 
 use crate::parts::Part;
 use crate::shapes::{is_field_shape, setting_of, shows_all};
@@ -66,8 +66,8 @@ fn take_literal(shape: &Expr, tree: &Tree) -> Result<Option<u64>, NoMemory>
 
 // Leaves a part open, which settles no bits.
 fn put_part<'a>(parts: &mut Vec<Part<'a>>, part: Part<'a>) -> Result<Option<u64>, NoMemory>
-    ensures found { IfOk result (λ o. Taken (parts_of parts.old.items) (parts_of parts.new.items) (open_if true (part_of part.entry)) o) }
-    ensures at { OnOk result ((nodes : List Term) → AreAt nodes parts.old.items → IsAt nodes part.entry → AreAt nodes parts.new.items) }
+    ensures found { IfOk result (λ o. Taken (sites_of parts.old.items) (sites_of parts.new.items) (open_if true (part_of part.entry)) o) }
+    ensures at { OnOk result ((nodes : List Term) → AreAt nodes parts.old.items → IsPartAt nodes part.entry → AreAt nodes parts.new.items) }
 {
     parts.push(part)?;
     Ok(Some(0))
@@ -84,8 +84,9 @@ fn take_cell<'a>(
     at: u64,
 ) -> Result<Option<u64>, NoMemory>
     ensures found { IfOk result (λ o.
-        Taken (parts_of parts.old.items) (parts_of parts.new.items) (cell_match temps (term_of shape.now) width (tree_term tree.now) whole) o) }
-    ensures at { OnOk result ((nodes : List Term) → Holds nodes at (tree_term tree.now) → AreAt nodes parts.old.items → AreAt nodes parts.new.items) }
+        Taken (sites_of parts.old.items) (sites_of parts.new.items) (cell_match temps (term_of shape.now) width (tree_term tree.now) whole) o) }
+    ensures at { OnOk result ((nodes : List Term) → HoldsSubtrees nodes at (tree_term tree.now) → AreAt nodes parts.old.items →
+        AreAt nodes parts.new.items) }
 {
     if u64::from(width) != tree_width(tree) {
         return Ok(None);
@@ -125,7 +126,8 @@ fn pair_if<'a>(same: bool, expr: &'a Expr, tree: &'a Tree) -> Option<Pair<'a>>
     }
 }
 
-// The operands of an expression and of a tree, where both have one operator of one operand, and equal widths.
+// The operands of an expression and of a tree, where both have one operator of one operand, and
+// equal widths.
 fn operands<'a>(e: &'a Expr, tree: &'a Tree) -> Option<Pair<'a>>
     ensures { option_map pair_of result ≡ unary_operands (term_of e.now) (tree_term tree.now) }
 {
@@ -161,9 +163,10 @@ fn take_operand<'a>(
     whole: bool,
     at: u64,
 ) -> Result<Option<u64>, NoMemory>
-    ensures found { IfOk result (λ o. Taken (parts_of parts.old.items) (parts_of parts.new.items)
+    ensures found { IfOk result (λ o. Taken (sites_of parts.old.items) (sites_of parts.new.items)
         (open_if (width == term_width (tree_term tree.now)) (operand id (tree_term tree.now) whole)) o) }
-    ensures at { OnOk result ((nodes : List Term) → Holds nodes at (tree_term tree.now) → AreAt nodes parts.old.items → AreAt nodes parts.new.items) }
+    ensures at { OnOk result ((nodes : List Term) → HoldsSubtrees nodes at (tree_term tree.now) → AreAt nodes parts.old.items →
+        AreAt nodes parts.new.items) }
 {
     if u64::from(width) != tree_width(tree) {
         return Ok(None);
@@ -179,7 +182,8 @@ fn take_operand<'a>(
     )
 }
 
-// Adds the parts that an expression of a form leaves open of a tree, and gives the bits that it settles, or none where it doesn't match.
+// Adds the parts that an expression of a form leaves open of a tree, and gives the bits that it
+// settles, or none where it doesn't match.
 pub(crate) fn take<'a>(
     parts: &mut Vec<Part<'a>>,
     temps: u32,
@@ -189,8 +193,9 @@ pub(crate) fn take<'a>(
     at: u64,
 ) -> Result<Option<u64>, NoMemory>
     ensures found { IfOk result (λ o.
-        Taken (parts_of parts.old.items) (parts_of parts.new.items) (matched temps (term_of e.now) (tree_term tree.now) whole) o) }
-    ensures at { OnOk result ((nodes : List Term) → Holds nodes at (tree_term tree.now) → AreAt nodes parts.old.items → AreAt nodes parts.new.items) }
+        Taken (sites_of parts.old.items) (sites_of parts.new.items) (matched temps (term_of e.now) (tree_term tree.now) whole) o) }
+    ensures at { OnOk result ((nodes : List Term) → HoldsSubtrees nodes at (tree_term tree.now) → AreAt nodes parts.old.items →
+        AreAt nodes parts.new.items) }
 {
     if is_field_shape(e) {
         return take_number(e, tree);

@@ -3,7 +3,7 @@ use Rattle.std.proofs.Common.{◌≡◌, ℕ, zero, suc, List, [], ◌∷◌, dr
 use Rattle.form_model.specs.Effects.{Operation}
 use Rattle.form_model.specs.Live.{Regs, live_at, live_before}
 use Rattle.word_fit.specs.Fits.{IsLeastFit}
-use Rattle.word_fit.specs.Groups.{AllFit, AllHaveWords, AreLeast}
+use Rattle.word_fit.specs.Groups.{GroupsFit, AllHaveWords, AreLeast}
 
 some_same : {X : Type 0} (x y : X) → Some x ≡ Some y → x ≡ y
 some_same x y e = cc
@@ -23,7 +23,7 @@ module _ {A : Type 0} (m : A → Operation) (fits : ℕ → List A → Regs → 
   }
 
   -- least words fit
-  pub all_fit : (ws : List ℕ) (gs : List (List A)) → AreLeast m fits ws gs after → AllFit m fits ws gs after
+  pub all_fit : (ws : List ℕ) (gs : List (List A)) → AreLeast m fits ws gs after → GroupsFit m fits ws gs after
   all_fit [] [] l = tt
   all_fit [] (g ∷ gs) l = absurd (omega (arith, l.long))
   all_fit (w ∷ ws) [] l = absurd (omega (arith, l.long))

@@ -10,7 +10,7 @@ use Rattle.net_model.specs.Widths.{IsState}
 use Rattle.form_model.specs.Effects.{Operation, apply_operation, group_effect, groups_effect, steps_effect}
 use Rattle.form_model.specs.Live.{Regs, group_writes, live_before, singles}
 use Rattle.word_fit.specs.Fits.{fits_over, FitsGroup}
-use Rattle.word_fit.specs.Groups.{Agree, AllFit}
+use Rattle.word_fit.specs.Groups.{Agree, GroupsFit}
 use Rattle.word_fit.specs.Runs.{IsClocked, StandAt, RunsTo}
 use Rattle.word_fit.proofs.Words.{agree_less, agree_trans, effect_alike}
 use Rattle.word_fit.proofs.Clocks.{clocks}
@@ -24,7 +24,7 @@ record RunsFrom (netlist : Netlist) (code : List ℕ) (s : State) (clocks : ℕ)
   agree : Agree live last t
 
 module _ (netlist : Netlist) (order : List ℕ) (keeps : KeepsRules netlist order) (code : List ℕ) {A : Type 0} (m : A → Operation) (after : Regs) where
-  runs : (ws : List ℕ) (gs : List (List A)) (s t : State) → AllFit m (fits_over netlist m) ws gs after → Agree (live_before m gs after) t s → IsState netlist t → StandAt code (counter_in netlist t) ws → counter_in netlist t + length ws < 2 ^ counter_width netlist → RunsFrom netlist code t (length ws) after (groups_effect m gs s)
+  runs : (ws : List ℕ) (gs : List (List A)) (s t : State) → GroupsFit m (fits_over netlist m) ws gs after → Agree (live_before m gs after) t s → IsState netlist t → StandAt code (counter_in netlist t) ws → counter_in netlist t + length ws < 2 ^ counter_width netlist → RunsFrom netlist code t (length ws) after (groups_effect m gs s)
   runs [] [] s t f a h p b = record { last = t; is = λ cycle. refl; state = h; counter = omega arith; agree = a }
   runs [] (g ∷ gs) s t f a h p b = absurd f
   runs (w ∷ ws) [] s t f a h p b = absurd f
@@ -47,7 +47,7 @@ module _ (netlist : Netlist) (order : List ℕ) (keeps : KeepsRules netlist orde
       }
 
   -- words that fit the groups, clocked in order from any state, leave what the groups leave
-  pub runs_to : (ws : List ℕ) (gs : List (List A)) (s : State) → AllFit m (fits_over netlist m) ws gs after → IsState netlist s → StandAt code (counter_in netlist s) ws → counter_in netlist s + length ws < 2 ^ counter_width netlist → RunsTo netlist code s (length ws) after (groups_effect m gs s)
+  pub runs_to : (ws : List ℕ) (gs : List (List A)) (s : State) → GroupsFit m (fits_over netlist m) ws gs after → IsState netlist s → StandAt code (counter_in netlist s) ws → counter_in netlist s + length ws < 2 ^ counter_width netlist → RunsTo netlist code s (length ws) after (groups_effect m gs s)
   runs_to ws gs s f h p b =
       let r : RunsFrom netlist code s (length ws) after (groups_effect m gs s) = runs ws gs s s f (record { size = refl; cells = refl; regs = λ r z. refl }) h p b in
       record { last = r.last; is = r.is 0; state = r.state; counter = r.counter; agree = r.agree }
@@ -57,6 +57,6 @@ effect-singles : {A : Type 0} (m : A → Operation) (xs : List A) (s : State) �
 effect-singles m [] s = refl
 effect-singles m (x ∷ xs) s = effect-singles m xs (apply_operation (m x) s s)
 
-pub runs_steps : (netlist : Netlist) (order : List ℕ) → KeepsRules netlist order → {A : Type 0} (m : A → Operation) (code : List ℕ) (after : Regs) (ws : List ℕ) (xs : List A) (s : State) → AllFit m (fits_over netlist m) ws (singles xs) after → IsState netlist s → StandAt code (counter_in netlist s) ws → counter_in netlist s + length ws < 2 ^ counter_width netlist → RunsTo netlist code s (length ws) after (steps_effect m xs s)
+pub runs_steps : (netlist : Netlist) (order : List ℕ) → KeepsRules netlist order → {A : Type 0} (m : A → Operation) (code : List ℕ) (after : Regs) (ws : List ℕ) (xs : List A) (s : State) → GroupsFit m (fits_over netlist m) ws (singles xs) after → IsState netlist s → StandAt code (counter_in netlist s) ws → counter_in netlist s + length ws < 2 ^ counter_width netlist → RunsTo netlist code s (length ws) after (steps_effect m xs s)
 runs_steps netlist order keeps m code after ws xs s f h p b =
     subst (RunsTo netlist code s (length ws) after) (effect-singles m xs s) (runs_to netlist order keeps code m after ws (singles xs) s f h p b)

@@ -8,7 +8,8 @@ use Rattle.net_model.specs.Fields.{move_fields}
 use Rattle.form_model.specs.Effects.{Operation, is_store}
 use Rattle.form_model.specs.Live.{Regs, group_writes}
 
--- the word does the transfer, which is one other than to keep, with its setting: the word's bits in the fields of the transfer
+-- the word does the transfer, which is one other than to keep, with its setting: the word's bits in
+-- the fields of the transfer
 pub record Does (netlist : Netlist) (word : ℕ) (d : Operation) : Type 0 where
   pub changes : d.move ≢ keep
   pub gives : move_at netlist word d.storage ≡ d.move
@@ -24,8 +25,8 @@ abbrev pub group_stores : {A : Type 0} → (A → Operation) → List A → Bool
 group_stores m [] = false
 group_stores m (x ∷ g) = is_store (m x).move || group_stores m g
 
--- the word does each step's transfer with its setting, steps, keeps the data memory unless a step writes it, keeps each live register
--- that isn't a destination, and doesn't clash
+-- the word does each step's transfer with its setting, steps, keeps the data memory unless a step
+-- writes it, keeps each live register that isn't a destination, and doesn't clash
 pub record FitsGroup {A : Type 0} (netlist : Netlist) (m : A → Operation) (word : ℕ) (g : List A) (live : Regs) : Type 0 where
   pub clean : IsClean netlist word
   pub does : DoesAll netlist m word g
@@ -37,7 +38,8 @@ pub record FitsGroup {A : Type 0} (netlist : Netlist) (m : A → Operation) (wor
 abbrev pub fits_over : {A : Type 0} → Netlist → (A → Operation) → ℕ → List A → Regs → Type 0
 fits_over netlist m word g live = FitsGroup netlist m word g live
 
--- a jump or branch word: it does the transfer with its setting, keeps the data memory, and doesn't clash
+-- a jump or branch word: it does the transfer with its setting, keeps the data memory, and doesn't
+-- clash
 pub record FitsJump (netlist : Netlist) (word : ℕ) (d : Operation) : Type 0 where
   pub clean : IsClean netlist word
   pub does : Does netlist word d

@@ -28,10 +28,10 @@ pub record IsLiveBehind {A : Type 0} (m : A → Operation) (later : List (List A
 -- ---- words of groups
 
 -- the words fit the groups, one each
-abbrev pub AllFit : {A : Type 0} → (A → Operation) → (ℕ → List A → Regs → Type 0) → List ℕ → List (List A) → Regs → Type 0
-AllFit m fits [] [] after = Unit {0}
-AllFit m fits (w ∷ ws) (g ∷ gs) after = fits w g (live_before m gs after) × AllFit m fits ws gs after
-AllFit m fits ws gs after = ⊥
+abbrev pub GroupsFit : {A : Type 0} → (A → Operation) → (ℕ → List A → Regs → Type 0) → List ℕ → List (List A) → Regs → Type 0
+GroupsFit m fits [] [] after = Unit {0}
+GroupsFit m fits (w ∷ ws) (g ∷ gs) after = fits w g (live_before m gs after) × GroupsFit m fits ws gs after
+GroupsFit m fits ws gs after = ⊥
 
 -- each group has a word that fits it
 abbrev pub AllHaveWords : {A : Type 0} → (A → Operation) → (ℕ → List A → Regs → Type 0) → List (List A) → Regs → Type 0

@@ -22,7 +22,8 @@ abbrev pub StandAt : List ℕ → ℕ → List ℕ → Type 0
 StandAt words address [] = Unit {0}
 StandAt words address (w ∷ ws) = (slice_index words address ≡ w) × StandAt words (address + 1) ws
 
--- so many clocks don't clash, leave the program counter as many addresses on, and leave the memory and the live registers of t
+-- so many clocks don't clash, leave the program counter as many addresses on, and leave the memory
+-- and the live registers of t
 pub record RunsTo (netlist : Netlist) (words : List ℕ) (s : State) (clocks : ℕ) (live : Regs) (t : State) : Type 0 where
   pub last : State
   pub is : run netlist words s clocks ≡ Reached last

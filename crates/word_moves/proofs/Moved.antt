@@ -10,11 +10,11 @@ use Rattle.net_model.specs.declared.hardware.Storage.TheVariants.{Register, Memo
 use Rattle.net_model.specs.Terms.{Term, keep, write, write_at}
 use Rattle.net_model.specs.Value.{value_of}
 use Rattle.net_model.specs.Widths.{StorageFits, IsTyped}
-use Rattle.net_model.specs.Symbolic.{blank, sym_of}
+use Rattle.net_model.specs.Symbolic.{no_state, sym_of}
 use Rattle.net_model.specs.Clock.{is_enabled}
 use Rattle.net_model.specs.Transfers.{same_reg, storage_move, transfer_of, move_at}
 use Rattle.sym_expr.specs.declared.pool.Node.{Node}
-use Rattle.word_moves.specs.Gates.{StorageKnown, net_terms}
+use Rattle.word_moves.specs.Inner.Gates.{StorageKnown, net_terms}
 use Rattle.word_moves.specs.Moves.{AreIds, IsMoveWithin, move_in}
 
 module _ (netlist : Netlist) (word : ℕ) (nodes : List Node) (ids : List ℕ) (a : AreIds netlist word nodes ids) where
@@ -37,7 +37,7 @@ all_at P (y ∷ ys) (suc i) x h e = all_at P ys i x h.1 e
 
 -- ---- one more storage
 
-module _ (netlist : Netlist) (word : ℕ) (nodes : List Node) (ids : List ℕ) (a : AreIds netlist word nodes ids) (u : ℕ → ℕ) (values : u ≡ value_of netlist blank word) (typed : IsTyped netlist) (moves : List StorageMove) (i : ℕ) (long : length moves ≡ i)
+module _ (netlist : Netlist) (word : ℕ) (nodes : List Node) (ids : List ℕ) (a : AreIds netlist word nodes ids) (u : ℕ → ℕ) (values : u ≡ value_of netlist no_state word) (typed : IsTyped netlist) (moves : List StorageMove) (i : ℕ) (long : length moves ≡ i)
     (storage : Storage) (is : storage ≡ get_or netlist.storages i storage) (inside : i < length netlist.storages) (move : StorageMove) where
   pub more_within : ((id : ℕ) (m : StorageMove) → slice_get moves id ≡ Some m → IsMoveWithin nodes m) → IsMoveWithin nodes move → (id : ℕ) (m : StorageMove) → slice_get (moves ++ move ∷ []) id ≡ Some m → IsMoveWithin nodes m
   more_within before this id m at = elim (pushed_at moves move id m at) as (λ _. IsMoveWithin nodes m) [

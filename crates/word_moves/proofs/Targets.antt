@@ -7,8 +7,8 @@ use Rattle.net_model.specs.Nets.{row_nets, driver_nets, width_at}
 use Rattle.net_model.specs.Symbolic.{case_term, bus_term}
 use Rattle.net_model.specs.Widths.{RowsFit, RestFits, DriversFit}
 use Rattle.sym_expr.specs.declared.pool.Node.{Node}
-use Rattle.word_moves.specs.Choices.{case_target, driver_target, term_there}
-use Rattle.word_moves.specs.Gates.{IsWide, IsKnown}
+use Rattle.word_moves.specs.Inner.Choices.{case_target, driver_target, term_there}
+use Rattle.word_moves.specs.Inner.Gates.{IsWide, IsKnown}
 
 module _ {X : Type 0} (there : Option ℕ → X) where
   choose : (b : Bool) (n : ℕ) (rest : Option ℕ) (x : X) → there rest ≡ x → there (if b then Some n else rest) ≡ (if b then there (Some n) else x)

@@ -10,8 +10,8 @@ use Rattle.net_model.specs.declared.hardware.Net.{Net}
 use Rattle.net_model.specs.Nets.{gate_nets, nets_of}
 use Rattle.net_model.specs.Value.{value_of}
 use Rattle.net_model.specs.Widths.{IsTyped}
-use Rattle.net_model.specs.Order.{place_of, IsOrder}
-use Rattle.net_model.specs.Symbolic.{blank, is_static, gate_term, net_term, sym_of}
+use Rattle.net_model.specs.Order.{position_of, IsOrder}
+use Rattle.net_model.specs.Symbolic.{no_state, is_static, gate_term, net_term, sym_of}
 use Rattle.net_model.specs.Control.{GateControlled, IsControlled}
 use Rattle.net_model.proofs.GateControls.{gate_controlled}
 use Rattle.net_model.proofs.Meanings.{width_is}
@@ -21,7 +21,7 @@ use Rattle.net_model.proofs.Orders.{place_at, at_place}
 use Rattle.sym_expr.specs.declared.pool.Node.{Node}
 use Rattle.sym_expr.specs.Pools.{Grows, term_at}
 use Rattle.sym_expr.proofs.CallerLemmas.{same_term}
-use Rattle.word_moves.specs.Gates.{IsKnown, net_terms}
+use Rattle.word_moves.specs.Inner.Gates.{IsKnown, net_terms}
 
 -- the net has the id of its symbolic value
 pub record IsTraced (netlist : Netlist) (word : ℕ) (nodes : List Node) (ids : List ℕ) (n : ℕ) : Type 0 where
@@ -34,7 +34,7 @@ traced_later netlist word old new ids n g h = record {
   is = same_term old new g (slice_index ids n) h.within ∙ h.is;
 }
 
-module _ (netlist : Netlist) (word : ℕ) (order : List ℕ) (o : IsOrder netlist order) (nodes : List Node) (ids : List ℕ) (i : ℕ) (inside : i < length order) (done : (m : ℕ) → place_of order m < i → IsTraced netlist word nodes ids m)
+module _ (netlist : Netlist) (word : ℕ) (order : List ℕ) (o : IsOrder netlist order) (nodes : List Node) (ids : List ℕ) (i : ℕ) (inside : i < length order) (done : (m : ℕ) → position_of order m < i → IsTraced netlist word nodes ids m)
     (net : Net) (is : net ≡ get_or netlist.nets (slice_index order i) net) where
   n : ℕ
   n = slice_index order i
@@ -43,12 +43,12 @@ module _ (netlist : Netlist) (word : ℕ) (order : List ℕ) (o : IsOrder netlis
   there = slice_get_read netlist.nets (length netlist.nets) (slice_index order i) net refl (o.nets i inside) is
 
   -- the nets that the gate names stand before it
-  before : (P : ℕ → Type 0) → ((m : ℕ) → place_of order m < i → P m) → AllByRecursion P (gate_nets net.gate)
+  before : (P : ℕ → Type 0) → ((m : ℕ) → position_of order m < i → P m) → AllByRecursion P (gate_nets net.gate)
   before P h =
-      all_weaker (λ m. place_of order m < place_of order (slice_index order i)) P
+      all_weaker (λ m. position_of order m < position_of order (slice_index order i)) P
       (λ m lt. h m (omega (arith, lt, place_at order i inside)))
       (gate_nets net.gate)
-      (subst (λ (x : Option Net). AllByRecursion (λ m. place_of order m < place_of order (slice_index order i)) (nets_of x)) there (o.falls (slice_index order i)))
+      (subst (λ (x : Option Net). AllByRecursion (λ m. position_of order m < position_of order (slice_index order i)) (nets_of x)) there (o.falls (slice_index order i)))
 
   pub turn_known : IsTyped netlist → AllByRecursion (IsKnown netlist nodes ids) (gate_nets net.gate)
   turn_known t = before (IsKnown netlist nodes ids) (λ m h.
@@ -57,14 +57,14 @@ module _ (netlist : Netlist) (word : ℕ) (order : List ℕ) (o : IsOrder netlis
   pub turn_controlled : IsControlled netlist → GateControlled netlist net.gate
   turn_controlled c = gate_controlled netlist c (slice_index order i) net there
 
-  turn_term : (values : ℕ → ℕ) → values ≡ value_of netlist blank word → gate_term (net_terms nodes ids) values (is_static netlist) net.width net.gate ≡ sym_of netlist word (slice_index order i)
+  turn_term : (values : ℕ → ℕ) → values ≡ value_of netlist no_state word → gate_term (net_terms nodes ids) values (is_static netlist) net.width net.gate ≡ sym_of netlist word (slice_index order i)
   turn_term values e =
-      same_gate (net_terms nodes ids) (sym_of netlist word) values (value_of netlist blank word) (is_static netlist) net.width net.gate
-      (before (λ m. (net_terms nodes ids m ≡ sym_of netlist word m) × (values m ≡ value_of netlist blank word m)) (λ m h. ((done m h).is, ap (λ v. v m) e)))
-      ∙ sym (sym_is netlist word order o (slice_index order i) (o.nets i inside) ∙ ap (net_term (sym_of netlist word) (value_of netlist blank word) (is_static netlist)) there)
+      same_gate (net_terms nodes ids) (sym_of netlist word) values (value_of netlist no_state word) (is_static netlist) net.width net.gate
+      (before (λ m. (net_terms nodes ids m ≡ sym_of netlist word m) × (values m ≡ value_of netlist no_state word m)) (λ m h. ((done m h).is, ap (λ v. v m) e)))
+      ∙ sym (sym_is netlist word order o (slice_index order i) (o.nets i inside) ∙ ap (net_term (sym_of netlist word) (value_of netlist no_state word) (is_static netlist)) there)
 
   -- what one turn over the order does
-  pub turn_traced : (long : length ids ≡ length netlist.nets) (values : ℕ → ℕ) (statics : ℕ → Bool) → values ≡ value_of netlist blank word → statics ≡ is_static netlist → (new : List Node) → Grows nodes new → (id : ℕ) → id < length new → term_at new id ≡ gate_term (net_terms nodes ids) values statics net.width net.gate → (m : ℕ) → place_of order m < i + 1 → IsTraced netlist word new (slice_set ids (slice_index order i) id) m
+  pub turn_traced : (long : length ids ≡ length netlist.nets) (values : ℕ → ℕ) (statics : ℕ → Bool) → values ≡ value_of netlist no_state word → statics ≡ is_static netlist → (new : List Node) → Grows nodes new → (id : ℕ) → id < length new → term_at new id ≡ gate_term (net_terms nodes ids) values statics net.width net.gate → (m : ℕ) → position_of order m < i + 1 → IsTraced netlist word new (slice_set ids (slice_index order i) id) m
   turn_traced long values statics ve se new g id within e m h =
       elim (cases_eq m (slice_index order i)) as (λ _. IsTraced netlist word new (slice_set ids (slice_index order i) id) m) [
         | inl q ↦
@@ -77,8 +77,8 @@ module _ (netlist : Netlist) (word : ℕ) (order : List ℕ) (o : IsOrder netlis
             })
         | inr q ↦
             let same : slice_index (slice_set ids (slice_index order i) id) m ≡ slice_index ids m = get_or-set_other ids (slice_index order i) m id 0 q in
-            let earlier : place_of order m < i =
-            elim (cases_eq (place_of order m) i) as (λ _. place_of order m < i) [
+            let earlier : position_of order m < i =
+            elim (cases_eq (position_of order m) i) as (λ _. position_of order m < i) [
               | inl p ↦ absurd (q (sym (at_place order m (omega (arith, p, inside))) ∙ ap (slice_index order) p))
               | inr p ↦ omega (arith, p, h)
             ] in

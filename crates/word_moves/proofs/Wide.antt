@@ -13,8 +13,8 @@ use Rattle.net_model.specs.Widths.{GateFits}
 use Rattle.sym_expr.specs.declared.pool.Node.{Node}
 use Rattle.sym_expr.specs.Pools.{Grows, term_at}
 use Rattle.sym_expr.proofs.CallerLemmas.{same_term}
-use Rattle.word_moves.specs.Choices.{case_target, driver_target, term_there}
-use Rattle.word_moves.specs.Gates.{IsKnown, IsWide, net_terms}
+use Rattle.word_moves.specs.Inner.Choices.{case_target, driver_target, term_there}
+use Rattle.word_moves.specs.Inner.Gates.{IsKnown, IsWide, net_terms}
 use Rattle.word_moves.proofs.Targets.{case_known, bus_known, case_term_there, bus_term_there}
 
 module _ (old new : List Node) (g : Grows old new) (ids : List ℕ) (width : ℕ) where

@@ -1,3 +1,2 @@
-pub mod Choices
-pub mod Gates
 pub mod Moves
+pub mod Inner

@@ -4,7 +4,7 @@ use Rattle.net_model.specs.declared.hardware.Netlist.{Netlist}
 use Rattle.net_model.specs.Terms.{Move, keep, write, write_at}
 use Rattle.net_model.specs.Value.{value_of}
 use Rattle.net_model.specs.Flags.{flag_at}
-use Rattle.net_model.specs.Symbolic.{blank, is_static, sym_of}
+use Rattle.net_model.specs.Symbolic.{no_state, is_static, sym_of}
 use Rattle.net_model.specs.Transfers.{clash_at, move_at}
 use Rattle.sym_expr.specs.declared.pool.Node.{Node}
 use Rattle.sym_expr.specs.Pools.{term_at}
@@ -39,7 +39,7 @@ pub record AreMoves (netlist : Netlist) (word : ℕ) (nodes : List Node) (moves 
 -- all that a netlist does under the word
 pub record IsWordMoves (netlist : Netlist) (word : ℕ) (nodes : List Node) (m : WordMoves) : Type 0 where
   pub values_long : length m.values ≡ length netlist.nets
-  pub values : slice_index m.values ≡ value_of netlist blank word
+  pub values : slice_index m.values ≡ value_of netlist no_state word
   pub statics_long : length m.statics ≡ length netlist.nets
   pub statics : flag_at m.statics ≡ is_static netlist
   pub ids : AreIds netlist word nodes m.ids

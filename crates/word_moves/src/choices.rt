@@ -1,7 +1,7 @@
 // The net whose value a case or a bus takes.
 
 ghost use Rattle.std.specs.Prelude.{◌≡◌, slice_index};
-ghost use Rattle.word_moves.specs.Choices.{case_target, driver_target};
+ghost use Rattle.word_moves.specs.Inner.Choices.{case_target, driver_target};
 
 use cycle_sim::value_at;
 

@@ -1,7 +1,7 @@
 // The values of all nets in the blank state under an instruction word.
 
 ghost use Rattle.std.specs.Prelude.{◌≡◌, IfOk, length, slice_index};
-ghost use Rattle.net_model.specs.Symbolic.{blank};
+ghost use Rattle.net_model.specs.Symbolic.{no_state};
 ghost use Rattle.net_model.specs.Value.{value_of};
 ghost use Rattle.net_model.specs.Widths.{WordFits};
 
@@ -12,7 +12,7 @@ use std::alloc::Global;
 
 // The state in which all storages hold 0.
 fn blank_state(alloc: Global) -> State
-    ensures { result ≡ blank }
+    ensures { result ≡ no_state }
 {
     State {
         regs: Items::new(alloc),
@@ -24,7 +24,7 @@ fn blank_state(alloc: Global) -> State
 pub(crate) fn values_of(alloc: Global, checked: &Checked, word: u64) -> Result<Items<u64>, NoMemory>
     requires { WordFits checked.now.netlist word }
     ensures long { IfOk result (λ values. length values ≡ length checked.now.netlist.nets) }
-    ensures values { IfOk result (λ values. slice_index values ≡ value_of checked.now.netlist blank word) }
+    ensures values { IfOk result (λ values. slice_index values ≡ value_of checked.now.netlist no_state word) }
 {
     let state = blank_state(alloc);
     let mut values = zeros(alloc, checked.netlist().nets.len())?;

@@ -8,8 +8,8 @@ ghost use Rattle.net_model.specs.Symbolic.{gate_term, is_static, sliced};
 ghost use Rattle.net_model.specs.Terms.{select, term_width};
 ghost use Rattle.net_model.specs.Widths.{GateFits};
 ghost use Rattle.sym_expr.specs.Pools.{Grows, term_at};
-ghost use Rattle.word_moves.specs.Choices.{term_there};
-ghost use Rattle.word_moves.specs.Gates.{IsKnown, IsWide, net_terms, slice_parts};
+ghost use Rattle.word_moves.specs.Inner.Choices.{term_there};
+ghost use Rattle.word_moves.specs.Inner.Gates.{IsKnown, IsWide, net_terms, slice_parts};
 ghost use Rattle.net_model.specs.Flags.{flag_at};
 
 use crate::choices::{driver_of, target_of};

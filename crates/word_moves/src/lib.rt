@@ -15,7 +15,8 @@
 //! - `gates`: the symbolic value of a gate, from the ids of the nets that it names.
 //! - `trace`: the ids of all nets.
 //! - `moves`: what each storage does, the first clash, and `word_moves`.
-//! - `specs/`: `Moves` is cited by the public contract; `Choices` and `Gates` mirror the loops.
+//! - `specs/`: `Moves`, cited by the public contract. `specs/Inner/`: `Choices` and `Gates`, which
+//!   go with the loops.
 //! - `proofs/`: `Traced` and `Moved` for nets and storages, `Evaluated`, `Targets` and `Wide` for
 //!   what they ask.
 //!

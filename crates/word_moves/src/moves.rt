@@ -2,12 +2,12 @@
 
 ghost use Rattle.std.specs.Prelude.{◌≡◌, ◌<◌, ◌^◌, IfOk, length, slice_index};
 ghost use Rattle.net_model.specs.Clock.{clash_in, is_enabled};
-ghost use Rattle.net_model.specs.Symbolic.{blank};
+ghost use Rattle.net_model.specs.Symbolic.{no_state};
 ghost use Rattle.net_model.specs.Transfers.{same_reg, storage_move};
 ghost use Rattle.net_model.specs.Value.{value_of};
 ghost use Rattle.net_model.specs.Widths.{WordFits};
 ghost use Rattle.sym_expr.specs.Pools.{Grows, term_at};
-ghost use Rattle.word_moves.specs.Gates.{StorageKnown, is_register_node, net_terms};
+ghost use Rattle.word_moves.specs.Inner.Gates.{StorageKnown, is_register_node, net_terms};
 ghost use Rattle.word_moves.specs.Moves.{AreIds, AreMoves, IsMoveWithin, IsWordMoves, move_in};
 
 use crate::evaluate::values_of;
@@ -43,8 +43,8 @@ pub struct WordMoves {
     pub moves: Items<StorageMove>,
 }
 
-/// What a checked netlist does under an instruction word below 2 to the code's bits, in one pass over its nets. The expressions are added
-/// to the pool.
+/// What a checked netlist does under an instruction word below 2 to the code's bits, in one pass
+/// over its nets. The expressions are added to the pool.
 pub fn word_moves(
     alloc: Global,
     checked: &Checked,
@@ -105,7 +105,7 @@ fn moves_of(
     values: &[u64],
 ) -> Result<Items<StorageMove>, NoMemory>
     requires ids { AreIds checked.now.netlist _word pool.now ids.now }
-    requires values { slice_index values.now ≡ value_of checked.now.netlist blank _word }
+    requires values { slice_index values.now ≡ value_of checked.now.netlist no_state _word }
     ensures { IfOk result (λ moves. AreMoves checked.now.netlist _word pool.now moves) }
 {
     let storages = checked.netlist().storages.as_slice();

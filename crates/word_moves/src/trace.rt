@@ -1,7 +1,7 @@
 // The symbolic values of all nets under an instruction word, one net after the other.
 
 ghost use Rattle.std.specs.Prelude.{◌≡◌, IfOk, slice_index};
-ghost use Rattle.net_model.specs.Symbolic.{blank, is_static};
+ghost use Rattle.net_model.specs.Symbolic.{no_state, is_static};
 ghost use Rattle.net_model.specs.Value.{value_of};
 ghost use Rattle.sym_expr.specs.Pools.{Grows};
 ghost use Rattle.net_model.specs.Flags.{flag_at};
@@ -23,7 +23,7 @@ pub(crate) fn ids_of(
     values: &[u64],
     statics: &[bool],
 ) -> Result<Items<ExprId>, NoMemory>
-    requires values { slice_index values.now ≡ value_of checked.now.netlist blank _word }
+    requires values { slice_index values.now ≡ value_of checked.now.netlist no_state _word }
     requires statics { flag_at statics.now ≡ is_static checked.now.netlist }
     ensures grows { Grows pool.old pool.new }
     ensures ids { IfOk result (λ ids. AreIds checked.now.netlist _word pool.new ids) }

@@ -34,7 +34,7 @@ invariant_of-self-2 c =
     let more = insert_more node_eq.eq old (Ask c.args.bit c.args.low c.args.high) in
     record {
       reduced = rw c.in_ok-place.ensures.keys (insert_reduced c.self.inside.bits c.self.inside.nodes.keys c.self.invariant.reduced c.args.bit c.args.low c.args.high (can c) node_eq.eq alike_node);
-      right = rw (c.in_ok-place.ensures.keys, more.1) (right_later old more.0 c.self.inside.done.entries c.self.invariant.right);
+      right = rw (c.in_ok-place.ensures.keys, more.1) (right_later old more.0 c.self.inside.done.items c.self.invariant.right);
     }
 
 pub returns-clause-set : goal.returns-clause-set

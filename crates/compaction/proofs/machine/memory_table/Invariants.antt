@@ -1,5 +1,5 @@
 use Rattle.std.proofs.Common.{◌≡◌, length}
-use Rattle.compaction.specs.Machines.{AreReaders}
+use Rattle.compaction.specs.Inner.Machines.{AreReaders}
 use Rattle.compaction.proofs.machine.memory_table.Given as goal
 
 abbrev pub invariant-loop-id : goal.invariant-loop-id

@@ -1,12 +1,12 @@
 use Rattle.std.proofs.Common.{sym, subst, IsPermutation}
 use Rattle.form_model.specs.Live.{regs_of, singles}
-use Rattle.transfer_set.specs.Rows.{told_patterns}
+use Rattle.transfer_set.specs.Rows.{row_patterns}
 use Rattle.word_fit.specs.Fits.{fits_over}
 use Rattle.word_fit.specs.Steps.{step_operation}
 use Rattle.compaction.specs.Lists.{EachHasPatternsOnce}
 use Rattle.compaction.specs.Meant.{MeansSteps}
 use Rattle.compaction.specs.Packing.{all_steps}
-use Rattle.compaction.specs.Turns.{IsPackedTo, IsSame}
+use Rattle.compaction.specs.Inner.Turns.{IsPackedTo, IsSame}
 use Rattle.compaction.proofs.Meaning.{means_steps}
 use Rattle.compaction.proofs.Packed.{start, steps_kept}
 use Rattle.compaction.proofs.Patterns.{each_once}
@@ -27,7 +27,7 @@ returns-clause-steps c =
 pub returns-clause-once : goal.returns-clause-once
 returns-clause-once c =
     subst (λ z. EachHasPatternsOnce z) (sym c.from_vec.ensures)
-    (each_once (told_patterns c.args.pool.now c.args.patterns.now.rows) c.settle.new.groups.items c.in_ok-settle.ensures.packing.differ)
+    (each_once (row_patterns c.args.pool.now c.args.patterns.now.rows) c.settle.new.groups.items c.in_ok-settle.ensures.packing.differ)
 
 pub returns-clause-meaning : goal.returns-clause-meaning
 returns-clause-meaning c =

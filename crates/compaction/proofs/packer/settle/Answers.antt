@@ -2,7 +2,7 @@ use Rattle.std.proofs.Common.{refl, arith}
 use Rattle.bit_bdd.proofs.CallerLemmas.{extends_refl, extends_trans}
 use Rattle.form_model.specs.Live.{regs_of}
 use Rattle.compaction.specs.Chosen.{ends}
-use Rattle.compaction.specs.Machines.{fits_in, operation_in}
+use Rattle.compaction.specs.Inner.Machines.{fits_in, operation_in}
 use Rattle.compaction.proofs.Lives.{same_refl, same_trans}
 use Rattle.compaction.proofs.LiveLists.{sets_long}
 use Rattle.compaction.proofs.Packed.{all_settled, is_packed}

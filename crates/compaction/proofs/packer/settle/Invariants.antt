@@ -4,8 +4,8 @@ use Rattle.form_model.specs.declared.forms.Step.{Step}
 use Rattle.form_model.specs.Live.{regs_of}
 use Rattle.word_fit.specs.Groups.{lives_of}
 use Rattle.compaction.specs.Chosen.{Packs}
-use Rattle.compaction.specs.Machines.{IsReadyFor, PackedTo, fits_in, operation_in}
-use Rattle.compaction.specs.Turns.{IsSame, work}
+use Rattle.compaction.specs.Inner.Machines.{IsReadyFor, PackedTo, fits_in, operation_in}
+use Rattle.compaction.specs.Inner.Turns.{IsSame, work}
 use Rattle.compaction.proofs.packer.settle.Given as goal
 
 abbrev pub invariant-loop-pair : goal.invariant-loop-pair

@@ -1,6 +1,6 @@
 use Rattle.std.proofs.Common.{subst, arith, take, drop, get_or, ◌+◌, ◌∙◌, ap, ◌∷◌, [], refl}
 use Rattle.form_model.specs.Live.{regs_of, live_before}
-use Rattle.compaction.specs.Machines.{Changes, fits_in, operation_in}
+use Rattle.compaction.specs.Inner.Machines.{Changes, fits_in, operation_in}
 use Rattle.compaction.proofs.LiveLists.{second_set, merged_sets, moved_sets}
 use Rattle.compaction.proofs.Turns.{IsAt, pair_in, merged_turn, moved_turn, settled_turn, merged_list, moved_list, merged_live, moved_live, second_differs}
 use Rattle.compaction.proofs.packer.turn.Goals as goal

@@ -5,16 +5,16 @@ use Rattle.std.proofs.lemmas.Result.{IfOk-weaker}
 use Rattle.form_model.specs.Trees.{tree_term}
 use Rattle.form_model.specs.Plans.{operand_then, plan_of, operands_plan, cuts_plan}
 use Rattle.form_model.specs.Covers.{Operand}
-use Rattle.cover.specs.Asks.{operand_ask, with_reg}
-use Rattle.cover.specs.Least.{IsLeast, IsLeastOrder}
-use Rattle.cover.specs.Jobs.{stock_of, nodes_of, open_operand, open_operands, open_cuts, OperandsAt}
+use Rattle.cover.specs.Inner.Asks.{operand_ask, with_reg}
+use Rattle.cover.specs.Inner.Least.{IsLeast, IsLeastOrder}
+use Rattle.cover.specs.Inner.Jobs.{stock_of, nodes_of, open_operand, open_operands, open_cuts, OperandsAt}
 use Rattle.cover.specs.declared.matches.FormMatch.{FormMatch}
 use Rattle.cover.specs.declared.matches.Matches.{Matches}
-use Rattle.cover.specs.Least.{IsLeastCut}
-use Rattle.cover.specs.Rows.{row_ask, IsSlot}
-use Rattle.cover.specs.Jobs.{CutsAt}
-use Rattle.cover.specs.Matched.{AreMatches}
-use Rattle.cover.specs.Choice.{matches_ask, NeverBegins, BeginsAt, Starts, StartsCut, IsFirst, IsFirstOrder, IsFirstCuts}
+use Rattle.cover.specs.Inner.Least.{IsLeastCut}
+use Rattle.cover.specs.Inner.Rows.{row_ask, IsSlot}
+use Rattle.cover.specs.Inner.Jobs.{CutsAt}
+use Rattle.cover.specs.Inner.Matched.{AreMatches}
+use Rattle.cover.specs.Inner.Choice.{matches_ask, NeverBegins, BeginsAt, Starts, StartsCut, IsFirst, IsFirstOrder, IsFirstCuts}
 use Rattle.cover.proofs.MatchLemmas.{never_before, some_match, matches_later}
 use Rattle.cover.proofs.NodeLemmas.{input_get, inputs_remove}
 use Rattle.cover.proofs.InputLemmas.{register_ask, register_slot, cut_slot, inputs_at, inputs_without, length_inputs, no_stored, stored_split, stored_first}

@@ -1,11 +1,11 @@
 use Rattle.std.proofs.Common.{◌≡◌, ◌≢◌, ℕ, Some, ◌+◌, ◌*◌, ◌<◌}
 use Rattle.form_model.specs.Plans.{Plan, Operands, operand_then, cost, operands_cost}
-use Rattle.cover.specs.Asks.{AreSparing}
+use Rattle.cover.specs.Inner.Asks.{AreSparing}
 use Rattle.std.specs.Prelude.{slice_get}
 use Rattle.cover.specs.declared.matches.FormMatch.{FormMatch}
-use Rattle.cover.specs.Choice.{matches_ask, NeverBegins}
-use Rattle.cover.specs.Jobs.{stock_of, open_operands}
-use Rattle.cover.specs.Tables.{AreRight}
+use Rattle.cover.specs.Inner.Choice.{matches_ask, NeverBegins}
+use Rattle.cover.specs.Inner.Jobs.{stock_of, open_operands}
+use Rattle.cover.specs.Inner.Tables.{AreRight}
 use Rattle.cover.proofs.choice.+choosing.Given as goal
 
 abbrev pub decreases-choose_entry : goal.decreases-choose_entry

@@ -1,5 +1,5 @@
-use Rattle.cover.specs.Jobs.{stock_of}
-use Rattle.cover.specs.Choice.{ask_of}
+use Rattle.cover.specs.Inner.Jobs.{stock_of}
+use Rattle.cover.specs.Inner.Choice.{ask_of}
 use Rattle.cover.proofs.FitLemmas.{never_none, never_some}
 use Rattle.cover.proofs.choice.begins.Goals as goal
 

@@ -2,8 +2,8 @@ use Rattle.std.proofs.Common.{arith, subst, Some}
 use Rattle.form_model.specs.Rules.{rule_of}
 use Rattle.std.proofs.lemmas.List.{length-map}
 use Rattle.form_model.specs.Plans.{operands_plan, cuts_plan}
-use Rattle.cover.specs.Jobs.{stock_of, open_operands, open_cuts}
-use Rattle.cover.specs.Choice.{ask_of, Begins, IsFirstOrder, IsFirstCuts}
+use Rattle.cover.specs.Inner.Jobs.{stock_of, open_operands, open_cuts}
+use Rattle.cover.specs.Inner.Choice.{ask_of, Begins, IsFirstOrder, IsFirstCuts}
 use Rattle.cover.proofs.ChoiceLemmas.{cover_exists, first_by_form, forms_later}
 use Rattle.cover.proofs.choice.choose.Goals as goal
 

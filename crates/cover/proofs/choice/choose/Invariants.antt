@@ -1,7 +1,7 @@
 use Rattle.std.proofs.Common.{ℕ, ◌<◌}
-use Rattle.cover.specs.Choice.{ask_of, NeverBegins}
-use Rattle.cover.specs.Jobs.{stock_of}
-use Rattle.cover.specs.Tables.{AreRight}
+use Rattle.cover.specs.Inner.Choice.{ask_of, NeverBegins}
+use Rattle.cover.specs.Inner.Jobs.{stock_of}
+use Rattle.cover.specs.Inner.Tables.{AreRight}
 use Rattle.cover.proofs.choice.choose.Given as goal
 
 abbrev pub invariant-loop-k : goal.invariant-loop-k

@@ -1,9 +1,9 @@
 use Rattle.std.proofs.Common.{◌≡◌, ◌<◌, ◌∷◌, length, drop, refl, sym, subst, Some}
 use Rattle.std.proofs.lemmas.Option.{slice_get_read}
 use Rattle.form_model.specs.Trees.{tree_term}
-use Rattle.cover.specs.Least.{IsLeastCut}
-use Rattle.cover.specs.Jobs.{stock_of, open_cuts}
-use Rattle.cover.specs.Choice.{StartsCut}
+use Rattle.cover.specs.Inner.Least.{IsLeastCut}
+use Rattle.cover.specs.Inner.Jobs.{stock_of, open_cuts}
+use Rattle.cover.specs.Inner.Choice.{StartsCut}
 use Rattle.cover.proofs.InputLemmas.{stored_split}
 use Rattle.cover.proofs.ChoiceLemmas.{starts_cut}
 use Rattle.cover.proofs.choice.first_cut.Goals as goal

@@ -1,9 +1,9 @@
 use Rattle.std.proofs.Common.{◌≡◌, refl, sym, ap, ◌∙◌, subst}
 use Rattle.std.specs.Prelude.{remove}
 use Rattle.std.proofs.lemmas.Option.{slice_get_read}
-use Rattle.cover.specs.Asks.{with_reg}
-use Rattle.cover.specs.Least.{IsLeastOrder}
-use Rattle.cover.specs.Jobs.{stock_of, nodes_of, open_operand, open_operands, OperandsAt}
+use Rattle.cover.specs.Inner.Asks.{with_reg}
+use Rattle.cover.specs.Inner.Least.{IsLeastOrder}
+use Rattle.cover.specs.Inner.Jobs.{stock_of, nodes_of, open_operand, open_operands, OperandsAt}
 use Rattle.cover.proofs.NodeLemmas.{input_get, inputs_remove}
 use Rattle.cover.proofs.InputLemmas.{inputs_at, inputs_without, register_least}
 use Rattle.cover.proofs.ChoiceLemmas.{first_of_sum}

@@ -1,9 +1,9 @@
 use Rattle.std.proofs.Common.{◌≡◌, length, arith, subst}
 use Rattle.std.proofs.lemmas.List.{length-map}
 use Rattle.form_model.specs.Rules.{rule_of}
-use Rattle.cover.specs.Least.{FormsBelow}
-use Rattle.cover.specs.Jobs.{stock_of}
-use Rattle.cover.specs.Choice.{ask_of}
+use Rattle.cover.specs.Inner.Least.{FormsBelow}
+use Rattle.cover.specs.Inner.Jobs.{stock_of}
+use Rattle.cover.specs.Inner.Choice.{ask_of}
 use Rattle.cover.proofs.LeastLemmas.{forms_more, forms_all}
 use Rattle.cover.proofs.fits.least_of.Goals as goal
 

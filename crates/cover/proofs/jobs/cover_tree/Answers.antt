@@ -2,10 +2,10 @@ use Rattle.std.proofs.Common.{subst}
 use Rattle.form_model.specs.Trees.{tree_term}
 use Rattle.form_model.specs.Plans.{plan_of}
 use Rattle.tree_grammar.specs.Parts.{destination_at}
-use Rattle.cover.specs.Least.{IsLeast}
-use Rattle.cover.specs.Choice.{IsFirst}
-use Rattle.cover.specs.Best.{root_ask}
-use Rattle.cover.specs.Jobs.{stock_of}
+use Rattle.cover.specs.Inner.Least.{IsLeast}
+use Rattle.cover.specs.Inner.Choice.{IsFirst}
+use Rattle.cover.specs.Inner.Best.{root_ask}
+use Rattle.cover.specs.Inner.Jobs.{stock_of}
 use Rattle.cover.proofs.NodeLemmas.{root_stands}
 use Rattle.cover.proofs.BestLemmas.{first_cost}
 use Rattle.cover.proofs.jobs.cover_tree.Goals as goal

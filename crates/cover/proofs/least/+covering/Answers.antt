@@ -1,23 +1,25 @@
 use Rattle.std.proofs.Common.{◌≡◌, ◌<◌, length, drop, arith, rules, refl, sym, ap, ◌∙◌, subst, Some, None, vec_len}
 use Rattle.std.specs.Prelude.{slice_get, remove}
+use Rattle.std.proofs.lemmas.Bool.{OnTrue_at}
 use Rattle.std.proofs.lemmas.Option.{slice_get_read}
 use Rattle.std.proofs.lemmas.Result.{IfOk-weaker}
 use Rattle.form_model.specs.Trees.{tree_term}
-use Rattle.cover.specs.Asks.{operands_size, terms_size, with_reg}
-use Rattle.cover.specs.Least.{IsLeast, IsLeastOrder, IsLeastFrom, IsLeastCut, summed}
-use Rattle.cover.specs.Jobs.{stock_of, nodes_of, open_operand, open_operands, open_cuts, OperandsAt, CutsAt}
+use Rattle.cover.specs.Inner.Asks.{operands_size, terms_size, with_reg}
+use Rattle.cover.specs.Inner.Least.{IsLeast, IsLeastOrder, IsLeastFrom, IsLeastCut, IsFloor, AtMost, summed}
+use Rattle.cover.specs.Inner.Jobs.{stock_of, nodes_of, open_operand, open_operands, open_cuts, OperandsAt, CutsAt}
 use Rattle.cover.proofs.SizeLemmas.{size_pos}
 use Rattle.cover.proofs.NodeLemmas.{input_get, inputs_remove}
-use Rattle.cover.proofs.InputLemmas.{inputs_at, inputs_without, length_inputs, no_inputs, size-remove, no_stored, stored_split, stored_first, stored_later, tail_is, register_slot, cut_slot, register_least, rank_le}
+use Rattle.cover.proofs.InputLemmas.{inputs_at, inputs_without, length_inputs, no_inputs, inputs_split, inputs_later, size-remove, no_stored, stored_split, stored_first, stored_later, tail_is, register_slot, cut_slot, register_least, rank_le}
 use Rattle.cover.specs.declared.rows.Offer.TheVariants.{Nothing, Chains}
 use Rattle.cover.specs.declared.matches.Matches.{Matches}
-use Rattle.cover.specs.Rows.{row_ask, IsTried, IsClosed, IsLeastRow, IsOffer}
-use Rattle.cover.specs.Matched.{AreMatches}
+use Rattle.cover.specs.Inner.Rows.{Row, entry, row_ask, IsTried, IsClosed, IsLeastRow, IsOffer}
+use Rattle.cover.specs.Inner.Matched.{AreMatches}
 use Rattle.cover.proofs.OfferLemmas.{look_within, tried_more, least_row_of}
-use Rattle.cover.proofs.MatchLemmas.{at_index, at_place, matches_all, match_sizes, offer_clobbers, offer_start, offer_costs}
+use Rattle.cover.proofs.MatchLemmas.{at_index, at_place, matches_all, match_sizes, offer_clobbers, offer_start, offer_dear, offer_costs}
 use Rattle.net_model.specs.Terms.{size_of}
 use Rattle.cover.proofs.LeastLemmas.{cut_none, cut_more, order_more, order_all, order_none, from_parts, from_none, from_last}
 use Rattle.cover.specs.declared.matches.FormMatch.{FormMatch}
+use Rattle.cover.proofs.FloorLemmas.{floor_none, floor_more}
 use Rattle.cover.proofs.least.+covering.Goals as goal
 
 pub orders-returns-then-is_empty-clause-least : goal.orders-returns-then-is_empty-clause-least
@@ -79,6 +81,33 @@ orders_from-returns-clause-least t c =
     let parts = from_parts (stock_of c.args.instance.now) c.args.avoid (open_operands c.args.ops.now) c.args.i (open_operand c.index-ops-i.result) (Some c.in-Some.m) c.in_ok-n.n get first rest in
     IfOk-weaker c.sum_of.result (λ x. x ≡ summed (Some c.in-Some.m) c.in_ok-n.n) (λ x. IsLeastFrom (stock_of c.args.instance.now) c.args.avoid (open_operands c.args.ops.now) c.args.i x) (λ o same. subst (λ x. IsLeastFrom (stock_of c.args.instance.now) c.args.avoid (open_operands c.args.ops.now) c.args.i x) (sym same) parts) c.sum_of.ensures
 
+pub floor_of-returns-then-is_empty-clause-floor : goal.floor_of-returns-then-is_empty-clause-floor
+floor_of-returns-then-is_empty-clause-floor t c = floor_none (stock_of c.args.instance.now) c.args.avoid (open_operands c.args.ops.now)
+
+pub floor_of-least-requires : goal.floor_of-least-requires
+floor_of-least-requires t c =
+    let some : 0 < length c.args.ops.now = search rules in
+    let got = slice_get_read _ _ _ _ refl some c.index-ops-0.is in
+    let e = inputs_split c.args.ops.now c.index-ops-0.result got in
+    (omega (arith, ap operands_size e, c.decreases, rank_le c.args.avoid), (register_slot _ _ _ c.in_ok-slot.ensures, (input_get _ _ 0 _ c.requires.at got, c.requires.right)))
+
+pub floor_of-floor_of-requires : goal.floor_of-floor_of-requires
+floor_of-floor_of-requires t c =
+    let some : 0 < length c.args.ops.now = search rules in
+    let got = slice_get_read _ _ _ _ refl some c.index-ops-0.is in
+    let e = inputs_split c.args.ops.now c.index-ops-0.result got in
+    (omega (arith, ap operands_size e, ap (λ l. operands_size (open_operands l)) (tail_is c.args.ops.now), size_pos (tree_term c.index-ops-0.result.tree.now), c.decreases), (subst (OperandsAt (nodes_of c.args.instance.now)) (sym (tail_is c.args.ops.now)) (inputs_later (nodes_of c.args.instance.now) c.args.ops.now c.requires.at), c.in_ok-m.ensures.right))
+
+pub floor_of-returns-clause-floor : goal.floor_of-returns-clause-floor
+floor_of-returns-clause-floor t c =
+    let some : 0 < length c.args.ops.now = search rules in
+    let got = slice_get_read _ _ _ _ refl some c.index-ops-0.is in
+    let e = inputs_split c.args.ops.now c.index-ops-0.result got in
+    let first = register_least (stock_of c.args.instance.now) c.args.avoid c.in_ok-slot.slot (open_operand c.index-ops-0.result) c.in_ok-m.m c.in_ok-slot.ensures c.in_ok-m.ensures.least in
+    let parts = floor_more (stock_of c.args.instance.now) c.args.avoid (open_operand c.index-ops-0.result) (open_operands (drop 1 c.args.ops.now)) c.in_ok-m.m c.in_ok-n.n first (subst (λ l. IsFloor (stock_of c.args.instance.now) c.args.avoid (open_operands l) c.in_ok-n.n) (tail_is c.args.ops.now) c.in_ok-n.ensures.floor) in
+    IfOk-weaker c.sum_of.result (λ x. x ≡ summed c.in_ok-m.m c.in_ok-n.n) (λ x. IsFloor (stock_of c.args.instance.now) c.args.avoid (open_operands c.args.ops.now) x)
+    (λ o same. subst (λ x. IsFloor (stock_of c.args.instance.now) c.args.avoid (open_operands c.args.ops.now) x) (sym same) (subst (λ xs. IsFloor (stock_of c.args.instance.now) c.args.avoid xs (summed c.in_ok-m.m c.in_ok-n.n)) (sym e) parts)) c.sum_of.ensures
+
 pub cuts_cost-returns-then-is_empty-clause-least : goal.cuts_cost-returns-then-is_empty-clause-least
 cuts_cost-returns-then-is_empty-clause-least t c = cut_none _ _ (let n : length c.args.cuts.now ≡ 0 = search rules in no_stored c.args.cuts.now n)
 
@@ -120,7 +149,7 @@ pub row_of-note-requires : goal.row_of-note-requires
 row_of-note-requires t c =
     let lt : c.loop-i.i < length c.args.matches.now.list.items = search rules in
     let (m, got) = at_index c.args.matches.now.list.items c.loop-i.i lt in
-    record { len = c.loop-i.invariant.len; within = look_within (stock_of c.args.instance.now) c.args.avoid (tree_term c.args.matches.now.tree.now) c.args.matches.now.whole m.form c.in_ok-offer.offer (c.in_ok-offer.ensures.offer m got) }
+    record { len = c.loop-i.invariant.len; within = look_within (stock_of c.args.instance.now) c.args.avoid (tree_term c.args.matches.now.tree.now) c.args.matches.now.whole c.deref.result.now m.form c.in_ok-offer.offer (c.in_ok-offer.ensures.offer m got) }
 
 pub row_of-loop-i-preserved : goal.row_of-loop-i-preserved
 row_of-loop-i-preserved t c =
@@ -128,7 +157,7 @@ row_of-loop-i-preserved t c =
     let (m, got) = at_index c.args.matches.now.list.items c.loop-i.i lt in
     record {
       len = c.note.ensures.len;
-      tried = tried_more (stock_of c.args.instance.now) c.args.avoid (tree_term c.args.matches.now.tree.now) c.args.matches.now.whole c.args.matches.now.list.items c.loop-i.i m got c.in_ok-offer.offer _ _ _ _ c.loop-i.invariant.tried (c.in_ok-offer.ensures.offer m got) c.in_ok-note.ensures.noted;
+      tried = tried_more (stock_of c.args.instance.now) c.args.avoid (tree_term c.args.matches.now.tree.now) c.args.matches.now.whole c.args.matches.now.list.items c.loop-i.i m got c.in_ok-offer.offer _ _ _ _ c.loop-i.invariant.tried (subst (λ l. IsOffer (stock_of c.args.instance.now) c.args.avoid (tree_term c.args.matches.now.tree.now) c.args.matches.now.whole l m.form c.in_ok-offer.offer) c.deref.ensures.value (c.in_ok-offer.ensures.offer m got)) c.in_ok-note.ensures.noted;
       right = c.in_ok-offer.ensures.right;
     }
 
@@ -138,29 +167,21 @@ row_of-returns-clause-least t c =
     let n : c.loop-i.i ≡ length c.args.matches.now.list.items = omega (arith, v, c.loop-i-test.false, c.loop-i.auto.i-end) in
     least_row_of _ _ _ _ c.args.matches.now.list.items (matches_all c.args.instance.now (tree_term c.args.matches.now.tree.now) c.args.matches.now.whole c.args.matches.now.list.items c.requires.matches) _ _ _
     (subst (λ j. IsTried (stock_of c.args.instance.now) c.args.avoid (tree_term c.args.matches.now.tree.now) c.args.matches.now.whole c.args.matches.now.list.items j c.loop-i.chains.items c.loop-i.row.items) n c.loop-i.invariant.tried)
-    (subst (λ ms. IsClosed ms c.loop-i.row.items c.close.new.row.items) c.deref.ensures c.in_ok-close.ensures.closed)
+    (subst (λ ms. IsClosed ms c.loop-i.row.items c.close.new.row.items) c.deref-2.ensures c.in_ok-close.ensures.closed)
 
 pub offer_at-returns-then-found-avoid-ne0-clause-offer : goal.offer_at-returns-then-found-avoid-ne0-clause-offer
 offer_at-returns-then-found-avoid-ne0-clause-offer t c =
     let m : FormMatch = c.index-found.result.now in
     let got : slice_get c.args.matches.now.list.items c.args.i ≡ Some m = slice_get_read _ _ _ _ refl c.requires.place c.index-found.ensures in
-    at_place (λ y. IsOffer (stock_of c.args.instance.now) c.args.avoid (tree_term c.args.matches.now.tree.now) c.args.matches.now.whole y.form Nothing) c.args.matches.now.list.items c.args.i m got
-    (offer_clobbers c.args.instance.now c.args.avoid (tree_term c.args.matches.now.tree.now) c.args.matches.now.whole m (c.requires.matches.each c.args.i m got) c.if-found-avoid-ne0.true)
+    at_place (λ y. IsOffer (stock_of c.args.instance.now) c.args.avoid (tree_term c.args.matches.now.tree.now) c.args.matches.now.whole c.args.row.now y.form Nothing) c.args.matches.now.list.items c.args.i m got
+    (offer_clobbers c.args.instance.now c.args.avoid (tree_term c.args.matches.now.tree.now) c.args.matches.now.whole m (c.requires.matches.each c.args.i m got) c.args.row.now c.if-found-avoid-ne0.true)
 
 pub offer_at-returns-in-Some-clause-offer : goal.offer_at-returns-in-Some-clause-offer
 offer_at-returns-in-Some-clause-offer t c =
     let m : FormMatch = c.index-found.result.now in
     let got : slice_get c.args.matches.now.list.items c.args.i ≡ Some m = slice_get_read _ _ _ _ refl c.requires.place c.index-found.ensures in
-    at_place (λ y. IsOffer (stock_of c.args.instance.now) c.args.avoid (tree_term c.args.matches.now.tree.now) c.args.matches.now.whole y.form (Chains (record { start = c.in-Some.start; goal = m.goal }))) c.args.matches.now.list.items c.args.i m got
-    (offer_start c.args.instance.now c.args.avoid (tree_term c.args.matches.now.tree.now) c.args.matches.now.whole m (c.requires.matches.each c.args.i m got) c.start_of.result c.in-Some.start c.if-found-avoid-ne0.false c.start_of.ensures c.in-Some.is)
-
-pub offer_at-orders-requires : goal.offer_at-orders-requires
-offer_at-orders-requires t c =
-    let m : FormMatch = c.index-found.result.now in
-    let got : slice_get c.args.matches.now.list.items c.args.i ≡ Some m = slice_get_read _ _ _ _ refl c.requires.place c.index-found.ensures in
-    let f = c.requires.matches.each c.args.i m got in
-    let z = match_sizes c.args.instance.now c.args.avoid (tree_term c.args.matches.now.tree.now) c.args.matches.now.whole m f c.start_of.result c.start_of.ensures c.in_default.is in
-    (omega (arith, z.0, ap (λ l. operands_size (open_operands l)) c.deref.ensures.value, c.decreases), (subst (OperandsAt (nodes_of c.args.instance.now)) (sym c.deref.ensures.value) f.operands_at, c.requires.right))
+    at_place (λ y. IsOffer (stock_of c.args.instance.now) c.args.avoid (tree_term c.args.matches.now.tree.now) c.args.matches.now.whole c.args.row.now y.form (Chains (record { start = c.in-Some.start; goal = m.goal }))) c.args.matches.now.list.items c.args.i m got
+    (offer_start c.args.instance.now c.args.avoid (tree_term c.args.matches.now.tree.now) c.args.matches.now.whole m (c.requires.matches.each c.args.i m got) c.args.row.now c.start_of.result c.in-Some.start c.if-found-avoid-ne0.false c.start_of.ensures c.in-Some.is)
 
 pub offer_at-cuts_cost-requires : goal.offer_at-cuts_cost-requires
 offer_at-cuts_cost-requires t c =
@@ -168,13 +189,39 @@ offer_at-cuts_cost-requires t c =
     let got : slice_get c.args.matches.now.list.items c.args.i ≡ Some m = slice_get_read _ _ _ _ refl c.requires.place c.index-found.ensures in
     let f = c.requires.matches.each c.args.i m got in
     let z = match_sizes c.args.instance.now c.args.avoid (tree_term c.args.matches.now.tree.now) c.args.matches.now.whole m f c.start_of.result c.start_of.ensures c.in_default.is in
-    (omega (arith, z.1, rank_le c.args.avoid, ap (λ l. terms_size (open_cuts l)) c.deref-2.ensures.value, c.decreases), (subst (CutsAt (nodes_of c.args.instance.now)) (sym c.deref-2.ensures.value) f.cuts_at, c.in_ok-a.ensures.right))
+    (omega (arith, z.1, rank_le c.args.avoid, ap (λ l. terms_size (open_cuts l)) c.deref.ensures.value, c.decreases), (subst (CutsAt (nodes_of c.args.instance.now)) (sym c.deref.ensures.value) f.cuts_at, c.requires.right))
+
+pub offer_at-floor_of-requires : goal.offer_at-floor_of-requires
+offer_at-floor_of-requires t c =
+    let m : FormMatch = c.index-found.result.now in
+    let got : slice_get c.args.matches.now.list.items c.args.i ≡ Some m = slice_get_read _ _ _ _ refl c.requires.place c.index-found.ensures in
+    let f = c.requires.matches.each c.args.i m got in
+    let z = match_sizes c.args.instance.now c.args.avoid (tree_term c.args.matches.now.tree.now) c.args.matches.now.whole m f c.start_of.result c.start_of.ensures c.in_default.is in
+    (omega (arith, z.0, ap (λ l. operands_size (open_operands l)) c.deref-2.ensures.value, c.decreases), (subst (OperandsAt (nodes_of c.args.instance.now)) (sym c.deref-2.ensures.value) f.operands_at, c.in_ok-b.ensures.right))
+
+pub offer_at-orders-requires : goal.offer_at-orders-requires
+offer_at-orders-requires t c =
+    let m : FormMatch = c.index-found.result.now in
+    let got : slice_get c.args.matches.now.list.items c.args.i ≡ Some m = slice_get_read _ _ _ _ refl c.requires.place c.index-found.ensures in
+    let f = c.requires.matches.each c.args.i m got in
+    let z = match_sizes c.args.instance.now c.args.avoid (tree_term c.args.matches.now.tree.now) c.args.matches.now.whole m f c.start_of.result c.start_of.ensures c.in_default.is in
+    (omega (arith, z.0, ap (λ l. operands_size (open_operands l)) c.deref-3.ensures.value, c.decreases), (subst (OperandsAt (nodes_of c.args.instance.now)) (sym c.deref-3.ensures.value) f.operands_at, c.in_ok-floor.ensures.right))
+
+pub offer_at-returns-then-is_as_dear-clause-offer : goal.offer_at-returns-then-is_as_dear-clause-offer
+offer_at-returns-then-is_as_dear-clause-offer t c =
+    let m : FormMatch = c.index-found.result.now in
+    let got : slice_get c.args.matches.now.list.items c.args.i ≡ Some m = slice_get_read _ _ _ _ refl c.requires.place c.index-found.ensures in
+    at_place (λ y. IsOffer (stock_of c.args.instance.now) c.args.avoid (tree_term c.args.matches.now.tree.now) c.args.matches.now.whole c.args.row.now y.form Nothing) c.args.matches.now.list.items c.args.i m got
+    (offer_dear c.args.instance.now c.args.avoid (tree_term c.args.matches.now.tree.now) c.args.matches.now.whole m (c.requires.matches.each c.args.i m got) c.args.row.now c.in_ok-floor.floor c.in_ok-b.b c.in_ok-form_cost.field-0
+    (subst (λ l. IsFloor (stock_of c.args.instance.now) c.args.avoid (open_operands l) c.in_ok-floor.floor) c.deref-2.ensures.value c.in_ok-floor.ensures.floor)
+    (subst (λ l. IsLeastCut (stock_of c.args.instance.now) (open_cuts l) c.in_ok-b.b) c.deref.ensures.value c.in_ok-b.ensures.least) c.in_ok-form_cost.ensures
+    (λ n h. subst (λ o. AtMost o n) c.known_cost.ensures (OnTrue_at c.if-is_as_dear.true c.is_as_dear.ensures n h)))
 
 pub offer_at-returns-clause-offer : goal.offer_at-returns-clause-offer
 offer_at-returns-clause-offer t c =
     let m : FormMatch = c.index-found.result.now in
     let got : slice_get c.args.matches.now.list.items c.args.i ≡ Some m = slice_get_read _ _ _ _ refl c.requires.place c.index-found.ensures in
-    at_place (λ y. IsOffer (stock_of c.args.instance.now) c.args.avoid (tree_term c.args.matches.now.tree.now) c.args.matches.now.whole y.form c.offer_of.result) c.args.matches.now.list.items c.args.i m got
-    (offer_costs c.args.instance.now c.args.avoid (tree_term c.args.matches.now.tree.now) c.args.matches.now.whole m (c.requires.matches.each c.args.i m got) c.in_ok-a.a c.in_ok-b.b c.in_ok-sum_of.field-0 c.in_ok-sum_of-2.field-0 c.offer_of.result c.if-found-avoid-ne0.false
-    (subst (λ l. IsLeastOrder (stock_of c.args.instance.now) c.args.avoid (open_operands l) c.in_ok-a.a) c.deref.ensures.value c.in_ok-a.ensures.least)
-    (subst (λ l. IsLeastCut (stock_of c.args.instance.now) (open_cuts l) c.in_ok-b.b) c.deref-2.ensures.value c.in_ok-b.ensures.least) c.in_ok-sum_of.ensures c.in_ok-sum_of-2.ensures c.offer_of.ensures)
+    at_place (λ y. IsOffer (stock_of c.args.instance.now) c.args.avoid (tree_term c.args.matches.now.tree.now) c.args.matches.now.whole c.args.row.now y.form c.offer_of.result) c.args.matches.now.list.items c.args.i m got
+    (offer_costs c.args.instance.now c.args.avoid (tree_term c.args.matches.now.tree.now) c.args.matches.now.whole m (c.requires.matches.each c.args.i m got) c.args.row.now c.in_ok-a.a c.in_ok-b.b c.in_ok-form_cost-2.field-0 c.offer_of.result c.if-found-avoid-ne0.false
+    (subst (λ l. IsLeastOrder (stock_of c.args.instance.now) c.args.avoid (open_operands l) c.in_ok-a.a) c.deref-3.ensures.value c.in_ok-a.ensures.least)
+    (subst (λ l. IsLeastCut (stock_of c.args.instance.now) (open_cuts l) c.in_ok-b.b) c.deref.ensures.value c.in_ok-b.ensures.least) c.in_ok-form_cost-2.ensures c.offer_of.ensures)

@@ -1,11 +1,11 @@
 use Rattle.std.proofs.Common.{◌≡◌, ◌+◌, ◌*◌, vec_len}
 use Rattle.net_model.specs.Terms.{size_of}
 use Rattle.form_model.specs.Trees.{tree_term}
-use Rattle.cover.specs.Asks.{operands_size, terms_size, rank}
-use Rattle.cover.specs.Least.{OrderReached, FirstsBelow}
-use Rattle.cover.specs.Rows.{IsTried}
-use Rattle.cover.specs.Jobs.{stock_of, open_operands, open_cuts}
-use Rattle.cover.specs.Tables.{AreRight}
+use Rattle.cover.specs.Inner.Asks.{operands_size, terms_size, rank}
+use Rattle.cover.specs.Inner.Least.{OrderReached, FirstsBelow}
+use Rattle.cover.specs.Inner.Rows.{IsTried}
+use Rattle.cover.specs.Inner.Jobs.{stock_of, open_operands, open_cuts}
+use Rattle.cover.specs.Inner.Tables.{AreRight}
 use Rattle.cover.proofs.least.+covering.Given as goal
 
 abbrev pub decreases-least : goal.decreases-least
@@ -19,6 +19,9 @@ decreases-row_of l = 32 * size_of (tree_term l.matches.now.tree.now) + 16 * rank
 
 abbrev pub decreases-offer_at : goal.decreases-offer_at
 decreases-offer_at l = 32 * size_of (tree_term l.matches.now.tree.now) + 16 * rank l.avoid + 1
+
+abbrev pub decreases-floor_of : goal.decreases-floor_of
+decreases-floor_of l = 32 * operands_size (open_operands l.ops.now) + 25
 
 abbrev pub decreases-orders : goal.decreases-orders
 decreases-orders l = 32 * operands_size (open_operands l.ops.now) + 25

@@ -1,11 +1,12 @@
 use Rattle.std.proofs.Common.{◌≡◌, Some, refl, get_or}
 use Rattle.std.specs.Prelude.{slice_get}
+use Rattle.std.proofs.lemmas.Bool.{OnFalse_at}
 use Rattle.form_model.specs.Trees.{tree_term}
 use Rattle.form_model.specs.declared.forms.Form.{Form}
 use Rattle.tree_grammar.specs.Parts.{destination_at}
 use Rattle.cover.proofs.RowLemmas.{listed}
 use Rattle.cover.proofs.StartLemmas.{start_of, start_at}
-use Rattle.cover.proofs.MatchLemmas.{form_match, never_goal, never_match}
+use Rattle.cover.proofs.MatchLemmas.{form_match, never_goal, never_match, never_value}
 use Rattle.cover.proofs.matches.match_form.Goals as goal
 
 pub returns : goal.returns
@@ -14,7 +15,7 @@ returns c =
     let got : slice_get c.args.instance.now.forms.now c.args.k ≡ Some form = listed _ _ _ c.requires.form in
     let s = start_of c.args.instance.now form c.args.k c.in-Some.goal (tree_term c.args.tree.now) c.args.whole (destination_at c.destination_of_entry.result) c.in_ok-goal.field-0 c.in_ok-found.field-0 c.in-Some-2.found got c.in_ok-goal.ensures c.in-Some.is c.in_ok-found.ensures.found c.in-Some-2.is c.destination_of_entry.ensures in
     let at = start_at c.args.instance.now c.args.number c.in-Some.goal (tree_term c.args.tree.now) (destination_at c.destination_of_entry.result) c.in_ok-found.field-0 c.in-Some-2.found c.requires.number c.in_ok-found.ensures.at c.in-Some-2.is c.destination_of_entry.ensures in (
-      form_match c.args.instance.now form c.args.k c.in-Some.goal (tree_term c.args.tree.now) c.args.whole c.in_ok-tree_size.field-0 c.in-Some-2.found c.deref.result.now c.deref-2.result.now c.deref-3.result.now c.in_ok-start.start c.in_ok-operands.operands c.in_ok-cuts.cuts s at c.in_ok-tree_size.ensures c.deref.ensures.value c.in_ok-start.ensures.is c.in_ok-start.ensures.register c.deref-2.ensures.value c.in_ok-operands.ensures.operands c.in_ok-operands.ensures.at c.deref-3.ensures.value c.in_ok-cuts.ensures.cuts c.in_ok-cuts.ensures.at,
+      form_match c.args.instance.now form c.args.k c.in-Some.goal (tree_term c.args.tree.now) c.args.whole c.args.size c.in-Some-2.found c.deref.result.now c.deref-2.result.now c.deref-3.result.now c.in_ok-start.start c.in_ok-operands.operands c.in_ok-cuts.cuts s at c.requires.size c.deref.ensures.value c.in_ok-start.ensures.is c.in_ok-start.ensures.register c.deref-2.ensures.value c.in_ok-operands.ensures.operands c.in_ok-operands.ensures.at c.deref-3.ensures.value c.in_ok-cuts.ensures.cuts c.in_ok-cuts.ensures.at,
       refl,
     )
 
@@ -29,3 +30,9 @@ returns-in_default-2 c =
     let form : Form = get_or c.args.instance.now.forms.now c.args.k c.index-instance-k.result in
     let got : slice_get c.args.instance.now.forms.now c.args.k ≡ Some form = listed _ _ _ c.requires.form in
     never_match c.args.instance.now form c.args.k c.in-Some.goal (tree_term c.args.tree.now) c.args.whole (destination_at c.destination_of_entry.result) c.in_ok-goal.field-0 c.in_ok-found.field-0 got c.in_ok-goal.ensures.0 c.in-Some.is c.destination_of_entry.ensures c.in_ok-found.ensures.found c.in_default-2.is
+
+pub returns-then-not-may_take : goal.returns-then-not-may_take
+returns-then-not-may_take c =
+    let form : Form = get_or c.args.instance.now.forms.now c.args.k c.index-instance-k.result in
+    let got : slice_get c.args.instance.now.forms.now c.args.k ≡ Some form = listed _ _ _ c.requires.form in
+    never_value c.args.instance.now form c.args.k (tree_term c.args.tree.now) c.args.whole got (OnFalse_at c.if-not-may_take.true c.may_take.ensures)

@@ -1,6 +1,6 @@
 use Rattle.std.proofs.Common.{◌≡◌, length, arith, subst, sym}
 use Rattle.form_model.specs.Trees.{tree_term}
-use Rattle.cover.specs.Matched.{AreFirstMatches}
+use Rattle.cover.specs.Inner.Matched.{AreFirstMatches}
 use Rattle.cover.proofs.MatchLemmas.{matches_none, matches_more}
 use Rattle.cover.proofs.matches.matches_of.Goals as goal
 

@@ -1,5 +1,5 @@
 use Rattle.form_model.specs.Trees.{tree_term}
-use Rattle.cover.specs.Matched.{AreFirstMatches}
+use Rattle.cover.specs.Inner.Matched.{AreFirstMatches}
 use Rattle.cover.proofs.matches.matches_of.Given as goal
 
 abbrev pub invariant-loop-k : goal.invariant-loop-k

@@ -1,5 +1,5 @@
 use Rattle.std.proofs.Common.{length, subst}
-use Rattle.cover.specs.Rows.{Swept}
+use Rattle.cover.specs.Inner.Rows.{Swept}
 use Rattle.cover.proofs.RowLemmas.{closed_after}
 use Rattle.cover.proofs.rows.close.Goals as goal
 

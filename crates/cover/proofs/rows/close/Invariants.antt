@@ -1,5 +1,5 @@
 use Rattle.std.proofs.Common.{◌≡◌, vec_len}
-use Rattle.cover.specs.Rows.{Keeps, Lower, weight_of}
+use Rattle.cover.specs.Inner.Rows.{Keeps, Lower, weight_of}
 use Rattle.cover.proofs.rows.close.Given as goal
 
 abbrev pub invariant-loop : goal.invariant-loop

@@ -1,7 +1,7 @@
 use Rattle.std.proofs.Common.{◌≡◌, subst, Some, length, rules, get_or}
 use Rattle.std.specs.Prelude.{slice_get}
 use Rattle.cover.specs.declared.rows.ChainRule.{ChainRule}
-use Rattle.cover.specs.Rows.{Chained}
+use Rattle.cover.specs.Inner.Rows.{Chained}
 use Rattle.cover.proofs.RowLemmas.{swept_moved, swept_kept, listed}
 use Rattle.cover.proofs.rows.sweep.Goals as goal
 use Rattle.cover.proofs.rows.sweep.Goals.{then-branch, else-branch}

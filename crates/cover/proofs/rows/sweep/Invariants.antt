@@ -1,5 +1,5 @@
 use Rattle.std.proofs.Common.{◌≡◌, vec_len}
-use Rattle.cover.specs.Rows.{Swept}
+use Rattle.cover.specs.Inner.Rows.{Swept}
 use Rattle.cover.proofs.rows.sweep.Given as goal
 
 abbrev pub invariant-loop-m : goal.invariant-loop-m

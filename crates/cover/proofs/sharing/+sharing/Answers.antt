@@ -1,6 +1,6 @@
 use Rattle.std.proofs.Common.{arith, ap}
 use Rattle.form_model.specs.Trees.{tree_term}
-use Rattle.cover.specs.Sharing.{operand_term, operand_size}
+use Rattle.cover.specs.Inner.Sharing.{operand_term, operand_size}
 use Rattle.cover.proofs.SharingLemmas.{share_more, tree_sizes}
 use Rattle.cover.proofs.sharing.+sharing.Goals as goal
 

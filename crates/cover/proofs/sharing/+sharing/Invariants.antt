@@ -1,7 +1,7 @@
 use Rattle.std.proofs.Common.{◌+◌, ◌*◌}
 use Rattle.net_model.specs.Terms.{size_of}
 use Rattle.form_model.specs.Trees.{tree_term}
-use Rattle.cover.specs.Sharing.{operand_term, operand_size}
+use Rattle.cover.specs.Inner.Sharing.{operand_term, operand_size}
 use Rattle.cover.proofs.sharing.+sharing.Given as goal
 
 abbrev pub decreases-share : goal.decreases-share

@@ -1,7 +1,7 @@
 use Rattle.std.proofs.Common.{refl, sym, ap, ◌∙◌, subst}
 use Rattle.std.specs.Option.{option_copied}
-use Rattle.cover.specs.Entries.{EachEntry}
-use Rattle.cover.specs.Sharing.{HasNumber}
+use Rattle.cover.specs.Inner.Entries.{EachEntry}
+use Rattle.cover.specs.Inner.Sharing.{HasNumber}
 use Rattle.cover.specs.contracts.sharing.RootPartialEq.TheImpl.{ghosts as root_eq}
 use Rattle.cover.proofs.EntryLemmas.{each_found, each_added}
 use Rattle.cover.proofs.SharingLemmas.{exact_root}

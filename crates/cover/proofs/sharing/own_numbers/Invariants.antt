@@ -1,5 +1,5 @@
 use Rattle.std.proofs.Common.{◌≡◌, length}
-use Rattle.cover.specs.Sharing.{AreOwn}
+use Rattle.cover.specs.Inner.Sharing.{AreOwn}
 use Rattle.cover.proofs.sharing.own_numbers.Given as goal
 
 abbrev pub invariant-loop-n : goal.invariant-loop-n

@@ -1,6 +1,6 @@
 use Rattle.std.proofs.Common.{sym, subst}
-use Rattle.cover.specs.Entries.{EachEntry}
-use Rattle.cover.specs.Tables.{IsKept}
+use Rattle.cover.specs.Inner.Entries.{EachEntry}
+use Rattle.cover.specs.Inner.Tables.{IsKept}
 use Rattle.cover.proofs.EntryLemmas.{each_added}
 use Rattle.cover.specs.contracts.table.KeyPartialEq.TheImpl.{ghosts as key_eq}
 use Rattle.cover.proofs.TableLemmas.{exact_key}

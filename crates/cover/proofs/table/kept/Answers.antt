@@ -1,6 +1,6 @@
 use Rattle.std.proofs.Common.{sym, ap, ◌∙◌, arith, ◌≡◌, vec_len, rules}
 use Rattle.std.specs.Option.{option_copied}
-use Rattle.cover.specs.Tables.{IsRight, IsKept}
+use Rattle.cover.specs.Inner.Tables.{IsRight, IsKept}
 use Rattle.cover.specs.contracts.table.KeyPartialEq.TheImpl.{ghosts as key_eq}
 use Rattle.cover.proofs.TableLemmas.{exact_key, entry_right}
 use Rattle.cover.proofs.EntryLemmas.{each_found}

@@ -2,11 +2,11 @@ use Rattle.std.proofs.Common.{◌≡◌, Some, sym, ap, ◌∙◌, subst}
 use Rattle.std.specs.Option.{option_copied}
 use Rattle.form_model.specs.Trees.{tree_term}
 use Rattle.cover.specs.declared.matches.Matches.{Matches}
-use Rattle.cover.specs.Entries.{EachEntry}
-use Rattle.cover.specs.Jobs.{nodes_of}
-use Rattle.cover.specs.Matched.{AreMatches}
-use Rattle.cover.specs.Sharing.{AreFirsts}
-use Rattle.cover.specs.Tables.{HasMatches}
+use Rattle.cover.specs.Inner.Entries.{EachEntry}
+use Rattle.cover.specs.Inner.Jobs.{nodes_of}
+use Rattle.cover.specs.Inner.Matched.{AreMatches}
+use Rattle.cover.specs.Inner.Sharing.{AreFirsts}
+use Rattle.cover.specs.Inner.Tables.{HasMatches}
 use Rattle.cover.specs.contracts.table.MatchKeyPartialEq.TheImpl.{ghosts as match_key_eq}
 use Rattle.cover.proofs.EntryLemmas.{each_found, each_added}
 use Rattle.cover.proofs.TableLemmas.{exact_match_key}

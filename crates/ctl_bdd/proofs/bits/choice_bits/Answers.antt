@@ -2,7 +2,7 @@ use Rattle.std.proofs.Common.{◌++◌, ◌∷◌, [], ◌<◌, cond, length, sy
 use Rattle.std.proofs.lemmas.List.{length_push}
 use Rattle.bit_bdd.specs.Diagrams.{has_word}
 use Rattle.bit_bdd.proofs.CallerLemmas.{same_words, extends_trans, still_within}
-use Rattle.ctl_bdd.specs.Bits.{choice_of}
+use Rattle.ctl_bdd.specs.Inner.Bits.{choice_of}
 use Rattle.ctl_bdd.proofs.Sets.{sets_later, bools_later, set_in, sets_push, bools_push, bools_more}
 use Rattle.ctl_bdd.proofs.Bools.{choice_push}
 use Rattle.ctl_bdd.proofs.bits.choice_bits.Goals as goal

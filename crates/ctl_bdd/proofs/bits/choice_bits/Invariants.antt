@@ -1,6 +1,7 @@
 use Rattle.std.proofs.Common.{◌≡◌, ℕ, length, take}
 use Rattle.bit_bdd.specs.Diagrams.{Extends, has_word}
-use Rattle.ctl_bdd.specs.Bits.{AreSets, bools, choice_of}
+use Rattle.ctl_bdd.specs.Bits.{AreSets, bools}
+use Rattle.ctl_bdd.specs.Inner.Bits.{choice_of}
 use Rattle.ctl_bdd.proofs.bits.choice_bits.Given as goal
 
 abbrev pub invariant-loop-i : goal.invariant-loop-i

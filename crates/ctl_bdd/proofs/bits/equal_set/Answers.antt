@@ -1,6 +1,7 @@
 use Rattle.std.proofs.Common.{◌≡◌, ◌<◌, ◌&&◌, length, take, sym, ◌∙◌, arith}
 use Rattle.bit_bdd.proofs.CallerLemmas.{same_words, extends_trans}
-use Rattle.ctl_bdd.specs.Bits.{bools, alike, all_alike}
+use Rattle.ctl_bdd.specs.Bits.{bools}
+use Rattle.ctl_bdd.specs.Inner.Bits.{alike, all_alike}
 use Rattle.ctl_bdd.proofs.Sets.{set_in, bools_more, bools_taken}
 use Rattle.ctl_bdd.proofs.Bools.{alike_push}
 use Rattle.ctl_bdd.proofs.bits.equal_set.Goals as goal

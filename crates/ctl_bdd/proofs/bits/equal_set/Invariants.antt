@@ -1,6 +1,7 @@
 use Rattle.std.proofs.Common.{◌≡◌, ℕ, ◌<◌, length, take}
 use Rattle.bit_bdd.specs.Diagrams.{Extends, has_word}
-use Rattle.ctl_bdd.specs.Bits.{bools, all_alike}
+use Rattle.ctl_bdd.specs.Bits.{bools}
+use Rattle.ctl_bdd.specs.Inner.Bits.{all_alike}
 use Rattle.ctl_bdd.proofs.bits.equal_set.Given as goal
 
 abbrev pub invariant-loop-i : goal.invariant-loop-i

@@ -1,7 +1,8 @@
 use Rattle.std.proofs.Common.{◌≡◌, ◌++◌, ◌∷◌, [], ◌<◌, length, take, sym, ◌∙◌, arith}
 use Rattle.std.proofs.lemmas.List.{length_push}
 use Rattle.bit_bdd.proofs.CallerLemmas.{same_words, extends_trans}
-use Rattle.ctl_bdd.specs.Bits.{bools, pair_of, pairs_of}
+use Rattle.ctl_bdd.specs.Bits.{bools}
+use Rattle.ctl_bdd.specs.Inner.Bits.{pair_of, pairs_of}
 use Rattle.ctl_bdd.proofs.Sets.{sets_later, bools_later, set_in, sets_push, bools_push, bools_more, bools_taken}
 use Rattle.ctl_bdd.proofs.Bools.{pairs_push}
 use Rattle.ctl_bdd.proofs.bits.pair_bits.Goals as goal

@@ -1,6 +1,7 @@
 use Rattle.std.proofs.Common.{◌≡◌, ℕ, length, take}
 use Rattle.bit_bdd.specs.Diagrams.{Extends}
-use Rattle.ctl_bdd.specs.Bits.{AreSets, bools, pairs_of}
+use Rattle.ctl_bdd.specs.Bits.{AreSets, bools}
+use Rattle.ctl_bdd.specs.Inner.Bits.{pairs_of}
 use Rattle.ctl_bdd.proofs.bits.pair_bits.Given as goal
 
 abbrev pub invariant-loop-i : goal.invariant-loop-i

@@ -7,4 +7,4 @@ use Rattle.ctl_bdd.proofs.control.static_places.Goals as goal
 pub returns : goal.returns
 returns c =
     let found : c.in_ok-places.places ≡ filter (flag_at c.in_ok-statics.statics) (control_places c.args.checked.now.netlist) = rw (c.as_slice.ensures, c.netlist.ensures.value) at c.in_ok-places.ensures in
-    found ∙ ap (λ f. filter f (control_places c.args.checked.now.netlist)) c.in_ok-statics.ensures.told
+    found ∙ ap (λ f. filter f (control_places c.args.checked.now.netlist)) c.in_ok-statics.ensures.flags

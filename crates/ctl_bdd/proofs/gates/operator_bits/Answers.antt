@@ -1,6 +1,6 @@
 use Rattle.std.proofs.Common.{◌≡◌, ◌∙◌, length, sym, ap}
 use Rattle.rec_bits.specs.Operators.{bit_of}
-use Rattle.ctl_bdd.specs.Bits.{bools, number_of}
+use Rattle.ctl_bdd.specs.Bits.{bools, bits_value}
 use Rattle.ctl_bdd.proofs.Sets.{bools_long}
 use Rattle.ctl_bdd.proofs.Numbers.{number_and, number_or, number_xor, number_alike, number_one}
 use Rattle.ctl_bdd.proofs.gates.operator_bits.Goals as goal
@@ -9,19 +9,19 @@ pub returns-in_ok-out-in-And-clause-number : goal.returns-in_ok-out-in-And-claus
 returns-in_ok-out-in-And-clause-number c word =
     let long : length (bools c.args.book.now c.args.a.now word) ≡ length (bools c.args.book.now c.args.b.now word) =
     bools_long c.args.book.now c.args.a.now word ∙ c.requires.long ∙ sym (bools_long c.args.book.now c.args.b.now word) in
-    rw c.in-And.is (ap number_of (c.in_ok-out-in-And.ensures.words word) ∙ number_and _ _ long)
+    rw c.in-And.is (ap bits_value (c.in_ok-out-in-And.ensures.words word) ∙ number_and _ _ long)
 
 pub returns-in_ok-out-in-Or-clause-number : goal.returns-in_ok-out-in-Or-clause-number
 returns-in_ok-out-in-Or-clause-number c word =
     let long : length (bools c.args.book.now c.args.a.now word) ≡ length (bools c.args.book.now c.args.b.now word) =
     bools_long c.args.book.now c.args.a.now word ∙ c.requires.long ∙ sym (bools_long c.args.book.now c.args.b.now word) in
-    rw c.in-Or.is (ap number_of (c.in_ok-out-in-Or.ensures.words word) ∙ number_or _ _ long)
+    rw c.in-Or.is (ap bits_value (c.in_ok-out-in-Or.ensures.words word) ∙ number_or _ _ long)
 
 pub returns-in_ok-out-in-Xor-clause-number : goal.returns-in_ok-out-in-Xor-clause-number
 returns-in_ok-out-in-Xor-clause-number c word =
     let long : length (bools c.args.book.now c.args.a.now word) ≡ length (bools c.args.book.now c.args.b.now word) =
     bools_long c.args.book.now c.args.a.now word ∙ c.requires.long ∙ sym (bools_long c.args.book.now c.args.b.now word) in
-    rw c.in-Xor.is (ap number_of (c.in_ok-out-in-Xor.ensures.words word) ∙ number_xor _ _ long)
+    rw c.in-Xor.is (ap bits_value (c.in_ok-out-in-Xor.ensures.words word) ∙ number_xor _ _ long)
 
 pub returns-in_ok-out-in-Eq-clause-number : goal.returns-in_ok-out-in-Eq-clause-number
 returns-in_ok-out-in-Eq-clause-number c word =

@@ -1,5 +1,5 @@
 use Rattle.std.proofs.Common.{◌∙◌, cond, ap}
-use Rattle.ctl_bdd.specs.Bits.{number_of, number_at}
+use Rattle.ctl_bdd.specs.Bits.{bits_value, number_at}
 use Rattle.ctl_bdd.proofs.Sets.{sets_later, number_later}
 use Rattle.ctl_bdd.proofs.Numbers.{number_choice, eqb_turned}
 use Rattle.bit_bdd.proofs.CallerLemmas.{extends_trans}
@@ -22,6 +22,6 @@ returns-clause-number c word =
     let on = number_later c.args.book.now c.equals.new.book c.in_ok-test.ensures.grows c.args.on.now c.requires.on word in
     let off = number_later c.args.book.now c.equals.new.book c.in_ok-test.ensures.grows c.args.off.now c.requires.off word in
     let test = c.in_ok-test.ensures.words word ∙ eqb_turned (number_at c.args.book.now c.args.sel.now word) c.args.key in
-    ap number_of (c.in_ok-out.ensures.words word)
+    ap bits_value (c.in_ok-out.ensures.words word)
     ∙ number_choice _ _ _
     ∙ (λ j. cond (test j) (on j) (off j))

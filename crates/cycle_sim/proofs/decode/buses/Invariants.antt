@@ -1,5 +1,5 @@
 use Rattle.std.proofs.Common.{◌≡◌, ◌++◌, drop}
-use Rattle.cycle_sim.specs.Decoding.{buses_from, source_in}
+use Rattle.cycle_sim.specs.Inner.Decoding.{buses_from, source_in}
 use Rattle.cycle_sim.proofs.decode.buses.Given as goal
 
 abbrev pub invariant-loop-at : goal.invariant-loop-at

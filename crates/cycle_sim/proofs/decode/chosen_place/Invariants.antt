@@ -1,5 +1,5 @@
 use Rattle.std.proofs.Common.{◌≡◌, drop}
-use Rattle.cycle_sim.specs.Decoding.{chosen, source_in}
+use Rattle.cycle_sim.specs.Inner.Decoding.{chosen, source_in}
 use Rattle.cycle_sim.proofs.decode.chosen_place.Given as goal
 
 abbrev pub invariant-loop-row : goal.invariant-loop-row

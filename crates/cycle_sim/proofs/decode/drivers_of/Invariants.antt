@@ -1,5 +1,5 @@
 use Rattle.std.proofs.Common.{◌≡◌, ◌++◌, drop}
-use Rattle.cycle_sim.specs.Decoding.{drivers_by, source_in}
+use Rattle.cycle_sim.specs.Inner.Decoding.{drivers_by, source_in}
 use Rattle.cycle_sim.proofs.decode.drivers_of.Given as goal
 
 abbrev pub invariant-loop-driver : goal.invariant-loop-driver

@@ -1,5 +1,5 @@
 use Rattle.std.proofs.Common.{◌≡◌, ◌++◌, drop}
-use Rattle.cycle_sim.specs.Decoding.{latches_by, source_in}
+use Rattle.cycle_sim.specs.Inner.Decoding.{latches_by, source_in}
 use Rattle.cycle_sim.proofs.decode.latches.Given as goal
 
 abbrev pub invariant-loop-storage : goal.invariant-loop-storage

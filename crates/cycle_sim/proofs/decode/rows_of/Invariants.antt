@@ -1,5 +1,5 @@
 use Rattle.std.proofs.Common.{◌≡◌, ◌++◌, drop}
-use Rattle.cycle_sim.specs.Decoding.{rows_by, source_in}
+use Rattle.cycle_sim.specs.Inner.Decoding.{rows_by, source_in}
 use Rattle.cycle_sim.proofs.decode.rows_of.Given as goal
 
 abbrev pub invariant-loop-row : goal.invariant-loop-row

@@ -1,5 +1,5 @@
 use Rattle.std.proofs.Common.{◌≡◌, ◌++◌, drop, take, length, slice_index}
-use Rattle.cycle_sim.specs.Programs.{regs_by}
+use Rattle.cycle_sim.specs.Inner.Programs.{regs_by}
 use Rattle.cycle_sim.proofs.edge.clock_registers.Given as goal
 
 abbrev pub invariant-loop-i : goal.invariant-loop-i

@@ -1,5 +1,5 @@
 use Rattle.std.proofs.Common.{◌≡◌, drop, slice_index}
-use Rattle.cycle_sim.specs.Programs.{clash_by}
+use Rattle.cycle_sim.specs.Inner.Programs.{clash_by}
 use Rattle.cycle_sim.proofs.edge.first_clash.Given as goal
 
 abbrev pub invariant-loop-bus : goal.invariant-loop-bus

@@ -1,5 +1,5 @@
 use Rattle.std.proofs.Common.{◌≡◌, drop, length}
-use Rattle.cycle_sim.specs.Operations.{run_of}
+use Rattle.cycle_sim.specs.Inner.Operations.{run_of}
 use Rattle.cycle_sim.proofs.operation.run.Given as goal
 
 abbrev pub invariant-loop-instruction : goal.invariant-loop-instruction

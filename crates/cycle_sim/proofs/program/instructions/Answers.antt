@@ -1,7 +1,7 @@
 use Rattle.std.proofs.Common.{◌≡◌, ◌≤◌, ◌∙◌, slice_index, length, arith, ap, get_or}
 use Rattle.net_model.specs.Order.{IsOrder}
-use Rattle.cycle_sim.specs.Decoding.{source_in, decoded}
-use Rattle.cycle_sim.specs.Programs.{added, AreSources}
+use Rattle.cycle_sim.specs.Inner.Decoding.{source_in, decoded}
+use Rattle.cycle_sim.specs.Inner.Programs.{added, AreSources}
 use Rattle.cycle_sim.proofs.Runs.{Built, none_built, turn_built, all_built}
 use Rattle.cycle_sim.proofs.program.instructions.Goals as goal
 

@@ -1,7 +1,7 @@
 use Rattle.std.proofs.Common.{◌≡◌, ◌∙◌, ap}
-use Rattle.cycle_sim.specs.Decoding.{buses_from, latches_by, port_by, source_in}
-use Rattle.cycle_sim.specs.Ports.{port_of, port_width}
-use Rattle.cycle_sim.specs.Programs.{AreSources}
+use Rattle.cycle_sim.specs.Inner.Decoding.{buses_from, latches_by, port_by, source_in}
+use Rattle.cycle_sim.specs.Inner.Ports.{port_of, memory_port_width}
+use Rattle.cycle_sim.specs.Inner.Programs.{AreSources}
 use Rattle.cycle_sim.proofs.Edges.{has_port_width, port_width_is}
 use Rattle.cycle_sim.proofs.Programs.{is_program, width_by, port_fits_by}
 use Rattle.cycle_sim.proofs.program.program_of.Goals as goal
@@ -17,7 +17,7 @@ returns-clause-program c =
 pub returns-clause-width : goal.returns-clause-width
 returns-clause-width c =
     let p : c.routed-port.result ≡ port_by (source_in c.as_slice-sources.result.now) (port_of c.args.checked.now.netlist.storages) = rw (c.find_port.ensures, c.as_slice-storages.ensures, c.netlist-netlist.ensures.value) at c.routed-port.ensures in
-    ap port_width p ∙ width_by (source_in c.as_slice-sources.result.now) (port_of c.args.checked.now.netlist.storages) ∙ port_width_is c.args.checked.now.netlist.storages
+    ap memory_port_width p ∙ width_by (source_in c.as_slice-sources.result.now) (port_of c.args.checked.now.netlist.storages) ∙ port_width_is c.args.checked.now.netlist.storages
 
 pub returns-clause-fits : goal.returns-clause-fits
 returns-clause-fits c =

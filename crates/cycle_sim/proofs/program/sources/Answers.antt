@@ -1,6 +1,6 @@
 use Rattle.std.proofs.Common.{◌≡◌, ◌∙◌, slice_index, length, arith, length-set, ap, get_or}
 use Rattle.net_model.specs.Order.{IsOrder}
-use Rattle.cycle_sim.specs.Decoding.{source_in, source_of}
+use Rattle.cycle_sim.specs.Inner.Decoding.{source_in, source_of}
 use Rattle.cycle_sim.proofs.Runs.{sources_turn, sources_done}
 use Rattle.cycle_sim.proofs.program.sources.Goals as goal
 

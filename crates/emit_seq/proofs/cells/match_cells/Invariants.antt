@@ -1,10 +1,10 @@
 use Rattle.std.proofs.Common.{drop}
-use Rattle.tree_grammar.specs.Parts.{parts_of}
-use Rattle.emit_seq.specs.CellLists.{HaveCells}
+use Rattle.tree_grammar.specs.Parts.{sites_of}
+use Rattle.emit_seq.specs.Inner.CellLists.{HaveCells}
 use Rattle.emit_seq.specs.Views.{cells_of_cuts, cells_of_operands}
 use Rattle.emit_seq.proofs.cells.match_cells.Given as goal
 
 abbrev pub invariant-loop-part : goal.invariant-loop-part
 invariant-loop-part l =
-    HaveCells (parts_of l.parts) l.inside l.own l.first (cells_of_operands l.cells.operands.items) (cells_of_cuts l.cells.cuts.items)
-    (parts_of (drop l.part-index l.parts)) l.next
+    HaveCells (sites_of l.parts) l.inside l.own l.first (cells_of_operands l.cells.operands.items) (cells_of_cuts l.cells.cuts.items)
+    (sites_of (drop l.part-index l.parts)) l.next

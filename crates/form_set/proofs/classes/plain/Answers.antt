@@ -1,5 +1,5 @@
 use Rattle.bit_bdd.proofs.CallerLemmas.{extends_trans}
-use Rattle.form_set.specs.PatternIds.{ids_pattern}
+use Rattle.form_set.specs.Inner.PatternIds.{ids_pattern}
 use Rattle.form_set.specs.Words.{KeepsOthers}
 use Rattle.form_set.proofs.Holding.{ids_later, set_later}
 use Rattle.transfer_set.proofs.ReadyLaws.{ready_later}

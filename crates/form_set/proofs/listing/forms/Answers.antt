@@ -1,6 +1,6 @@
 use Rattle.bit_bdd.proofs.CallerLemmas.{extends_trans}
 use Rattle.form_model.specs.Rules.{rules_of}
-use Rattle.transfer_set.specs.Rows.{told_patterns}
+use Rattle.transfer_set.specs.Rows.{row_patterns}
 use Rattle.transfer_set.proofs.ReadyLaws.{ready_later}
 use Rattle.form_set.proofs.RuleLists.{greatest_is}
 use Rattle.form_set.proofs.listing.forms.Goals as goal
@@ -11,7 +11,7 @@ list_of-requires c = record { ready = ready_later c.args.checked.now.netlist c.a
 pub returns-clause-forms : goal.returns-clause-forms
 returns-clause-forms c = record {
   list = c.in_ok-list.ensures.list;
-  greatest_is = greatest_is c.args.checked.now.netlist c.in_ok-reach.reach 0 (told_patterns c.args.pool.now c.args.patterns.now.rows) (rules_of c.in_ok-list.list.items)
+  greatest_is = greatest_is c.args.checked.now.netlist c.in_ok-reach.reach 0 (row_patterns c.args.pool.now c.args.patterns.now.rows) (rules_of c.in_ok-list.list.items)
       c.in_ok-reach.reach c.in_ok-list.ensures.list c.in_ok-reach.ensures.reach;
 }
 

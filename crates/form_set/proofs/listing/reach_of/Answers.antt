@@ -1,6 +1,6 @@
 use Rattle.std.proofs.Common.{add-one, arith}
 use Rattle.bit_bdd.proofs.CallerLemmas.{extends_trans}
-use Rattle.transfer_set.specs.Rows.{told_patterns}
+use Rattle.transfer_set.specs.Rows.{row_patterns}
 use Rattle.transfer_set.proofs.ReadyLaws.{ready_later}
 use Rattle.form_set.proofs.RuleLists.{greatest_more, told_some}
 use Rattle.form_set.proofs.listing.reach_of.Goals as goal
@@ -17,6 +17,6 @@ loop-number-preserved c =
     record {
       grows = extends_trans c.args.book.now c.loop-number.book c.number_reach.new.book c.loop-number.invariant.grows c.number_reach.ensures.grows;
       reach = rw (add-one n, c.larger-reach.ensures)
-          (greatest_more c.args.checked.now.netlist (told_patterns c.args.pool.now c.args.patterns.now.rows) n some.0 some.1
+          (greatest_more c.args.checked.now.netlist (row_patterns c.args.pool.now c.args.patterns.now.rows) n some.0 some.1
           c.loop-number.reach c.in_ok-here.here c.loop-number.invariant.reach (c.in_ok-here.ensures.reach some.0 some.1));
     }

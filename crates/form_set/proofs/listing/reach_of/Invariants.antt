@@ -1,11 +1,11 @@
 use Rattle.std.proofs.Common.{take}
 use Rattle.bit_bdd.specs.Diagrams.{Extends}
-use Rattle.form_set.specs.Adding.{IsGreatestReach}
-use Rattle.transfer_set.specs.Rows.{told_patterns}
+use Rattle.form_set.specs.Inner.Adding.{IsGreatestReach}
+use Rattle.transfer_set.specs.Rows.{row_patterns}
 use Rattle.form_set.proofs.listing.reach_of.Given as goal
 
 abbrev pub invariant-loop-number : goal.invariant-loop-number
 invariant-loop-number l = record {
   grows : Extends l.initial.book l.book;
-  reach : IsGreatestReach l.checked.netlist (take l.number (told_patterns l.pool l.patterns.rows)) l.reach;
+  reach : IsGreatestReach l.checked.netlist (take l.number (row_patterns l.pool l.patterns.rows)) l.reach;
 }

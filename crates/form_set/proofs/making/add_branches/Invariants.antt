@@ -1,8 +1,8 @@
 use Rattle.std.proofs.Common.{◌≡◌, ◌++◌}
 use Rattle.form_model.specs.Rules.{rules_of}
-use Rattle.form_set.specs.Copies.{ids_branch}
+use Rattle.form_set.specs.Inner.Copies.{ids_branch}
 use Rattle.form_set.specs.Listing.{branch_rule}
-use Rattle.form_set.specs.PatternIds.{ids_pattern}
+use Rattle.form_set.specs.Inner.PatternIds.{ids_pattern}
 use Rattle.form_set.specs.Swaps.{map_below}
 use Rattle.form_set.proofs.making.add_branches.Given as goal
 

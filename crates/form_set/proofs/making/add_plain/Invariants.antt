@@ -1,7 +1,7 @@
 use Rattle.std.proofs.Common.{◌≡◌, ◌++◌}
 use Rattle.form_model.specs.Rules.{rules_of}
 use Rattle.form_set.specs.Listing.{plain_rule}
-use Rattle.form_set.specs.PatternIds.{ids_pattern}
+use Rattle.form_set.specs.Inner.PatternIds.{ids_pattern}
 use Rattle.form_set.specs.Swaps.{map_below}
 use Rattle.form_set.proofs.making.add_plain.Given as goal
 

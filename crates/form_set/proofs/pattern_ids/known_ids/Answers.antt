@@ -1,6 +1,6 @@
 use Rattle.std.proofs.Common.{◌∙◌, ap}
 use Rattle.std.specs.Prelude.{option_map}
-use Rattle.form_set.specs.PatternIds.{ids_pattern}
+use Rattle.form_set.specs.Inner.PatternIds.{ids_pattern}
 use Rattle.form_set.proofs.Looking.{known_some, told_at}
 use Rattle.form_set.proofs.pattern_ids.known_ids.Goals as goal
 

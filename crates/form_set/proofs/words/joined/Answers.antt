@@ -1,6 +1,6 @@
 use Rattle.std.proofs.Common.{◌∙◌, sym}
 use Rattle.bit_bdd.proofs.CallerLemmas.{extends_trans}
-use Rattle.form_set.specs.PatternIds.{ids_pattern}
+use Rattle.form_set.specs.Inner.PatternIds.{ids_pattern}
 use Rattle.form_set.specs.Words.{KeepsOthers}
 use Rattle.form_set.proofs.Chosen.{fails_is, joins_is, none_is}
 use Rattle.form_set.proofs.Holding.{ids_later, set_later}

@@ -1,5 +1,5 @@
 use Rattle.bit_bdd.specs.Diagrams.{Extends}
-use Rattle.form_set.specs.PatternIds.{ids_pattern}
+use Rattle.form_set.specs.Inner.PatternIds.{ids_pattern}
 use Rattle.form_set.specs.Words.{AreKept, IsSetOf, KeepsOthers}
 use Rattle.form_set.proofs.words.kept_registers.Given as goal
 

@@ -1,4 +1,4 @@
-use Rattle.form_set.specs.PatternIds.{ids_pattern}
+use Rattle.form_set.specs.Inner.PatternIds.{ids_pattern}
 use Rattle.std.proofs.Common.{arith}
 use Rattle.net_model.proofs.KeptRules.{few_storages}
 use Rattle.form_set.proofs.Chosen.{more_set}

@@ -7,6 +7,6 @@ first_broken-requires-clause-acyclic c = acyclic_of _ _ c.requires.order
 
 pub first_broken-requires-clause-flags : goal.first_broken-requires-clause-flags
 first_broken-requires-clause-flags c = record {
-  statics = λ n. ap (λ (f : ℕ → Bool). f n) c.in_ok-statics.ensures.told;
-  controls = λ n. ap (λ (f : ℕ → Bool). f n) c.in_ok-controls.ensures.told;
+  statics = λ n. ap (λ (f : ℕ → Bool). f n) c.in_ok-statics.ensures.flags;
+  controls = λ n. ap (λ (f : ℕ → Bool). f n) c.in_ok-controls.ensures.flags;
 }

@@ -1,7 +1,7 @@
 use Rattle.std.proofs.Common.{◌≡◌, drop}
 use Rattle.rec_bits.specs.Faults.{sooner, least}
 use Rattle.net_model.specs.NetFaults.{failing, name_at}
-use Rattle.net_check.specs.Control.{passes}
+use Rattle.net_check.specs.Inner.Control.{passes}
 use Rattle.net_check.proofs.control.least_broken.Given as goal
 
 abbrev pub invariant-loop-net : goal.invariant-loop-net

@@ -1,5 +1,5 @@
 use Rattle.std.proofs.Common.{length}
-use Rattle.net_check.specs.Components.{IsCompleting}
+use Rattle.net_check.specs.Inner.Components.{IsCompleting}
 use Rattle.net_check.proofs.cycle.complete.Given as goal
 
 abbrev pub invariant-loop-search : goal.invariant-loop-search

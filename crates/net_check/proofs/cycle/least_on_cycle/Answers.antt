@@ -1,8 +1,8 @@
 use Rattle.std.proofs.Common.{◌≡◌, ℕ, inl, inr, sym, ◌∙◌, subst, arith}
 use Rattle.std.proofs.lemmas.Bool.{cases_eq}
 use Rattle.net_model.specs.Depends.{Depends}
-use Rattle.net_check.specs.Graphs.{named_in}
-use Rattle.net_check.specs.Components.{mark_at, on_cycle}
+use Rattle.net_check.specs.Inner.Graphs.{named_in}
+use Rattle.net_check.specs.Inner.Components.{mark_at, on_cycle}
 use Rattle.net_check.proofs.SearchEnds.{lies_off}
 use Rattle.net_check.proofs.cycle.least_on_cycle.Goals as goal
 

@@ -1,7 +1,7 @@
 use Rattle.std.proofs.Common.{◌≡◌, ◌<◌, ◌+◌, ◌⊎◌, ◌↔◌, ◌++◌, ◌∷◌, [], IsTrue, sym, ◌∙◌, refl, arith, subst, length}
 use Rattle.std.proofs.lemmas.List.{length_push}
 use Rattle.net_model.specs.Depends.{Among}
-use Rattle.net_check.specs.Graphs.{named_in}
+use Rattle.net_check.specs.Inner.Graphs.{named_in}
 use Rattle.net_check.proofs.Joins.{top_at}
 use Rattle.net_check.proofs.Closes.{left_kept, not_begun, part_left, part_later, part_less}
 use Rattle.net_check.proofs.cycle.leave.Goals as goal

@@ -1,6 +1,6 @@
 use Rattle.std.proofs.Common.{◌++◌, ◌∷◌, [], sym, subst}
 use Rattle.net_model.specs.Depends.{Among}
-use Rattle.net_check.specs.Components.{Rising}
+use Rattle.net_check.specs.Inner.Components.{Rising}
 use Rattle.net_check.proofs.Walks.{among_old}
 use Rattle.net_check.proofs.Marks.{rising_parts}
 use Rattle.net_check.proofs.Closes.{merged_here, still_kept}

@@ -1,6 +1,6 @@
 use Rattle.std.proofs.Common.{ℕ, ◌≤◌, length}
 use Rattle.net_model.specs.Depends.{Among}
-use Rattle.net_check.specs.Components.{Rising}
+use Rattle.net_check.specs.Inner.Components.{Rising}
 use Rattle.net_check.proofs.cycle.merge.Given as goal
 
 abbrev pub invariant-loop-start : goal.invariant-loop-start

@@ -1,5 +1,5 @@
 use Rattle.std.proofs.Common.{◌≡◌, ◌≢◌, ℕ, ◌<◌, []}
-use Rattle.net_check.specs.Components.{IsSearch, mark_at}
+use Rattle.net_check.specs.Inner.Components.{IsSearch, mark_at}
 use Rattle.net_check.specs.declared.cycle.Mark.TheVariants.{New}
 use Rattle.net_check.proofs.cycle.search_all.Given as goal
 

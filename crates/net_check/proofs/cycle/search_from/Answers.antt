@@ -1,5 +1,5 @@
 use Rattle.std.proofs.Common.{◌≡◌, sym, arith}
-use Rattle.net_check.specs.Components.{mark_at}
+use Rattle.net_check.specs.Inner.Components.{mark_at}
 use Rattle.net_check.specs.declared.cycle.Mark.TheVariants.{New}
 use Rattle.net_check.proofs.Meets.{met_kept, met_later}
 use Rattle.net_check.proofs.SearchEnds.{root_all, root_here}

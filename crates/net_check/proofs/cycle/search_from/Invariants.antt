@@ -1,5 +1,5 @@
 use Rattle.std.proofs.Common.{◌≢◌, ◌+◌, ◌*◌, length}
-use Rattle.net_check.specs.Components.{IsSearch, Later, mark_at, work}
+use Rattle.net_check.specs.Inner.Components.{IsSearch, Later, mark_at, work}
 use Rattle.net_check.specs.declared.cycle.Mark.TheVariants.{New}
 use Rattle.net_check.proofs.cycle.search_from.Given as goal
 

@@ -1,8 +1,8 @@
 use Rattle.std.proofs.Common.{◌≡◌, ◌<◌, ◌+◌, ◌++◌, ◌∷◌, [], ℕ, List, inl, inr, sym, ◌∙◌, ap, arith, length, slice_get, slice_index, slice_set, Some}
 use Rattle.std.proofs.lemmas.List.{length_push}
 use Rattle.net_model.specs.Depends.{Among, direct}
-use Rattle.net_check.specs.Graphs.{named_in}
-use Rattle.net_check.specs.Components.{IsSearch, IsMerged, Reaches, SeenFrom, MetAt, mark_at}
+use Rattle.net_check.specs.Inner.Graphs.{named_in}
+use Rattle.net_check.specs.Inner.Components.{IsSearch, IsMerged, Reaches, SeenFrom, MetAt, mark_at}
 use Rattle.net_check.specs.declared.cycle.Mark.TheVariants.{New, Met}
 use Rattle.net_check.proofs.Walks.{all_at, among_at, among_last, read_at}
 use Rattle.net_check.proofs.Marks.{reach_depends}

@@ -1,6 +1,6 @@
 use Rattle.std.proofs.Common.{◌≡◌, ◌<◌, ◌≤◌, sym, arith, length, get_or, Some, None}
 use Rattle.net_model.specs.CheckedRules.{HasSizes}
-use Rattle.net_check.specs.Roles.{lone_from, IsShape}
+use Rattle.net_check.specs.Inner.Roles.{lone_from, IsShape}
 use Rattle.net_check.proofs.Lacks.{no_shape, shape, addr_bits, no_counter, counter_there, bits_wide, sizes_are, sizes_of}
 use Rattle.net_check.proofs.role.lacking_role.Goals as goal
 use Rattle.net_check.proofs.role.lacking_role.Goals.{In-len1, In-Some}

@@ -1,5 +1,5 @@
 use Rattle.std.proofs.Common.{◌≡◌, None, drop}
-use Rattle.net_check.specs.Roles.{lone_from}
+use Rattle.net_check.specs.Inner.Roles.{lone_from}
 use Rattle.net_check.proofs.role.lone_memory.Given as goal
 
 abbrev pub invariant-loop-storage : goal.invariant-loop-storage

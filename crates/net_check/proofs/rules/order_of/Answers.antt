@@ -1,4 +1,4 @@
-use Rattle.net_check.specs.Walk.{IsOrdering}
+use Rattle.net_check.specs.Inner.Walk.{IsOrdering}
 use Rattle.net_check.proofs.Netlists.{in_range, order_is, least_is}
 use Rattle.net_check.proofs.rules.order_of.Goals as goal
 

@@ -1,5 +1,5 @@
 use Rattle.std.proofs.Common.{◌≡◌, sym}
-use Rattle.net_check.specs.Walk.{stage_at}
+use Rattle.net_check.specs.Inner.Walk.{stage_at}
 use Rattle.net_check.specs.declared.walk.Stage.TheVariants.{New}
 use Rattle.net_check.proofs.Ends.{root_walk, root_later, root_open}
 use Rattle.net_check.proofs.walk.place.Goals as goal

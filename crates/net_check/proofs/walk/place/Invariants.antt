@@ -1,5 +1,5 @@
 use Rattle.std.proofs.Common.{◌≢◌, ◌+◌, ◌*◌, length}
-use Rattle.net_check.specs.Walk.{IsWalk, Later, stage_at, work}
+use Rattle.net_check.specs.Inner.Walk.{IsWalk, Later, stage_at, work}
 use Rattle.net_check.specs.declared.walk.Stage.TheVariants.{New}
 use Rattle.net_check.proofs.walk.place.Given as goal
 

@@ -1,5 +1,5 @@
 use Rattle.std.proofs.Common.{◌≡◌, ◌≢◌, ℕ, ◌<◌, []}
-use Rattle.net_check.specs.Walk.{IsWalk, stage_at}
+use Rattle.net_check.specs.Inner.Walk.{IsWalk, stage_at}
 use Rattle.net_check.specs.declared.walk.Stage.TheVariants.{New}
 use Rattle.net_check.proofs.walk.sort.Given as goal
 

@@ -1,6 +1,6 @@
 use Rattle.std.proofs.Common.{◌≡◌, ◌<◌, ◌≤◌, sym, length, slice_get, slice_index, Some}
-use Rattle.net_check.specs.Graphs.{named_in}
-use Rattle.net_check.specs.Walk.{stage_at}
+use Rattle.net_check.specs.Inner.Graphs.{named_in}
+use Rattle.net_check.specs.Inner.Walk.{stage_at}
 use Rattle.net_check.specs.declared.walk.Stage.TheVariants.{New, Open, Placed}
 use Rattle.net_check.proofs.Walks.{read_at, past_end}
 use Rattle.net_check.proofs.Steps.{goes_off, goes_seen, goes_new, goes_placed, open_cycle}

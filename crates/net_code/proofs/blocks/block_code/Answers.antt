@@ -1,8 +1,24 @@
-use Rattle.std.proofs.Common.{◌≡◌, arith, length, subst}
-use Rattle.net_code.specs.Coded.{IsBlockCode}
-use Rattle.net_code.specs.Covering.{machine_netlist, machine_patterns}
-use Rattle.net_code.specs.Views.{choices_in, stock_of, works_in}
+use Rattle.std.proofs.Common.{◌≡◌, [], arith, length, rules, subst, sym}
+use Rattle.std.specs.List.{AllByRecursion}
+use Rattle.net_code.specs.Inner.Coded.{IsBlockCode, IsOnce}
+use Rattle.net_code.specs.Inner.Covering.{machine_netlist, machine_patterns}
+use Rattle.net_code.specs.Inner.Views.{choices_in, stock_of, works_in}
+use Rattle.net_code.proofs.Coding.{nothing_coded}
 use Rattle.net_code.proofs.blocks.block_code.Goals as goal
+
+pub loop-at-init : goal.loop-at-init
+loop-at-init c =
+    let machine = c.args.machine.now in
+    let program = c.args.program.now in
+    record {
+      grows = search rules;
+      ready = c.requires.ready;
+      once = subst (AllByRecursion IsOnce) (sym c.new.ensures.items) tt;
+      code =
+          subst (λ blocks. IsBlockCode (machine_netlist machine) (machine_patterns machine) (stock_of program) program.flow.now (works_in program) (choices_in program) 0 blocks c.new-2.result.items) (sym c.new.ensures.items)
+          (subst (IsBlockCode (machine_netlist machine) (machine_patterns machine) (stock_of program) program.flow.now (works_in program) (choices_in program) 0 []) (sym c.new-2.ensures.items)
+          (nothing_coded (machine_netlist machine) (machine_patterns machine) (stock_of program) program.flow.now (works_in program) (choices_in program)));
+    }
 
 pub returns-clause-code : goal.returns-clause-code
 returns-clause-code c =

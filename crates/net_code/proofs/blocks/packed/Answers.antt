@@ -4,7 +4,7 @@ use Rattle.form_model.specs.Live.{regs_of, singles}
 use Rattle.word_fit.specs.Fits.{fits_over}
 use Rattle.word_fit.specs.Steps.{step_operation}
 use Rattle.right_code.specs.Words.{AreGroupWords}
-use Rattle.net_code.specs.Covering.{machine_netlist, machine_patterns}
+use Rattle.net_code.specs.Inner.Covering.{machine_netlist, machine_patterns}
 use Rattle.net_code.proofs.Packing.{packs_few, singles_long}
 use Rattle.net_code.proofs.blocks.packed.Goals as goal
 

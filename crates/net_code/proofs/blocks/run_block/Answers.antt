@@ -7,10 +7,10 @@ use Rattle.word_fit.specs.Fits.{fits_over}
 use Rattle.word_fit.specs.Groups.{AllHaveWords}
 use Rattle.right_code.specs.Images.{choices_at}
 use Rattle.right_code.specs.Jobs.{jobs_steps}
-use Rattle.net_code.specs.Coded.{IsPackedBlock}
+use Rattle.net_code.specs.Inner.Coded.{IsPackedBlock}
 use Rattle.right_code.proofs.Covering.{chosen_length}
-use Rattle.net_code.specs.Covering.{machine_netlist, machine_patterns}
-use Rattle.net_code.specs.Views.{choices_in, stock_of, works_in}
+use Rattle.net_code.specs.Inner.Covering.{machine_netlist, machine_patterns}
+use Rattle.net_code.specs.Inner.Views.{choices_in, stock_of, works_in}
 use Rattle.net_code.proofs.Frames.{run_have}
 use Rattle.net_code.proofs.blocks.run_block.Goals as goal
 

@@ -11,9 +11,9 @@ use Rattle.src_trees.specs.Jobs.{work_of}
 use Rattle.word_fit.specs.Fits.{fits_over}
 use Rattle.word_fit.specs.Groups.{AllHaveWords}
 use Rattle.right_code.specs.Jobs.{job_steps, tree_or_none, tree_used}
-use Rattle.net_code.specs.Coded.{IsPackedBlock}
-use Rattle.net_code.specs.Covering.{machine_netlist, machine_patterns}
-use Rattle.net_code.specs.Views.{stock_of}
+use Rattle.net_code.specs.Inner.Coded.{IsPackedBlock}
+use Rattle.net_code.specs.Inner.Covering.{machine_netlist, machine_patterns}
+use Rattle.net_code.specs.Inner.Views.{stock_of}
 use Rattle.net_code.proofs.Frames.{root_form, test_have, wanted_is}
 use Rattle.net_code.proofs.blocks.test_block.Goals as goal
 

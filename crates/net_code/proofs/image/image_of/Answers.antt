@@ -6,7 +6,7 @@ use Rattle.cover.specs.Best.{choice_of}
 use Rattle.form_model.specs.Rules.{rules_of}
 use Rattle.form_model.specs.declared.trees.Job.{Job}
 use Rattle.src_trees.specs.Jobs.{work_of, works_of}
-use Rattle.transfer_set.specs.Rows.{told_patterns}
+use Rattle.transfer_set.specs.Rows.{row_patterns}
 use Rattle.right_code.specs.Tasks.{read_task}
 use Rattle.right_code.proofs.Covering.{chosen_length}
 use Rattle.net_code.proofs.Built.{few_places, few_works, task_covering, told_fault, told_reached, uncovered}
@@ -25,7 +25,7 @@ returns-in_err-covers-clause-refused c =
     let task = read_task c.args.checked.now c.args.typed.now in
     let p = err_from_is_err_and c.from_residual-in_err-covers.result c.from_residual-in_err-covers.ensures.1 in
     rw (p.1, p.2)
-    (uncovered task (told_patterns c.args.pool.now c.args.patterns.now.rows) c.requires.patterns (rules_of c.in_ok-forms.forms.list.items) c.in_ok-forms.forms.reach c.in_ok-forms.ensures.forms
+    (uncovered task (row_patterns c.args.pool.now c.args.patterns.now.rows) c.requires.patterns (rules_of c.in_ok-forms.forms.list.items) c.in_ok-forms.forms.reach c.in_ok-forms.ensures.forms
     c.in_ok-forms.ensures.steps c.in_ok-forms.ensures.jumps c.args.places.temps (ap (λ (p : Places). p.temps) c.requires.places) (works_of c.deref.result.now)
     (ap works_of c.deref.ensures.value ∙ c.in_ok-blocks.ensures.jobs) _ c.in_err-covers.ensures.refused)
 

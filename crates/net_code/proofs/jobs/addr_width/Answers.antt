@@ -1,5 +1,5 @@
 use Rattle.std.proofs.Common.{◌∙◌, ap, slice_get}
-use Rattle.net_code.specs.Memories.{storage_addr_bits}
+use Rattle.net_code.specs.Inner.Memories.{storage_addr_bits}
 use Rattle.net_code.proofs.Memories.{addresses_found}
 use Rattle.net_code.proofs.jobs.addr_width.Goals as goal
 

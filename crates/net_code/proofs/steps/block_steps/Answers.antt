@@ -1,4 +1,4 @@
-use Rattle.net_code.specs.Views.{choices_in, stock_of, works_in}
+use Rattle.net_code.specs.Inner.Views.{choices_in, stock_of, works_in}
 use Rattle.net_code.proofs.Stepping.{place_more}
 use Rattle.net_code.proofs.steps.block_steps.Goals as goal
 

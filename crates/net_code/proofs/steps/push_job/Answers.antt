@@ -3,7 +3,7 @@ use Rattle.std.proofs.lemmas.List.{length-map}
 use Rattle.cover.specs.Best.{choice_of}
 use Rattle.form_model.specs.declared.forms.Step.{Step}
 use Rattle.src_trees.specs.Jobs.{work_of}
-use Rattle.net_code.specs.Views.{choices_in, stock_of, works_in}
+use Rattle.net_code.specs.Inner.Views.{choices_in, stock_of, works_in}
 use Rattle.net_code.proofs.Listing.{mapped_get}
 use Rattle.net_code.proofs.Stepping.{covered_steps, coverless, jobless}
 use Rattle.net_code.proofs.steps.push_job.Goals as goal

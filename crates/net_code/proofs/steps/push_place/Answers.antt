@@ -4,7 +4,7 @@ use Rattle.form_model.specs.declared.flow.Flow.{Flow}
 use Rattle.src_trees.specs.Blocks.{job_at}
 use Rattle.right_code.specs.Images.{choice_at}
 use Rattle.right_code.specs.Jobs.{jobs_steps}
-use Rattle.net_code.specs.Views.{choices_in, stock_of, works_in}
+use Rattle.net_code.specs.Inner.Views.{choices_in, stock_of, works_in}
 use Rattle.net_code.proofs.Stepping.{placeless, unassigned}
 use Rattle.net_code.proofs.steps.push_place.Goals as goal
 

@@ -1,6 +1,6 @@
 use Rattle.std.proofs.Common.{◌≡◌, ◌∙◌, ℕ, zero, suc, List, [], ◌∷◌, None, ap, refl, slice_get, sym}
 use Rattle.std.specs.List.{slice_index_or}
-use Rattle.net_code.specs.Coded.{no_block}
+use Rattle.net_code.specs.Inner.Coded.{no_block}
 use Rattle.net_code.specs.declared.blocks.PackedBlock.{PackedBlock}
 use Rattle.net_code.proofs.words.steps_of_group.Goals as goal
 

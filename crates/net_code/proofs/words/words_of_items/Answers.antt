@@ -2,8 +2,8 @@ use Rattle.std.proofs.Common.{◌++◌, [], ◌∷◌, get_or, subst, sym, take}
 use Rattle.std.proofs.lemmas.List.{take_more}
 use Rattle.bit_bdd.proofs.CallerLemmas.{extends_trans}
 use Rattle.branch_fix.specs.declared.laid.Item.TheVariants.{Group}
-use Rattle.net_code.specs.Coded.{AreItemWords}
-use Rattle.net_code.specs.Covering.{machine_netlist, machine_patterns}
+use Rattle.net_code.specs.Inner.Coded.{AreItemWords}
+use Rattle.net_code.specs.Inner.Covering.{machine_netlist, machine_patterns}
 use Rattle.net_code.proofs.Listing.{words_more}
 use Rattle.net_code.proofs.words.words_of_items.Goals as goal
 

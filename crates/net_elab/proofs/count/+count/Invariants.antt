@@ -1,7 +1,7 @@
 use Rattle.std.proofs.Common.{◌≡◌, ◌+◌, map, drop}
 use Rattle.net_model.specs.Written.{phrase_of, rows_of, row_of, rest_of, other_of}
 use Rattle.net_model.specs.Numbering.{count_rows}
-use Rattle.net_model.specs.Nodes.{nodes, nodes_rows, nodes_rest}
+use Rattle.net_model.specs.Inner.Nodes.{nodes, nodes_rows, nodes_rest}
 use Rattle.net_elab.proofs.count.+count.Given as goal
 
 abbrev pub decreases-count_nets : goal.decreases-count_nets

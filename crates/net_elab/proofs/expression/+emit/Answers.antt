@@ -3,9 +3,9 @@ use Rattle.net_model.specs.declared.units.NetExpr.{NetExpr}
 use Rattle.net_model.specs.Written.{Phrase, phrase_of, row_of, rows_of, rest_of, other_of, read}
 use Rattle.net_model.specs.TextWidths.{wide}
 use Rattle.net_model.specs.Numbering.{count, count_rows, scope_at}
-use Rattle.net_model.specs.Nodes.{nodes}
-use Rattle.net_elab.specs.Emissions.{Emitted}
-use Rattle.net_elab.specs.Sites.{site_of}
+use Rattle.net_model.specs.Inner.Nodes.{nodes}
+use Rattle.net_elab.specs.Inner.Emissions.{Emitted}
+use Rattle.net_elab.specs.Inner.Sites.{site_of}
 use Rattle.net_elab.proofs.Rows.{rows_item, row_nodes}
 use Rattle.net_elab.proofs.Cases.{case_wide, row_wide}
 use Rattle.net_elab.proofs.Emits.{if_ok_map, read_end, case_seen, case_none, case_some}

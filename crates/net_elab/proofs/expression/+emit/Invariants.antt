@@ -1,7 +1,7 @@
 use Rattle.std.proofs.Common.{◌+◌, map, drop}
 use Rattle.net_model.specs.Written.{phrase_of, rows_of, row_of, rest_of, other_of}
-use Rattle.net_model.specs.Nodes.{nodes, nodes_rows, nodes_rest}
-use Rattle.net_elab.specs.Sites.{site_of}
+use Rattle.net_model.specs.Inner.Nodes.{nodes, nodes_rows, nodes_rest}
+use Rattle.net_elab.specs.Inner.Sites.{site_of}
 use Rattle.net_elab.proofs.Cases.{Rowed}
 use Rattle.net_elab.proofs.expression.+emit.Given as goal
 

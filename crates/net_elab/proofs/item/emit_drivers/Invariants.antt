@@ -1,6 +1,6 @@
 use Rattle.std.proofs.Common.{map, drop}
 use Rattle.net_model.specs.Written.{driver_of}
-use Rattle.net_elab.specs.Sites.{site_of}
+use Rattle.net_elab.specs.Inner.Sites.{site_of}
 use Rattle.net_elab.proofs.Drivers.{Driven}
 use Rattle.net_elab.proofs.item.emit_drivers.Given as goal
 

@@ -1,6 +1,6 @@
 use Rattle.std.proofs.Common.{map, drop}
 use Rattle.net_model.specs.Written.{binding_of}
-use Rattle.net_elab.specs.Sites.{site_of}
+use Rattle.net_elab.specs.Inner.Sites.{site_of}
 use Rattle.net_elab.proofs.Parts.{Equated}
 use Rattle.net_elab.proofs.part.emit_equations.Given as goal
 

@@ -3,7 +3,7 @@ use Rattle.std.proofs.lemmas.List.{replicate-append-replicate}
 use Rattle.rec_bits.proofs.Faults.{drop_item}
 use Rattle.std.specs.Prelude.{replicate}
 use Rattle.src_model.specs.Meaning.{cell_count, cells_in}
-use Rattle.net_make.specs.Zeros.{zeros}
+use Rattle.src_model.specs.Meaning.{zeros}
 use Rattle.net_make.proofs.counting.zeros.Goals as goal
 
 pub loop-var-preserved : goal.loop-var-preserved

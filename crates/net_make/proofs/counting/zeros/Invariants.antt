@@ -1,5 +1,5 @@
 use Rattle.std.proofs.Common.{◌≡◌, ◌++◌, drop}
-use Rattle.net_make.specs.Zeros.{zeros}
+use Rattle.src_model.specs.Meaning.{zeros}
 use Rattle.net_make.proofs.counting.zeros.Given as goal
 
 abbrev pub invariant-loop-var : goal.invariant-loop-var

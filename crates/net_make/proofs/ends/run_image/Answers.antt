@@ -1,6 +1,6 @@
 use Rattle.std.proofs.Common.{◌≡◌, ap, sym, subst, ◌∙◌}
 use Rattle.cycle_sim.specs.Shown.{Shown}
-use Rattle.net_make.specs.Marks.{end_address}
+use Rattle.net_make.specs.Inner.Marks.{end_address}
 use Rattle.net_make.specs.Stops.{RunsOn, StandsAt, StopsAt}
 use Rattle.net_make.proofs.EndMarks.{runs_to_address, stops_at_end}
 use Rattle.net_make.proofs.ends.run_image.Goals as goal

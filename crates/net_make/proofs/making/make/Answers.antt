@@ -5,19 +5,19 @@ use Rattle.net_compile.proofs.TaskLemmas.{holds_of_read}
 use Rattle.net_make.specs.Summaries.{IsSummaryOf}
 use Rattle.net_make.proofs.making.make.Goals as goal
 
-pub told-requires-clause-rules : goal.told-requires-clause-rules
-told-requires-clause-rules c = c.in_ok-made.ensures.compiled.net_file.netlist.rules
+pub summarize-requires-clause-rules : goal.summarize-requires-clause-rules
+summarize-requires-clause-rules c = c.in_ok-made.ensures.compiled.net_file.netlist.rules
 
-pub told-requires-clause-right : goal.told-requires-clause-right
-told-requires-clause-right c = c.in_ok-made.ensures.compiled.image.right
+pub summarize-requires-clause-right : goal.summarize-requires-clause-right
+summarize-requires-clause-right c = c.in_ok-made.ensures.compiled.image.right
 
-pub told-requires-clause-fits : goal.told-requires-clause-fits
-told-requires-clause-fits c = c.in_ok-made.ensures.compiled.image.fits
+pub summarize-requires-clause-fits : goal.summarize-requires-clause-fits
+summarize-requires-clause-fits c = c.in_ok-made.ensures.compiled.image.fits
 
-pub returns-clause-told : goal.returns-clause-told
-returns-clause-told c =
+pub returns-clause-summary : goal.returns-clause-summary
+returns-clause-summary c =
     let made = c.in_ok-made.made in
     let is = c.in_ok-made.ensures.compiled in
     rw (c.deref.ensures.value ∙ c.in_ok-net.ensures.text ∙ ap net_text c.from.ensures, c.deref-2.ensures.value ∙ c.in_ok-src.ensures.text ∙ ap src_text c.from-2.ensures) at
     (holds_of_read c.deref.result.now c.deref-2.result.now made.checked made.typed is.net_file is.width is.src_file (IsSummaryOf c.args.number c.in_ok-text.text.items)
-    (record { image = made.image; right = is.image; told = c.in_ok-text.ensures }))
+    (record { image = made.image; right = is.image; shown = c.in_ok-text.ensures }))

@@ -1,5 +1,5 @@
 use Rattle.std.proofs.Common.{◌≡◌, drop}
-use Rattle.net_make.specs.Marks.{end_address}
+use Rattle.net_make.specs.Inner.Marks.{end_address}
 use Rattle.net_make.proofs.marks.end_address.Given as goal
 
 abbrev pub invariant-loop-mark : goal.invariant-loop-mark

@@ -5,7 +5,7 @@ use Rattle.grammar.proofs.Steps.{return_reads, never_stops}
 use Rattle.grammar.proofs.Passing.{fails_too, gives_too, there_return, there_bind, there_maybe, never_apart, beyond, beyond_reads, beyond_fails, short_of, on, past, stuck, starts_inner, maybe_none, maybe_reads, maybe_fails, returned, returned_reads, reads_too}
 use Rattle.grammar.proofs.Repeats.{list_ends, list_fails, list_goes_on}
 use Rattle.grammar.proofs.Tokens.{there_sign, there_number, there_behind, there_before, not_there, begun, ends, word_leads}
-use Rattle.net_parser.specs.Steps.{comma_word, expr_word, arms_word}
+use Rattle.net_parser.specs.Inner.Steps.{comma_word, expr_word, arms_word}
 use Rattle.net_parser.proofs.Expressions.{there_expr, operated_leads, leaf_leads, bare_leads, there_arm, there_rows, there_arms, rowed, rows_apart, else_leads, case_reads, rows_start, number_reads}
 use Rattle.net_model.specs.Grammar.{IsExpr, ArmsBehind}
 use Rattle.net_model.specs.Written.{phrase_of, row_of, other_of}

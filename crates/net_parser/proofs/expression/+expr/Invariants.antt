@@ -2,7 +2,7 @@ use Rattle.std.proofs.Common.{◌+◌, ◌*◌, ◌++◌, length, map}
 use Rattle.grammar.specs.Reading.{Leads, ListOf}
 use Rattle.net_model.specs.Grammar.{IsExpr, IsRow, RowsBehind}
 use Rattle.net_model.specs.Written.{row_of}
-use Rattle.net_parser.specs.Steps.{after_rows}
+use Rattle.net_parser.specs.Inner.Steps.{after_rows}
 use Rattle.net_parser.proofs.expression.+expr.Given as goal
 
 abbrev pub decreases-expr : goal.decreases-expr

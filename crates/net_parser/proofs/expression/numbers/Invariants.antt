@@ -3,7 +3,7 @@ use Rattle.grammar.specs.Reading.{Leads, ListOf}
 use Rattle.net_model.specs.declared.words.Symbol.TheVariants.{Comma}
 use Rattle.grammar.specs.Tokens.{Behind, IsNumber}
 use Rattle.net_model.specs.Grammar.{NumbersBehind}
-use Rattle.net_parser.specs.Steps.{after_list}
+use Rattle.net_parser.specs.Inner.Steps.{after_list}
 use Rattle.net_parser.proofs.expression.numbers.Given as goal
 
 -- what completes the numbers so far completes the numbers behind the first one

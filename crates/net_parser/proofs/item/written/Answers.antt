@@ -3,7 +3,7 @@ use Rattle.std.proofs.lemmas.Result.{err_from_is_err_and}
 use Rattle.grammar.proofs.Steps.{return_reads}
 use Rattle.grammar.proofs.Passing.{there_return, there_bind, beyond_reads, beyond_fails, short_of, on, stuck, starts_inner}
 use Rattle.grammar.proofs.Tokens.{begun, ends}
-use Rattle.net_parser.specs.Steps.{expr_word}
+use Rattle.net_parser.specs.Inner.Steps.{expr_word}
 use Rattle.net_parser.proofs.ItemParts.{there_fed}
 use Rattle.net_parser.proofs.item.written.Goals as goal
 

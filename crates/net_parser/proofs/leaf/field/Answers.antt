@@ -3,7 +3,7 @@ use Rattle.std.proofs.lemmas.Result.{err_from_is_err_and}
 use Rattle.grammar.proofs.Steps.{never_stops}
 use Rattle.grammar.proofs.Passing.{maybe_none, maybe_reads, maybe_fails}
 use Rattle.grammar.proofs.Tokens.{not_there, begun}
-use Rattle.net_parser.specs.Steps.{dot_word}
+use Rattle.net_parser.specs.Inner.Steps.{dot_word}
 use Rattle.net_parser.proofs.leaf.field.Goals as goal
 
 pub returns-in_err-field : goal.returns-in_err-field

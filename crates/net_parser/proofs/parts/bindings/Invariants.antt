@@ -4,7 +4,7 @@ use Rattle.net_model.specs.declared.words.Symbol.TheVariants.{Comma}
 use Rattle.grammar.specs.Tokens.{Behind}
 use Rattle.net_model.specs.Grammar.{IsBinding, IsBindings}
 use Rattle.net_model.specs.Written.{binding_of}
-use Rattle.net_parser.specs.Steps.{after_links}
+use Rattle.net_parser.specs.Inner.Steps.{after_links}
 use Rattle.net_parser.proofs.parts.bindings.Given as goal
 
 -- what completes the list so far completes the whole

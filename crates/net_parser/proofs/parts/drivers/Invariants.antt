@@ -2,7 +2,7 @@ use Rattle.std.proofs.Common.{◌++◌, length, map}
 use Rattle.grammar.specs.Reading.{Leads, ListOf}
 use Rattle.net_model.specs.Grammar.{IsDriver, IsDrivers}
 use Rattle.net_model.specs.Written.{driver_of}
-use Rattle.net_parser.specs.Steps.{after_drivers}
+use Rattle.net_parser.specs.Inner.Steps.{after_drivers}
 use Rattle.net_parser.proofs.parts.drivers.Given as goal
 
 -- what completes the list so far completes the whole

@@ -3,7 +3,7 @@ use Rattle.std.proofs.lemmas.Result.{err_from_is_err_and}
 use Rattle.grammar.proofs.Steps.{return_reads}
 use Rattle.grammar.proofs.Passing.{there_return, there_bind, beyond_reads, beyond_fails, short_of, on, past, stuck}
 use Rattle.grammar.proofs.Tokens.{there_sign, there_before, begun, ends}
-use Rattle.net_parser.specs.Steps.{link_word}
+use Rattle.net_parser.specs.Inner.Steps.{link_word}
 use Rattle.net_parser.proofs.ItemParts.{there_links}
 use Rattle.net_parser.proofs.parts.enclosed_links.Goals as goal
 

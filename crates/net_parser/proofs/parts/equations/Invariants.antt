@@ -2,7 +2,7 @@ use Rattle.std.proofs.Common.{◌++◌, length, map}
 use Rattle.grammar.specs.Reading.{Leads, ListOf}
 use Rattle.net_model.specs.Grammar.{IsEquation}
 use Rattle.net_model.specs.Written.{binding_of}
-use Rattle.net_parser.specs.Steps.{after_equations}
+use Rattle.net_parser.specs.Inner.Steps.{after_equations}
 use Rattle.net_parser.proofs.parts.equations.Given as goal
 
 -- what completes the list so far completes the whole

@@ -3,7 +3,7 @@ use Rattle.grammar.specs.Reading.{Leads, ListOf}
 use Rattle.net_model.specs.declared.words.Symbol.TheVariants.{Comma}
 use Rattle.grammar.specs.Tokens.{Behind}
 use Rattle.net_model.specs.Grammar.{IsPort, IsPorts}
-use Rattle.net_parser.specs.Steps.{after_list}
+use Rattle.net_parser.specs.Inner.Steps.{after_list}
 use Rattle.net_parser.proofs.parts.ports.Given as goal
 
 -- what completes the list so far completes the whole

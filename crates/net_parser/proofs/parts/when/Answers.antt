@@ -2,7 +2,7 @@ use Rattle.std.proofs.Common.{ap}
 use Rattle.std.proofs.lemmas.Result.{err_from_is_err_and}
 use Rattle.grammar.proofs.Passing.{maybe_none, maybe_reads, maybe_fails}
 use Rattle.grammar.proofs.Tokens.{not_there, begun}
-use Rattle.net_parser.specs.Steps.{when_word}
+use Rattle.net_parser.specs.Inner.Steps.{when_word}
 use Rattle.net_parser.proofs.ItemParts.{when_narrow}
 use Rattle.net_parser.proofs.parts.when.Goals as goal
 

@@ -3,7 +3,7 @@ use Rattle.std.proofs.lemmas.Result.{err_from_is_err_and}
 use Rattle.grammar.proofs.Steps.{return_reads}
 use Rattle.grammar.proofs.Passing.{there_return, there_bind, beyond_reads, beyond_fails, short_of, on, stuck}
 use Rattle.grammar.proofs.Tokens.{there_sign, begun, ends}
-use Rattle.net_parser.specs.Steps.{when_word}
+use Rattle.net_parser.specs.Inner.Steps.{when_word}
 use Rattle.net_parser.proofs.parts.when_end.Goals as goal
 
 pub returns-in_err-when : goal.returns-in_err-when

@@ -1,6 +1,6 @@
 use Rattle.net_rules.proofs.RowNumbers.{too_few}
 use Rattle.std.proofs.Common.{ap, ◌∙◌, sym}
-use Rattle.net_rules.specs.Cases.{is_all}
+use Rattle.net_rules.specs.Inner.Cases.{is_all}
 use Rattle.net_rules.proofs.cases.is_all.Goals as goal
 
 pub returns-in_default : goal.returns-in_default

@@ -1,7 +1,7 @@
 use Rattle.std.proofs.Common.{map, drop}
 use Rattle.net_model.specs.Written.{driver_of}
 use Rattle.net_model.specs.Numbering.{count_drivers}
-use Rattle.net_rules.specs.Counts.{Counted}
+use Rattle.net_rules.specs.Inner.Counts.{Counted}
 use Rattle.net_rules.proofs.count.count_drivers.Given as goal
 
 abbrev pub invariant-loop-driver : goal.invariant-loop-driver

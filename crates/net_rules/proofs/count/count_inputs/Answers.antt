@@ -2,7 +2,7 @@ use Rattle.std.proofs.Common.{map, ap, ◌∙◌}
 use Rattle.rec_bits.specs.Counts.{capped}
 use Rattle.net_model.specs.Numbering.{count_inputs}
 use Rattle.net_model.specs.Written.{binding_of}
-use Rattle.net_rules.specs.Counts.{count_linked}
+use Rattle.net_rules.specs.Inner.Counts.{count_linked}
 use Rattle.net_rules.proofs.Inputs.{counted_inputs}
 use Rattle.net_rules.proofs.count.count_inputs.Goals as goal
 

@@ -1,7 +1,7 @@
 use Rattle.std.proofs.Common.{List, map, refl}
 use Rattle.net_model.specs.Written.{binding_of}
 use Rattle.net_names.specs.Places.{lent}
-use Rattle.net_rules.specs.Counts.{count_linked}
+use Rattle.net_rules.specs.Inner.Counts.{count_linked}
 use Rattle.net_rules.proofs.Counts.{counted_last}
 use Rattle.net_rules.proofs.count.count_linked.Goals as goal
 

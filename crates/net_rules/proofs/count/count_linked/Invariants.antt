@@ -1,7 +1,7 @@
 use Rattle.std.proofs.Common.{map, drop}
 use Rattle.net_model.specs.Written.{binding_of}
 use Rattle.net_names.specs.Places.{lent}
-use Rattle.net_rules.specs.Counts.{Counted, count_linked}
+use Rattle.net_rules.specs.Inner.Counts.{Counted, count_linked}
 use Rattle.net_rules.proofs.count.count_linked.Given as goal
 
 abbrev pub invariant-loop-input : goal.invariant-loop-input

@@ -1,6 +1,6 @@
 use Rattle.std.proofs.Common.{drop}
 use Rattle.net_model.specs.Numbering.{count_outputs}
-use Rattle.net_rules.specs.Counts.{Counted}
+use Rattle.net_rules.specs.Inner.Counts.{Counted}
 use Rattle.net_rules.proofs.count.count_outputs.Given as goal
 
 abbrev pub invariant-loop-port : goal.invariant-loop-port

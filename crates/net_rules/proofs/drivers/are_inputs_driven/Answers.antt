@@ -2,7 +2,7 @@ use Rattle.std.proofs.Common.{map, false, ap, ◌∙◌}
 use Rattle.std.specs.List.{list_all}
 use Rattle.net_model.specs.DriverRules.{is_driven}
 use Rattle.net_model.specs.Written.{binding_of}
-use Rattle.net_rules.specs.Modules.{is_bound}
+use Rattle.net_rules.specs.Inner.Modules.{is_bound}
 use Rattle.net_rules.proofs.Inputs.{driven_inputs}
 use Rattle.net_rules.proofs.drivers.are_inputs_driven.Goals as goal
 

@@ -2,7 +2,7 @@ use Rattle.std.proofs.Common.{◌≡◌, map, drop}
 use Rattle.std.specs.List.{list_all}
 use Rattle.net_model.specs.DriverRules.{covers_driver}
 use Rattle.net_model.specs.Written.{driver_of}
-use Rattle.net_rules.specs.Scopes.{scope_of}
+use Rattle.net_rules.specs.Inner.Scopes.{scope_of}
 use Rattle.net_rules.proofs.drivers.covers_drivers.Given as goal
 
 abbrev pub invariant-loop-driver : goal.invariant-loop-driver

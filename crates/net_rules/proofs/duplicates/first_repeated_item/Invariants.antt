@@ -3,7 +3,7 @@ use Rattle.rec_bits.specs.Faults.{least}
 use Rattle.net_model.specs.NameRules.{repeated}
 use Rattle.net_model.specs.TextNames.{own_name}
 use Rattle.net_model.specs.Written.{entry_of}
-use Rattle.net_rules.specs.Scans.{Repeating}
+use Rattle.net_rules.specs.Inner.Scans.{Repeating}
 use Rattle.net_rules.proofs.duplicates.first_repeated_item.Given as goal
 
 abbrev pub invariant-loop-unit : goal.invariant-loop-unit

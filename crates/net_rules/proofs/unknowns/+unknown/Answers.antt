@@ -2,7 +2,7 @@ use Rattle.std.proofs.Common.{arith, drop, ◌+◌, ap, sym, ◌∙◌}
 use Rattle.rec_bits.specs.Faults.{least}
 use Rattle.net_model.specs.Written.{Phrase, phrase_of, rest_of, other_of}
 use Rattle.net_model.specs.NameRules.{unknown_in, unknown_rows, unknown_rest}
-use Rattle.net_rules.specs.Scopes.{scope_of}
+use Rattle.net_rules.specs.Inner.Scopes.{scope_of}
 use Rattle.net_rules.proofs.Rows.{seen_rows, case_seen, case_nodes, rows_item, row_nodes}
 use Rattle.net_rules.proofs.Scans.{least_three, scanned_next}
 use Rattle.net_rules.proofs.unknowns.+unknown.Goals as goal

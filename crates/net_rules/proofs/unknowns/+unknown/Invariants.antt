@@ -2,8 +2,8 @@ use Rattle.std.proofs.Common.{◌≡◌, map, drop}
 use Rattle.rec_bits.specs.Faults.{sooner, least}
 use Rattle.net_model.specs.Written.{phrase_of, rows_of, row_of, rest_of, other_of}
 use Rattle.net_model.specs.NameRules.{unknown_rows}
-use Rattle.net_model.specs.Nodes.{nodes, nodes_rows, nodes_rest}
-use Rattle.net_rules.specs.Scopes.{scope_of}
+use Rattle.net_model.specs.Inner.Nodes.{nodes, nodes_rows, nodes_rest}
+use Rattle.net_rules.specs.Inner.Scopes.{scope_of}
 use Rattle.net_rules.proofs.unknowns.+unknown.Given as goal
 
 abbrev pub decreases-unknown_in : goal.decreases-unknown_in

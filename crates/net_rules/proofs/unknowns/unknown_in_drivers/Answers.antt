@@ -1,6 +1,6 @@
 use Rattle.net_model.specs.NameRules.{unknown_driver}
 use Rattle.net_model.specs.Written.{driver_of}
-use Rattle.net_rules.specs.Scopes.{scope_of}
+use Rattle.net_rules.specs.Inner.Scopes.{scope_of}
 use Rattle.net_rules.proofs.Scans.{gathered_next}
 use Rattle.net_rules.proofs.unknowns.unknown_in_drivers.Goals as goal
 

@@ -2,7 +2,7 @@ use Rattle.std.proofs.Common.{◌≡◌, map, drop}
 use Rattle.rec_bits.specs.Faults.{sooner, least, gather}
 use Rattle.net_model.specs.NameRules.{unknown_driver}
 use Rattle.net_model.specs.Written.{driver_of}
-use Rattle.net_rules.specs.Scopes.{scope_of}
+use Rattle.net_rules.specs.Inner.Scopes.{scope_of}
 use Rattle.net_rules.proofs.unknowns.unknown_in_drivers.Given as goal
 
 abbrev pub invariant-loop-driver : goal.invariant-loop-driver

@@ -1,6 +1,6 @@
 use Rattle.std.proofs.Common.{arith, sym, ap}
 use Rattle.net_model.specs.TextWidths.{wide}
-use Rattle.net_rules.specs.Scopes.{scope_of}
+use Rattle.net_rules.specs.Inner.Scopes.{scope_of}
 use Rattle.net_rules.proofs.Rows.{case_seen, case_nodes, row_nodes}
 use Rattle.net_rules.proofs.widths.+wide.Goals as goal
 

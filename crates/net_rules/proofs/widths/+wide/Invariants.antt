@@ -1,9 +1,9 @@
 use Rattle.std.proofs.Common.{◌≡◌, map, drop}
 use Rattle.net_model.specs.Written.{phrase_of, rows_of, row_of, rest_of, other_of}
 use Rattle.net_model.specs.TextWidths.{seen_rows, seen_first}
-use Rattle.net_model.specs.Nodes.{nodes, nodes_rows, nodes_rest}
-use Rattle.net_rules.specs.Scopes.{scope_of}
-use Rattle.net_rules.specs.Widths.{seen_of}
+use Rattle.net_model.specs.Inner.Nodes.{nodes, nodes_rows, nodes_rest}
+use Rattle.net_rules.specs.Inner.Scopes.{scope_of}
+use Rattle.net_rules.specs.Inner.Widths.{seen_of}
 use Rattle.net_rules.proofs.widths.+wide.Given as goal
 
 abbrev pub decreases-wide : goal.decreases-wide

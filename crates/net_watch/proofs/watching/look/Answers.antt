@@ -14,7 +14,7 @@ returns-in_err-write-in-Some-clause-puts g c =
     let label : label_in sim.netlist image sim.state ≡ Some c.in-Some.label =
     sym (c.label_at.ensures ∙ ap (λ marks. label_at marks c.pc.result) c.as_slice.ensures ∙ ap (label_at image.marks) c.pc.ensures) ∙ c.in-Some.is in
     let store = store_is sim.netlist image writer.vars.now writer.address sim.state c.requires.scene in
-    puts_failed _ _ _ _ _ c.from_residual.result c.from_residual.ensures.0 (line_is writer.vars.now writer.told (label_in sim.netlist image sim.state) c.in-Some.label c.args.cycle (store_in image sim.state) _ label store)
+    puts_failed _ _ _ _ _ c.from_residual.result c.from_residual.ensures.0 (line_is writer.vars.now writer.last_cells (label_in sim.netlist image sim.state) c.in-Some.label c.args.cycle (store_in image sim.state) _ label store)
     c.in_err-write-in-Some.ensures.puts
 
 pub returns-in_ok-write-in-Some-clause-puts : goal.returns-in_ok-write-in-Some-clause-puts
@@ -25,15 +25,15 @@ returns-in_ok-write-in-Some-clause-puts g c =
     let label : label_in sim.netlist image sim.state ≡ Some c.in-Some.label =
     sym (c.label_at.ensures ∙ ap (λ marks. label_at marks c.pc.result) c.as_slice.ensures ∙ ap (label_at image.marks) c.pc.ensures) ∙ c.in-Some.is in
     let store = store_is sim.netlist image writer.vars.now writer.address sim.state c.requires.scene in
-    puts_ok _ _ _ _ _ c.eq.result (line_is writer.vars.now writer.told (label_in sim.netlist image sim.state) c.in-Some.label c.args.cycle (store_in image sim.state) _ label store)
+    puts_ok _ _ _ _ _ c.eq.result (line_is writer.vars.now writer.last_cells (label_in sim.netlist image sim.state) c.in-Some.label c.args.cycle (store_in image sim.state) _ label store)
     c.in_ok-write-in-Some.ensures.puts
 
-pub returns-in_ok-write-in-Some-clause-told : goal.returns-in_ok-write-in-Some-clause-told
-returns-in_ok-write-in-Some-clause-told g c =
+pub returns-in_ok-write-in-Some-clause-last_cells : goal.returns-in_ok-write-in-Some-clause-last_cells
+returns-in_ok-write-in-Some-clause-last_cells g c =
     let sim = c.args.sim.now in
     let image = c.args.image.now in
     let writer = c.args.writer.now in
     let label : label_in sim.netlist image sim.state ≡ Some c.in-Some.label =
     sym (c.label_at.ensures ∙ ap (λ marks. label_at marks c.pc.result) c.as_slice.ensures ∙ ap (label_at image.marks) c.pc.ensures) ∙ c.in-Some.is in
     let store = store_is sim.netlist image writer.vars.now writer.address sim.state c.requires.scene in
-    c.in_ok-write-in-Some.ensures.told ∙ told_is writer.told (label_in sim.netlist image sim.state) c.in-Some.label (store_in image sim.state) _ label store
+    c.in_ok-write-in-Some.ensures.last_cells ∙ told_is writer.last_cells (label_in sim.netlist image sim.state) c.in-Some.label (store_in image sim.state) _ label store

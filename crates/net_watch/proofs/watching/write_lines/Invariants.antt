@@ -2,8 +2,9 @@ use Rattle.std.proofs.Common.{◌≡◌, ◌-◌}
 use Rattle.net_model.specs.Widths.{IsState}
 use Rattle.code_model.specs.Machine.{mtrace}
 use Rattle.code_model.specs.Places.{words_of}
-use Rattle.net_watch.specs.Scenes.{IsScene}
-use Rattle.net_watch.specs.Traces.{IsShown, trace_ends, trace_lines}
+use Rattle.net_watch.specs.Inner.Scenes.{IsScene}
+use Rattle.net_watch.specs.Traces.{trace_ends, trace_lines}
+use Rattle.net_watch.specs.Inner.Traces.{IsShown}
 use Rattle.net_watch.proofs.Putting.{IsLeft}
 use Rattle.net_watch.proofs.watching.write_lines.Given as goal
 
@@ -15,7 +16,7 @@ invariant-loop-cycle g l = record {
   words : l.sim.words ≡ words_of l.image;
   shown : IsShown (mtrace l.sim.netlist l.image l.sim.state l.cycle (l.clocks - l.cycle));
   left : IsLeft (g.S.Sink.state l.initial.sink) (g.S.Sink.state l.sink)
-      (trace_lines l.writer.vars.now l.writer.told (mtrace l.sim.netlist l.image l.sim.state l.cycle (l.clocks - l.cycle)))
-      (trace_lines l.initial.writer.vars.now l.initial.writer.told (mtrace l.initial.sim.netlist l.image l.initial.sim.state 0 l.clocks));
+      (trace_lines l.writer.vars.now l.writer.last_cells (mtrace l.sim.netlist l.image l.sim.state l.cycle (l.clocks - l.cycle)))
+      (trace_lines l.initial.writer.vars.now l.initial.writer.last_cells (mtrace l.initial.sim.netlist l.image l.initial.sim.state 0 l.clocks));
   ends : trace_ends (mtrace l.sim.netlist l.image l.sim.state l.cycle (l.clocks - l.cycle)) ≡ trace_ends (mtrace l.initial.sim.netlist l.image l.initial.sim.state 0 l.clocks);
 }

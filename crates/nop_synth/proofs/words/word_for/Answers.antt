@@ -2,7 +2,7 @@ use Rattle.std.proofs.Common.{◌∙◌, sym, ap, subst}
 use Rattle.form_model.specs.Live.{regs_of}
 use Rattle.net_model.specs.Nets.{word_width}
 use Rattle.transfer_set.proofs.ReadyLaws.{ready_later}
-use Rattle.nop_synth.specs.Wanted.{AllBelow}
+use Rattle.nop_synth.specs.Inner.Wanted.{AllBelow}
 use Rattle.nop_synth.proofs.Asked.{sets_below}
 use Rattle.nop_synth.proofs.Found.{group_found}
 use Rattle.nop_synth.proofs.words.word_for.Goals as goal

@@ -3,7 +3,7 @@ use Rattle.std.proofs.lemmas.Result.{IfOk-weaker, IfErr-weaker}
 use Rattle.std.specs.Prelude.{String}
 use Rattle.std.specs.declared.alloc.Global.{Global}
 use Rattle.record_core.specs.declared.words.Command.{Command}
-use Rattle.record_core.specs.Fetch.{contents, FetchesPass}
+use Rattle.record_core.specs.Inner.Fetch.{contents, FetchesPass}
 use Rattle.record_core.specs.Answers.{Answers, AreFiles}
 use Rattle.record_core.specs.Words.{texts_of, file_count, names_of}
 use Rattle.record_core.specs.declared.status.Status.TheVariants.{Done}

@@ -1,5 +1,5 @@
 use Rattle.record_core.specs.Answers.{TextAnswers, netlist_in}
-use Rattle.record_core.specs.Fetch.{contents}
+use Rattle.record_core.specs.Inner.Fetch.{contents}
 use Rattle.record_core.specs.Lines.{due_line}
 use Rattle.record_core.specs.Words.{texts_of}
 use Rattle.record_core.proofs.AnswerLemmas.{refused_by}

@@ -3,7 +3,7 @@ use Rattle.record_core.proofs.MakeLemmas.{answers_summary, make_fault}
 use Rattle.record_core.proofs.make.make_text.Goals as goal
 
 pub returns-clause-ok : goal.returns-clause-ok
-returns-clause-ok c = λ line. answers_summary line c.args.number c.in_ok-text.text.items c.in_ok-text.ensures.told
+returns-clause-ok c = λ line. answers_summary line c.args.number c.in_ok-text.text.items c.in_ok-text.ensures.summary
 
 pub returns-in_err-text-clause-refused : goal.returns-in_err-text-clause-refused
 returns-in_err-text-clause-refused c = λ line.

@@ -1,5 +1,5 @@
 use Rattle.std.proofs.Common.{ℕ, ◌≡◌, ◌+◌, ◌<◌, ◌^◌, length, slice_index}
-use Rattle.record_rows.specs.Stores.{AreGiven}
+use Rattle.record_rows.specs.Inner.Stores.{AreGiven}
 use Rattle.record_rows.proofs.store.push_cells.Given as goal
 
 abbrev pub invariant-loop : goal.invariant-loop

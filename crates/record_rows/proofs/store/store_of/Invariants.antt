@@ -1,6 +1,6 @@
 use Rattle.std.proofs.Common.{ℕ, ◌≡◌, ◌+◌, ◌<◌, ◌^◌, length, slice_index, drop}
 use Rattle.src_model.specs.Meaning.{cell_count}
-use Rattle.record_rows.specs.Stores.{AreGiven}
+use Rattle.record_rows.specs.Inner.Stores.{AreGiven}
 use Rattle.record_rows.proofs.store.store_of.Given as goal
 
 abbrev pub invariant-loop-var : goal.invariant-loop-var

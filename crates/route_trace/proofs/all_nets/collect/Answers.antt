@@ -6,10 +6,10 @@ use Rattle.net_model.specs.declared.hardware.Net.{Net}
 use Rattle.net_model.specs.Nets.{gate_nets, nets_of}
 use Rattle.net_model.specs.Order.{IsOrder}
 use Rattle.net_model.specs.Widths.{NetFits}
-use Rattle.net_model.specs.Symbolic.{all_of, sym_of}
+use Rattle.net_model.specs.Symbolic.{all_nets, sym_of}
 use Rattle.sym_expr.proofs.CallerLemmas.{grows_refl, grows_trans}
-use Rattle.transfer_set.specs.Routes.{held_terms, only, routes_at}
-use Rattle.route_trace.specs.Verdicts.{kept_at}
+use Rattle.transfer_set.specs.Routes.{terms_under, only, routes_at}
+use Rattle.route_trace.specs.Inner.Verdicts.{kept_at}
 use Rattle.route_trace.specs.declared.verdict.Verdict.TheVariants.{Many, Skipped}
 use Rattle.route_trace.proofs.Firsts.{tables_later}
 use Rattle.net_model.proofs.WordWidths.{has_bits}
@@ -109,7 +109,7 @@ loop-id-preserved c =
     let told = rw (c.as_slice.ensures, c.as_slice-in-loop-id.ensures, c.in_ok-named.ensures) at c.all_kept.ensures in
     elim c.if-all_kept.branch [
       | then-all_kept+in-Ok w ↦
-          (let kept : all_of (kept_at c.loop-id.verdicts) (gate_nets c.index-nets-at.result.gate) ≡ true = sym told ∙ w.if-all_kept.true in
+          (let kept : all_nets (kept_at c.loop-id.verdicts) (gate_nets c.index-nets-at.result.gate) ≡ true = sym told ∙ w.if-all_kept.true in
           let terms = rw (c.netlist-netlist.ensures.value, w.as_slice-then-all_kept.ensures) at w.in-Ok.ensures.terms in
           let gives = (λ (word : ℕ) (low : word < 2 ^ c.loop-id.book.bits).
           terms (sym_of netlist word) word low
@@ -118,7 +118,7 @@ loop-id-preserved c =
           let grows = extends_trans c.args.book.now c.loop-id.book w.net_routes.new.book c.loop-id.invariant.book w.in-Ok.ensures.book in
           let new = new_gives netlist order o i c.loop-id-test.true c.loop-id.book c.loop-id.pool c.loop-id.routes c.args.controls.now.legal c.loop-id.verdicts c.loop-id.invariant.done
           c.loop-id.invariant.long legal w.net_routes.new.book w.net_routes.new.pool w.in-Ok.ensures.book w.in-Ok.ensures.pool c.loop-id.invariant.tables w.in-Ok.out table c.index-nets-at.result there gives in
-          let alone = alone_by netlist c.loop-id.verdicts n before (ap (all_of (kept_at c.loop-id.verdicts)) names ∙ kept) in
+          let alone = alone_by netlist c.loop-id.verdicts n before (ap (all_nets (kept_at c.loop-id.verdicts)) names ∙ kept) in
           let verdict = judged netlist c.args.controls.now c.args.book.now w.net_routes.new.book c.requires.controls grows c.requires.word (has_bits netlist c.args.checked.now.order c.netlist-netlist.ensures.kept) w.net_routes.new.pool w.judge-verdict.ensures.ids n w.in-Ok.out table
           (λ word fits. new word (subst (λ b. word < 2 ^ b) w.in-Ok.ensures.book.bits fits)) lt alone w.judge-verdict.result (rw w.as_slice-in-Ok.ensures at w.judge-verdict.ensures.judged) in
           rw (w.book-is, w.pool-is, w.routes-is, w.verdicts-is, w.set.ensures, w.set-in-Ok.ensures)
@@ -136,14 +136,14 @@ loop-id-preserved c =
                 c.loop-id.invariant.long legal w.net_routes.new.book w.net_routes.new.pool w.in-Ok.ensures.book w.in-Ok.ensures.pool c.loop-id.invariant.tables w.in-Ok.out table c.index-nets-at.result there gives w.judge-verdict.result;
           }))
       | then-all_kept+in-Err-Many w ↦
-          (let kept : all_of (kept_at c.loop-id.verdicts) (gate_nets c.index-nets-at.result.gate) ≡ true = sym told ∙ w.if-all_kept.true in
+          (let kept : all_nets (kept_at c.loop-id.verdicts) (gate_nets c.index-nets-at.result.gate) ≡ true = sym told ∙ w.if-all_kept.true in
           let e = w.in-Err-Many.ensures.book in
           let g = w.in-Err-Many.ensures.pool in
           let over = over_sym netlist order o i c.loop-id-test.true c.loop-id.book c.loop-id.pool c.loop-id.routes c.args.controls.now.legal c.loop-id.verdicts c.loop-id.invariant.done
           c.loop-id.invariant.long legal w.net_routes.new.book w.net_routes.new.pool e g c.loop-id.invariant.tables c.index-nets-at.result there kept
           (rw (w.in-Err-Many.field-0-is, c.netlist-netlist.ensures.value, w.as_slice-then-all_kept.ensures) at w.in-Err-Many.ensures.many) in
           let grows = extends_trans c.args.book.now c.loop-id.book w.net_routes.new.book c.loop-id.invariant.book e in
-          let alone = alone_by netlist c.loop-id.verdicts n before (ap (all_of (kept_at c.loop-id.verdicts)) names ∙ kept) in
+          let alone = alone_by netlist c.loop-id.verdicts n before (ap (all_nets (kept_at c.loop-id.verdicts)) names ∙ kept) in
           let many = has_many netlist c.args.controls.now c.args.book.now w.net_routes.new.book c.requires.controls grows c.requires.word (has_bits netlist c.args.checked.now.order c.netlist-netlist.ensures.kept) w.net_routes.new.pool w.give_up.ensures.ids n over.routes over.table over.part over.many in
           rw (w.book-is, w.pool-is, w.routes-is, w.verdicts-is, w.set-in-Err-Many.ensures, w.give_up.ensures.many)
           (record {
@@ -156,13 +156,13 @@ loop-id-preserved c =
                 c.loop-id.invariant.long legal w.net_routes.new.book w.net_routes.new.pool e g c.loop-id.invariant.tables c.loop-id.invariant.widths;
             found = found_more netlist order i c.loop-id-test.true c.loop-id.verdicts judged_in c.loop-id.invariant.found Many (many_found netlist c.args.controls.now c.args.book.now w.net_routes.new.book c.requires.controls grows c.requires.word (has_bits netlist c.args.checked.now.order c.netlist-netlist.ensures.kept) n lt alone many);
             done = λ m word less kept low.
-                lost_done order i c.loop-id-test.true c.loop-id.verdicts judged_in (λ k. (word : ℕ) → word < 2 ^ w.net_routes.new.book.bits → held_terms w.net_routes.new.book w.net_routes.new.pool (routes_at c.loop-id.routes k) word ≡ only w.net_routes.new.book c.args.controls.now.legal word (sym_of netlist word k))
+                lost_done order i c.loop-id-test.true c.loop-id.verdicts judged_in (λ k. (word : ℕ) → word < 2 ^ w.net_routes.new.book.bits → terms_under w.net_routes.new.book w.net_routes.new.pool (routes_at c.loop-id.routes k) word ≡ only w.net_routes.new.book c.args.controls.now.legal word (sym_of netlist word k))
                 (λ k before is word low. done_later netlist order o i c.loop-id-test.true c.loop-id.book c.loop-id.pool c.loop-id.routes c.args.controls.now.legal c.loop-id.verdicts c.loop-id.invariant.done
                 c.loop-id.invariant.long legal w.net_routes.new.book w.net_routes.new.pool e g c.loop-id.invariant.tables k word before is low) Many refl m less kept word low;
           }))
       | else-all_kept w ↦
-          (let lost : all_of (kept_at c.loop-id.verdicts) (gate_nets c.index-nets-at.result.gate) ≡ false = sym told ∙ w.if-all_kept.false in
-          let broken = lost_by netlist c.loop-id.verdicts n before (ap (all_of (kept_at c.loop-id.verdicts)) names ∙ lost) in
+          (let lost : all_nets (kept_at c.loop-id.verdicts) (gate_nets c.index-nets-at.result.gate) ≡ false = sym told ∙ w.if-all_kept.false in
+          let broken = lost_by netlist c.loop-id.verdicts n before (ap (all_nets (kept_at c.loop-id.verdicts)) names ∙ lost) in
           rw (w.book-is, w.pool-is, w.routes-is, w.verdicts-is, w.set-else-all_kept.ensures)
           (record {
             book = c.loop-id.invariant.book;
@@ -173,7 +173,7 @@ loop-id-preserved c =
             widths = c.loop-id.invariant.widths;
             found = found_more netlist order i c.loop-id-test.true c.loop-id.verdicts judged_in c.loop-id.invariant.found Skipped broken;
             done = λ m word less kept low.
-                lost_done order i c.loop-id-test.true c.loop-id.verdicts judged_in (λ k. (word : ℕ) → word < 2 ^ c.loop-id.book.bits → held_terms c.loop-id.book c.loop-id.pool (routes_at c.loop-id.routes k) word ≡ only c.loop-id.book c.args.controls.now.legal word (sym_of netlist word k))
+                lost_done order i c.loop-id-test.true c.loop-id.verdicts judged_in (λ k. (word : ℕ) → word < 2 ^ c.loop-id.book.bits → terms_under c.loop-id.book c.loop-id.pool (routes_at c.loop-id.routes k) word ≡ only c.loop-id.book c.args.controls.now.legal word (sym_of netlist word k))
                 (λ k before is word low. c.loop-id.invariant.done k word before is low) Skipped refl m less kept word low;
           }))
     ]

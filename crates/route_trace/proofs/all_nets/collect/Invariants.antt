@@ -1,12 +1,12 @@
 use Rattle.std.proofs.Common.{◌≡◌, ℕ, ◌^◌, ◌<◌, length, true}
 use Rattle.bit_bdd.specs.Diagrams.{Extends}
-use Rattle.net_model.specs.Order.{place_of}
+use Rattle.net_model.specs.Order.{position_of}
 use Rattle.net_model.specs.Symbolic.{sym_of}
 use Rattle.sym_expr.specs.Pools.{Grows}
-use Rattle.transfer_set.specs.Routes.{held_terms, only, routes_at}
-use Rattle.route_trace.specs.Gates.{HaveWidths}
-use Rattle.route_trace.specs.Routing.{AreTables}
-use Rattle.route_trace.specs.Verdicts.{IsFound, kept_at, verdict_at}
+use Rattle.transfer_set.specs.Routes.{terms_under, only, routes_at}
+use Rattle.route_trace.specs.Inner.Gates.{HaveWidths}
+use Rattle.route_trace.specs.Inner.Routing.{AreTables}
+use Rattle.route_trace.specs.Inner.Verdicts.{IsFound, kept_at, verdict_at}
 use Rattle.route_trace.proofs.all_nets.collect.Given as goal
 
 abbrev pub invariant-loop-id : goal.invariant-loop-id
@@ -17,6 +17,6 @@ invariant-loop-id l = record {
   judged : length l.verdicts ≡ length l.checked.netlist.nets;
   tables : AreTables l.book l.pool l.routes;
   widths : HaveWidths l.checked.netlist l.pool l.routes;
-  found : (m : ℕ) → place_of l.order m < l.id-index → IsFound l.checked.netlist m (verdict_at l.verdicts m);
-  done : (m word : ℕ) → place_of l.order m < l.id-index → kept_at l.verdicts m ≡ true → word < 2 ^ l.book.bits → held_terms l.book l.pool (routes_at l.routes m) word ≡ only l.book l.controls.legal word (sym_of l.checked.netlist word m);
+  found : (m : ℕ) → position_of l.order m < l.id-index → IsFound l.checked.netlist m (verdict_at l.verdicts m);
+  done : (m word : ℕ) → position_of l.order m < l.id-index → kept_at l.verdicts m ≡ true → word < 2 ^ l.book.bits → terms_under l.book l.pool (routes_at l.routes m) word ≡ only l.book l.controls.legal word (sym_of l.checked.netlist word m);
 }

@@ -1,7 +1,7 @@
 use Rattle.std.proofs.Common.{inr, ℕ, ◌^◌, ◌<◌, ◌==◌, List, length, ap, sym, subst, ◌∙◌}
 use Rattle.std.proofs.lemmas.Result.{err_from_is_err_and}
 use Rattle.sym_expr.proofs.CallerLemmas.{grows_refl}
-use Rattle.route_trace.specs.Tests.{sets_in}
+use Rattle.route_trace.specs.Inner.Tests.{sets_in}
 use Rattle.route_trace.proofs.Choosing.{bit_case, tests_case}
 use Rattle.route_trace.proofs.Firsts.{tables_later}
 use Rattle.route_trace.proofs.Selecting.{none_there, some_there, target_wide}

@@ -1,5 +1,5 @@
 use Rattle.std.proofs.Common.{◌≡◌, drop}
-use Rattle.route_trace.specs.Tests.{target}
+use Rattle.route_trace.specs.Inner.Tests.{target}
 use Rattle.route_trace.proofs.cases.target_of.Given as goal
 
 abbrev pub invariant-loop-row : goal.invariant-loop-row

@@ -2,8 +2,8 @@ use Rattle.std.proofs.Common.{◌≡◌, ℕ, length, subst}
 use Rattle.std.specs.List.{slice_index_or}
 use Rattle.std.proofs.lemmas.List.{take_all}
 use Rattle.ctl_bdd.specs.Bits.{AreSets, number_at}
-use Rattle.route_trace.specs.Tests.{sets_in}
-use Rattle.route_trace.specs.Gates.{DriverTests}
+use Rattle.route_trace.specs.Inner.Tests.{sets_in}
+use Rattle.route_trace.specs.Inner.Gates.{DriverTests}
 use Rattle.route_trace.proofs.Deciding.{tests_push, drivers_push, pair_at, enabled, one_in}
 use Rattle.route_trace.proofs.decide.driver_tests.Goals as goal
 

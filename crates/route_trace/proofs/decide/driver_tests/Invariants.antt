@@ -1,8 +1,8 @@
 use Rattle.std.proofs.Common.{ℕ, take}
 use Rattle.ctl_bdd.specs.Bits.{number_at}
-use Rattle.route_trace.specs.Gates.{DriverTests}
-use Rattle.route_trace.specs.Routing.{AllTests}
-use Rattle.route_trace.specs.Tests.{sets_in}
+use Rattle.route_trace.specs.Inner.Gates.{DriverTests}
+use Rattle.route_trace.specs.Inner.Routing.{AllTests}
+use Rattle.route_trace.specs.Inner.Tests.{sets_in}
 use Rattle.route_trace.proofs.decide.driver_tests.Given as goal
 
 abbrev pub invariant-loop-driver : goal.invariant-loop-driver

@@ -1,8 +1,8 @@
 use Rattle.std.proofs.Common.{ℕ, take}
 use Rattle.bit_bdd.specs.Diagrams.{Extends}
 use Rattle.ctl_bdd.specs.Bits.{number_at}
-use Rattle.route_trace.specs.Gates.{RowTests}
-use Rattle.route_trace.specs.Routing.{AllTests}
+use Rattle.route_trace.specs.Inner.Gates.{RowTests}
+use Rattle.route_trace.specs.Inner.Routing.{AllTests}
 use Rattle.route_trace.proofs.decide.row_tests.Given as goal
 
 abbrev pub invariant-loop-row : goal.invariant-loop-row

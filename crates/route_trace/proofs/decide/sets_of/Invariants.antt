@@ -1,5 +1,5 @@
 use Rattle.std.proofs.Common.{◌≡◌, drop}
-use Rattle.route_trace.specs.Tests.{sets_in}
+use Rattle.route_trace.specs.Inner.Tests.{sets_in}
 use Rattle.route_trace.proofs.decide.sets_of.Given as goal
 
 abbrev pub invariant-loop-entry : goal.invariant-loop-entry

@@ -5,7 +5,7 @@ use Rattle.std.proofs.lemmas.Option.{slice_get-get_or}
 use Rattle.bit_bdd.specs.Diagrams.{has_word, Extends}
 use Rattle.bit_bdd.proofs.CallerLemmas.{same_words, extends_trans, still_within}
 use Rattle.sym_expr.proofs.CallerLemmas.{grows_refl, grows_trans}
-use Rattle.route_trace.specs.Routing.{AreTables}
+use Rattle.route_trace.specs.Inner.Routing.{AreTables}
 use Rattle.route_trace.proofs.Merging.{held_later}
 use Rattle.route_trace.proofs.Products.{table_later, both_later}
 use Rattle.route_trace.proofs.Firsts.{all_fit_same, test_at, first_apart, first_step, left_more, tables_later}

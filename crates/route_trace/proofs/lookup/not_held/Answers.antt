@@ -3,8 +3,8 @@ use Rattle.std.specs.List.{slice_index_or}
 use Rattle.std.proofs.lemmas.Option.{slice_get-get_or}
 use Rattle.bit_bdd.specs.Diagrams.{has_word}
 use Rattle.bit_bdd.proofs.CallerLemmas.{extends_trans, same_words}
-use Rattle.transfer_set.specs.Routes.{held}
-use Rattle.route_trace.specs.Lookups.{is_free}
+use Rattle.transfer_set.specs.Routes.{exprs_under}
+use Rattle.route_trace.specs.Inner.Lookups.{is_free}
 use Rattle.route_trace.proofs.Merging.{set_at}
 use Rattle.route_trace.proofs.Products.{held_more}
 use Rattle.route_trace.proofs.Lookups.{free_more}
@@ -26,7 +26,7 @@ loop-route-preserved c =
           let e = c.loop-route.invariant.words word in
           let f = same_words c.args.book.now c.loop-route.book c.loop-route.invariant.book _ in_set word in
           c.in_ok-left.ensures.words word ∙ (λ j. e j && not (f j))
-          ∙ free_more (has_word c.args.book.now c.args.set word) (held c.args.book.now (take c.loop-route.route-index c.args.routes.now) word)
+          ∙ free_more (has_word c.args.book.now c.args.set word) (exprs_under c.args.book.now (take c.loop-route.route-index c.args.routes.now) word)
           (has_word c.args.book.now (slice_index_or c.args.routes.now c.loop-route.route-index (record { expr = 0; set = 0 })).set word)
           (slice_index_or c.args.routes.now c.loop-route.route-index (record { expr = 0; set = 0 })).expr
           ∙ ap (λ xs. has_word c.args.book.now c.args.set word && is_free xs) (sym (held_more c.args.book.now c.args.routes.now c.loop-route.route-index _ at word));

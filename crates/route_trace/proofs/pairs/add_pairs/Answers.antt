@@ -6,10 +6,10 @@ use Rattle.bit_bdd.proofs.CallerLemmas.{extends_refl, extends_trans, same_words}
 use Rattle.sym_expr.specs.Pools.{term_at}
 use Rattle.sym_expr.proofs.CallerLemmas.{grows_refl, grows_trans}
 use Rattle.route_trace.specs.declared.heads.Head.{Head}
-use Rattle.route_trace.specs.Heads.{head_term, two_term}
-use Rattle.route_trace.specs.Lookups.{is_free}
-use Rattle.route_trace.specs.Routing.{each}
-use Rattle.transfer_set.specs.Routes.{held_terms}
+use Rattle.route_trace.specs.Inner.Heads.{head_term, two_term}
+use Rattle.route_trace.specs.Inner.Lookups.{is_free}
+use Rattle.route_trace.specs.Inner.Routing.{each}
+use Rattle.transfer_set.specs.Routes.{terms_under}
 use Rattle.route_trace.proofs.Merging.{held_later, set_at}
 use Rattle.route_trace.proofs.Products.{below_later, both_later, expr_at, table_later}
 use Rattle.route_trace.proofs.Loops.{all_fit_later, map-same, two-same, two_below, two_fit_at}
@@ -79,7 +79,7 @@ loop-word-preserved c =
       within = c.in_ok-left-2.ensures.left_within;
       inside = λ word is. c.loop-word.invariant.inside word (and_left _ _ (sym (c.in_ok-left-2.ensures.left word) ∙ is));
       terms = λ word low.
-          left_step (each (λ a. map (two_term c.args.two (term_at c.args.pool.now) a) (held_terms c.args.book.now c.args.pool.now c.args.seconds.now word))) c.args.book.now c.args.pool.now c.args.firsts.now word c.in-Some-place_of.place _ h.0 (c.requires.first_one word low)
+          left_step (each (λ a. map (two_term c.args.two (term_at c.args.pool.now) a) (terms_under c.args.book.now c.args.pool.now c.args.seconds.now word))) c.args.book.now c.args.pool.now c.args.firsts.now word c.in-Some-place_of.place _ h.0 (c.requires.first_one word low)
           _ _ _ _ _ _ _ _ (c.loop-word.invariant.inside word)
           (same_words c.args.book.now c.loop-word.book c.loop-word.invariant.book _ in_set word)
           (c.in_ok-left-2.ensures.left word) (c.loop-word.invariant.terms word low)
@@ -105,7 +105,7 @@ loop-word-preserved-in_default-place_of c = record {
   within = c.in_ok-left.ensures.within;
   inside = λ word is. c.loop-word.invariant.inside word (and_left _ _ (sym (c.in_ok-left.ensures.words word) ∙ is));
   terms = λ word low.
-      left_free (each (λ a. map (two_term c.args.two (term_at c.args.pool.now) a) (held_terms c.args.book.now c.args.pool.now c.args.seconds.now word))) c.args.book.now c.args.pool.now c.args.firsts.now word refl
+      left_free (each (λ a. map (two_term c.args.two (term_at c.args.pool.now) a) (terms_under c.args.book.now c.args.pool.now c.args.seconds.now word))) c.args.book.now c.args.pool.now c.args.firsts.now word refl
       (has_word c.args.book.now c.args.set word) (has_word c.loop-word.book c.loop-word.left word) _ _ _
       (c.in_ok-left.ensures.words word ∙ ap (λ xs. has_word c.loop-word.book c.loop-word.left word && not (is_free xs)) (held_later c.args.book.now c.loop-word.book c.loop-word.invariant.book c.args.firsts.now c.requires.first.right.sets word))
       (both_later c.loop-word.book c.held_words.new.book c.loop-word.pool c.loop-word.pool c.in_ok-left.ensures.book (grows_refl c.loop-word.pool) c.loop-word.out c.loop-word.invariant.table word ∙ c.loop-word.invariant.terms word low);
@@ -129,7 +129,7 @@ returns-in_err-left-2-clause-many c =
     (λ word fits terms e.
     (let low = subst (λ b. word < 2 ^ b) (extends_trans c.args.book.now c.loop-word.book c.add_part.new.book c.loop-word.invariant.book c.in_err-left-2.ensures.book).bits fits in
     left_part (has_word c.args.book.now c.args.set word) _ _ _ terms
-    (left_step (each (λ a. map (two_term c.args.two (term_at c.args.pool.now) a) (held_terms c.args.book.now c.args.pool.now c.args.seconds.now word))) c.args.book.now c.args.pool.now c.args.firsts.now word c.in-Some-place_of.place _ h.0 (c.requires.first_one word low)
+    (left_step (each (λ a. map (two_term c.args.two (term_at c.args.pool.now) a) (terms_under c.args.book.now c.args.pool.now c.args.seconds.now word))) c.args.book.now c.args.pool.now c.args.firsts.now word c.in-Some-place_of.place _ h.0 (c.requires.first_one word low)
     _ _ _ _ _ _ _ terms (c.loop-word.invariant.inside word)
     (same_words c.args.book.now c.loop-word.book c.loop-word.invariant.book _ in_set word)
     refl (c.loop-word.invariant.terms word low)

@@ -4,7 +4,7 @@ use Rattle.bit_bdd.specs.Diagrams.{Extends, has_word}
 use Rattle.bit_bdd.proofs.CallerLemmas.{extends_trans, same_words, still_within}
 use Rattle.sym_expr.specs.Pools.{term_at}
 use Rattle.sym_expr.proofs.CallerLemmas.{grows_refl}
-use Rattle.route_trace.specs.Heads.{head_term}
+use Rattle.route_trace.specs.Inner.Heads.{head_term}
 use Rattle.route_trace.proofs.Merging.{held_later}
 use Rattle.route_trace.proofs.Products.{table_later, both_later}
 use Rattle.route_trace.proofs.Stopping.{many_in}

@@ -4,8 +4,8 @@ use Rattle.bit_bdd.proofs.CallerLemmas.{extends_refl, extends_trans, same_words}
 use Rattle.net_model.specs.Terms.{term_width}
 use Rattle.sym_expr.specs.Pools.{term_at}
 use Rattle.sym_expr.proofs.CallerLemmas.{grows_refl, grows_trans, same_term}
-use Rattle.route_trace.specs.Heads.{head_term}
-use Rattle.route_trace.specs.Lookups.{is_free}
+use Rattle.route_trace.specs.Inner.Heads.{head_term}
+use Rattle.route_trace.specs.Inner.Lookups.{is_free}
 use Rattle.route_trace.proofs.Merging.{held_later, set_at}
 use Rattle.route_trace.proofs.Products.{both_later, fits-later, head-same, fit_at, expr_at, table_later}
 use Rattle.route_trace.proofs.Lookups.{and_left, fewer, left_apart, left_first, left_free, left_none, left_part, left_step, held_at}

@@ -1,8 +1,8 @@
 use Rattle.std.proofs.Common.{◌≡◌, ℕ, ◌^◌, ◌<◌, map, length, true}
 use Rattle.bit_bdd.specs.Diagrams.{Extends, has_word}
 use Rattle.sym_expr.specs.Pools.{Grows, term_at}
-use Rattle.route_trace.specs.Heads.{head_term}
-use Rattle.transfer_set.specs.Routes.{IsTable, held_terms}
+use Rattle.route_trace.specs.Inner.Heads.{head_term}
+use Rattle.transfer_set.specs.Routes.{IsRouteTable, terms_under}
 use Rattle.route_trace.proofs.Lookups.{left_terms, words_in}
 use Rattle.route_trace.proofs.product.add_all.Given as goal
 
@@ -10,10 +10,10 @@ abbrev pub invariant-loop-word : goal.invariant-loop-word
 invariant-loop-word l = record {
   book : Extends l.initial.book l.book;
   pool : Grows l.initial.pool l.pool;
-  table : IsTable l.book l.pool l.out;
+  table : IsRouteTable l.book l.pool l.out;
   within : l.left < length l.book.nodes;
   inside : (word : ℕ) → has_word l.book l.left word ≡ true → has_word l.initial.book l.set word ≡ true;
-  terms : (word : ℕ) → word < 2 ^ l.initial.book.bits → held_terms l.book l.pool l.out word ≡ left_terms (has_word l.initial.book l.set word) (has_word l.book l.left word) (map (head_term l.head (term_at l.initial.pool)) (held_terms l.initial.book l.initial.pool l.routes word)) (held_terms l.initial.book l.initial.pool l.initial.out word);
+  terms : (word : ℕ) → word < 2 ^ l.initial.book.bits → terms_under l.book l.pool l.out word ≡ left_terms (has_word l.initial.book l.set word) (has_word l.book l.left word) (map (head_term l.head (term_at l.initial.pool)) (terms_under l.initial.book l.initial.pool l.routes word)) (terms_under l.initial.book l.initial.pool l.initial.out word);
 }
 
 -- each turn takes a word

@@ -1,5 +1,5 @@
 use Rattle.std.proofs.Common.{◌≡◌, drop}
-use Rattle.route_trace.specs.Verdicts.{first_fault}
+use Rattle.route_trace.specs.Inner.Verdicts.{first_fault}
 use Rattle.route_trace.proofs.verdict.first_refusal.Given as goal
 
 abbrev pub invariant-loop-verdict : goal.invariant-loop-verdict

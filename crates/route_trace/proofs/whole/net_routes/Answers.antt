@@ -1,7 +1,7 @@
 use Rattle.std.proofs.Common.{inr, ◌^◌, ◌<◌, sym, subst, ◌∙◌, arith}
 use Rattle.std.proofs.lemmas.Result.{err_from_is_err_and}
 use Rattle.net_model.specs.Value.{value_of}
-use Rattle.net_model.specs.Symbolic.{blank, is_static}
+use Rattle.net_model.specs.Symbolic.{no_state, is_static}
 use Rattle.route_trace.specs.declared.heads.Head.TheVariants.{Same, Read, Un, Slice, Zext, Sext}
 use Rattle.route_trace.specs.declared.heads.Two.TheVariants.{Bin, Cat}
 use Rattle.route_trace.proofs.Given.{fit_wide, two_fit_wide}
@@ -71,7 +71,7 @@ returns-in_ok-out-in-Case-clause-terms c t word fits given =
     let g = rw c.in-Case.is at given in
     let made = rw c.as_slice-rows.ensures at c.in_ok-out-in-Case.ensures.terms in
     rw c.in-Case.is
-    (made t (value_of c.args.netlist.now blank word) (is_static c.args.netlist.now) word fits g
+    (made t (value_of c.args.netlist.now no_state word) (is_static c.args.netlist.now) word fits g
     (selected_at c.args.netlist.now c.requires.typed c.args.book.now _ c.in-Case.sel word (rw c.in-Case.is at c.requires.fits.2).0 fits (rw c.in-Case.is at c.requires.decided)))
 
 pub returns-in_err-out-in-Case-clause-many : goal.returns-in_err-out-in-Case-clause-many
@@ -81,7 +81,7 @@ returns-in_err-out-in-Case-clause-many c =
     rw (p.1, p.2, c.in-Case.is)
     (many_in c.in_err-out-in-Case.field-0.0 c.case_routes.new.book c.case_routes.new.pool _ _
     (λ word fits terms made. inr (λ t given.
-    made t (value_of c.args.netlist.now blank word) (is_static c.args.netlist.now) given
+    made t (value_of c.args.netlist.now no_state word) (is_static c.args.netlist.now) given
     (selected_at c.args.netlist.now c.requires.typed c.args.book.now _ c.in-Case.sel word (rw c.in-Case.is at c.requires.fits.2).0 (subst (λ b. word < 2 ^ b) c.in_err-out-in-Case.ensures.book.bits fits) (rw c.in-Case.is at c.requires.decided))))
     many)
 
@@ -98,7 +98,7 @@ returns-in_ok-out-in-Bus-clause-terms c t word fits given =
     let g = rw c.in-Bus.is at given in
     let made = rw c.as_slice.ensures at c.in_ok-out-in-Bus.ensures.terms in
     rw c.in-Bus.is
-    (made t (value_of c.args.netlist.now blank word) word fits g (enabled_at c.args.netlist.now c.args.book.now _ word fits _ (rw c.in-Bus.is at c.requires.decided)))
+    (made t (value_of c.args.netlist.now no_state word) word fits g (enabled_at c.args.netlist.now c.args.book.now _ word fits _ (rw c.in-Bus.is at c.requires.decided)))
 
 pub returns-in_err-out-in-Bus-clause-many : goal.returns-in_err-out-in-Bus-clause-many
 returns-in_err-out-in-Bus-clause-many c =
@@ -107,6 +107,6 @@ returns-in_err-out-in-Bus-clause-many c =
     rw (p.1, p.2, c.in-Bus.is)
     (many_in c.in_err-out-in-Bus.field-0.0 c.bus_routes.new.book c.bus_routes.new.pool _ _
     (λ word fits terms made. inr (λ t given.
-    made t (value_of c.args.netlist.now blank word) given
+    made t (value_of c.args.netlist.now no_state word) given
     (enabled_at c.args.netlist.now c.args.book.now _ word (subst (λ b. word < 2 ^ b) c.in_err-out-in-Bus.ensures.book.bits fits) _ (rw c.in-Bus.is at c.requires.decided))))
     many)

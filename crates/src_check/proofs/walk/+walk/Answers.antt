@@ -4,8 +4,8 @@ use Rattle.rec_bits.proofs.Faults.{sooner_none, gather_next, gather_end}
 use Rattle.src_model.specs.declared.program.Stmt.{If}
 use Rattle.src_model.specs.Loops.{Round}
 use Rattle.src_model.specs.Written.{act_of, acts_of}
-use Rattle.src_check.specs.Rounds.{rounds_of}
-use Rattle.src_check.specs.Questions.{rule_of, round}
+use Rattle.src_check.specs.Inner.Rounds.{rounds_of}
+use Rattle.src_check.specs.Inner.Questions.{rule_of, round}
 use Rattle.src_check.proofs.Walks.{stmt_breaks, block_gathered, list_breaks, while_least, if_least, for_least}
 use Rattle.src_check.proofs.walk.+walk.Goals as goal
 

@@ -1,8 +1,8 @@
 use Rattle.std.proofs.Common.{◌≡◌, drop}
 use Rattle.rec_bits.specs.Faults.{sooner, least, gather}
 use Rattle.src_check.proofs.Walks.{stmt_breaks}
-use Rattle.src_check.specs.Rounds.{rounds_of}
-use Rattle.src_check.specs.Questions.{rule_of}
+use Rattle.src_check.specs.Inner.Rounds.{rounds_of}
+use Rattle.src_check.specs.Inner.Questions.{rule_of}
 use Rattle.src_check.proofs.walk.+walk.Given as goal
 
 abbrev pub invariant-of_block-loop-statement : goal.invariant-of_block-loop-statement

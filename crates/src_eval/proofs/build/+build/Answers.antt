@@ -2,7 +2,7 @@ use Rattle.std.proofs.Common.{sym, ap, ◌∙◌, ◌≡◌, ◌+◌, length, su
 use Rattle.src_model.specs.Written.{act_of}
 use Rattle.src_model.specs.Sizes.{statements, statements_else}
 use Rattle.src_model.proofs.Views.{else_acts}
-use Rattle.src_eval.specs.Laid.{entry, Laid, Ready, Built}
+use Rattle.src_eval.specs.Inner.Laid.{entry, Laid, Ready, Built}
 use Rattle.src_eval.proofs.BuildLemmas.{block_acts, trees_of, trees_If, trees_While, trees_For}
 use Rattle.src_eval.proofs.AssembleLemmas.{assign_all, while_may, while_all, if_may, if_all, taken_may, other_may, else_all, for_may, for_all}
 use Rattle.src_eval.proofs.BlockLemmas.{going_from, first_fits, first_ready, going_on, going_end}

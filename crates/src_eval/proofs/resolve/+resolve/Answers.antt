@@ -2,7 +2,7 @@ use Rattle.std.proofs.Common.{refl, sym, subst, arith}
 use Rattle.src_model.specs.Written.{shape_of, low, zext}
 use Rattle.src_model.specs.Fitting.{Fitting}
 use Rattle.src_model.proofs.FittingLemmas.{width_wide}
-use Rattle.src_eval.specs.Resolved.{Resolves}
+use Rattle.src_eval.specs.Inner.Resolved.{Resolves}
 use Rattle.src_eval.specs.declared.formula.Formula.{Low}
 use Rattle.src_eval.proofs.ResolveLemmas.{zext_resolves, low_resolves, held_resolves}
 use Rattle.src_eval.proofs.resolve.+resolve.Goals as goal

@@ -1,8 +1,8 @@
 use Rattle.std.proofs.Common.{Bool, if◌then◌else◌, sym, ap, subst, ◌∙◌}
 use Rattle.src_model.specs.Written.{shape_of}
-use Rattle.src_model.specs.Meaning.{width_of, operand_width}
+use Rattle.src_model.specs.Meaning.{shape_width, operand_width}
 use Rattle.src_model.proofs.FittingLemmas.{sides_wide}
-use Rattle.src_eval.specs.Formulas.{IsWidth}
+use Rattle.rec_bits.specs.Operators.{IsWidth}
 use Rattle.src_eval.proofs.ResolveLemmas.{small}
 use Rattle.src_eval.proofs.resolve.operand_width.Goals as goal
 
@@ -23,7 +23,7 @@ returns-then-is_literal-clause-wide c =
     let word = c.args.word in
     let x = shape_of c.args.x.now.node in
     let y = shape_of c.args.y.now.node in
-    let o = ap (λ (b : Bool). if b then width_of word word y else width_of word word x) (sym c.is_literal.ensures ∙ c.if-is_literal.true) in
+    let o = ap (λ (b : Bool). if b then shape_width word word y else shape_width word word x) (sym c.is_literal.ensures ∙ c.if-is_literal.true) in
     subst IsWidth (o ∙ sym c.written_width.ensures) (sides_wide word x y c.requires.word c.requires.left c.requires.right)
 
 pub returns-else-is_literal-clause-wide : goal.returns-else-is_literal-clause-wide
@@ -31,5 +31,5 @@ returns-else-is_literal-clause-wide c =
     let word = c.args.word in
     let x = shape_of c.args.x.now.node in
     let y = shape_of c.args.y.now.node in
-    let o = ap (λ (b : Bool). if b then width_of word word y else width_of word word x) (sym c.is_literal.ensures ∙ c.if-is_literal.false) in
+    let o = ap (λ (b : Bool). if b then shape_width word word y else shape_width word word x) (sym c.is_literal.ensures ∙ c.if-is_literal.false) in
     subst IsWidth (o ∙ sym c.written_width-else-is_literal.ensures) (sides_wide word x y c.requires.word c.requires.left c.requires.right)

@@ -1,7 +1,7 @@
 use Rattle.std.proofs.Common.{sym, subst}
 use Rattle.src_model.specs.Written.{shape_of}
 use Rattle.src_model.proofs.FittingLemmas.{width_wide}
-use Rattle.src_eval.specs.Formulas.{IsWidth}
+use Rattle.rec_bits.specs.Operators.{IsWidth}
 use Rattle.src_eval.proofs.ResolveLemmas.{small}
 use Rattle.src_eval.proofs.resolve.width_of.Goals as goal
 

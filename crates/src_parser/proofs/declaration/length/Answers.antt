@@ -2,7 +2,7 @@ use Rattle.std.proofs.Common.{ap}
 use Rattle.std.proofs.lemmas.Result.{err_from_is_err_and}
 use Rattle.grammar.proofs.Steps.{never_stops}
 use Rattle.grammar.proofs.Passing.{maybe_none, maybe_reads, maybe_fails}
-use Rattle.src_parser.specs.Steps.{bracket_word}
+use Rattle.src_parser.specs.Inner.Steps.{bracket_word}
 use Rattle.grammar.proofs.Tokens.{begun, not_there}
 use Rattle.src_parser.proofs.declaration.length.Goals as goal
 

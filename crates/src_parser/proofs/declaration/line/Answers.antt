@@ -2,7 +2,7 @@ use Rattle.std.proofs.Common.{refl}
 use Rattle.std.proofs.lemmas.Result.{err_from_is_err_and}
 use Rattle.grammar.proofs.Steps.{return_reads}
 use Rattle.grammar.proofs.Passing.{there_return, there_bind, there_many, beyond_reads, beyond_fails, short_of, on, stuck}
-use Rattle.src_parser.specs.Steps.{decls_word}
+use Rattle.src_parser.specs.Inner.Steps.{decls_word}
 use Rattle.grammar.proofs.Tokens.{begun, ends, there_sign, there_before}
 use Rattle.src_parser.proofs.Declarations.{line_apart}
 use Rattle.src_parser.proofs.declaration.line.Goals as goal

@@ -1,7 +1,7 @@
 use Rattle.std.proofs.Common.{◌++◌, length}
 use Rattle.grammar.specs.Reading.{Leads}
 use Rattle.src_model.specs.Grammar.{IsLines}
-use Rattle.src_parser.specs.Steps.{after_lines}
+use Rattle.src_parser.specs.Inner.Steps.{after_lines}
 use Rattle.src_parser.proofs.declaration.lines.Given as goal
 
 -- what completes the variables so far completes those of all lines

@@ -3,7 +3,7 @@ use Rattle.grammar.specs.Reading.{Leads, ListOf}
 use Rattle.src_model.specs.declared.words.Symbol.TheVariants.{Comma}
 use Rattle.grammar.specs.Tokens.{Behind}
 use Rattle.src_model.specs.Grammar.{DeclsBehind, IsDecl}
-use Rattle.src_parser.specs.Steps.{after_decls}
+use Rattle.src_parser.specs.Inner.Steps.{after_decls}
 use Rattle.src_parser.proofs.declaration.others.Given as goal
 
 -- what completes the variables so far completes those behind the first one

@@ -5,7 +5,7 @@ use Rattle.grammar.proofs.Steps.{return_reads}
 use Rattle.grammar.proofs.Passing.{fails_too, gives_too, reads_too, then_leads, there_return, never_apart, on, stuck, starts_inner}
 use Rattle.src_model.specs.Grammar.{op_at}
 use Rattle.src_model.specs.Written.{phrase_of}
-use Rattle.src_parser.specs.Steps.{may_follow}
+use Rattle.src_parser.specs.Inner.Steps.{may_follow}
 use Rattle.grammar.proofs.Tokens.{begun, ends}
 use Rattle.src_parser.proofs.Rooms.{within_all, within_returned, within_closed, fixed_leads, token_length, token_least, token_most, any_least, bind_least, bind_most, return_most, short_return, short_bind, first_fails, second_leads}
 use Rattle.src_parser.proofs.Expressions.{chain_some, short_chain, chain_stuck, chain_on, tail_stop, tail_stuck, tail_on, open_within, not_opened, unary_missed, unary_ended, named_within, number_within, no_index, index_within, width_behind, width_most, short_sign, short_width, shape_Var}

@@ -2,7 +2,7 @@ use Rattle.std.proofs.Common.{◌+◌, ◌*◌, ◌-◌, length}
 use Rattle.grammar.specs.Reading.{Within, Tail, Leads}
 use Rattle.src_model.specs.Grammar.{op_at, join, Chains, IsUnary}
 use Rattle.src_model.specs.Written.{phrase_of}
-use Rattle.src_parser.specs.Steps.{after}
+use Rattle.src_parser.specs.Inner.Steps.{after}
 use Rattle.src_parser.proofs.expression.+expr.Given as goal
 
 abbrev pub decreases-bracket : goal.decreases-bracket

@@ -5,7 +5,7 @@ use Rattle.grammar.proofs.Steps.{return_reads, never_stops}
 use Rattle.grammar.proofs.Passing.{fails_too, gives_too, reads_too, same_leads, there_return, there_bind, there_many, there_maybe, beyond_reads, beyond_fails, short_of, on, past, stuck, starts_inner, returned, returned_reads, maybe_none, maybe_reads, maybe_fails}
 use Rattle.grammar.proofs.Repeats.{list_ends, list_fails, list_goes_on}
 use Rattle.src_model.specs.Written.{act_of}
-use Rattle.src_parser.specs.Steps.{may_follow, else_word, acts_word}
+use Rattle.src_parser.specs.Inner.Steps.{may_follow, else_word, acts_word}
 use Rattle.grammar.proofs.Tokens.{begun, ends, there_sign, there_number, there_behind, there_before, not_there}
 use Rattle.src_parser.proofs.Statements.{block_leads, block_starts, there_block, acted, not_so, compound_leads, no_level, act_missed, act_ended, name_leads, while_reads, for_reads, if_reads}
 use Rattle.src_parser.proofs.statement.+acts.Goals as goal

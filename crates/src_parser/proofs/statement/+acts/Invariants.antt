@@ -2,7 +2,7 @@ use Rattle.std.proofs.Common.{◌+◌, ◌*◌, ◌++◌, length, map}
 use Rattle.grammar.specs.Reading.{Leads}
 use Rattle.src_model.specs.Grammar.{IsBody}
 use Rattle.src_model.specs.Written.{act_of}
-use Rattle.src_parser.specs.Steps.{after_acts}
+use Rattle.src_parser.specs.Inner.Steps.{after_acts}
 use Rattle.src_parser.proofs.statement.+acts.Given as goal
 
 abbrev pub decreases-block : goal.decreases-block

@@ -2,7 +2,7 @@ use Rattle.std.proofs.Common.{refl}
 use Rattle.std.proofs.lemmas.Result.{err_from_is_err_and}
 use Rattle.grammar.proofs.Steps.{return_reads}
 use Rattle.grammar.proofs.Passing.{fails_too, there_return, there_bind, beyond_reads, beyond_fails, short_of, on, stuck, starts_inner, returned, returned_reads}
-use Rattle.src_parser.specs.Steps.{may_follow}
+use Rattle.src_parser.specs.Inner.Steps.{may_follow}
 use Rattle.grammar.proofs.Tokens.{begun, ends, there_behind, there_before}
 use Rattle.src_parser.proofs.Statements.{there_outer, place_Spot}
 use Rattle.src_parser.proofs.statement.assignment.Goals as goal

@@ -1,7 +1,7 @@
 use Rattle.std.proofs.lemmas.Result.{err_from_is_err_and}
 use Rattle.grammar.proofs.Steps.{return_reads}
 use Rattle.grammar.proofs.Passing.{there_return, there_bind, beyond_reads, beyond_fails, short_of, on, past, stuck}
-use Rattle.src_parser.specs.Steps.{may_follow}
+use Rattle.src_parser.specs.Inner.Steps.{may_follow}
 use Rattle.grammar.proofs.Tokens.{begun, ends, there_sign, there_before}
 use Rattle.src_parser.proofs.Statements.{there_outer}
 use Rattle.src_parser.proofs.statement.between.Goals as goal

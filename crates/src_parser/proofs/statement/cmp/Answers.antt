@@ -1,7 +1,7 @@
 use Rattle.std.proofs.Common.{sym, ap, ◌∙◌}
 use Rattle.grammar.proofs.Steps.{token_reads}
 use Rattle.grammar.proofs.Passing.{token_ended, token_missed}
-use Rattle.src_parser.specs.Steps.{cmp_of}
+use Rattle.src_parser.specs.Inner.Steps.{cmp_of}
 use Rattle.src_parser.proofs.Statements.{there_cmp, is_cmp}
 use Rattle.src_parser.proofs.statement.cmp.Goals as goal
 

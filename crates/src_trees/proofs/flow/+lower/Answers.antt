@@ -6,7 +6,7 @@ use Rattle.src_model.specs.declared.program.Stmt.{Stmt}
 use Rattle.src_trees.specs.Lowered.{MemoryMap, works_in}
 use Rattle.src_trees.specs.Flows.{flow_in}
 use Rattle.src_trees.specs.Jobs.{works_of}
-use Rattle.src_trees.specs.Lowering.{IsPlain, ArePlain, IsReady, IsLowered, AreLowered}
+use Rattle.src_trees.specs.Inner.Lowering.{IsPlain, ArePlain, IsReady, IsLowered, AreLowered}
 use Rattle.src_trees.proofs.LowerLemmas.{if_lowered, else_lowered, while_lowered, for_lowered, for_at}
 use Rattle.src_trees.proofs.LowerCases.{block_acts, if_none, if_some, while_is, for_is, counted, other_may, step_may, room, room_both, flow_on, jobs_on, ready_on, few_on}
 use Rattle.src_trees.proofs.flow.+lower.Goals as goal

@@ -4,7 +4,7 @@ use Rattle.src_model.specs.Sizes.{statements, statements_in}
 use Rattle.src_trees.specs.Lowered.{works_in}
 use Rattle.src_trees.specs.Flows.{flow_in}
 use Rattle.src_trees.specs.Jobs.{works_of}
-use Rattle.src_trees.specs.Lowering.{ArePlain, IsReady}
+use Rattle.src_trees.specs.Inner.Lowering.{ArePlain, IsReady}
 use Rattle.src_trees.proofs.flow.+lower.Given as goal
 
 abbrev pub decreases-lower_statement : goal.decreases-lower_statement

@@ -1,7 +1,7 @@
 use Rattle.std.proofs.Common.{subst, sym, map}
 use Rattle.src_model.specs.Written.{act_of, acts_of}
 use Rattle.src_trees.specs.Lowered.{MemoryMap}
-use Rattle.src_trees.specs.Lowering.{ArePlain}
+use Rattle.src_trees.specs.Inner.Lowering.{ArePlain}
 use Rattle.src_trees.proofs.Plain.{body_plain}
 use Rattle.src_trees.proofs.flow.lower.Goals as goal
 

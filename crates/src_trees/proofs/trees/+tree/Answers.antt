@@ -2,7 +2,7 @@ use Rattle.std.proofs.Common.{subst, arith}
 use Rattle.src_model.specs.Written.{shape_of, low}
 use Rattle.src_model.specs.Fitting.{Fitting}
 use Rattle.src_model.proofs.FittingLemmas.{width_wide}
-use Rattle.src_trees.specs.Near.{IsWidth}
+use Rattle.rec_bits.specs.Operators.{IsWidth}
 use Rattle.src_trees.proofs.trees.+tree.Goals as goal
 
 pub tree-overflow_cast-result-in-Low : goal.tree-overflow_cast-result-in-Low

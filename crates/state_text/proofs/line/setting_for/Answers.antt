@@ -1,7 +1,7 @@
 use Rattle.std.proofs.Common.{◌≡◌, Some, sym, ◌∙◌, arith}
 use Rattle.std.proofs.lemmas.Option.{slice_get_within}
 use Rattle.std.specs.Prelude.{slice_get}
-use Rattle.state_text.specs.Settings.{named_at}
+use Rattle.state_text.specs.Inner.Settings.{named_at}
 use Rattle.net_model.proofs.KeptRules.{few_storages}
 use Rattle.state_text.proofs.Storages.{found_storage}
 use Rattle.state_text.proofs.line.setting_for.Goals as goal

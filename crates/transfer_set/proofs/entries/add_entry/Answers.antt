@@ -1,7 +1,8 @@
 use Rattle.std.proofs.Common.{◌==◌, ◌&&◌, ◌++◌, [], ◌∷◌, sym, ◌∙◌}
 use Rattle.bit_bdd.specs.Diagrams.{has_word}
 use Rattle.transfer_set.specs.declared.entries.Entry.{Entry}
-use Rattle.transfer_set.specs.Entries.{given, ids_move}
+use Rattle.transfer_set.specs.Entries.{ids_move}
+use Rattle.transfer_set.specs.Inner.Entries.{list_if}
 use Rattle.transfer_set.proofs.Collecting.{held_entries_later, held_entries_push, known_push, moves_later, moves_push, nothing, whole_later, whole_push, words_same}
 use Rattle.transfer_set.proofs.entries.add_entry.Goals as goal
 
@@ -30,7 +31,7 @@ returns-in_ok-push-in-Some-clause-moves c pool id word =
     let q = c.in_ok-set.ensures.words word in
     rw c.in_ok-push-in-Some.ensures.pushed
     (moves_push c.and.new.self pool c.args.out.now x id word
-    ∙ (λ j. p j ++ given ((c.args.storage == id) && q j) (ids_move pool c.args.addr c.args.value ∷ [])))
+    ∙ (λ j. p j ++ list_if ((c.args.storage == id) && q j) (ids_move pool c.args.addr c.args.value ∷ [])))
 
 pub returns-in_ok-push-in-Some-clause-whole : goal.returns-in_ok-push-in-Some-clause-whole
 returns-in_ok-push-in-Some-clause-whole c netlist pool w is =

@@ -6,8 +6,8 @@ use Rattle.bit_bdd.proofs.CallerLemmas.{same_words, extends_trans}
 use Rattle.net_model.specs.Terms.{Term, write_at}
 use Rattle.sym_expr.specs.Pools.{term_at}
 use Rattle.transfer_set.specs.declared.route.Route.{Route}
-use Rattle.transfer_set.specs.Routes.{held_terms}
-use Rattle.transfer_set.specs.Entries.{each, given, memory_moves, moves_held}
+use Rattle.transfer_set.specs.Routes.{terms_under}
+use Rattle.transfer_set.specs.Inner.Entries.{each, list_if, memory_moves, moves_under}
 use Rattle.transfer_set.proofs.Collecting.{expr_at, held_entries_later, moves_later, set_at, sets_later, terms_later, terms_more, turn, whole_later, words_same}
 use Rattle.transfer_set.proofs.entries.add_memory.Goals as goal
 
@@ -38,18 +38,18 @@ loop-route-preserved c =
       held = c.in_ok-add_values.ensures.held;
       moves = λ pool id word.
           let words = c.in_ok-both.ensures.words word in
-          turn (λ (a : Term). each (memory_moves a) (held_terms c.args.book.now pool c.args.values.now word)) (term_at pool route.expr)
-          (held_terms c.args.book.now pool (take c.loop-route.route-index c.args.addrs.now) word) _
-          _ (moves_held c.and.new.self pool c.loop-route.out id word) _
-          (each (memory_moves (term_at pool route.expr)) (held_terms c.and.new.self pool c.args.values.now word))
+          turn (λ (a : Term). each (memory_moves a) (terms_under c.args.book.now pool c.args.values.now word)) (term_at pool route.expr)
+          (terms_under c.args.book.now pool (take c.loop-route.route-index c.args.addrs.now) word) _
+          _ (moves_under c.and.new.self pool c.loop-route.out id word) _
+          (each (memory_moves (term_at pool route.expr)) (terms_under c.and.new.self pool c.args.values.now word))
           (c.args.storage == id) (has_word c.args.book.now c.args.on word) (has_word c.args.book.now route.set word)
           (has_word c.loop-route.book c.args.on word) (has_word c.loop-route.book route.set word)
           (moves_later c.loop-route.book c.and.new.self step pool c.loop-route.out c.loop-route.invariant.held id word ∙ c.loop-route.invariant.moves pool id word)
           (on word) (of_route word)
           (ap (each (memory_moves (term_at pool route.expr))) (terms_later c.args.book.now c.and.new.self more pool c.args.values.now c.requires.values word))
           (c.in_ok-add_values.ensures.moves pool id word
-          ∙ (λ j. moves_held c.and.new.self pool c.loop-route.out id word
-          ++ given ((c.args.storage == id) && words j) (each (memory_moves (term_at pool route.expr)) (held_terms c.and.new.self pool c.args.values.now word))))
+          ∙ (λ j. moves_under c.and.new.self pool c.loop-route.out id word
+          ++ list_if ((c.args.storage == id) && words j) (each (memory_moves (term_at pool route.expr)) (terms_under c.and.new.self pool c.args.values.now word))))
           (terms_more c.args.book.now pool c.args.addrs.now c.loop-route.route-index route at word);
       whole = λ netlist pool w h.
           c.in_ok-add_values.ensures.whole netlist pool

@@ -6,8 +6,8 @@ use Rattle.bit_bdd.proofs.CallerLemmas.{same_words, extends_trans}
 use Rattle.net_model.specs.Terms.{write}
 use Rattle.sym_expr.specs.Pools.{term_at}
 use Rattle.transfer_set.specs.declared.route.Route.{Route}
-use Rattle.transfer_set.specs.Routes.{held_terms}
-use Rattle.transfer_set.specs.Entries.{moves_held, register_moves}
+use Rattle.transfer_set.specs.Routes.{terms_under}
+use Rattle.transfer_set.specs.Inner.Entries.{moves_under, register_moves}
 use Rattle.transfer_set.proofs.Collecting.{expr_at, set_at, terms_more, turn, words_same}
 use Rattle.transfer_set.proofs.entries.add_register.Goals as goal
 
@@ -33,8 +33,8 @@ loop-route-preserved c =
       held = c.in_ok-add_write.ensures.held;
       moves = λ id word.
           turn (register_moves c.args.storage) (term_at c.args.pool.now route.expr)
-          (held_terms c.args.book.now c.args.pool.now (take c.loop-route.route-index c.args.routes.now) word) _
-          _ (moves_held c.loop-route.book c.args.pool.now c.loop-route.out id word) _ (register_moves c.args.storage (term_at c.args.pool.now route.expr))
+          (terms_under c.args.book.now c.args.pool.now (take c.loop-route.route-index c.args.routes.now) word) _
+          _ (moves_under c.loop-route.book c.args.pool.now c.loop-route.out id word) _ (register_moves c.args.storage (term_at c.args.pool.now route.expr))
           (c.args.storage == id) (has_word c.args.book.now c.args.on word) (has_word c.args.book.now route.set word)
           (has_word c.loop-route.book c.args.on word) (has_word c.loop-route.book route.set word)
           (c.loop-route.invariant.moves id word) (on word) (of_route word) refl (c.in_ok-add_write.ensures.moves id word)

@@ -6,8 +6,8 @@ use Rattle.bit_bdd.proofs.CallerLemmas.{same_words, extends_trans}
 use Rattle.net_model.specs.Terms.{write_at}
 use Rattle.sym_expr.specs.Pools.{term_at}
 use Rattle.transfer_set.specs.declared.route.Route.{Route}
-use Rattle.transfer_set.specs.Routes.{held_terms}
-use Rattle.transfer_set.specs.Entries.{memory_moves, moves_held}
+use Rattle.transfer_set.specs.Routes.{terms_under}
+use Rattle.transfer_set.specs.Inner.Entries.{memory_moves, moves_under}
 use Rattle.transfer_set.proofs.Collecting.{expr_at, set_at, terms_more, turn, words_same}
 use Rattle.transfer_set.proofs.entries.add_values.Goals as goal
 
@@ -29,8 +29,8 @@ loop-route-preserved c =
       held = c.in_ok-add_entry.ensures.held;
       moves = λ pool id word.
           turn (memory_moves (term_at pool c.args.addr)) (term_at pool route.expr)
-          (held_terms c.args.book.now pool (take c.loop-route.route-index c.args.values.now) word) _
-          _ (moves_held c.loop-route.book pool c.loop-route.out id word) _ (memory_moves (term_at pool c.args.addr) (term_at pool route.expr))
+          (terms_under c.args.book.now pool (take c.loop-route.route-index c.args.values.now) word) _
+          _ (moves_under c.loop-route.book pool c.loop-route.out id word) _ (memory_moves (term_at pool c.args.addr) (term_at pool route.expr))
           (c.args.storage == id) (has_word c.args.book.now c.args.on word) (has_word c.args.book.now route.set word)
           (has_word c.loop-route.book c.args.on word) (has_word c.loop-route.book route.set word)
           (c.loop-route.invariant.moves pool id word) (on word) (of_route word) refl (c.in_ok-add_entry.ensures.moves pool id word)

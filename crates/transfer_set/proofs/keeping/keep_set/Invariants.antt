@@ -1,6 +1,6 @@
 use Rattle.std.proofs.Common.{◌≡◌, ℕ, ◌<◌, ◌&&◌, length, take}
 use Rattle.bit_bdd.specs.Diagrams.{Extends, has_word}
-use Rattle.transfer_set.specs.Entries.{keeps_all}
+use Rattle.transfer_set.specs.Inner.Entries.{keeps_all}
 use Rattle.transfer_set.proofs.keeping.keep_set.Given as goal
 
 abbrev pub invariant-loop-entry : goal.invariant-loop-entry

@@ -1,5 +1,5 @@
 use Rattle.bit_bdd.specs.Diagrams.{Extends}
-use Rattle.transfer_set.specs.Entries.{AreLeft}
+use Rattle.transfer_set.specs.Inner.Entries.{AreLeft}
 use Rattle.transfer_set.proofs.keeping.keep_sets.Given as goal
 
 abbrev pub invariant-loop-storage : goal.invariant-loop-storage

@@ -1,7 +1,7 @@
 use Rattle.std.proofs.Common.{◌≡◌, ◌≤◌, length, subst, arith, ◌∙◌}
 use Rattle.bit_bdd.proofs.CallerLemmas.{extends_trans}
 use Rattle.net_model.proofs.KeptRules.{few_storages}
-use Rattle.transfer_set.specs.Entries.{AreLeft}
+use Rattle.transfer_set.specs.Inner.Entries.{AreLeft}
 use Rattle.transfer_set.proofs.Assembling.{table_is}
 use Rattle.transfer_set.proofs.Collecting.{held_entries_later}
 use Rattle.transfer_set.proofs.Sourcing.{source_of}

@@ -2,7 +2,7 @@ use Rattle.std.proofs.Common.{◌≡◌, ℕ, ◌<◌, ◌++◌, List, length, S
 use Rattle.std.proofs.lemmas.Option.{slice_get_read}
 use Rattle.net_model.specs.declared.hardware.Storage.{Storage}
 use Rattle.net_model.specs.Widths.{StorageFits}
-use Rattle.transfer_set.specs.Entries.{moves_held}
+use Rattle.transfer_set.specs.Inner.Entries.{moves_under}
 use Rattle.transfer_set.proofs.Feeding.{all_at, memory_gives, memory_known, memory_whole, register_gives, register_known, register_whole}
 use Rattle.transfer_set.proofs.sources.add_storage.Goals as goal
 
@@ -34,7 +34,7 @@ pub returns-in_ok-add_register-in-Register-clause-moves : goal.returns-in_ok-add
 returns-in_ok-add_register-in-Register-clause-moves c n word fits =
     let at = stored c.args.checked.now.netlist.storages c.args.id _ _ c.requires.id (rw (c.as_slice-storages.ensures, c.netlist.ensures.value) at c.index-storages-id.is) c.in-Register.is in
     rw (c.when_set-on.ensures, c.routes_of-inputs.ensures) at c.in_ok-add_register-in-Register.ensures.moves n word
-    ∙ ap (λ l. moves_held c.args.book.now c.args.pool.now c.args.out.now n word ++ l)
+    ∙ ap (λ l. moves_under c.args.book.now c.args.pool.now c.args.out.now n word ++ l)
     (register_gives c.args.checked.now.netlist c.args.book.now c.args.pool.now c.args.controls.now c.args.routes.now.of c.requires.source c.len-ids.ensures.one_each
     c.args.id _ _ _ _ at (all_at (StorageFits c.args.checked.now.netlist) c.args.checked.now.netlist.storages c.args.id _ at c.netlist.ensures.sound.typed.storages) n word fits)
 
@@ -70,7 +70,7 @@ pub returns-in_ok-add_memory-in-Memory-clause-moves : goal.returns-in_ok-add_mem
 returns-in_ok-add_memory-in-Memory-clause-moves c n word fits =
     let at = stored c.args.checked.now.netlist.storages c.args.id _ _ c.requires.id (rw (c.as_slice-storages.ensures, c.netlist.ensures.value) at c.index-storages-id.is) c.in-Memory.is in
     rw (c.when_set-on-in-Memory.ensures, c.routes_of-addrs.ensures, c.routes_of-values.ensures) at c.in_ok-add_memory-in-Memory.ensures.moves c.args.pool.now n word
-    ∙ ap (λ l. moves_held c.args.book.now c.args.pool.now c.args.out.now n word ++ l)
+    ∙ ap (λ l. moves_under c.args.book.now c.args.pool.now c.args.out.now n word ++ l)
     (memory_gives c.args.checked.now.netlist c.args.book.now c.args.pool.now c.args.controls.now c.args.routes.now.of c.requires.source c.len-ids.ensures.one_each
     c.args.id _ _ _ _ _ _ _ at (all_at (StorageFits c.args.checked.now.netlist) c.args.checked.now.netlist.storages c.args.id _ at c.netlist.ensures.sound.typed.storages) n word fits)
 

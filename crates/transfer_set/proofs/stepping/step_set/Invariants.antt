@@ -1,6 +1,6 @@
 use Rattle.std.proofs.Common.{◌≡◌, ℕ, ◌<◌, length, take}
 use Rattle.bit_bdd.specs.Diagrams.{Extends, has_word}
-use Rattle.transfer_set.specs.Stepping.{any_step}
+use Rattle.transfer_set.specs.Inner.Stepping.{any_step}
 use Rattle.transfer_set.proofs.stepping.step_set.Given as goal
 
 abbrev pub invariant-loop-entry : goal.invariant-loop-entry

@@ -1,6 +1,6 @@
 use Rattle.std.proofs.Common.{subst, sym}
 use Rattle.form_model.specs.Trees.{tree_term}
-use Rattle.tree_grammar.specs.Numbers.{Holds}
+use Rattle.tree_grammar.specs.Numbers.{HoldsSubtrees}
 use Rattle.tree_grammar.proofs.forms.take_memory.Goals as goal
 
 pub returns-in_default-2-clause-at : goal.returns-in_default-2-clause-at
@@ -8,8 +8,8 @@ returns-in_default-2-clause-at c = λ nodes s old. c.in_ok-x.ensures.at nodes s.
 
 pub returns-in_default-3-clause-at : goal.returns-in_default-3-clause-at
 returns-in_default-3-clause-at c = λ nodes s old.
-    c.in_ok-y.ensures.at nodes (subst (λ n. Holds nodes n (tree_term c.args.tree.now)) (sym c.in_ok-after.ensures) s.value) (c.in_ok-x.ensures.at nodes s.address old)
+    c.in_ok-y.ensures.at nodes (subst (λ n. HoldsSubtrees nodes n (tree_term c.args.tree.now)) (sym c.in_ok-after.ensures) s.value) (c.in_ok-x.ensures.at nodes s.address old)
 
 pub returns-clause-at : goal.returns-clause-at
 returns-clause-at c = λ nodes s old.
-    c.in_ok-y.ensures.at nodes (subst (λ n. Holds nodes n (tree_term c.args.tree.now)) (sym c.in_ok-after.ensures) s.value) (c.in_ok-x.ensures.at nodes s.address old)
+    c.in_ok-y.ensures.at nodes (subst (λ n. HoldsSubtrees nodes n (tree_term c.args.tree.now)) (sym c.in_ok-after.ensures) s.value) (c.in_ok-x.ensures.at nodes s.address old)

@@ -1,6 +1,6 @@
 use Rattle.std.proofs.Common.{sym, subst}
 use Rattle.net_model.specs.Terms.{term_of}
-use Rattle.tree_grammar.specs.Settings.{IsSteady}
+use Rattle.tree_grammar.specs.Inner.Settings.{IsSteady}
 use Rattle.tree_grammar.proofs.ShapeLemmas.{word_steady, part_steady, zext_steady}
 use Rattle.tree_grammar.proofs.shapes.is_steady.Goals as goal
 

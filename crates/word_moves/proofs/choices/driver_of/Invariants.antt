@@ -1,5 +1,5 @@
 use Rattle.std.proofs.Common.{◌≡◌, drop, slice_index}
-use Rattle.word_moves.specs.Choices.{driver_target}
+use Rattle.word_moves.specs.Inner.Choices.{driver_target}
 use Rattle.word_moves.proofs.choices.driver_of.Given as goal
 
 abbrev pub invariant-loop-driver : goal.invariant-loop-driver

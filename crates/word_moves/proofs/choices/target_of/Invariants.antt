@@ -1,5 +1,5 @@
 use Rattle.std.proofs.Common.{◌≡◌, drop}
-use Rattle.word_moves.specs.Choices.{case_target}
+use Rattle.word_moves.specs.Inner.Choices.{case_target}
 use Rattle.word_moves.proofs.choices.target_of.Given as goal
 
 abbrev pub invariant-loop-row : goal.invariant-loop-row

@@ -1,8 +1,8 @@
 use Rattle.std.proofs.Common.{◌≡◌, ◌∙◌, IfOk, ap, subst, slice_index, sym}
 use Rattle.net_model.specs.Terms.{Term}
 use Rattle.sym_expr.specs.Pools.{term_at}
-use Rattle.word_moves.specs.Choices.{case_target, driver_target}
-use Rattle.word_moves.specs.Gates.{net_terms}
+use Rattle.word_moves.specs.Inner.Choices.{case_target, driver_target}
+use Rattle.word_moves.specs.Inner.Gates.{net_terms}
 use Rattle.net_model.specs.Flags.{flag_at}
 use Rattle.word_moves.proofs.Wide.{case_wide, bus_wide, selector_wide, case_static, case_open, bus_is}
 use Rattle.word_moves.proofs.gates.gate_id.Goals as goal

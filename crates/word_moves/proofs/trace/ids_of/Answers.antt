@@ -3,7 +3,7 @@ use Rattle.net_model.specs.Order.{IsOrder}
 use Rattle.net_model.specs.Symbolic.{gate_term}
 use Rattle.sym_expr.specs.Pools.{term_at}
 use Rattle.sym_expr.proofs.CallerLemmas.{grows_trans}
-use Rattle.word_moves.specs.Gates.{net_terms}
+use Rattle.word_moves.specs.Inner.Gates.{net_terms}
 use Rattle.net_model.specs.Flags.{flag_at}
 use Rattle.word_moves.proofs.Traced.{turn_controlled, turn_known, turn_traced}
 use Rattle.word_moves.proofs.trace.ids_of.Goals as goal

@@ -2,9 +2,9 @@ use Rattle.std.proofs.Common.{◌≡◌, slice_index, length, ◌∙◌, Some, N
 use Rattle.net_model.specs.Value.{value_of}
 use Rattle.net_model.specs.Clock.{next_regs, next_cells, word_at}
 use Rattle.cycle_sim.specs.Clocks.{written_cell}
-use Rattle.cycle_sim.specs.Operations.{run_of}
-use Rattle.cycle_sim.specs.Ports.{cell_by, cells_by}
-use Rattle.cycle_sim.specs.Programs.{clash_by, regs_by, Follows}
+use Rattle.cycle_sim.specs.Inner.Operations.{run_of}
+use Rattle.cycle_sim.specs.Inner.Ports.{cell_by, cells_by}
+use Rattle.cycle_sim.specs.Inner.Programs.{clash_by, regs_by, RunsAs}
 use Rattle.cycle_sim.proofs.Edges.{clocks_clash, clocks_next, next_fits}
 use Rattle.cycle_sim.proofs.Programs.{ran, still_running}
 use Rattle.cycle_sim.proofs.sim.Sim.clock.Goals as goal
@@ -18,20 +18,20 @@ clock_cells-self-inside-requires c = omega (arith, c.self.invariant.few, c.self.
 pub invariant_of-self : goal.invariant_of-self
 invariant_of-self c =
     let e : c.run.new.values ≡ run_of c.self.inside.state (word_at c.self.inside.checked.now.netlist c.self.inside.words c.self.inside.state) c.self.inside.program.instructions c.self.inside.values = rw (c.word_of-word.ensures, c.as_slice-words.ensures, c.as_slice-instructions.ensures) at c.run.ensures in
-    let f : Follows c.self.inside.checked.now.netlist c.self.inside.state (word_at c.self.inside.checked.now.netlist c.self.inside.words c.self.inside.state) c.run.new.values c.self.inside.program = ran _ _ _ _ _ c.self.invariant _ e in
+    let f : RunsAs c.self.inside.checked.now.netlist c.self.inside.state (word_at c.self.inside.checked.now.netlist c.self.inside.words c.self.inside.state) c.run.new.values c.self.inside.program = ran _ _ _ _ _ c.self.invariant _ e in
     still_running _ _ _ _ _ c.self.invariant _ f.room _ c.self.invariant.state
 
 pub returns-in-Some-clause-clocks : goal.returns-in-Some-clause-clocks
 returns-in-Some-clause-clocks c =
     let e : c.run.new.values ≡ run_of c.self.inside.state (word_at c.self.inside.checked.now.netlist c.self.inside.words c.self.inside.state) c.self.inside.program.instructions c.self.inside.values = rw (c.word_of-word.ensures, c.as_slice-words.ensures, c.as_slice-instructions.ensures) at c.run.ensures in
-    let f : Follows c.self.inside.checked.now.netlist c.self.inside.state (word_at c.self.inside.checked.now.netlist c.self.inside.words c.self.inside.state) c.run.new.values c.self.inside.program = ran _ _ _ _ _ c.self.invariant _ e in
+    let f : RunsAs c.self.inside.checked.now.netlist c.self.inside.state (word_at c.self.inside.checked.now.netlist c.self.inside.words c.self.inside.state) c.run.new.values c.self.inside.program = ran _ _ _ _ _ c.self.invariant _ e in
     let found : Some c.in-Some.bus ≡ clash_by (slice_index c.run.new.values) c.self.inside.program.buses = rw (c.as_slice-values.ensures, c.as_slice-buses.ensures) at c.in-Some.ensures in
     rw (← c.self.view_is) (clocks_clash c.self.inside.checked.now.netlist c.self.inside.words c.self.inside.state _ (found ∙ f.clash), refl, refl)
 
 pub invariant_of-self-in-None : goal.invariant_of-self-in-None
 invariant_of-self-in-None c =
     let e : c.run.new.values ≡ run_of c.self.inside.state (word_at c.self.inside.checked.now.netlist c.self.inside.words c.self.inside.state) c.self.inside.program.instructions c.self.inside.values = rw (c.word_of-word.ensures, c.as_slice-words.ensures, c.as_slice-instructions.ensures) at c.run.ensures in
-    let f : Follows c.self.inside.checked.now.netlist c.self.inside.state (word_at c.self.inside.checked.now.netlist c.self.inside.words c.self.inside.state) c.run.new.values c.self.inside.program = ran _ _ _ _ _ c.self.invariant _ e in
+    let f : RunsAs c.self.inside.checked.now.netlist c.self.inside.state (word_at c.self.inside.checked.now.netlist c.self.inside.words c.self.inside.state) c.run.new.values c.self.inside.program = ran _ _ _ _ _ c.self.invariant _ e in
     let left : c.clock_registers.new.regs ≡ regs_by (slice_index c.run.new.values) c.self.inside.program.latches c.self.inside.state.regs = rw (c.as_slice-values.ensures, c.as_slice-storages.ensures) at c.clock_registers.ensures in
     let regs : c.clock_registers.new.regs ≡ next_regs (value_of c.self.inside.checked.now.netlist c.self.inside.state (word_at c.self.inside.checked.now.netlist c.self.inside.words c.self.inside.state)) c.self.inside.checked.now.netlist.storages c.self.inside.state.regs = left ∙ f.regs _ in
     let right : c.clock_cells-self-inside.new.cells ≡ cells_by (slice_index c.run.new.values) c.self.inside.program.port c.self.inside.state.cells = rw c.as_slice-values.ensures at c.clock_cells-self-inside.ensures.cells in
@@ -41,7 +41,7 @@ invariant_of-self-in-None c =
 pub returns-in-None-clause-clocks : goal.returns-in-None-clause-clocks
 returns-in-None-clause-clocks c =
     let e : c.run.new.values ≡ run_of c.self.inside.state (word_at c.self.inside.checked.now.netlist c.self.inside.words c.self.inside.state) c.self.inside.program.instructions c.self.inside.values = rw (c.word_of-word.ensures, c.as_slice-words.ensures, c.as_slice-instructions.ensures) at c.run.ensures in
-    let f : Follows c.self.inside.checked.now.netlist c.self.inside.state (word_at c.self.inside.checked.now.netlist c.self.inside.words c.self.inside.state) c.run.new.values c.self.inside.program = ran _ _ _ _ _ c.self.invariant _ e in
+    let f : RunsAs c.self.inside.checked.now.netlist c.self.inside.state (word_at c.self.inside.checked.now.netlist c.self.inside.words c.self.inside.state) c.run.new.values c.self.inside.program = ran _ _ _ _ _ c.self.invariant _ e in
     let left : c.clock_registers.new.regs ≡ regs_by (slice_index c.run.new.values) c.self.inside.program.latches c.self.inside.state.regs = rw (c.as_slice-values.ensures, c.as_slice-storages.ensures) at c.clock_registers.ensures in
     let regs : c.clock_registers.new.regs ≡ next_regs (value_of c.self.inside.checked.now.netlist c.self.inside.state (word_at c.self.inside.checked.now.netlist c.self.inside.words c.self.inside.state)) c.self.inside.checked.now.netlist.storages c.self.inside.state.regs = left ∙ f.regs _ in
     let right : c.clock_cells-self-inside.new.cells ≡ cells_by (slice_index c.run.new.values) c.self.inside.program.port c.self.inside.state.cells = rw c.as_slice-values.ensures at c.clock_cells-self-inside.ensures.cells in
@@ -54,7 +54,7 @@ returns-in-None-clause-clocks c =
 pub returns-in-None-clause-state : goal.returns-in-None-clause-state
 returns-in-None-clause-state c =
     let e : c.run.new.values ≡ run_of c.self.inside.state (word_at c.self.inside.checked.now.netlist c.self.inside.words c.self.inside.state) c.self.inside.program.instructions c.self.inside.values = rw (c.word_of-word.ensures, c.as_slice-words.ensures, c.as_slice-instructions.ensures) at c.run.ensures in
-    let f : Follows c.self.inside.checked.now.netlist c.self.inside.state (word_at c.self.inside.checked.now.netlist c.self.inside.words c.self.inside.state) c.run.new.values c.self.inside.program = ran _ _ _ _ _ c.self.invariant _ e in
+    let f : RunsAs c.self.inside.checked.now.netlist c.self.inside.state (word_at c.self.inside.checked.now.netlist c.self.inside.words c.self.inside.state) c.run.new.values c.self.inside.program = ran _ _ _ _ _ c.self.invariant _ e in
     let left : c.clock_registers.new.regs ≡ regs_by (slice_index c.run.new.values) c.self.inside.program.latches c.self.inside.state.regs = rw (c.as_slice-values.ensures, c.as_slice-storages.ensures) at c.clock_registers.ensures in
     let regs : c.clock_registers.new.regs ≡ next_regs (value_of c.self.inside.checked.now.netlist c.self.inside.state (word_at c.self.inside.checked.now.netlist c.self.inside.words c.self.inside.state)) c.self.inside.checked.now.netlist.storages c.self.inside.state.regs = left ∙ f.regs _ in
     let right : c.clock_cells-self-inside.new.cells ≡ cells_by (slice_index c.run.new.values) c.self.inside.program.port c.self.inside.state.cells = rw c.as_slice-values.ensures at c.clock_cells-self-inside.ensures.cells in

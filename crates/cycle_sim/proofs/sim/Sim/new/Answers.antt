@@ -1,6 +1,6 @@
 use Rattle.std.proofs.Common.{◌≡◌, arith}
 use Rattle.net_model.proofs.Memories.{few_cells}
-use Rattle.cycle_sim.specs.Decoding.{constants_of}
+use Rattle.cycle_sim.specs.Inner.Decoding.{constants_of}
 use Rattle.cycle_sim.proofs.Programs.{constants_room}
 use Rattle.cycle_sim.proofs.sim.Sim.new.Goals as goal
 

@@ -4,8 +4,8 @@ use Rattle.net_model.specs.Widths.{IsState}
 use Rattle.cycle_sim.proofs.Edges.{told_of, refused, taken, set_is_state}
 use Rattle.cycle_sim.proofs.sim.Sim.set_cell.Goals as goal
 
-pub returns-then-not-is_cell_value-clause-told : goal.returns-then-not-is_cell_value-clause-told
-returns-then-not-is_cell_value-clause-told c =
+pub returns-then-not-is_cell_value-clause-fits : goal.returns-then-not-is_cell_value-clause-fits
+returns-then-not-is_cell_value-clause-fits c =
     let told : IsTrue c.is_cell_value.result ↔ (c.args.value < 2 ^ memory_width c.self.inside.checked.now.netlist.storages) = told_of c.self.inside.checked.now.netlist.storages c.self.inside.program.port _ _ c.self.invariant.cell_width c.is_cell_value.ensures in
     rw (← c.self.view_is) (refused _ _ _ told c.if-not-is_cell_value.true)
 
@@ -23,8 +23,8 @@ invariant_of-self c =
       room = c.self.invariant.room;
     }
 
-pub returns-clause-told : goal.returns-clause-told
-returns-clause-told c =
+pub returns-clause-fits : goal.returns-clause-fits
+returns-clause-fits c =
     let told : IsTrue c.is_cell_value.result ↔ (c.args.value < 2 ^ memory_width c.self.inside.checked.now.netlist.storages) = told_of c.self.inside.checked.now.netlist.storages c.self.inside.program.port _ _ c.self.invariant.cell_width c.is_cell_value.ensures in
     let within : c.args.address < length c.self.inside.state.cells = omega arith in
     rw (← c.self.view_is) (taken _ _ _ within told c.if-not-is_cell_value.false)

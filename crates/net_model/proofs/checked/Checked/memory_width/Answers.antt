@@ -1,6 +1,6 @@
 use Rattle.std.proofs.Common.{◌≡◌, ◌∙◌, subst, sym}
 use Rattle.net_model.specs.Nets.{memory_width}
-use Rattle.net_model.specs.CheckedRules.{IsWidth}
+use Rattle.rec_bits.specs.Operators.{IsWidth}
 use Rattle.net_model.proofs.Memories.{memory_wide, memory_width_of}
 use Rattle.net_model.proofs.checked.Checked.memory_width.Goals as goal
 

@@ -6,5 +6,5 @@ flags_of-requires c = rw c.as_slice-order.ensures c.self.invariant.ordered
 pub returns-clause-long : goal.returns-clause-long
 returns-clause-long c = rw (← c.self.view_is) c.flags_of.ensures.long
 
-pub returns-clause-told : goal.returns-clause-told
-returns-clause-told c = rw (← c.self.view_is) c.flags_of.ensures.told
+pub returns-clause-flags : goal.returns-clause-flags
+returns-clause-flags c = rw (← c.self.view_is) c.flags_of.ensures.flags

@@ -1,5 +1,6 @@
 use Rattle.std.proofs.Common.{◌+◌, map, drop, sym, ap, ◌∙◌, if◌then◌else◌}
-use Rattle.net_model.specs.TextNames.{place_named, same_name}
+use Rattle.net_model.specs.TextNames.{place_named}
+use Rattle.rec_bits.specs.Faults.{same_name}
 use Rattle.net_model.specs.Written.{entry_of}
 use Rattle.net_names.proofs.Tables.{places_next, seen_from}
 use Rattle.net_names.proofs.names.Names.new.Goals as goal

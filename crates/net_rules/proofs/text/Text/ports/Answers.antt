@@ -2,7 +2,7 @@ use Rattle.std.proofs.Common.{map, slice_get, ap, ◌∙◌}
 use Rattle.net_model.specs.TextWidths.{ports_of}
 use Rattle.net_model.specs.TextNames.{item_named}
 use Rattle.net_model.specs.Written.{entry_of}
-use Rattle.net_rules.specs.Modules.{ports_or_none}
+use Rattle.net_rules.specs.Inner.Modules.{ports_or_none}
 use Rattle.net_rules.proofs.Texts.{ports_found}
 use Rattle.net_rules.proofs.text.Text.ports.Goals as goal
 

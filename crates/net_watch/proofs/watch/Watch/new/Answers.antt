@@ -4,7 +4,7 @@ use Rattle.src_model.specs.Trace.{strace}
 use Rattle.src_model.specs.Rules.{temp_count}
 use Rattle.src_model.specs.Written.{listing_of}
 use Rattle.cycle_sim.specs.Shown.{Shown}
-use Rattle.checkpoint_text.specs.Texts.{zeros}
+use Rattle.src_model.specs.Meaning.{zeros}
 use Rattle.net_watch.proofs.Fronts.{shows_first, strace_steady, strace_enough}
 use Rattle.net_watch.proofs.Starting.{words_fit, scene_of, told_of, ready}
 use Rattle.net_watch.proofs.watch.Watch.new.Goals as goal
@@ -18,8 +18,8 @@ new-requires-2 c =
     let typed = c.args.typed.now in
     let vars = typed.program.vars in
     let scene = scene_of c.args.checked.now.netlist c.args.checked.now.order c.netlist-netlist.ensures.kept (temp_count typed.width (listing_of typed.program)) vars c.args.image.now c.args.start c.requires.start.state c.requires.layout c.requires.fits in
-    let told : c.as_slice.result.now ≡ vars = c.as_slice.ensures ∙ ap (λ p. p.vars) c.program.ensures.value in
-    omega (arith, ap cell_count told, scene.within, scene.few)
+    let last_cells : c.as_slice.result.now ≡ vars = c.as_slice.ensures ∙ ap (λ p. p.vars) c.program.ensures.value in
+    omega (arith, ap cell_count last_cells, scene.within, scene.few)
 
 pub invariant_of-result : goal.invariant_of-result
 invariant_of-result c =
@@ -34,7 +34,7 @@ invariant_of-result c =
     let sim = c.in_ok-sim.sim in
     ready netlist image (strace typed.width (listing_of typed.program)) c.args.start c.args.clocks first sim vars c.in_ok-writer.writer.vars.now
     (ap (λ (s : Shown). s.netlist) made) (ap (λ (s : Shown). s.state) made) (c.in_ok-writer.ensures.vars ∙ named)
-    c.in_ok-writer.writer.address c.in_ok-writer.writer.told (ap (λ (s : Shown). s.words) made ∙ c.in_ok-words.ensures) c.in_ok-writer.ensures.address (c.in_ok-writer.ensures.told ∙ ap zeros named)
+    c.in_ok-writer.writer.address c.in_ok-writer.writer.last_cells (ap (λ (s : Shown). s.words) made ∙ c.in_ok-words.ensures) c.in_ok-writer.ensures.address (c.in_ok-writer.ensures.last_cells ∙ ap zeros named)
     c.requires.start.state scene
 
 pub returns : goal.returns

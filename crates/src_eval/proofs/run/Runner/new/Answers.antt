@@ -2,7 +2,7 @@ use Rattle.std.proofs.Common.{ℕ, List, sym, ap, subst, ◌∙◌, arith}
 use Rattle.src_model.specs.declared.program.Program.{Program}
 use Rattle.src_model.specs.declared.program.Stmt.{Stmt}
 use Rattle.src_model.specs.Written.{listing_of}
-use Rattle.src_model.specs.Fitting.{FitsActs}
+use Rattle.src_model.specs.Inner.Fitting.{FitsActs}
 use Rattle.src_model.proofs.Bounds.{rules_hold}
 use Rattle.src_model.proofs.FittingLemmas.{program_fits}
 use Rattle.src_eval.proofs.BuildLemmas.{block_acts}

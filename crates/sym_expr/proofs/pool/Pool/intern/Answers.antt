@@ -5,7 +5,7 @@ use Rattle.indexmap.proofs.CallerLemmas.{insert_entry-new}
 use Rattle.sym_expr.specs.declared.pool.Node.{Node}
 use Rattle.sym_expr.specs.declared.pool.Node.TheVariants.{Word}
 use Rattle.sym_expr.specs.contracts.pool.NodePartialEq.TheImpl.{ghosts as node_eq}
-use Rattle.sym_expr.specs.Pools.{AllBelow, HeadFits, node_term, parts_of, term_at}
+use Rattle.sym_expr.specs.Pools.{AllBelow, HeadFits, node_term, children_of, term_at}
 use Rattle.sym_expr.specs.Measures.{IsMeasure, IsMeasuredPool}
 use Rattle.sym_expr.proofs.Keys.{exact_node, alike_node}
 use Rattle.sym_expr.proofs.Lists.{position_some, position_none, position_none_len}
@@ -43,8 +43,8 @@ entries c =
 keys : (c : goal.In_ok-place) → keys_of c.insert_full.new.self.entries ≡ keys_of c.self.inside.nodes.entries ++ c.args.node ∷ []
 keys c = ap keys_of (entries c) ∙ keys-push c.self.inside.nodes.entries c.args.node c.measure-measure.result
 
-below : (c : goal.In_ok-place) → AllBelow (length (keys_of c.self.inside.nodes.entries)) (parts_of c.args.node)
-below c = subst (λ (l : List Node). AllBelow (length l) (parts_of c.args.node)) (sym c.self.view_is) c.requires.parts
+below : (c : goal.In_ok-place) → AllBelow (length (keys_of c.self.inside.nodes.entries)) (children_of c.args.node)
+below c = subst (λ (l : List Node). AllBelow (length l) (children_of c.args.node)) (sym c.self.view_is) c.requires.parts
 
 fits : (c : goal.In_ok-place) → HeadFits (node_term c.args.node (term_at (keys_of c.self.inside.nodes.entries)))
 fits c = subst (λ (l : List Node). HeadFits (node_term c.args.node (term_at l))) (sym c.self.view_is) c.requires.fits

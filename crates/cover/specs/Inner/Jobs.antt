@@ -1,0 +1,55 @@
+-- What the code's values stand for, and the numbers of a job's trees.
+use Rattle.std.specs.Prelude.{◌≡◌, List, [], ◌∷◌, ◌++◌, map, Some, slice_get}
+use Rattle.net_model.specs.Terms.{Term}
+use Rattle.form_model.specs.Trees.{tree_term}
+use Rattle.form_model.specs.Rules.{Destination, into, cell, stored, temporary, tested, rules_of}
+use Rattle.form_model.specs.Covers.{Stock, Operand}
+use Rattle.tree_grammar.specs.Numbers.{subtrees}
+use Rattle.tree_grammar.specs.Parts.{destination_at}
+use Rattle.tree_grammar.specs.declared.parts.Part.{Part}
+use Rattle.tree_grammar.specs.declared.parts.Part.TheVariants.{Cut}
+use Rattle.tree_grammar.specs.declared.parts.Part.TheVariants
+use Rattle.cover.specs.declared.table.Instance.{Instance}
+use Rattle.cover.specs.declared.parts.OpenOperand.{OpenOperand}
+use Rattle.cover.specs.declared.parts.OpenCut.{OpenCut}
+
+abbrev pub stock_of : Instance → Stock
+stock_of s = record { rules = rules_of s.forms.now; temps = s.temps }
+
+-- the trees of a destination and a value: the address of a store before its value
+abbrev pub job_nodes : Destination → Term → List Term
+job_nodes (stored address) t = subtrees address ++ subtrees t
+job_nodes (into id) t = subtrees t
+job_nodes (cell address) t = subtrees t
+job_nodes temporary t = subtrees t
+job_nodes tested t = subtrees t
+
+-- the numbered trees of an instance
+abbrev pub nodes_of : Instance → List Term
+nodes_of k = job_nodes (destination_at k.destination) (tree_term k.tree.now)
+
+abbrev pub open_operand : OpenOperand → Operand
+open_operand i = record { id = i.id; tree = tree_term i.tree.now; whole = i.whole }
+
+abbrev pub open_operands : List OpenOperand → List Operand
+open_operands is = map open_operand is
+
+abbrev pub open_cuts : List OpenCut → List Term
+open_cuts ss = map (λ s. tree_term s.tree.now) ss
+
+abbrev pub OperandsAt : List Term → List OpenOperand → Type 0
+OperandsAt nodes [] = Unit {0}
+OperandsAt nodes (i ∷ is) = (slice_get nodes i.at ≡ Some (tree_term i.tree.now)) × OperandsAt nodes is
+
+abbrev pub CutsAt : List Term → List OpenCut → Type 0
+CutsAt nodes [] = Unit {0}
+CutsAt nodes (s ∷ ss) = (slice_get nodes s.at ≡ Some (tree_term s.tree.now)) × CutsAt nodes ss
+
+-- the list has one more item where the part is an operand
+abbrev pub HasOperand : Part → List OpenOperand → List OpenOperand → Type 0
+HasOperand (TheVariants.Operand id tree whole at) old new = new ≡ old ++ (record { id = id; tree = tree; whole = whole; at = at } ∷ [])
+HasOperand (Cut shape tree at) old new = new ≡ old
+
+abbrev pub HasCut : Part → List OpenCut → List OpenCut → Type 0
+HasCut (TheVariants.Operand id tree whole at) old new = new ≡ old
+HasCut (Cut shape tree at) old new = new ≡ old ++ (record { tree = tree; at = at } ∷ [])

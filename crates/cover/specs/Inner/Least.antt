@@ -1,0 +1,78 @@
+-- The least cost of covers.
+use Rattle.std.specs.Prelude.{ℕ, ◌+◌, ◌<◌, ◌≤◌, ◌≡◌, List, Option, Some, None, nat_lt, if◌then◌else◌}
+use Rattle.net_model.specs.Terms.{Term}
+use Rattle.form_model.specs.Plans.{Plan, use_form, Operands, operand_then, Cuts, cost, operands_cost, cuts_cost}
+use Rattle.form_model.specs.Covers.{Stock, Operand}
+use Rattle.cover.specs.Inner.Asks.{Ask, IsSparing, AreSparing, AreStored}
+
+-- a cost is known, and is at most n
+abbrev pub AtMost : Option ℕ → ℕ → Type 0
+AtMost None n = ⊥
+AtMost (Some m) n = m ≤ n
+
+-- a known cost is that of some cover
+abbrev pub Reached : Stock → ℕ → Ask → Option ℕ → Type 0
+Reached stock avoid ask None = Unit {0}
+Reached stock avoid ask (Some n) = (p : Plan) × IsSparing stock avoid ask p × (cost p ≡ n)
+
+-- the cost of some cover, and no cover is cheaper; none only where there is no cover
+pub record IsLeast (stock : Stock) (avoid : ℕ) (ask : Ask) (o : Option ℕ) : Type 0 where
+  pub reached : Reached stock avoid ask o
+  pub least : (p : Plan) → IsSparing stock avoid ask p → AtMost o (cost p)
+
+abbrev pub OrderReached : Stock → ℕ → List Operand → Option ℕ → Type 0
+OrderReached stock avoid ops None = Unit {0}
+OrderReached stock avoid ops (Some n) = (ps : Operands) × AreSparing stock avoid ops ps × (operands_cost ps ≡ n)
+
+pub record IsLeastOrder (stock : Stock) (avoid : ℕ) (ops : List Operand) (o : Option ℕ) : Type 0 where
+  pub reached : OrderReached stock avoid ops o
+  pub least : (ps : Operands) → AreSparing stock avoid ops ps → AtMost o (operands_cost ps)
+
+-- no order costs less than this; none only where there is no order
+abbrev pub IsFloor : Stock → ℕ → List Operand → Option ℕ → Type 0
+IsFloor stock avoid ops o = (ps : Operands) → AreSparing stock avoid ops ps → AtMost o (operands_cost ps)
+
+abbrev pub CutReached : Stock → List Term → Option ℕ → Type 0
+CutReached stock ts None = Unit {0}
+CutReached stock ts (Some n) = (cs : Cuts) × AreStored stock ts cs × (cuts_cost cs ≡ n)
+
+pub record IsLeastCut (stock : Stock) (ts : List Term) (o : Option ℕ) : Type 0 where
+  pub reached : CutReached stock ts o
+  pub least : (cs : Cuts) → AreStored stock ts cs → AtMost o (cuts_cost cs)
+
+-- the orders that begin with the operand at i
+abbrev pub FromReached : Stock → ℕ → List Operand → ℕ → Option ℕ → Type 0
+FromReached stock avoid ops i None = Unit {0}
+FromReached stock avoid ops i (Some n) = (p : Plan) × (ps : Operands) × AreSparing stock avoid ops (operand_then i p ps) × (cost p + operands_cost ps ≡ n)
+
+pub record IsLeastFrom (stock : Stock) (avoid : ℕ) (ops : List Operand) (i : ℕ) (o : Option ℕ) : Type 0 where
+  pub reached : FromReached stock avoid ops i o
+  pub least : (p : Plan) (ps : Operands) → AreSparing stock avoid ops (operand_then i p ps) → AtMost o (cost p + operands_cost ps)
+
+abbrev pub FirstsBelow : Stock → ℕ → List Operand → ℕ → Option ℕ → Type 0
+FirstsBelow stock avoid ops n o = (i : ℕ) (p : Plan) (ps : Operands) → i < n → AreSparing stock avoid ops (operand_then i p ps) → AtMost o (cost p + operands_cost ps)
+
+-- the covers that begin with the form at k
+abbrev pub FormReached : Stock → ℕ → Ask → ℕ → Option ℕ → Type 0
+FormReached stock avoid ask k None = Unit {0}
+FormReached stock avoid ask k (Some n) = (ps : Operands) × (cs : Cuts) × IsSparing stock avoid ask (use_form k ps cs) × (1 + operands_cost ps + cuts_cost cs ≡ n)
+
+pub record IsLeastForm (stock : Stock) (avoid : ℕ) (ask : Ask) (k : ℕ) (o : Option ℕ) : Type 0 where
+  pub reached : FormReached stock avoid ask k o
+  pub least : (ps : Operands) (cs : Cuts) → IsSparing stock avoid ask (use_form k ps cs) → AtMost o (1 + operands_cost ps + cuts_cost cs)
+
+-- the covers that begin with one of the first n forms
+abbrev pub FormsBelow : Stock → ℕ → Ask → ℕ → Option ℕ → Type 0
+FormsBelow stock avoid ask n o = (k : ℕ) (ps : Operands) (cs : Cuts) → k < n → IsSparing stock avoid ask (use_form k ps cs) → AtMost o (1 + operands_cost ps + cuts_cost cs)
+
+-- the lesser of two costs
+abbrev pub lesser : Option ℕ → Option ℕ → Option ℕ
+lesser None b = b
+lesser (Some m) None = Some m
+lesser (Some m) (Some n) = if nat_lt n m then Some n else Some m
+
+-- the sum of two costs
+abbrev pub summed : Option ℕ → Option ℕ → Option ℕ
+summed None b = None
+summed (Some m) None = None
+summed (Some m) (Some n) = Some (m + n)

@@ -1,0 +1,63 @@
+-- The forms that match a tree.
+use Rattle.std.specs.Prelude.{ℕ, ◌<◌, ◌≡◌, true, Bool, List, [], ◌∷◌, ◌++◌, Option, Some, None, IfSome, slice_get, length}
+use Rattle.net_model.specs.Terms.{Term, size_of}
+use Rattle.form_model.specs.Trees.{tree_term}
+use Rattle.form_model.specs.Rules.{Rule}
+use Rattle.form_model.specs.Matches.{Found, operand}
+use Rattle.form_model.specs.Covers.{Stock, operands_of, cuts_of}
+use Rattle.cover.specs.declared.table.Instance.{Instance}
+use Rattle.cover.specs.declared.rows.Offer.{Offer}
+use Rattle.cover.specs.declared.matches.FormMatch.{FormMatch}
+use Rattle.cover.specs.declared.matches.Matches.{Matches}
+use Rattle.cover.specs.Inner.Asks.{takes, rest}
+use Rattle.cover.specs.Inner.Rows.{Row, row_ask, IsSlot, goal_slot, IsOffer}
+use Rattle.cover.specs.Inner.Jobs.{stock_of, nodes_of, open_operands, open_cuts, OperandsAt, CutsAt}
+
+-- the form at k takes the tree for an entry of its row
+pub record Takes (stock : Stock) (t : Term) (whole : Bool) (k : ℕ) : Type 0 where
+  pub entry : ℕ
+  pub slot : IsSlot whole entry
+  pub rule : Rule
+  pub found : Found
+  pub listed : slice_get stock.rules k ≡ Some rule
+  pub takes_it : takes stock rule (row_ask t whole entry) ≡ Some found
+
+-- what a match says of its form and of what that takes
+pub record IsFormMatch (instance : Instance) (t : Term) (whole : Bool) (m : FormMatch) : Type 0 where
+  pub rule : Rule
+  pub found : Found
+  pub listed : slice_get (stock_of instance).rules m.form ≡ Some rule
+  pub clobbers : rule.clobbers ≡ m.clobbers
+  pub goes : goal_slot rule.goal whole ≡ Some m.goal
+  pub slot : IsSlot whole m.goal
+  pub takes_it : takes (stock_of instance) rule (row_ask t whole m.goal) ≡ Some found
+  pub start : m.start ≡ rest (size_of t) true found.sites
+  pub register : IfSome m.start (λ q. (u : Term) (w : Bool) → found.sites ≡ operand q u w ∷ [] → q < 16)
+  pub operands : open_operands m.operands.items ≡ operands_of found.sites
+  pub cuts : open_cuts m.cuts.items ≡ cuts_of found.sites
+  pub operands_at : OperandsAt (nodes_of instance) m.operands.items
+  pub cuts_at : CutsAt (nodes_of instance) m.cuts.items
+
+-- whether the form at k matches
+abbrev pub MatchesForm : Instance → Term → Bool → ℕ → Option FormMatch → Type 0
+MatchesForm instance t whole k None = Takes (stock_of instance) t whole k → ⊥
+MatchesForm instance t whole k (Some m) = IsFormMatch instance t whole m × (m.form ≡ k)
+
+abbrev pub with_match : List FormMatch → Option FormMatch → List FormMatch
+with_match list None = list
+with_match list (Some m) = list ++ (m ∷ [])
+
+-- the matches of the first n forms, in their order
+pub record AreFirstMatches (instance : Instance) (t : Term) (whole : Bool) (n : ℕ) (list : List FormMatch) : Type 0 where
+  pub each : (i : ℕ) (m : FormMatch) → slice_get list i ≡ Some m → IsFormMatch instance t whole m
+  pub below : (i : ℕ) (m : FormMatch) → slice_get list i ≡ Some m → m.form < n
+  pub all : (k : ℕ) → k < n → Takes (stock_of instance) t whole k → (i : ℕ) × (m : FormMatch) × (slice_get list i ≡ Some m) × (m.form ≡ k)
+  pub ordered : (i j : ℕ) (m l : FormMatch) → i < j → slice_get list i ≡ Some m → slice_get list j ≡ Some l → m.form < l.form
+
+-- the matches of all forms
+abbrev pub AreMatches : Instance → Matches → Type 0
+AreMatches instance ms = AreFirstMatches instance (tree_term ms.tree.now) ms.whole (length instance.forms.now) ms.list.items
+
+-- what the match at i gives for a row
+abbrev pub IsOfferAt : Stock → ℕ → Matches → Row → ℕ → Offer → Type 0
+IsOfferAt stock avoid ms row i offer = (m : FormMatch) → slice_get ms.list.items i ≡ Some m → IsOffer stock avoid (tree_term ms.tree.now) ms.whole row m.form offer

@@ -1,0 +1,154 @@
+-- Rows of least costs of one tree: for each register, and behind them for a temporary cell.
+use Rattle.std.specs.Prelude.{ℕ, ◌+◌, ◌<◌, ◌≤◌, ◌≡◌, ◌⊎◌, ◌^◌, Bool, true, false, nat_lt, if◌then◌else◌, List, [], ◌∷◌, ◌++◌, Option, Some, None, length, slice_get, slice_set, slice_index_or}
+use Rattle.std.specs.List.{sum_by}
+use Rattle.net_model.specs.Terms.{Term}
+use Rattle.form_model.specs.Rules.{Destination, into, temporary, Kind, into_reg, into_memory, jumps, branches}
+use Rattle.form_model.specs.Plans.{Plan, use_form, Operands, Cuts, cost}
+use Rattle.form_model.specs.Covers.{Stock}
+use Rattle.cover.specs.declared.rows.ChainRule.{ChainRule}
+use Rattle.cover.specs.declared.rows.Offer.{Offer}
+use Rattle.cover.specs.declared.matches.FormMatch.{FormMatch}
+use Rattle.cover.specs.declared.rows.Offer.TheVariants.{Nothing, Chains, Reaches}
+use Rattle.cover.specs.Inner.Asks.{Ask, IsSparing}
+use Rattle.cover.specs.Inner.Least.{AtMost, Reached, IsLeast}
+
+abbrev pub Row : Type 0
+Row = List (Option ℕ)
+
+abbrev pub entry : Row → ℕ → Option ℕ
+entry row r = slice_index_or row r None
+
+-- where the tree of a row's entry goes: to one of the registers below 16, or to a temporary cell
+abbrev pub entry_destination : ℕ → Destination
+entry_destination r = if nat_lt r 16 then into r else temporary
+
+abbrev pub row_ask : Term → Bool → ℕ → Ask
+row_ask tree whole r = record { destination = entry_destination r; tree = tree; whole = whole }
+
+-- an entry of a row of a tree; a whole tree isn't put into a temporary cell
+pub record IsSlot (whole : Bool) (r : ℕ) : Type 0 where
+  pub within : r < 17
+  pub cut : r ≡ 16 → whole ≡ false
+
+-- the entry of a row to which a form goes
+abbrev pub goal_slot : Kind → Bool → Option ℕ
+goal_slot (into_reg id) whole = Some id
+goal_slot into_memory whole = if whole then None else Some 16
+goal_slot (jumps reach) whole = None
+goal_slot (branches when_one to) whole = None
+
+-- a cost is less than what is known
+abbrev pub IsBelow : ℕ → Option ℕ → Type 0
+IsBelow n None = Unit {0}
+IsBelow n (Some m) = n < m
+
+-- each entry is that of some cover
+abbrev pub Sound : Stock → ℕ → Term → Bool → Row → Type 0
+Sound stock avoid tree whole row = (r : ℕ) → IsSlot whole r → Reached stock avoid (row_ask tree whole r) (entry row r)
+
+-- each entry is the least
+abbrev pub IsLeastRow : Stock → ℕ → Term → Bool → Row → Type 0
+IsLeastRow stock avoid tree whole row = (r : ℕ) → IsSlot whole r → IsLeast stock avoid (row_ask tree whole r) (entry row r)
+
+-- ---- chain rules: forms that go on from another entry of the same row
+
+-- a cover for the one entry gives one for the other, which costs 1 more
+pub record IsLift (stock : Stock) (avoid : ℕ) (tree : Term) (whole : Bool) (m : ChainRule) : Type 0 where
+  pub start : IsSlot whole m.start
+  pub goal : IsSlot whole m.goal
+  pub lift : (p : Plan) → IsSparing stock avoid (row_ask tree whole m.start) p → (q : Plan) × IsSparing stock avoid (row_ask tree whole m.goal) q × (cost q ≡ cost p + 1)
+
+abbrev pub AreLifts : Stock → ℕ → Term → Bool → List ChainRule → Type 0
+AreLifts stock avoid tree whole chains = (i : ℕ) (m : ChainRule) → slice_get chains i ≡ Some m → IsLift stock avoid tree whole m
+
+-- the chain rules stay inside the row
+abbrev pub AreWithin : List ChainRule → Type 0
+AreWithin chains = (i : ℕ) (m : ChainRule) → slice_get chains i ≡ Some m → (m.start < 17) × (m.goal < 17)
+
+-- a cover of an entry is no cheaper than the entry, or begins with a chain rule and goes on with a
+-- cover of its start
+abbrev pub IsMet : Stock → ℕ → Term → Bool → List ChainRule → Row → ℕ → ℕ → Type 0
+IsMet stock avoid tree whole chains row r n =
+    AtMost (entry row r) n ⊎ ((i : ℕ) × (m : ChainRule) × (slice_get chains i ≡ Some m) × (m.goal ≡ r) × (q : Plan) × IsSparing stock avoid (row_ask tree whole m.start) q × (cost q + 1 ≤ n))
+
+-- what is known of a tree after the first n matches were tried
+pub record IsTried (stock : Stock) (avoid : ℕ) (tree : Term) (whole : Bool) (list : List FormMatch) (n : ℕ) (chains : List ChainRule) (row : Row) : Type 0 where
+  pub sound : Sound stock avoid tree whole row
+  pub lifts : AreLifts stock avoid tree whole chains
+  pub met : (i : ℕ) (m : FormMatch) (ps : Operands) (cs : Cuts) (r : ℕ) → i < n → slice_get list i ≡ Some m → IsSlot whole r → IsSparing stock avoid (row_ask tree whole r) (use_form m.form ps cs) → IsMet stock avoid tree whole chains row r (cost (use_form m.form ps cs))
+
+-- what the form at k gives for a row: no cover that is cheaper than what is known, a chain rule, or
+-- a cost of its entry
+abbrev pub IsOffer : Stock → ℕ → Term → Bool → Row → ℕ → Offer → Type 0
+IsOffer stock avoid tree whole row k Nothing =
+    (ps : Operands) (cs : Cuts) (r : ℕ) → IsSlot whole r → IsSparing stock avoid (row_ask tree whole r) (use_form k ps cs) → AtMost (entry row r) (cost (use_form k ps cs))
+IsOffer stock avoid tree whole row k (Chains m) =
+    IsLift stock avoid tree whole m
+    × ((ps : Operands) (cs : Cuts) (r : ℕ) → IsSlot whole r → IsSparing stock avoid (row_ask tree whole r) (use_form k ps cs) → (m.goal ≡ r) × (q : Plan) × IsSparing stock avoid (row_ask tree whole m.start) q × (cost q + 1 ≤ cost (use_form k ps cs)))
+IsOffer stock avoid tree whole row k (Reaches slot n) =
+    IsSlot whole slot × Reached stock avoid (row_ask tree whole slot) (Some n)
+    × ((ps : Operands) (cs : Cuts) (r : ℕ) → IsSlot whole r → IsSparing stock avoid (row_ask tree whole r) (use_form k ps cs) → (slot ≡ r) × (n ≤ cost (use_form k ps cs)))
+
+-- what an entry weighs
+abbrev pub weight : Option ℕ → ℕ
+weight None = 2 ^ 64
+weight (Some n) = n
+
+abbrev pub weight_of : Row → ℕ
+weight_of row = sum_by weight row
+
+-- no entry has become more than it was
+abbrev pub Lower : Row → Row → Type 0
+Lower old new = (r n : ℕ) → AtMost (entry old r) n → AtMost (entry new r) n
+
+-- what trying one chain rule does to a row
+abbrev pub Chained : ChainRule → Bool → Row → Row → Type 0
+Chained m true old new = (c : ℕ) × (entry old m.start ≡ Some c) × (c + 1 < 2 ^ 64) × IsBelow (c + 1) (entry old m.goal) × (new ≡ slice_set old m.goal (Some (c + 1)))
+Chained m false old new = (new ≡ old) × ((c : ℕ) → entry old m.start ≡ Some c → AtMost (entry old m.goal) (c + 1))
+
+-- none of the first n chain rules makes an entry less
+abbrev pub ChainsBelow : List ChainRule → ℕ → Row → Type 0
+ChainsBelow chains n row = (i : ℕ) (m : ChainRule) (c : ℕ) → i < n → slice_get chains i ≡ Some m → entry row m.start ≡ Some c → AtMost (entry row m.goal) (c + 1)
+
+-- some entry has become less, or none has and none can
+abbrev pub Changed : List ChainRule → ℕ → Bool → Row → Row → Type 0
+Changed chains n true old new = weight_of new < weight_of old
+Changed chains n false old new = (new ≡ old) × ChainsBelow chains n new
+
+-- entries that are those of covers stay so
+abbrev pub Keeps : List ChainRule → Row → Row → Type 0
+Keeps chains old new = (stock : Stock) (avoid : ℕ) (tree : Term) (whole : Bool) → AreLifts stock avoid tree whole chains → Sound stock avoid tree whole old → Sound stock avoid tree whole new
+
+-- a row after the first n chain rules were tried
+pub record Swept (chains : List ChainRule) (n : ℕ) (changed : Bool) (old new : Row) : Type 0 where
+  pub sound : Keeps chains old new
+  pub lower : Lower old new
+  pub change : Changed chains n changed old new
+
+-- a row on which no chain rule has anything to do any more
+pub record IsClosed (chains : List ChainRule) (old new : Row) : Type 0 where
+  pub sound : Keeps chains old new
+  pub lower : Lower old new
+  pub still : ChainsBelow chains (length chains) new
+
+-- a row after a cost was entered where it is less
+pub record Entered (old new : Row) (d n : ℕ) : Type 0 where
+  pub lower : Lower old new
+  pub at : AtMost (entry new d) n
+  pub others : (q : ℕ) → (entry new q ≡ entry old q) ⊎ ((q ≡ d) × (entry new q ≡ Some n))
+
+-- what an offer adds to the chain rules and to a row
+abbrev pub Noted : Offer → List ChainRule → List ChainRule → Row → Row → Type 0
+Noted Nothing chains chains' old new = (chains' ≡ chains) × (new ≡ old)
+Noted (Chains m) chains chains' old new = (chains' ≡ chains ++ (m ∷ [])) × (new ≡ old)
+Noted (Reaches slot n) chains chains' old new = (chains' ≡ chains) × Entered old new slot n
+
+-- an offer that has a cost enters it in the row
+abbrev pub IsWithin : Offer → Type 0
+IsWithin Nothing = Unit {0}
+IsWithin (Chains m) = Unit {0}
+IsWithin (Reaches slot n) = slot < 17
+
+abbrev pub offer_is : ℕ → Option ℕ → Offer
+offer_is goal None = Nothing
+offer_is goal (Some n) = Reaches goal n

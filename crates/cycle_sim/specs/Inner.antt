@@ -1,0 +1,7 @@
+-- What no public contract cites: what the functions of the crate tell one another, and what only
+-- proofs speak of.
+pub mod Ports
+pub mod Operations
+pub mod Decoding
+pub mod Programs
+pub mod Running

@@ -1,0 +1,6 @@
+-- What no public contract cites: what the functions of the crate tell one another, and what only
+-- proofs speak of.
+pub mod Linear
+pub mod PatternIds
+pub mod Copies
+pub mod Adding

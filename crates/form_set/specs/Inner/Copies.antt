@@ -1,0 +1,30 @@
+-- Addresses and values as the code holds them.
+use Rattle.std.specs.Prelude.{option_map, ℕ, ◌<◌, List, Option, if◌then◌else◌}
+use Rattle.net_model.specs.Terms.{term_of}
+use Rattle.sym_expr.specs.declared.pool.Node.{Node}
+use Rattle.sym_expr.specs.Pools.{term_at}
+use Rattle.form_set.specs.declared.swaps.Sides.{Sides as TheSides}
+use Rattle.form_set.specs.declared.branches.BranchIds.{BranchIds}
+use Rattle.form_set.specs.declared.branches.TargetId.{TargetId}
+use Rattle.form_model.specs.Rules.{BranchTarget, absolute, relative}
+use Rattle.form_set.specs.Targets.{Branch}
+use Rattle.form_set.specs.Swaps.{Sides}
+
+abbrev pub copied_sides : TheSides → Sides
+copied_sides sides = record { addr = option_map term_of sides.addr; value = term_of sides.value }
+
+-- those of a pattern by its ids
+abbrev pub ids_sides : List Node → Option ℕ → ℕ → Sides
+ids_sides pool addr value = record { addr = option_map (term_at pool) addr; value = term_at pool value }
+
+-- a target by its id
+abbrev pub id_target : List Node → TargetId → BranchTarget
+id_target pool target = if target.relative then relative (term_at pool target.expr) else absolute (term_at pool target.expr)
+
+-- a branch by its ids
+abbrev pub ids_branch : List Node → BranchIds → Branch
+ids_branch pool parts = record { when_one = parts.when_one; test = term_at pool parts.test; to = id_target pool parts.target }
+
+pub record AreBranchIds (size : ℕ) (parts : BranchIds) : Type 0 where
+  pub test : parts.test < size
+  pub target : parts.target.expr < size

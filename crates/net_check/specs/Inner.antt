@@ -1,0 +1,7 @@
+-- What no public contract cites: what the functions of the crate tell one another, and what only
+-- proofs speak of.
+pub mod Graphs
+pub mod Walk
+pub mod Control
+pub mod Roles
+pub mod Components

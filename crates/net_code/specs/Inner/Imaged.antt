@@ -1,0 +1,55 @@
+-- The image of a covered program, and why there is none.
+use Rattle.std.specs.Prelude.{ℕ, ◌≡◌, ◌≤◌, length}
+use Rattle.net_model.specs.Nets.{memory_size}
+use Rattle.code_model.specs.declared.image.Image.{Image}
+use Rattle.code_model.specs.declared.image.Places.{Places}
+use Rattle.code_model.specs.Layout.{layout_of}
+use Rattle.code_model.specs.Places.{Apart, words_of}
+use Rattle.right_code.specs.Bounded.{HasBound}
+use Rattle.right_code.specs.Images.{IsMadeFor, IsRightImage}
+use Rattle.right_code.specs.Tasks.{Task}
+use Rattle.net_code.specs.Inner.Covering.{IsCovering}
+use Rattle.net_code.specs.Refusals.{IsBeyondReach, IsImageTooLong}
+use Rattle.net_code.specs.declared.fault.CodeFault.{CodeFault}
+use Rattle.net_code.specs.declared.fault.CodeFault.TheVariants.{NoReach, ImageFull, Memory}
+use Rattle.net_code.specs.declared.views.CoveredProgram.{CoveredProgram}
+use Rattle.net_code.specs.declared.views.Machine.{Machine}
+
+-- the variables of a task stand at the places of its layout, each in cells of the memory of its own
+pub record ArePlaces (task : Task) (places : Places) : Type 0 where
+  pub layout : places ≡ layout_of task.width task.listing
+  pub apart : Apart places.temps places.list (memory_size task.netlist.storages)
+
+-- the program is that of some task, with its variables at these places
+pub record HasTask (machine : Machine) (program : CoveredProgram) (places : Places) : Type 0 where
+  pub task : Task
+  pub covering : IsCovering machine program task
+  pub placed : ArePlaces task places
+
+-- what is said of the task of a covered program
+abbrev pub OfTask : Machine → CoveredProgram → Places → (Task → Type 0) → Type 0
+OfTask machine program places Said = (task : Task) → IsCovering machine program task → ArePlaces task places → Said task
+
+-- the image is made for the task, by the forms of the program, and jumps reach all its words
+pub record IsImageMade (program : CoveredProgram) (image : Image) (task : Task) : Type 0 where
+  pub made : IsMadeFor task image
+  pub reached : length (words_of image) ≤ made.reach
+
+-- jumps reach as far as the task's code may be long
+pub record IsNear (task : Task) : Type 0 where
+  pub bound : ℕ
+  pub reach : ℕ
+  pub has : HasBound task bound reach
+  pub within : bound ≤ reach
+
+-- the image is right code for the task
+pub record IsTaskImage (image : Image) (task : Task) : Type 0 where
+  pub right : IsRightImage task image
+  pub near : IsNear task
+
+-- what a task whose jobs are covered lacks; nothing is said where memory ran out
+abbrev pub IsLengthFault : CodeFault → Task → Type 0
+IsLengthFault (NoReach bound reach) task = IsBeyondReach bound reach task
+IsLengthFault (ImageFull len size bound) task = IsNear task × IsImageTooLong len size bound task
+IsLengthFault Memory task = Unit {0}
+IsLengthFault _ task = ⊥

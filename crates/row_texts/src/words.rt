@@ -1,0 +1,168 @@
+//! What words do by themselves, beside what the patterns tell of them.
+
+ghost use Rattle.std.specs.Prelude.{◌≡◌, ◌<◌, ◌≤◌, length};
+ghost use Rattle.net_extract.specs.Extraction.{IsExtractedFrom};
+ghost use Rattle.net_model.specs.Nets.{word_width};
+ghost use Rattle.net_model.specs.Widths.{WordFits};
+ghost use Rattle.row_texts.specs.declared.words.TheConstants.{MOST_BITS};
+ghost use Rattle.transfer_set.specs.Tables.{AreSets};
+
+use bit_bdd::{Book, SetId};
+use net_extract::Extracted;
+use net_model::Checked;
+use rec_bits::NoMemory;
+use std::alloc::Global;
+use sym_expr::Pool;
+use transfer_set::Patterns;
+use word_moves::{StorageMove, word_moves};
+
+// The most bits of the words that are gone through.
+const MOST_BITS: u8 = 16;
+
+/// How many words there are, how many of them clash, and how many don't do what the patterns tell.
+#[derive(Clone, Copy)]
+pub struct Compared {
+    pub words: u64,
+    pub clashes: u64,
+    pub differ: u64,
+}
+
+/// How many nets and storages a netlist has, how many patterns, how many nodes and expressions
+/// stand behind these, and, where its words have at most 16 bits, what they do one by one.
+#[derive(Clone, Copy)]
+pub struct Found {
+    pub nets: usize,
+    pub storages: usize,
+    pub patterns: u32,
+    pub nodes: u64,
+    pub expressions: u64,
+    pub words: Option<Compared>,
+}
+
+// The bits of an instruction word.
+fn word_bits(checked: &Checked) -> u8
+    ensures { result ≡ word_width checked.now.netlist }
+{
+    checked.netlist().word_width()
+}
+
+// What the patterns tell that a word does to a storage.
+fn told(book: &Book, patterns: &Patterns, storage: u32, word: u64) -> StorageMove
+    requires { AreSets book.now patterns.now.rows }
+{
+    for pattern in 0..patterns.len() {
+        if patterns.storage_of(pattern) != Some(storage) {
+            continue;
+        }
+        if let (Some(set), Some((addr, value))) = (
+            patterns.set_of(pattern),
+            patterns.expr_of(pattern),
+        ) {
+            if book.holds(set, word) {
+                return match addr {
+                    None => StorageMove::Write(value),
+                    Some(addr) => StorageMove::WriteAt { addr, value },
+                };
+            }
+        }
+    }
+    StorageMove::Keep
+}
+
+// Whether the patterns tell this of a word's storages, and nothing of a word that clashes.
+fn agrees(book: &Book, patterns: &Patterns, moves: &[StorageMove], clash: bool, word: u64) -> bool
+    requires { AreSets book.now patterns.now.rows }
+{
+    for (storage, alone) in moves.iter().enumerate() {
+        let Ok(storage) = u32::try_from(storage) else {
+            return false;
+        };
+        let wanted = if clash { StorageMove::Keep } else { *alone };
+        if told(book, patterns, storage, word) != wanted {
+            return false;
+        }
+    }
+    true
+}
+
+// Whether a word does by itself, and whether it clashes, what the patterns and the set of the words
+// without clash tell.
+fn compare_word(
+    alloc: Global,
+    checked: &Checked,
+    book: &Book,
+    pool: &mut Pool,
+    patterns: &Patterns,
+    legal: SetId,
+    word: u64,
+) -> Result<(bool, bool), NoMemory>
+    requires word { WordFits checked.now.netlist word }
+    requires sets { AreSets book.now patterns.now.rows }
+    requires legal { legal < length book.now.nodes }
+{
+    let alone = word_moves(alloc, checked, pool, word)?;
+    let clash = alone.clash.is_some();
+    let same = agrees(book, patterns, alone.moves.as_slice(), clash, word);
+    Ok((clash, same && clash != book.holds(legal, word)))
+}
+
+// Goes through all words of a code of at most 16 bits.
+fn compare_all(
+    alloc: Global,
+    checked: &Checked,
+    book: &Book,
+    pool: &mut Pool,
+    patterns: &Patterns,
+    legal: SetId,
+) -> Result<Compared, NoMemory>
+    requires few { word_width checked.now.netlist ≤ MOST_BITS }
+    requires sets { AreSets book.now patterns.now.rows }
+    requires legal { legal < length book.now.nodes }
+{
+    // the netlist is read for what it keeps
+    let _ = checked.netlist();
+    let words = 1u64 << word_bits(checked);
+    let mut found = Compared {
+        words,
+        clashes: 0,
+        differ: 0,
+    };
+    for word in 0..words {
+        let (clash, same) = compare_word(alloc, checked, book, pool, patterns, legal, word)?;
+        found.clashes = found.clashes.saturating_add(u64::from(clash));
+        found.differ = found.differ.saturating_add(u64::from(!same));
+    }
+    Ok(found)
+}
+
+/// The patterns of a netlist, and what its words do one by one. The pool grows by what they do.
+pub fn compare_words(
+    alloc: Global,
+    checked: &Checked,
+    extracted: &mut Extracted,
+) -> Result<Found, NoMemory>
+    requires { IsExtractedFrom checked.now.netlist extracted.old }
+{
+    let Extracted {
+        book,
+        pool,
+        patterns,
+        legal,
+    } = extracted;
+    let nodes = book.size();
+    let expressions = pool.len();
+    let words = if word_bits(checked) > MOST_BITS {
+        None
+    } else {
+        Some(compare_all(alloc, checked, book, pool, patterns, *legal)?)
+    };
+    let netlist = checked.netlist();
+    Ok(Found {
+        nets: netlist.nets.len(),
+        storages: netlist.storages.len(),
+        patterns: patterns.len(),
+        nodes,
+        expressions,
+        words,
+    })
+}

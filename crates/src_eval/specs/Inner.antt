@@ -1,0 +1,7 @@
+-- What no public contract cites: what the functions of the crate tell one another, and what only
+-- proofs speak of.
+pub mod Steps
+pub mod Tables
+pub mod Resolved
+pub mod Laid
+pub mod Props
