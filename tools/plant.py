@@ -2,11 +2,13 @@
 """Plants the bugs of tools/planted/CRATE.bugs in a copy of the repository, and asks `rt check` of each.
 
     tools/plant.py CRATE [NAME..]
+    tools/plant.py --stale
 
 Bugs in different functions are planted together, and each is judged by its own function's proof; what is not decided so is planted once more, alone.
 For each bug it prints `refused`, `PROVED` (the contracts let it pass) or `stale` (the text that it changes stands no longer there once, or the
 changed text doesn't compile), with the function that was checked, and what was not proved of it; nothing stands there where a proof by hand failed.
 The last line counts them; the exit status is 1 where one was proved. Libraries that `./record` has built are not built again.
+With `--stale` nothing is checked: the bugs of all crates are listed whose text stands no longer where it stood, or whose function or type is gone.
 
 A file of bugs has for each bug the lines
 
@@ -170,9 +172,38 @@ def copied(one, other):
     return shutil.copy2(one, other)
 
 
+def is_stale(crate, bug):
+    """Whether the text that a bug changes, or what is checked of it, stands no longer there."""
+    kept = {}
+    try:
+        if not plant(crate, bug, kept):
+            return True
+    finally:
+        restore(kept)
+    item = bug["only"].rpartition("::")[2]
+    return not any(re.search(rf"\b(fn|struct|enum) {item}\b", path.read_text()) for path in (crate / "src").rglob("*.rt"))
+
+
+def list_stale():
+    """Prints the stale bugs of all crates, on a copy of their sources."""
+    found = 0
+    with tempfile.TemporaryDirectory() as folder:
+        copy = pathlib.Path(folder) / "crates"
+        shutil.copytree(TOP / "crates", copy, ignore=shutil.ignore_patterns("out"))
+        for path in sorted((TOP / "tools" / "planted").glob("*.bugs")):
+            for bug in bugs_of(path):
+                if is_stale(copy / path.stem, bug):
+                    found += 1
+                    print(f"{path.stem}: {bug['name']} in {bug['only']}")
+    print(f"{found} stale")
+    return 1 if found else 0
+
+
 def main():
     if len(sys.argv) < 2:
         sys.exit(__doc__)
+    if sys.argv[1] == "--stale":
+        sys.exit(list_stale())
     name, wanted = sys.argv[1], sys.argv[2:]
     bugs = bugs_of(TOP / "tools" / "planted" / f"{name}.bugs")
     if wanted:

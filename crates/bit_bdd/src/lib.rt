@@ -40,7 +40,7 @@ use std::marker::Model;
 pub type SetId = u64;
 
 /// A node of a book: one of the two constants, or a question about one bit.
-#[derive(Clone, Copy, Debug, PartialEq, Eq, Hash)]
+#[derive(Clone, Copy, PartialEq, Eq, Hash)]
 pub enum Node {
     /// No word.
     Never,
@@ -51,7 +51,7 @@ pub enum Node {
 }
 
 // An operation whose result a book remembers.
-#[derive(Clone, Copy, Debug, PartialEq, Eq)]
+#[derive(Clone, Copy, PartialEq, Eq)]
 enum Operation {
     Choose { test: SetId, on: SetId, off: SetId },
     Exists { set: SetId, bits: u64 },

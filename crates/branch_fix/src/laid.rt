@@ -5,7 +5,7 @@ use form_model::Step;
 use rec_bits::Items;
 
 /// A word of the code.
-#[derive(Clone, Copy, Debug, PartialEq, Eq)]
+#[derive(Clone, Copy, PartialEq, Eq)]
 pub enum Item {
     /// The word of a block's group. The blocks are numbered in the order of the flow, the code of
     /// each test's operands among them, and the groups of a block in their order, both from 0.
@@ -15,7 +15,7 @@ pub enum Item {
 }
 
 /// The words of the code in the order of their addresses, and the marks in the order of theirs.
-#[derive(Debug, Drop)]
+#[derive(Drop)]
 pub struct Laid {
     pub items: Items<Item>,
     pub marks: Items<Mark>,

@@ -1,7 +1,7 @@
 //! What stands at the places of a flow.
 
 /// A test with its branch.
-#[derive(Clone, Copy, Debug, PartialEq, Eq)]
+#[derive(Clone, Copy, PartialEq, Eq)]
 pub struct Fork {
     /// The number of its tree.
     pub tree: u32,
@@ -22,7 +22,7 @@ pub struct Fork {
 }
 
 /// What stands at a place of a flow.
-#[derive(Clone, Copy, Debug, PartialEq, Eq)]
+#[derive(Clone, Copy, PartialEq, Eq)]
 pub enum Part {
     /// A block of assignments that begins here, by its number, with its words.
     Block { block: u32, words: u32 },

@@ -6,7 +6,7 @@ ghost use Rattle.code_model.specs.ImageText.{bytes_of};
 use rec_bits::{Items, Name};
 
 /// The cells of a variable: `len` of them from `address` on.
-#[derive(Debug, Drop)]
+#[derive(Drop)]
 pub struct Place {
     pub name: Name,
     pub address: u32,
@@ -15,7 +15,7 @@ pub struct Place {
 
 /// Where the variables of a program stand: behind so many temporary cells, which have the addresses
 /// from 0 on.
-#[derive(Debug, Drop)]
+#[derive(Drop)]
 pub struct Places {
     pub temps: u32,
     /// The variables' places in order of declaration.
@@ -24,14 +24,14 @@ pub struct Places {
 
 /// A marked address: the first word of the code of the test with this tree's number, or of the end,
 /// where there is no number.
-#[derive(Clone, Copy, Debug, PartialEq, Eq)]
+#[derive(Clone, Copy, PartialEq, Eq)]
 pub struct Mark {
     pub address: u32,
     pub label: Option<u32>,
 }
 
 /// An instruction word, with the numbers of the patterns that are wanted of it, ascending.
-#[derive(Debug, Drop)]
+#[derive(Drop)]
 pub struct Word {
     pub word: u64,
     pub patterns: Items<u32>,
@@ -47,7 +47,7 @@ pub fn bytes_of(bits: u8) -> usize
 /// An image: the bits of a word, the number of temporary cells, the variables' places in order of
 /// declaration, the cost of each tree with its number, the marks by address, and the words from
 /// address 0 on.
-#[derive(Debug, Drop)]
+#[derive(Drop)]
 pub struct Image {
     pub bits: u8,
     pub temps: u32,

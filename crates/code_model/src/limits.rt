@@ -6,7 +6,7 @@ ghost use Rattle.code_model.specs.ImageFits.{limits_of};
 use net_model::Checked;
 
 /// The bits of a word and the greatest number of words of a netlist's code.
-#[derive(Clone, Copy, Debug, PartialEq, Eq)]
+#[derive(Clone, Copy, PartialEq, Eq)]
 pub struct Limits {
     pub bits: u8,
     pub words: u32,

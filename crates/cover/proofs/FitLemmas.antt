@@ -18,7 +18,7 @@ use Rattle.cover.specs.declared.parts.OpenCut.{OpenCut}
 use Rattle.cover.specs.Inner.Asks.{Ask, takes}
 use Rattle.cover.specs.Inner.Least.{IsLeast, IsLeastForm, IsLeastOrder, IsLeastCut, summed}
 use Rattle.cover.specs.Inner.Jobs.{stock_of, nodes_of, open_operands, open_cuts}
-use Rattle.cover.specs.Inner.Choice.{ask_of, StandsWant, IsFit, Fits, FitOf, NeverBegins}
+use Rattle.cover.specs.Inner.Choice.{ask_of, StandsWant, IsFit, Fits, FitOf, FitsParts, NeverBegins}
 use Rattle.cover.proofs.LeastLemmas.{some_form}
 use Rattle.cover.proofs.ChoiceLemmas.{never_by, fits_least}
 
@@ -34,7 +34,7 @@ summed_none : (x : Option ℕ) → summed x None ≡ None
 summed_none None = refl
 summed_none (Some n) = refl
 
-pub fit_ok : (stock : Stock) (avoid : ℕ) (ask : Ask) (k : ℕ) (rule : Rule) (found : Found) (is : List OpenOperand) (ss : List OpenCut) (a b : Option ℕ) (o : Option Fit) → slice_get stock.rules k ≡ Some rule → bit_and rule.clobbers avoid ≡ 0 → takes stock rule ask ≡ Some found → open_operands is ≡ operands_of found.sites → open_cuts ss ≡ cuts_of found.sites → IsLeastOrder stock avoid (open_operands is) a → IsLeastCut stock (open_cuts ss) b → FitOf is ss a b o → IsFit stock avoid ask k o
+fit_ok : (stock : Stock) (avoid : ℕ) (ask : Ask) (k : ℕ) (rule : Rule) (found : Found) (is : List OpenOperand) (ss : List OpenCut) (a b : Option ℕ) (o : Option Fit) → slice_get stock.rules k ≡ Some rule → bit_and rule.clobbers avoid ≡ 0 → takes stock rule ask ≡ Some found → open_operands is ≡ operands_of found.sites → open_cuts ss ≡ cuts_of found.sites → IsLeastOrder stock avoid (open_operands is) a → IsLeastCut stock (open_cuts ss) b → FitOf is ss a b o → IsFit stock avoid ask k o
 fit_ok stock avoid ask k rule found is ss a b None get spared t ei es la lb (inl e) =
     subst (IsLeastForm stock avoid ask k) (ap (λ x. summed (summed (Some 1) x) b) e)
     (some_form stock avoid ask k rule found a b get spared t (subst (λ l. IsLeastOrder stock avoid l a) ei la) (subst (λ l. IsLeastCut stock l b) es lb))
@@ -52,6 +52,9 @@ fit_ok stock avoid ask k rule found is ss a b (Some f) get spared t ei es la lb 
   order = subst (λ l. IsLeastOrder stock avoid (open_operands l) (Some f.operands_cost)) (sym fi) (subst (IsLeastOrder stock avoid (open_operands is)) fa la);
   cut = subst (λ l. IsLeastCut stock (open_cuts l) (Some f.cuts_cost)) (sym fs) (subst (IsLeastCut stock (open_cuts ss)) fb lb);
 }
+
+pub parts_fit : (stock : Stock) (avoid : ℕ) (ask : Ask) (k : ℕ) (rule : Rule) (found : Found) (o : Option Fit) → slice_get stock.rules k ≡ Some rule → bit_and rule.clobbers avoid ≡ 0 → takes stock rule ask ≡ Some found → FitsParts stock avoid (operands_of found.sites) (cuts_of found.sites) o → IsFit stock avoid ask k o
+parts_fit stock avoid ask k rule found o get spared t (is, ss, a, b, ei, es, la, lb, fit) = fit_ok stock avoid ask k rule found is ss a b o get spared t ei es la lb fit
 
 pub fit_inputs : (P : List OpenOperand → Type 0) (is : List OpenOperand) (ss : List OpenCut) (a b : Option ℕ) (o : Option Fit) → FitOf is ss a b o → P is → IfSome o (λ f. P f.operands.items)
 fit_inputs P is ss a b None h p = tt

@@ -1,6 +1,6 @@
 -- What no order of operands costs less than.
-use Rattle.std.proofs.Common.{◌≡◌, ℕ, zero, suc, ◌+◌, List, [], ◌∷◌, Option, Some, arith, refl, sym, ◌∙◌, subst}
-use Rattle.std.specs.Prelude.{bit_and, bit_or, slice_get, remove, ◌^◌}
+use Rattle.std.proofs.Common.{◌≡◌, ℕ, zero, suc, ◌+◌, List, ◌∷◌, Option, Some, arith, refl, sym, ◌∙◌, subst}
+use Rattle.std.specs.Prelude.{bit_and, bit_or, remove, ◌^◌}
 use Rattle.std.proofs.lemmas.Nat.{and_comm}
 use Rattle.form_model.specs.Plans.{Plan, use_form, Operands, no_operands, operand_then, cost, operands_cost}
 use Rattle.form_model.specs.Covers.{Stock, Operand}

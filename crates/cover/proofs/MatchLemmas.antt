@@ -6,8 +6,6 @@ use Rattle.std.proofs.lemmas.Bool.{cases_eq, cases_lt}
 use Rattle.std.proofs.lemmas.Bool.Decides.{nat_tests}
 use Rattle.std.proofs.lemmas.List.{length-map}
 use Rattle.std.proofs.lemmas.Option.{slice_get_within}
-use Rattle.std.specs.declared.vec.Vec.{Vec}
-use Rattle.std.specs.declared.alloc.Global.{Global}
 use Rattle.net_model.specs.Terms.{Term, size_of}
 use Rattle.form_model.specs.Rules.{Rule, rule_of, kind_of, Destination}
 use Rattle.form_model.specs.Matches.{Site, operand, cut, Found, matched, taken}
@@ -22,14 +20,12 @@ use Rattle.cover.specs.declared.rows.Offer.{Offer}
 use Rattle.cover.specs.declared.rows.Offer.TheVariants.{Nothing, Chains}
 use Rattle.cover.specs.declared.choice.PartCosts.{PartCosts}
 use Rattle.cover.specs.declared.matches.FormMatch.{FormMatch}
-use Rattle.cover.specs.declared.parts.OpenOperand.{OpenOperand}
-use Rattle.cover.specs.declared.parts.OpenCut.{OpenCut}
 use Rattle.cover.specs.Inner.Asks.{takes, rest, start_under, operands_size, terms_size, rank, IsSparing, AreSparing, AreStored}
-use Rattle.cover.specs.Inner.Least.{AtMost, IsLeast, IsLeastOrder, IsLeastCut, IsFloor, summed}
+use Rattle.cover.specs.Inner.Least.{AtMost, IsLeast, IsLeastOrder, IsLeastCut, IsFloor, IsCostBelow, summed}
 use Rattle.cover.specs.Inner.Rows.{Row, entry, entry_destination, row_ask, IsSlot, goal_slot, IsOffer, offer_is}
-use Rattle.cover.specs.Inner.Jobs.{stock_of, nodes_of, open_operands, open_cuts, OperandsAt, CutsAt}
-use Rattle.cover.specs.Inner.Matched.{Takes, IsFormMatch, MatchesForm, with_match, AreFirstMatches}
-use Rattle.cover.specs.Inner.Choice.{NeverBegins, CostsOf, BeginsOne}
+use Rattle.cover.specs.Inner.Jobs.{stock_of, nodes_of, open_operands, open_cuts}
+use Rattle.cover.specs.Inner.Matched.{IsOpened, Takes, IsFormMatch, MatchesForm, with_match, AreFirstMatches}
+use Rattle.cover.specs.Inner.Choice.{NeverBegins, CostsOf, CostsWithin, BeginsOne}
 use Rattle.cover.proofs.SizeLemmas.{picked, rest_small}
 use Rattle.cover.proofs.SharingLemmas.{get_push}
 use Rattle.cover.proofs.LeastLemmas.{some_form, both_at_most}
@@ -67,21 +63,21 @@ start_some (Some p) free q h = (picked (free || nat_lt p 16) (Some p) q h).1
 
 -- ---- one form
 
-pub form_match : (instance : Instance) (form : Form) (k goal : ℕ) (t : Term) (whole : Bool) (size : ℕ) (m : Match) (first second third : List Part) (start : Option ℕ) (ops : Vec OpenOperand Global) (stored : Vec OpenCut Global) → Start instance form k goal t whole m → AreAt (nodes_of instance) m.parts.items → size ≡ size_of t → first ≡ m.parts.items → start ≡ rest size true (sites_of first) → IfSome start (λ q. (u : Term) (w : Bool) → sites_of first ≡ operand q u w ∷ [] → q < 16) → second ≡ m.parts.items → open_operands ops.items ≡ operands_of (sites_of second) → ((nodes : List Term) → AreAt nodes second → OperandsAt nodes ops.items) → third ≡ m.parts.items → open_cuts stored.items ≡ cuts_of (sites_of third) → ((nodes : List Term) → AreAt nodes third → CutsAt nodes stored.items) → IsFormMatch instance t whole (record { form = k; goal = goal; clobbers = form.clobbers; start = start; operands = ops; cuts = stored })
-form_match instance form k goal t whole size m first second third start ops stored s at is e1 st reg e2 eo ao e3 es cuts_at = record {
+pub form_match : (instance : Instance) (form : Form) (k goal : ℕ) (t : Term) (whole : Bool) (size : ℕ) (m : Match) (parts : List Part) (x : FormMatch) → Start instance form k goal t whole m → AreAt (nodes_of instance) m.parts.items → size ≡ size_of t → parts ≡ m.parts.items → IsOpened parts size k goal form.clobbers x → IsFormMatch instance t whole x
+form_match instance form k goal t whole size m parts x s at is e o = record {
   rule = rule_of form;
   found = found_of m;
-  listed = s.listed;
-  clobbers = refl;
-  goes = s.goes;
-  slot = s.slot;
-  takes_it = s.takes_it;
-  start = st ∙ ap (λ n. rest n true (sites_of first)) is ∙ ap (λ l. rest (size_of t) true (sites_of l)) e1;
-  register = subst (λ l. IfSome start (λ q. (u : Term) (w : Bool) → sites_of l ≡ operand q u w ∷ [] → q < 16)) e1 reg;
-  operands = eo ∙ ap (λ l. operands_of (sites_of l)) e2;
-  cuts = es ∙ ap (λ l. cuts_of (sites_of l)) e3;
-  operands_at = ao (nodes_of instance) (subst (AreAt (nodes_of instance)) (sym e2) at);
-  cuts_at = cuts_at (nodes_of instance) (subst (AreAt (nodes_of instance)) (sym e3) at);
+  listed = subst (λ j. slice_get (stock_of instance).rules j ≡ Some (rule_of form)) (sym o.form) s.listed;
+  clobbers = sym o.clobbers;
+  goes = s.goes ∙ ap Some (sym o.goal);
+  slot = subst (IsSlot whole) (sym o.goal) s.slot;
+  takes_it = subst (λ j. takes (stock_of instance) (rule_of form) (row_ask t whole j) ≡ Some (found_of m)) (sym o.goal) s.takes_it;
+  start = o.start ∙ ap (λ n. rest n true (sites_of parts)) is ∙ ap (λ l. rest (size_of t) true (sites_of l)) e;
+  register = subst (λ l. IfSome x.start (λ q. (u : Term) (w : Bool) → sites_of l ≡ operand q u w ∷ [] → q < 16)) e o.register;
+  operands = o.operands ∙ ap (λ l. operands_of (sites_of l)) e;
+  cuts = o.cuts ∙ ap (λ l. cuts_of (sites_of l)) e;
+  operands_at = o.operands_at (nodes_of instance) (subst (AreAt (nodes_of instance)) (sym e) at);
+  cuts_at = o.cuts_at (nodes_of instance) (subst (AreAt (nodes_of instance)) (sym e) at);
 }
 
 -- the entry to which a form goes that takes the tree
@@ -191,7 +187,7 @@ module _ (instance : Instance) (avoid : ℕ) (t : Term) (whole : Bool) (m : Form
       let z = rest_small whole t avoid f.found.sites small (rest_is o is ∙ none) in
       (subst (λ l. operands_size l < size_of t) (sym f.operands) z.0, subst (λ l. terms_size l < size_of t + rank avoid) (sym f.cuts) z.1)
 
-  pub offer_costs : (row : Row) (a b d : Option ℕ) (offer : Offer) → bit_and m.clobbers avoid ≡ 0 → IsLeastOrder (stock_of instance) avoid (open_operands m.operands.items) a → IsLeastCut (stock_of instance) (open_cuts m.cuts.items) b → d ≡ summed (summed (Some 1) a) b → offer ≡ offer_is m.goal d → IsOffer (stock_of instance) avoid t whole row m.form offer
+  offer_costs : (row : Row) (a b d : Option ℕ) (offer : Offer) → bit_and m.clobbers avoid ≡ 0 → IsLeastOrder (stock_of instance) avoid (open_operands m.operands.items) a → IsLeastCut (stock_of instance) (open_cuts m.cuts.items) b → d ≡ summed (summed (Some 1) a) b → offer ≡ offer_is m.goal d → IsOffer (stock_of instance) avoid t whole row m.form offer
   offer_costs row a b d offer spared la lb e el =
       let form_least = some_form (stock_of instance) avoid (row_ask t whole m.goal) m.form f.rule f.found a b f.listed (spared_is spared) f.takes_it (subst (λ l. IsLeastOrder (stock_of instance) avoid l a) f.operands la) (subst (λ l. IsLeastCut (stock_of instance) l b) f.cuts lb) in
       subst (IsOffer (stock_of instance) avoid t whole row m.form) (sym (el ∙ ap (offer_is m.goal) e)) (offer_form (stock_of instance) avoid t whole row m.form f.rule m.goal (summed (summed (Some 1) a) b) f.listed f.goes f.slot form_least)
@@ -215,10 +211,16 @@ module _ (instance : Instance) (avoid : ℕ) (t : Term) (whole : Bool) (m : Form
       let p = parts_at ps cs r slot sparing in
       (p.0, both_at_most (summed (Some 1) a) b (1 + operands_cost ps) (cuts_cost cs) (both_at_most (Some 1) a 1 (operands_cost ps) (omega arith) (floor ps p.1)) (lb.least cs p.2))
 
-  pub offer_dear : (row : Row) (a b d : Option ℕ) → IsFloor (stock_of instance) avoid (open_operands m.operands.items) a → IsLeastCut (stock_of instance) (open_cuts m.cuts.items) b → d ≡ summed (summed (Some 1) a) b → ((n : ℕ) → AtMost d n → AtMost (entry row m.goal) n) → IsOffer (stock_of instance) avoid t whole row m.form Nothing
+  offer_dear : (row : Row) (a b d : Option ℕ) → IsFloor (stock_of instance) avoid (open_operands m.operands.items) a → IsLeastCut (stock_of instance) (open_cuts m.cuts.items) b → d ≡ summed (summed (Some 1) a) b → ((n : ℕ) → AtMost d n → AtMost (entry row m.goal) n) → IsOffer (stock_of instance) avoid t whole row m.form Nothing
   offer_dear row a b d floor lb e dear = λ ps cs r slot sparing.
       let h = floor_below a b ps cs r floor lb slot sparing in
       subst (λ j. AtMost (entry row j) (1 + operands_cost ps + cuts_cost cs)) h.0 (dear (1 + operands_cost ps + cuts_cost cs) (subst (λ o. AtMost o (1 + operands_cost ps + cuts_cost cs)) (sym e) h.1))
+
+  pub offer_below : (row : Row) (known o : Option ℕ) (offer : Offer) → bit_and m.clobbers avoid ≡ 0 → known ≡ entry row m.goal → IsCostBelow (stock_of instance) avoid (open_operands m.operands.items) (open_cuts m.cuts.items) known o → offer ≡ offer_is m.goal o → IsOffer (stock_of instance) avoid t whole row m.form offer
+  offer_below row known o offer spared e (inl x) is = offer_costs row x.operands x.cuts o offer spared x.order x.cut x.sum is
+  offer_below row known o offer spared e (inr (none, x)) is =
+      subst (IsOffer (stock_of instance) avoid t whole row m.form) (sym (is ∙ ap (offer_is m.goal) none))
+      (offer_dear row x.operands x.cuts (summed (summed (Some 1) x.operands) x.cuts) x.floor x.cut refl (λ n h. subst (λ k. AtMost k n) e (x.dear n h)))
 
   -- ---- covers of one cost
 
@@ -238,7 +240,7 @@ module _ (instance : Instance) (avoid : ℕ) (t : Term) (whole : Bool) (m : Form
         never (subst (λ c. bit_and c avoid ≡ 0) (ap (λ (r : Rule). r.clobbers) same ∙ f.clobbers) spared)
 
     -- a cover by a form whose floor is above n doesn't cost n
-    pub never_above : (a b d : Option ℕ) → IsFloor (stock_of instance) avoid (open_operands m.operands.items) a → IsLeastCut (stock_of instance) (open_cuts m.cuts.items) b → d ≡ summed (summed (Some 1) a) b → (AtMost d n → ⊥) → NeverBegins (stock_of instance) avoid (row_ask t whole slot) n m.form
+    never_above : (a b d : Option ℕ) → IsFloor (stock_of instance) avoid (open_operands m.operands.items) a → IsLeastCut (stock_of instance) (open_cuts m.cuts.items) b → d ≡ summed (summed (Some 1) a) b → (AtMost d n → ⊥) → NeverBegins (stock_of instance) avoid (row_ask t whole slot) n m.form
     never_above a b d floor lb e above ps cs sparing at =
         let h = floor_below a b ps cs slot floor lb is_slot sparing in
         above (subst (λ o. AtMost o n) (sym e) (subst (AtMost (summed (summed (Some 1) a) b)) at h.1))
@@ -248,7 +250,7 @@ module _ (instance : Instance) (avoid : ℕ) (t : Term) (whole : Bool) (m : Form
     two_of (Some j) None x h = absurd (cc)
     two_of (Some j) (Some k) x h = let e : 1 + j + k ≡ x = cc in (j, k, refl, refl, sym e)
 
-    pub costs_begin : (a b : Option ℕ) (o : Option PartCosts) → m.goal ≡ slot → bit_and m.clobbers avoid ≡ 0 → IsLeastOrder (stock_of instance) avoid (open_operands m.operands.items) a → IsLeastCut (stock_of instance) (open_cuts m.cuts.items) b → CostsOf n a b o → BeginsOne (stock_of instance) avoid (row_ask t whole slot) n m o
+    costs_begin : (a b : Option ℕ) (o : Option PartCosts) → m.goal ≡ slot → bit_and m.clobbers avoid ≡ 0 → IsLeastOrder (stock_of instance) avoid (open_operands m.operands.items) a → IsLeastCut (stock_of instance) (open_cuts m.cuts.items) b → CostsOf n a b o → BeginsOne (stock_of instance) avoid (row_ask t whole slot) n m o
     costs_begin a b None at spared la lb differ =
         let takes' : takes (stock_of instance) f.rule (row_ask t whole slot) ≡ Some f.found = subst (λ j. takes (stock_of instance) f.rule (row_ask t whole j) ≡ Some f.found) at f.takes_it in
         never_by (stock_of instance) avoid (row_ask t whole slot) n m.form (summed (summed (Some 1) a) b) least
@@ -268,6 +270,12 @@ module _ (instance : Instance) (avoid : ℕ) (t : Term) (whole : Bool) (m : Form
       },
       sum,
     )
+
+    pub begins_within : (o : Option PartCosts) → m.goal ≡ slot → bit_and m.clobbers avoid ≡ 0 → CostsWithin (stock_of instance) avoid (open_operands m.operands.items) (open_cuts m.cuts.items) n o → BeginsOne (stock_of instance) avoid (row_ask t whole slot) n m o
+    begins_within o at spared (inl x) = costs_begin x.operands x.cuts o at spared x.order x.cut x.costs
+    begins_within o at spared (inr (none, x)) =
+        subst (BeginsOne (stock_of instance) avoid (row_ask t whole slot) n m) (sym none)
+        (never_above x.operands x.cuts (summed (summed (Some 1) x.operands) x.cuts) x.floor x.cut refl x.above)
 
 -- ---- the first match that begins a cover of one cost
 

@@ -1,5 +1,5 @@
 -- What one form gives for a row, and the row of all forms.
-use Rattle.std.proofs.Common.{◌≡◌, ◌≢◌, ℕ, zero, suc, ◌+◌, ◌<◌, ◌≤◌, List, [], ◌∷◌, ◌++◌, length, refl, sym, ap, ◌∙◌, subst, Option, Some, None, Bool, true, false, arith, nat_lt, ◌⊎◌, inl, inr}
+use Rattle.std.proofs.Common.{◌≡◌, ◌≢◌, ℕ, zero, suc, ◌+◌, ◌<◌, ◌≤◌, List, [], ◌∷◌, ◌++◌, length, replicate, refl, sym, ap, ◌∙◌, subst, Option, Some, None, Bool, true, false, arith, nat_lt, ◌⊎◌, inl, inr}
 use Rattle.std.specs.Prelude.{slice_get, bit_and, if◌then◌else◌, ◌==◌}
 use Rattle.std.proofs.lemmas.Bool.{cases_eq}
 use Rattle.std.proofs.lemmas.Bool.Decides.{nat_tests}
@@ -16,11 +16,17 @@ use Rattle.cover.specs.Inner.Matched.{Takes}
 use Rattle.cover.specs.declared.rows.Offer.TheVariants.{Nothing, Chains, Reaches}
 use Rattle.cover.specs.Inner.Asks.{operand_ask, cut_ask, takes, IsSparing, AreSparing, AreStored, rest}
 use Rattle.cover.specs.Inner.Least.{AtMost, Reached, IsLeastForm}
-use Rattle.cover.specs.Inner.Rows.{Row, entry, entry_destination, row_ask, IsSlot, goal_slot, IsLeastRow, IsLift, AreLifts, AreWithin, IsWithin, IsMet, IsTried, IsOffer, offer_is, Noted, IsClosed}
+use Rattle.cover.specs.Inner.Rows.{Row, entry, IsBlank, entry_destination, row_ask, IsSlot, goal_slot, IsLeastRow, IsLift, AreLifts, AreWithin, IsWithin, IsMet, IsTried, IsOffer, offer_is, Noted, IsClosed}
 use Rattle.cover.proofs.SizeLemmas.{Small, into_small, temp_small, rest_some}
 use Rattle.cover.proofs.LeastLemmas.{at_most_more, some_of}
 
 -- ---- entries of a row
+
+pub blank_row : (n : ℕ) → IsBlank (replicate n None)
+blank_row zero zero = refl
+blank_row zero (suc r) = refl
+blank_row (suc n) zero = refl
+blank_row (suc n) (suc r) = blank_row n r
 
 pub slot_reg : (r : ℕ) → r < 16 → entry_destination r ≡ into r
 slot_reg r lt = let e : nat_lt r 16 ≡ true = grind (arith, nat_tests) in ap (λ b. if b then into r else temporary) e

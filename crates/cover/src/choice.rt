@@ -1,7 +1,7 @@
 //! The first cover of least cost: its form, then the order of its operands, then their covers, and
 //! those of its cuts.
 
-ghost use Rattle.std.specs.Prelude.{◌≡◌, ℕ, ◌+◌, ◌-◌, ◌<◌, ◌≤◌, ◌≢◌, Some, IfOk, OnOk, IfSome, IfNone, length, slice_get};
+ghost use Rattle.std.specs.Prelude.{◌≡◌, ℕ, ◌+◌, ◌-◌, ◌<◌, ◌≤◌, ◌≢◌, Some, IfOk, OnOk, IfSome, IfNone, length, remove, slice_get};
 ghost use Rattle.std.specs.Bool.{OnTrue};
 ghost use Rattle.form_model.specs.Plans.{operand_then, cut_then, plan_of, operands_plan, cuts_plan};
 ghost use Rattle.cover.specs.Inner.Asks.{rest};
@@ -9,13 +9,13 @@ ghost use Rattle.cover.specs.Inner.Least.{AtMost, IsLeast, IsLeastOrder, IsLeast
 ghost use Rattle.form_model.specs.Trees.{tree_term};
 ghost use Rattle.cover.specs.Inner.Rows.{IsSlot, row_ask};
 ghost use Rattle.cover.specs.Inner.Matched.{AreMatches};
-ghost use Rattle.cover.specs.Inner.Choice.{ask_of, matches_ask, StandsWant, Begins, BeginsAt, CostsOf, Starts, StartsCut, IsFirst, IsFirstOrder, IsFirstCuts};
+ghost use Rattle.cover.specs.Inner.Choice.{ask_of, matches_ask, StandsWant, Begins, BeginsAt, CostsOf, CostsWithin, Starts, StartsCut, IsFirst, IsFirstOrder, IsFirstFrom, IsFirstCuts, AreFirstParts};
 ghost use Rattle.cover.specs.Inner.Jobs.{stock_of, nodes_of, open_operands, open_cuts, OperandsAt, CutsAt};
 ghost use Rattle.cover.specs.Inner.Tables.{AreRight};
 
 use crate::costs::{form_cost, plus};
 use crate::fits::{Fit, Want, cost_of, fit_at};
-use crate::least::{cuts_cost, floor_of, least, orders};
+use crate::least::{cuts_cost, floor_of, least, operand_cost, orders, orders_after};
 use crate::matches::Matches;
 use crate::parts::{OpenCut, OpenOperand, put_reg, register_of, without};
 use crate::table::{CostTable, Instance, matches_at};
@@ -86,21 +86,8 @@ fn starts<'a>(
     ensures starts { IfOk result (λ o. Starts (stock_of instance.now) avoid (open_operands ops.now) n i o) }
     ensures right { OnOk result (AreRight instance.now table.new) }
 {
-    let first = ops[i];
-    let slot = register_of(first.id)?;
-    let m = least(
-        alloc,
-        instance,
-        table,
-        first.tree,
-        first.at,
-        first.whole,
-        slot,
-        avoid,
-    )?;
-    let rest = without(alloc, ops, i)?;
-    let later = put_reg(avoid, first.id)?;
-    let others = orders(alloc, instance, table, &rest, later)?;
+    let m = operand_cost(alloc, instance, table, ops[i], avoid)?;
+    let others = orders_after(alloc, instance, table, ops, avoid, i)?;
     Ok(if_sum(n, m, others))
 }
 
@@ -143,20 +130,20 @@ pub(crate) fn choose<'a>(
 {
     for k in 0..instance.forms.len() {
         if let Some(fit) = begins(alloc, instance, table, want, avoid, n, k)? {
-            let operands = choose_order(
+            let costs = PartCosts {
+                operands: fit.operands_cost,
+                cuts: fit.cuts_cost,
+            };
+            return choose_parts(
                 alloc,
                 instance,
                 table,
+                k,
                 &fit.operands,
+                &fit.cuts,
                 avoid,
-                fit.operands_cost,
-            )?;
-            let cuts = choose_cuts(alloc, instance, table, &fit.cuts, fit.cuts_cost)?;
-            return Ok(Cover {
-                form: k,
-                operands,
-                cuts,
-            });
+                costs,
+            );
         }
     }
     unreachable!()
@@ -212,12 +199,40 @@ fn begins_at<'a>(
     if found.clobbers & avoid != 0 {
         return Ok(None);
     }
-    let b = cuts_cost(alloc, instance, table, &found.cuts)?;
-    let floor = floor_of(alloc, instance, table, &found.operands, avoid)?;
+    costs_within(
+        alloc,
+        instance,
+        table,
+        &found.operands,
+        &found.cuts,
+        avoid,
+        n,
+    )
+}
+
+// The least costs of a match's operands and of its cuts, where its form makes `n` with them.
+fn costs_within<'a>(
+    alloc: Global,
+    instance: &Instance<'a>,
+    table: &mut CostTable<'a>,
+    operands: &[OpenOperand<'a>],
+    cuts: &[OpenCut<'a>],
+    avoid: RegSet,
+    n: u64,
+) -> Result<Option<PartCosts>, NoMemory>
+    requires at { OperandsAt (nodes_of instance.now) operands.now }
+    requires cuts_at { CutsAt (nodes_of instance.now) cuts.now }
+    requires right { AreRight instance.now table.old }
+    ensures costs { IfOk result (λ o.
+        CostsWithin (stock_of instance.now) avoid (open_operands operands.now) (open_cuts cuts.now) n o) }
+    ensures right { OnOk result (AreRight instance.now table.new) }
+{
+    let b = cuts_cost(alloc, instance, table, cuts)?;
+    let floor = floor_of(alloc, instance, table, operands, avoid)?;
     if is_above(form_cost(floor, b)?, n) {
         return Ok(None);
     }
-    let a = orders(alloc, instance, table, &found.operands, avoid)?;
+    let a = orders(alloc, instance, table, operands, avoid)?;
     costs_of(n, a, b)
 }
 
@@ -242,8 +257,7 @@ fn choose_entry<'a>(
     ensures right { OnOk result (AreRight instance.now table.new) }
 {
     let matches = matches_at(alloc, instance, table, tree, number, whole)?;
-    let cover = choose_among(alloc, instance, table, &matches, slot, avoid, n)?;
-    Ok(cover)
+    choose_among(alloc, instance, table, &matches, slot, avoid, n)
 }
 
 // The same among the covers that begin with one of the matches of the tree.
@@ -267,23 +281,50 @@ fn choose_among<'a>(
     for i in 0..matches.list.len() {
         if let Some(costs) = begins_at(alloc, instance, table, matches, slot, avoid, n, i)? {
             let found = &matches.list[i];
-            let operands = choose_order(
+            return choose_parts(
                 alloc,
                 instance,
                 table,
+                found.form,
                 &found.operands,
+                &found.cuts,
                 avoid,
-                costs.operands,
-            )?;
-            let cuts = choose_cuts(alloc, instance, table, &found.cuts, costs.cuts)?;
-            return Ok(Cover {
-                form: found.form,
-                operands,
-                cuts,
-            });
+                costs,
+            );
         }
     }
     unreachable!()
+}
+
+// The cover that begins with a form and goes on with the first covers of these least costs of the
+// parts of its match.
+#[cycle(choosing)]
+fn choose_parts<'a>(
+    alloc: Global,
+    instance: &Instance<'a>,
+    table: &mut CostTable<'a>,
+    form: usize,
+    operands: &[OpenOperand<'a>],
+    cuts: &[OpenCut<'a>],
+    avoid: RegSet,
+    costs: PartCosts,
+) -> Result<Cover, NoMemory>
+    requires order { IsLeastOrder (stock_of instance.now) avoid (open_operands operands.now) (Some costs.operands) }
+    requires cut { IsLeastCut (stock_of instance.now) (open_cuts cuts.now) (Some costs.cuts) }
+    requires at { OperandsAt (nodes_of instance.now) operands.now }
+    requires cuts_at { CutsAt (nodes_of instance.now) cuts.now }
+    requires right { AreRight instance.now table.old }
+    ensures first { IfOk result (λ c.
+        AreFirstParts (stock_of instance.now) avoid (open_operands operands.now) (open_cuts cuts.now) form c) }
+    ensures right { OnOk result (AreRight instance.now table.new) }
+{
+    let operands = choose_order(alloc, instance, table, operands, avoid, costs.operands)?;
+    let cuts = choose_cuts(alloc, instance, table, cuts, costs.cuts)?;
+    Ok(Cover {
+        form,
+        operands,
+        cuts,
+    })
 }
 
 // The covers of operands in their order, from that of the first, which stands at a place among
@@ -334,26 +375,70 @@ fn choose_order<'a>(
     }
     for i in 0..ops.len() {
         if let Some(m) = starts(alloc, instance, table, ops, avoid, n, i)? {
-            let first = ops[i];
-            let slot = register_of(first.id)?;
-            let here = choose_entry(
-                alloc,
-                instance,
-                table,
-                first.tree,
-                first.at,
-                first.whole,
-                slot,
-                avoid,
-                m,
-            )?;
-            let rest = without(alloc, ops, i)?;
-            let later = put_reg(avoid, first.id)?;
-            let others = choose_order(alloc, instance, table, &rest, later, n - m)?;
-            return operand_first(alloc, i, here, others);
+            return order_from(alloc, instance, table, ops, avoid, n, i, m);
         }
     }
     unreachable!()
+}
+
+// The first order of the least cost `n` that begins with the operand at `i`, which costs `m`.
+#[cycle(choosing)]
+fn order_from<'a>(
+    alloc: Global,
+    instance: &Instance<'a>,
+    table: &mut CostTable<'a>,
+    ops: &[OpenOperand<'a>],
+    avoid: RegSet,
+    n: u64,
+    i: usize,
+    m: u64,
+) -> Result<CoverOperands, NoMemory>
+    requires place { i < length ops.now }
+    requires starts { Starts (stock_of instance.now) avoid (open_operands ops.now) n i (Some m) }
+    requires at { OperandsAt (nodes_of instance.now) ops.now }
+    requires right { AreRight instance.now table.old }
+    ensures first { IfOk result (λ c. IsFirstFrom (stock_of instance.now) avoid (open_operands ops.now) i (operands_plan c)) }
+    ensures right { OnOk result (AreRight instance.now table.new) }
+{
+    let first = ops[i];
+    let slot = register_of(first.id)?;
+    let later = put_reg(avoid, first.id)?;
+    let here = choose_entry(
+        alloc,
+        instance,
+        table,
+        first.tree,
+        first.at,
+        first.whole,
+        slot,
+        avoid,
+        m,
+    )?;
+    let others = order_without(alloc, instance, table, ops, later, n - m, i)?;
+    operand_first(alloc, i, here, others)
+}
+
+// The first order of the least cost `n` of the operands but the one at `i`.
+#[cycle(choosing)]
+fn order_without<'a>(
+    alloc: Global,
+    instance: &Instance<'a>,
+    table: &mut CostTable<'a>,
+    ops: &[OpenOperand<'a>],
+    avoid: RegSet,
+    n: u64,
+    i: usize,
+) -> Result<CoverOperands, NoMemory>
+    requires place { i < length ops.now }
+    requires least { IsLeastOrder (stock_of instance.now) avoid (remove (open_operands ops.now) i) (Some n) }
+    requires at { OperandsAt (nodes_of instance.now) ops.now }
+    requires right { AreRight instance.now table.old }
+    ensures first { IfOk result (λ c.
+        IsFirstOrder (stock_of instance.now) avoid (remove (open_operands ops.now) i) (operands_plan c)) }
+    ensures right { OnOk result (AreRight instance.now table.new) }
+{
+    let rest = without(alloc, ops, i)?;
+    choose_order(alloc, instance, table, &rest, avoid, n)
 }
 
 // The first covers of the least cost `n` of the cuts.

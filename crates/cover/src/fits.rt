@@ -1,8 +1,10 @@
 //! The forms that begin a cover of what is asked for, and the least cost of its covers.
 
 ghost use Rattle.std.specs.Prelude.{◌≡◌, ◌+◌, ◌<◌, IfOk, OnOk, IfSome, length};
+ghost use Rattle.form_model.specs.Covers.{operands_of, cuts_of};
+ghost use Rattle.tree_grammar.specs.Parts.{sites_of, AreAt};
 ghost use Rattle.cover.specs.Inner.Least.{IsLeast, IsLeastForm};
-ghost use Rattle.cover.specs.Inner.Choice.{ask_of, StandsWant, IsFit, FitOf};
+ghost use Rattle.cover.specs.Inner.Choice.{ask_of, StandsWant, IsFit, FitOf, FitsParts};
 ghost use Rattle.cover.specs.Inner.Jobs.{stock_of, nodes_of, OperandsAt, CutsAt};
 ghost use Rattle.cover.specs.Inner.Tables.{AreRight};
 
@@ -13,7 +15,7 @@ use crate::table::{CostTable, Instance};
 use form_model::{RegSet, Tree};
 use rec_bits::NoMemory;
 use std::alloc::Global;
-use tree_grammar::{Destination, match_at};
+use tree_grammar::{Destination, Part, match_at};
 
 /// What is asked for: a tree that goes to a destination, with the number at which its trees begin.
 #[derive(Clone, Copy)]
@@ -66,8 +68,27 @@ pub(crate) fn fit_at<'a>(
     else {
         return Ok(None);
     };
-    let operands = operands_in(alloc, &found.parts)?;
-    let cuts = cuts_in(alloc, &found.parts)?;
+    fit_parts(alloc, instance, table, &found.parts, avoid)
+}
+
+// The parts with their least costs, where they have covers.
+fn fit_parts<'a>(
+    alloc: Global,
+    instance: &Instance<'a>,
+    table: &mut CostTable<'a>,
+    parts: &[Part<'a>],
+    avoid: RegSet,
+) -> Result<Option<Fit<'a>>, NoMemory>
+    requires at { AreAt (nodes_of instance.now) parts.now }
+    requires right { AreRight instance.now table.old }
+    ensures fit { IfOk result (λ o.
+        FitsParts (stock_of instance.now) avoid (operands_of (sites_of parts.now)) (cuts_of (sites_of parts.now)) o) }
+    ensures at { IfOk result (λ o. IfSome o (λ f. OperandsAt (nodes_of instance.now) f.operands.items)) }
+    ensures cuts_at { IfOk result (λ o. IfSome o (λ f. CutsAt (nodes_of instance.now) f.cuts.items)) }
+    ensures right { OnOk result (AreRight instance.now table.new) }
+{
+    let operands = operands_in(alloc, parts)?;
+    let cuts = cuts_in(alloc, parts)?;
     let a = orders(alloc, instance, table, &operands, avoid)?;
     let b = cuts_cost(alloc, instance, table, &cuts)?;
     Ok(fit_of(operands, cuts, a, b))

@@ -11,11 +11,12 @@ ghost use Rattle.cover.specs.Best.{stock_with, choice_of};
 ghost use Rattle.cover.specs.Inner.Best.{root_ask, IsTreeCover, better_of, IsBest};
 ghost use Rattle.cover.specs.Jobs.{trees_of};
 ghost use Rattle.cover.specs.Inner.Jobs.{stock_of};
+ghost use Rattle.cover.specs.Inner.Tables.{AreRight};
 
 use crate::choice::choose;
 use crate::covers::{CoverFault, JobCover, TreeCover};
 use crate::fits::{Want, least_of};
-use crate::table::{Instance, new_table};
+use crate::table::{CostTable, Instance, new_table};
 use form_model::{Aim, Form, Forms, Job};
 use rec_bits::NoMemory;
 use std::alloc::Global;
@@ -27,16 +28,29 @@ fn cover_tree(alloc: Global, instance: &Instance) -> Result<Option<TreeCover>, N
         IsTreeCover (stock_of instance.now) (root_ask (destination_at instance.now.destination) (tree_term instance.now.tree.now)) o) }
 {
     let mut table = new_table(alloc, instance)?;
+    cover_by(alloc, instance, &mut table)
+}
+
+// The same with a table of what was found.
+fn cover_by<'a>(
+    alloc: Global,
+    instance: &Instance<'a>,
+    table: &mut CostTable<'a>,
+) -> Result<Option<TreeCover>, NoMemory>
+    requires right { AreRight instance.now table.old }
+    ensures { IfOk result (λ o.
+        IsTreeCover (stock_of instance.now) (root_ask (destination_at instance.now.destination) (tree_term instance.now.tree.now)) o) }
+{
     let want = Want {
         destination: instance.destination,
         tree: instance.tree,
         whole: true,
         at: 0,
     };
-    let Some(n) = least_of(alloc, instance, &mut table, &want)? else {
+    let Some(n) = least_of(alloc, instance, table, &want)? else {
         return Ok(None);
     };
-    let cover = choose(alloc, instance, &mut table, &want, 0, n)?;
+    let cover = choose(alloc, instance, table, &want, 0, n)?;
     Ok(Some(TreeCover { cover, cost: n }))
 }
 

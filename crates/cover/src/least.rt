@@ -3,9 +3,10 @@
 
 ghost use Rattle.std.specs.Prelude.{◌≡◌, ◌<◌, Some, IfOk, OnOk, vec_len, length, slice_get};
 ghost use Rattle.form_model.specs.Trees.{tree_term};
-ghost use Rattle.cover.specs.Inner.Least.{IsLeast, IsLeastOrder, IsLeastFrom, IsLeastCut, IsFloor};
-ghost use Rattle.cover.specs.Inner.Rows.{row_ask, IsSlot, IsLeastRow};
-ghost use Rattle.cover.specs.Inner.Jobs.{stock_of, nodes_of, open_operands, open_cuts, OperandsAt, CutsAt};
+ghost use Rattle.cover.specs.Inner.Asks.{operand_ask};
+ghost use Rattle.cover.specs.Inner.Least.{IsLeast, IsLeastOrder, IsLeastAfter, IsLeastFrom, IsLeastCut, IsFloor, IsCostBelow};
+ghost use Rattle.cover.specs.Inner.Rows.{row_ask, IsSlot, IsBlank, IsLeastRow};
+ghost use Rattle.cover.specs.Inner.Jobs.{stock_of, nodes_of, open_operand, open_operands, open_cuts, OperandsAt, CutsAt};
 ghost use Rattle.cover.specs.Inner.Matched.{AreMatches, IsOfferAt};
 ghost use Rattle.cover.specs.Inner.Tables.{AreRight};
 
@@ -53,6 +54,33 @@ pub(crate) fn least<'a>(
     Ok(cost)
 }
 
+// The least cost of the covers of an operand.
+#[cycle(covering)]
+pub(crate) fn operand_cost<'a>(
+    alloc: Global,
+    instance: &Instance<'a>,
+    table: &mut CostTable<'a>,
+    operand: OpenOperand<'a>,
+    avoid: RegSet,
+) -> Result<Option<u64>, NoMemory>
+    requires number { slice_get (nodes_of instance.now) operand.at ≡ Some (tree_term operand.tree.now) }
+    requires right { AreRight instance.now table.old }
+    ensures least { IfOk result (λ o. IsLeast (stock_of instance.now) avoid (operand_ask (open_operand operand.entry)) o) }
+    ensures right { OnOk result (AreRight instance.now table.new) }
+{
+    let slot = register_of(operand.id)?;
+    least(
+        alloc,
+        instance,
+        table,
+        operand.tree,
+        operand.at,
+        operand.whole,
+        slot,
+        avoid,
+    )
+}
+
 // The row of least costs of a tree.
 #[cycle(covering)]
 fn least_row<'a>(
@@ -71,8 +99,7 @@ fn least_row<'a>(
     ensures right { OnOk result (AreRight instance.now table.new) }
 {
     let matches = matches_at(alloc, instance, table, tree, number, whole)?;
-    let row = row_of(alloc, instance, table, &matches, avoid)?;
-    Ok(row)
+    row_of(alloc, instance, table, &matches, avoid)
 }
 
 // The row of the tree of the matches: what each of them gives, closed under the chain rules.
@@ -92,13 +119,36 @@ fn row_of<'a>(
     ensures right { OnOk result (AreRight instance.now table.new) }
 {
     let mut row = vec![in alloc; None; 17]?;
+    fill(alloc, instance, table, matches, avoid, &mut row)?;
+    Ok(row)
+}
+
+// Lowers the entries of a row of the tree of the matches, which has none yet, to the least costs.
+#[cycle(covering)]
+fn fill<'a>(
+    alloc: Global,
+    instance: &Instance<'a>,
+    table: &mut CostTable<'a>,
+    matches: &Matches<'a>,
+    avoid: RegSet,
+    row: &mut Vec<Option<u64>>,
+) -> Result<(), NoMemory>
+    requires matches { AreMatches instance.now matches.now }
+    requires right { AreRight instance.now table.old }
+    requires len { vec_len row.old ≡ 17 }
+    requires blank { IsBlank row.old.items }
+    ensures len { vec_len row.new ≡ 17 }
+    ensures least { OnOk result
+        (IsLeastRow (stock_of instance.now) avoid (tree_term matches.now.tree.now) matches.now.whole row.new.items) }
+    ensures right { OnOk result (AreRight instance.now table.new) }
+{
     let mut chains = SmallVec::new(alloc);
     for i in 0..matches.list.len() {
-        let offer = offer_at(alloc, instance, table, matches, avoid, &row, i)?;
-        note(offer, &mut chains, &mut row)?;
+        let offer = offer_at(alloc, instance, table, matches, avoid, row, i)?;
+        note(offer, &mut chains, row)?;
     }
-    close(&chains, &mut row)?;
-    Ok(row)
+    close(&chains, row)?;
+    Ok(())
 }
 
 // What the match at `i` gives for the row of a tree: nothing where it can't make its entry less.
@@ -129,13 +179,45 @@ fn offer_at<'a>(
             goal: found.goal,
         }));
     }
-    let b = cuts_cost(alloc, instance, table, &found.cuts)?;
-    let floor = floor_of(alloc, instance, table, &found.operands, avoid)?;
-    if is_as_dear(form_cost(floor, b)?, known_cost(row, found.goal)) {
-        return Ok(Offer::Nothing);
+    let known = known_cost(row, found.goal);
+    let cost = cost_below(
+        alloc,
+        instance,
+        table,
+        &found.operands,
+        &found.cuts,
+        avoid,
+        known,
+    )?;
+    Ok(offer_of(found.goal, cost))
+}
+
+// The least cost of the covers that begin with a match with these parts, or nothing where it isn't
+// less than the cost that is known.
+#[cycle(covering)]
+fn cost_below<'a>(
+    alloc: Global,
+    instance: &Instance<'a>,
+    table: &mut CostTable<'a>,
+    operands: &[OpenOperand<'a>],
+    cuts: &[OpenCut<'a>],
+    avoid: RegSet,
+    known: Option<u64>,
+) -> Result<Option<u64>, NoMemory>
+    requires at { OperandsAt (nodes_of instance.now) operands.now }
+    requires cuts_at { CutsAt (nodes_of instance.now) cuts.now }
+    requires right { AreRight instance.now table.old }
+    ensures least { IfOk result (λ o.
+        IsCostBelow (stock_of instance.now) avoid (open_operands operands.now) (open_cuts cuts.now) known o) }
+    ensures right { OnOk result (AreRight instance.now table.new) }
+{
+    let b = cuts_cost(alloc, instance, table, cuts)?;
+    let floor = floor_of(alloc, instance, table, operands, avoid)?;
+    if is_as_dear(form_cost(floor, b)?, known) {
+        return Ok(None);
     }
-    let a = orders(alloc, instance, table, &found.operands, avoid)?;
-    Ok(offer_of(found.goal, form_cost(a, b)?))
+    let a = orders(alloc, instance, table, operands, avoid)?;
+    form_cost(a, b)
 }
 
 // What no order of the operands costs less than: the sum of their least costs, where none has to
@@ -156,18 +238,7 @@ pub(crate) fn floor_of<'a>(
     if ops.is_empty() {
         return Ok(Some(0));
     }
-    let first = ops[0];
-    let slot = register_of(first.id)?;
-    let m = least(
-        alloc,
-        instance,
-        table,
-        first.tree,
-        first.at,
-        first.whole,
-        slot,
-        avoid,
-    )?;
+    let m = operand_cost(alloc, instance, table, ops[0], avoid)?;
     let n = floor_of(alloc, instance, table, &ops[1..], avoid)?;
     sum_of(m, n)
 }
@@ -214,28 +285,36 @@ fn orders_from<'a>(
     ensures least { IfOk result (λ o. IsLeastFrom (stock_of instance.now) avoid (open_operands ops.now) i o) }
     ensures right { OnOk result (AreRight instance.now table.new) }
 {
-    let first = ops[i];
-    let slot = register_of(first.id)?;
-    let Some(m) = least(
-        alloc,
-        instance,
-        table,
-        first.tree,
-        first.at,
-        first.whole,
-        slot,
-        avoid,
-    )?
-    else {
+    let Some(m) = operand_cost(alloc, instance, table, ops[i], avoid)? else {
         return Ok(None);
     };
     if ops.len() == 1 {
         return Ok(Some(m));
     }
-    let rest = without(alloc, ops, i)?;
-    let later = put_reg(avoid, first.id)?;
-    let n = orders(alloc, instance, table, &rest, later)?;
+    let n = orders_after(alloc, instance, table, ops, avoid, i)?;
     sum_of(Some(m), n)
+}
+
+// The least cost of the operands but the one at `i`, whose register they have to spare.
+#[cycle(covering)]
+pub(crate) fn orders_after<'a>(
+    alloc: Global,
+    instance: &Instance<'a>,
+    table: &mut CostTable<'a>,
+    ops: &[OpenOperand<'a>],
+    avoid: RegSet,
+    i: usize,
+) -> Result<Option<u64>, NoMemory>
+    requires place { i < length ops.now }
+    requires at { OperandsAt (nodes_of instance.now) ops.now }
+    requires right { AreRight instance.now table.old }
+    ensures least { IfOk result (λ o. IsLeastAfter (stock_of instance.now) avoid (open_operands ops.now) i o) }
+    ensures right { OnOk result (AreRight instance.now table.new) }
+{
+    let first = ops[i];
+    let later = put_reg(avoid, first.id)?;
+    let rest = without(alloc, ops, i)?;
+    orders(alloc, instance, table, &rest, later)
 }
 
 // The least cost of the cuts.

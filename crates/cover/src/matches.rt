@@ -7,7 +7,7 @@ ghost use Rattle.form_model.specs.Matches.{Found, bin_match, matched, un_match};
 ghost use Rattle.form_model.specs.Trees.{tree_term};
 ghost use Rattle.cover.specs.Inner.Asks.{start_under};
 ghost use Rattle.cover.specs.Inner.Jobs.{nodes_of};
-ghost use Rattle.cover.specs.Inner.Matched.{AreMatches, MatchesForm, with_match};
+ghost use Rattle.cover.specs.Inner.Matched.{AddsMatch, AreMatches, IsOpened, MatchesForm};
 
 use crate::parts::{OpenCut, OpenOperand, cuts_in, operands_in, rest_of};
 use crate::rows::{destination_of_entry, goal_of};
@@ -16,7 +16,7 @@ use form_model::{RegSet, Tree};
 use net_model::Expr;
 use rec_bits::{NoMemory, Op1, Op2};
 use std::alloc::Global;
-use tree_grammar::{match_at, tree_size};
+use tree_grammar::{Part, match_at, tree_size};
 
 /// A form that matches a tree for an entry of the tree's row, with what its match leaves open.
 #[derive(Drop)]
@@ -120,27 +120,51 @@ fn match_form<'a>(
     else {
         return Ok(None);
     };
-    let start = rest_of(&found.parts, size, true)?;
-    let operands = operands_in(alloc, &found.parts)?;
-    let cuts = cuts_in(alloc, &found.parts)?;
-    Ok(Some(FormMatch {
-        form: k,
+    let opened = open_match(alloc, &found.parts, size, k, goal, form.clobbers)?;
+    Ok(Some(opened))
+}
+
+// The match of a form that leaves these parts open.
+fn open_match<'a>(
+    alloc: Global,
+    parts: &[Part<'a>],
+    size: u64,
+    form: usize,
+    goal: u8,
+    clobbers: RegSet,
+) -> Result<FormMatch<'a>, NoMemory>
+    ensures { IfOk result (λ m. IsOpened parts.now size form goal clobbers m) }
+{
+    let start = rest_of(parts, size, true)?;
+    let operands = operands_in(alloc, parts)?;
+    let cuts = cuts_in(alloc, parts)?;
+    Ok(FormMatch {
+        form,
         goal,
-        clobbers: form.clobbers,
+        clobbers,
         start,
         operands,
         cuts,
-    }))
+    })
 }
 
-// Adds a match, if there is one.
+// Adds the match of the form at `k`, if it matches the tree.
 fn put_match<'a>(
+    alloc: Global,
+    instance: &Instance<'a>,
+    tree: &'a Tree,
+    number: u64,
+    size: u64,
+    whole: bool,
+    k: usize,
     list: &mut Vec<FormMatch<'a>>,
-    found: Option<FormMatch<'a>>,
 ) -> Result<(), NoMemory>
-    ensures { OnOk result (list.new.items ≡ with_match list.old.items found.entry) }
+    requires form { k < length instance.now.forms.now }
+    requires size { size ≡ size_of (tree_term tree.now) }
+    requires number { slice_get (nodes_of instance.now) number ≡ Some (tree_term tree.now) }
+    ensures { OnOk result (AddsMatch instance.now (tree_term tree.now) whole k list.old.items list.new.items) }
 {
-    let Some(found) = found else {
+    let Some(found) = match_form(alloc, instance, tree, number, size, whole, k)? else {
         return Ok(());
     };
     list.push(found)?;
@@ -163,8 +187,7 @@ pub(crate) fn matches_of<'a>(
     let mut list = Vec::new(alloc);
     let size = tree_size(tree)?;
     for k in 0..instance.forms.len() {
-        let found = match_form(alloc, instance, tree, number, size, whole, k)?;
-        put_match(&mut list, found)?;
+        put_match(alloc, instance, tree, number, size, whole, k, &mut list)?;
     }
     Ok(Matches { tree, whole, list })
 }

@@ -116,12 +116,8 @@ pub(crate) fn without<'a>(
     ensures { IfOk result (λ rest. rest.items ≡ remove ops.now i) }
 {
     let mut rest = Vec::new(alloc);
-    for o in &ops[..i] {
-        rest.push(*o)?;
-    }
-    for o in &ops[i + 1..] {
-        rest.push(*o)?;
-    }
+    rest.extend_from_slice(&ops[..i])?;
+    rest.extend_from_slice(&ops[i + 1..])?;
     Ok(rest)
 }
 

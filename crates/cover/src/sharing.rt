@@ -182,6 +182,17 @@ fn share_address(sharing: &mut Sharing, destination: Destination) -> Result<(), 
     }
 }
 
+// Finds the equal ones among all subtrees, of which those of the tree have their numbers from `at`
+// on.
+fn share_all(sharing: &mut Sharing, instance: &Instance, at: u64) -> Result<(), NoMemory>
+    requires { at ≡ value_at (destination_at instance.now.destination) 0 }
+    ensures { OnOk result (Shares (nodes_of instance.now) sharing.old → Shares (nodes_of instance.now) sharing.new) }
+{
+    share_address(sharing, instance.destination)?;
+    share(sharing, instance.tree, at)?;
+    Ok(())
+}
+
 /// For the number of each subtree that of an equal one, which equal subtrees have in common.
 pub(crate) fn first_numbers(alloc: Global, instance: &Instance) -> Result<Vec<u64>, NoMemory>
     ensures { IfOk result (λ firsts. AreFirsts (nodes_of instance.now) firsts.items) }
@@ -192,8 +203,7 @@ pub(crate) fn first_numbers(alloc: Global, instance: &Instance) -> Result<Vec<u6
         firsts: own_numbers(alloc, count)?,
         roots: IndexMap::new(alloc),
     };
-    share_address(&mut sharing, instance.destination)?;
-    share(&mut sharing, instance.tree, at)?;
+    share_all(&mut sharing, instance, at)?;
     Ok(sharing.firsts)
 }
 

@@ -126,6 +126,24 @@ pub(crate) fn matches_at<'a>(
         return Ok(matches.clone()?);
     }
     let found = matches_of(alloc, instance, tree, key.number, whole)?;
+    keep_matches(alloc, instance, table, key, found)
+}
+
+// Keeps the matches of a tree.
+fn keep_matches<'a>(
+    alloc: Global,
+    instance: &Instance<'a>,
+    table: &mut CostTable<'a>,
+    key: MatchKey,
+    found: Matches<'a>,
+) -> Result<Rc<Matches<'a>>, NoMemory>
+    requires tree { slice_get (nodes_of instance.now) key.number ≡ Some (tree_term found.tree.now) }
+    requires whole { found.whole ≡ key.whole }
+    requires matches { AreMatches instance.now found }
+    requires right { AreRight instance.now table.old }
+    ensures value { IfOk result (λ ms. ms.value ≡ found.entry) }
+    ensures right { OnOk result (AreRight instance.now table.new) }
+{
     let matches = Rc::new(alloc, found)?;
     table.matches.insert(key, matches.clone()?)?;
     Ok(matches)

@@ -43,7 +43,7 @@ pub use control::controls;
 use rec_bits::{Items, NoMemory};
 
 /// What control depends on.
-#[derive(Debug, Drop)]
+#[derive(Drop)]
 pub struct ControlBits {
     /// The static nets in control places, ascending, each with a set for each of its bits, the
     /// lowest bit first.

@@ -5,7 +5,7 @@ use crate::Job;
 use rec_bits::Items;
 
 /// A place of a flow. The places of a flow are numbered from 0.
-#[derive(Clone, Copy, Debug, PartialEq, Eq)]
+#[derive(Clone, Copy, PartialEq, Eq)]
 pub enum Flow {
     /// The assignment of the tree with this number.
     Assign(u32),
@@ -24,7 +24,7 @@ pub enum Flow {
 }
 
 /// The flow of a program, and its trees in the order of their numbers, each with its aim.
-#[derive(Debug, Drop)]
+#[derive(Drop)]
 pub struct Blocks {
     pub flow: Items<Flow>,
     pub jobs: Vec<Job>,

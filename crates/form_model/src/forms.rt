@@ -6,7 +6,7 @@ use net_model::Expr;
 pub type RegSet = u16;
 
 /// What a form's transfer goes to.
-#[derive(Debug, Drop)]
+#[derive(Drop)]
 pub enum Goal {
     /// The register of this number.
     Reg(u32),
@@ -21,7 +21,7 @@ pub enum Goal {
 }
 
 /// Where a branch goes. The expression is a field shape.
-#[derive(Debug, Drop)]
+#[derive(Drop)]
 pub enum Target {
     /// The address that the expression gives.
     Absolute(Expr),
@@ -31,7 +31,7 @@ pub enum Target {
 
 /// A transfer of which code can be made: for each choice of its field bits some word does it,
 /// steps, and changes nothing that it needn't but the clobbers.
-#[derive(Debug, Drop)]
+#[derive(Drop)]
 pub struct Form {
     /// The number of its pattern.
     pub pattern: u32,
@@ -47,7 +47,7 @@ pub struct Form {
 }
 
 /// The forms of a netlist in their order.
-#[derive(Debug, Drop)]
+#[derive(Drop)]
 pub struct Forms {
     pub list: Vec<Form>,
     /// The greatest reach of the jump forms, and 0 where there is none.
@@ -55,7 +55,7 @@ pub struct Forms {
 }
 
 /// A pattern with the values of its field bits.
-#[derive(Clone, Copy, Debug, PartialEq, Eq)]
+#[derive(Clone, Copy, PartialEq, Eq)]
 pub struct Step {
     /// The number of the pattern.
     pub pattern: u32,

@@ -4,7 +4,7 @@ use rec_bits::{Op1, Op2};
 
 /// An expression over numbers and the data memory. Each tells its own width in bits: in `Read` the
 /// last number, and in `Zext` and `Sext` the width that is reached.
-#[derive(Debug, Drop)]
+#[derive(Drop)]
 pub enum Tree {
     Lit { width: u8, value: u64 },
     /// The cell of the address that the tree gives.
@@ -18,7 +18,7 @@ pub enum Tree {
 }
 
 /// Where a tree's value goes.
-#[derive(Debug, Drop)]
+#[derive(Drop)]
 pub enum Aim {
     /// To the cell of this address.
     Cell(u32),
@@ -31,7 +31,7 @@ pub enum Aim {
 }
 
 /// A tree with its aim. A test of equality has two trees, either of which may be used.
-#[derive(Debug, Drop)]
+#[derive(Drop)]
 pub struct Job {
     pub aim: Aim,
     pub trees: Vec<Tree>,

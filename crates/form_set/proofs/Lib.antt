@@ -15,3 +15,4 @@ pub mod NoForms
 pub mod LinearLaws
 pub mod OneList
 pub mod ShowsTwo
+pub mod Levels

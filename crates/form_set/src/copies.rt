@@ -1,6 +1,6 @@
 //! Expressions of a pool as values of their own.
 
-ghost use Rattle.std.specs.Prelude.{◌≡◌, ◌+◌, ◌-◌, ◌^◌, ◌<◌, ◌≤◌, length, IfOk, option_map};
+ghost use Rattle.std.specs.Prelude.{◌≡◌, ◌-◌, ◌^◌, ◌<◌, ◌≤◌, length, IfOk, option_map};
 ghost use Rattle.form_set.specs.Inner.Copies.{ids_sides, copied_sides};
 ghost use Rattle.form_set.specs.Swaps.{SidesWithin, IsAddrWithin, levels, swap_count as swap_count_of, swapped};
 ghost use Rattle.net_model.specs.Terms.{term_of};
@@ -11,55 +11,17 @@ use crate::swaps::{Sides, swap_chosen, swap_count};
 use net_model::Expr;
 use rec_bits::NoMemory;
 use std::alloc::Global;
-use sym_expr::{ExprId, Node, Pool};
+use sym_expr::{ExprId, Pool};
 
 // The expression of an id.
 pub(crate) fn expr_at(alloc: Global, pool: &Pool, expr: ExprId) -> Result<Expr, NoMemory>
     requires { expr < length pool.now }
     ensures copy { IfOk result (λ copy. term_of copy ≡ term_at pool.now expr) }
-    ensures levels { IfOk result (λ copy. levels (term_of copy) ≤ expr + 1) }
+    ensures levels { IfOk result (λ copy. levels (term_of copy) ≤ 2 ^ 64 - 1) }
 {
-    match pool.node(expr) {
-        Node::Word(width) => Ok(Expr::Word(width)),
-        Node::Reg(id, width) => Ok(Expr::Reg(id, width)),
-        Node::Const { width, value } => Ok(Expr::Const { width, value }),
-        Node::Read(a, width) => {
-            let a = Box::new(alloc, expr_at(alloc, pool, a)?)?;
-            Ok(Expr::Read(a, width))
-        }
-        Node::Un(op, a) => {
-            let a = Box::new(alloc, expr_at(alloc, pool, a)?)?;
-            Ok(Expr::Un(op, a))
-        }
-        Node::Bin(op, a, b) => {
-            let a = Box::new(alloc, expr_at(alloc, pool, a)?)?;
-            let b = Box::new(alloc, expr_at(alloc, pool, b)?)?;
-            Ok(Expr::Bin(op, a, b))
-        }
-        Node::Slice(a, hi, lo) => {
-            let a = Box::new(alloc, expr_at(alloc, pool, a)?)?;
-            Ok(Expr::Slice(a, hi, lo))
-        }
-        Node::Cat(a, b) => {
-            let a = Box::new(alloc, expr_at(alloc, pool, a)?)?;
-            let b = Box::new(alloc, expr_at(alloc, pool, b)?)?;
-            Ok(Expr::Cat(a, b))
-        }
-        Node::Zext(a, width) => {
-            let a = Box::new(alloc, expr_at(alloc, pool, a)?)?;
-            Ok(Expr::Zext(a, width))
-        }
-        Node::Sext(a, width) => {
-            let a = Box::new(alloc, expr_at(alloc, pool, a)?)?;
-            Ok(Expr::Sext(a, width))
-        }
-        Node::Select(c, a, b) => {
-            let c = Box::new(alloc, expr_at(alloc, pool, c)?)?;
-            let a = Box::new(alloc, expr_at(alloc, pool, a)?)?;
-            let b = Box::new(alloc, expr_at(alloc, pool, b)?)?;
-            Ok(Expr::Select(c, a, b))
-        }
-    }
+    // the pool's length bounds the levels of its expressions
+    let _len = pool.len();
+    pool.expr(alloc, expr)
 }
 
 // The address of a transfer, where it has one.
@@ -68,8 +30,6 @@ fn addr_at(alloc: Global, pool: &Pool, addr: Option<ExprId>) -> Result<Option<Ex
     ensures copy { IfOk result (λ copy. option_map term_of copy ≡ option_map (term_at pool.now) addr) }
     ensures levels { IfOk result (λ copy. IsAddrWithin (2 ^ 64 - 1) (option_map term_of copy)) }
 {
-    // the pool's length bounds the levels of its expressions
-    let _len = pool.len();
     match addr {
         Some(addr) => {
             let copy = expr_at(alloc, pool, addr)?;
@@ -91,8 +51,6 @@ pub(crate) fn sides_at(
     ensures sides { IfOk result (λ sides. copied_sides sides ≡ ids_sides pool.now addr value) }
     ensures levels { IfOk result (λ sides. SidesWithin (2 ^ 64 - 1) (copied_sides sides)) }
 {
-    // the pool's length bounds the levels of its expressions
-    let _len = pool.len();
     let addr = addr_at(alloc, pool, addr)?;
     let value = expr_at(alloc, pool, value)?;
     Ok(Sides { addr, value })

@@ -1,5 +1,6 @@
 pub mod Chains
 pub mod Faults
+pub mod Kept
 pub mod Limits
 pub mod Passing
 pub mod Repeats

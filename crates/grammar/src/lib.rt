@@ -18,17 +18,21 @@
 //! - `stop`: why a parser stopped: at a token, or for want of memory.
 //! - `step`: the readers of one token, and of a name or a number with a symbol beside it.
 //! - `fault`: the offset of a fault from the tokens that are left.
+//! - `beside`: what was read before, kept beside what is read behind it: where nothing is read there,
+//!   a parser that owns a tree lets it go in that one place, whatever its type.
 //! - `specs/`: `Reading` (the ways to put grammars together, and what is owed), `Tokens` and
 //!   `Parses` are cited by public contracts, here and in the two parsers.
 //! - `proofs/`: `Tokens`, `Steps`, `Repeats`, `Chains`, `Limits` and `Whole`, by the way a grammar
-//!   is put together; `Passing` and `Faults` for what follows at each exit of a parser.
+//!   is put together; `Passing`, `Faults` and `Kept` for what follows at each exit of a parser.
 #![tactic(auto)]
 
+mod beside;
 mod fault;
 mod step;
 mod stop;
 mod words;
 
+pub use beside::keeping;
 pub use fault::offset;
 pub use step::{
     begins_with, expect, front, is_symbol, name, name_behind, number, number_behind, number_between,

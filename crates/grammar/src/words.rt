@@ -3,14 +3,14 @@
 use rec_bits::Name;
 
 /// A token: its word, and the offset of its first byte.
-#[derive(Debug, Drop)]
+#[derive(Drop)]
 pub struct Lexed<S, K> {
     pub word: Word<S, K>,
     pub at: u64,
 }
 
 /// A word, by what it may begin or stand for, of a language with the symbols `S` and the keys `K`.
-#[derive(Debug, Drop)]
+#[derive(Drop)]
 pub enum Word<S, K> {
     Name(Name),
     Number(u64),
@@ -23,7 +23,7 @@ pub enum Word<S, K> {
 }
 
 /// A name and the offset of its first byte in the text.
-#[derive(Debug, Drop)]
+#[derive(Drop)]
 pub struct Ident {
     pub name: Name,
     pub at: u64,

@@ -3,7 +3,7 @@
 use code_model::{Mark, Place, Word};
 
 /// What a line of an image text says.
-#[derive(Debug, Drop)]
+#[derive(Drop)]
 pub enum Item {
     /// The bits of a word, and how many words there are.
     Size { bits: u32, count: u32 },

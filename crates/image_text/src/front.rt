@@ -9,7 +9,7 @@ use rec_bits::{Items, NoMemory, mask};
 use std::alloc::Global;
 
 /// What the lines so far say.
-#[derive(Debug, Drop)]
+#[derive(Drop)]
 pub enum Front {
     Nothing,
     /// How many words are announced.

@@ -8,7 +8,7 @@ ghost use Rattle.lexing.specs.Table.{Lexicon, is_reserved, sign_length};
 use std::marker::Model;
 
 /// The reserved words and the signs of a language.
-#[derive(Debug, Drop)]
+#[derive(Drop)]
 pub struct Language<'a> {
     reserved: &'a [&'a str],
     signs: &'a [&'a str],

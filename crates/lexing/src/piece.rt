@@ -12,7 +12,7 @@ use crate::{Kind, Language};
 const MAX_NAME: usize = 32;
 
 /// What stands at a place of a text.
-#[derive(Clone, Copy, Debug)]
+#[derive(Clone, Copy)]
 pub enum Piece {
     /// So many bytes of blanks or comment.
     Blank(usize),

@@ -1,7 +1,7 @@
 //! Tokens.
 
 /// What a token is.
-#[derive(Clone, Copy, Debug, PartialEq, Eq)]
+#[derive(Clone, Copy, PartialEq, Eq)]
 pub enum Kind {
     /// A name that isn't reserved.
     Name,
@@ -16,7 +16,7 @@ pub enum Kind {
 }
 
 /// A token at its place.
-#[derive(Clone, Copy, Debug, PartialEq, Eq)]
+#[derive(Clone, Copy, PartialEq, Eq)]
 pub struct Token {
     pub kind: Kind,
     /// The offset of its first byte.

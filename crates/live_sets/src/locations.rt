@@ -13,7 +13,7 @@ use rec_bits::slice;
 use sym_expr::{ExprId, Node, Pool};
 
 /// A location that a step writes.
-#[derive(Clone, Copy, Debug, PartialEq, Eq)]
+#[derive(Clone, Copy, PartialEq, Eq)]
 pub enum Location {
     /// The register of this number.
     Register(u32),

@@ -35,6 +35,18 @@ pub(crate) struct Flags {
     pub controls: Items<bool>,
 }
 
+impl Flags {
+    // The flags of the nets of a netlist, which stand in this order.
+    fn new(alloc: Global, netlist: &Netlist, order: &[u32]) -> Result<Flags, NoMemory>
+        requires { IsOrder netlist.now order.now }
+        ensures { IfOk result (HasFlags netlist.now) }
+    {
+        let statics = flags_of(alloc, Property::Static, netlist, order)?;
+        let controls = flags_of(alloc, Property::Control, netlist, order)?;
+        Ok(Flags { statics, controls })
+    }
+}
+
 fn width_of(netlist: &Netlist, net: u32) -> u8
     ensures { result ≡ width_at netlist.now net }
 {
@@ -118,6 +130,38 @@ fn first_broken(
     }
 }
 
+// The first rule that is broken, where these nets stand in the places of enables.
+fn fault_at_enables(
+    alloc: Global,
+    netlist: &Netlist,
+    flags: &Flags,
+    enable_nets: &[u32],
+) -> Result<Option<NetFault>, NoMemory>
+    requires acyclic { IsAcyclic netlist.now }
+    requires roles { HasRoles netlist.now }
+    requires flags { HasFlags netlist.now flags.now }
+    requires enables { enable_nets.now ≡ enables netlist.now }
+    ensures { IfOk result (λ found. MatchOption found (KeepsControl netlist.now) (FaultOf netlist.now)) }
+{
+    let selector_nets = netlist.selectors(alloc)?;
+    Ok(first_broken(netlist, flags, enable_nets, selector_nets.as_slice()))
+}
+
+// The first rule that is broken, by the flags of the nets.
+fn fault_by_flags(
+    alloc: Global,
+    netlist: &Netlist,
+    flags: &Flags,
+) -> Result<Option<NetFault>, NoMemory>
+    requires acyclic { IsAcyclic netlist.now }
+    requires roles { HasRoles netlist.now }
+    requires flags { HasFlags netlist.now flags.now }
+    ensures { IfOk result (λ found. MatchOption found (KeepsControl netlist.now) (FaultOf netlist.now)) }
+{
+    let enable_nets = netlist.enables(alloc)?;
+    fault_at_enables(alloc, netlist, flags, enable_nets.as_slice())
+}
+
 // The first of the rules N7 to N9 that is broken.
 pub(crate) fn control_fault(
     alloc: Global,
@@ -128,15 +172,6 @@ pub(crate) fn control_fault(
     requires order { IsOrder netlist.now order.now }
     ensures { IfOk result (λ found. MatchOption found (KeepsControl netlist.now) (FaultOf netlist.now)) }
 {
-    let statics = flags_of(alloc, Property::Static, netlist, order)?;
-    let controls = flags_of(alloc, Property::Control, netlist, order)?;
-    let flags = Flags { statics, controls };
-    let enable_nets = netlist.enables(alloc)?;
-    let selector_nets = netlist.selectors(alloc)?;
-    Ok(first_broken(
-        netlist,
-        &flags,
-        enable_nets.as_slice(),
-        selector_nets.as_slice(),
-    ))
+    let flags = Flags::new(alloc, netlist, order)?;
+    fault_by_flags(alloc, netlist, &flags)
 }

@@ -36,19 +36,37 @@ fn order_of(
     }
 }
 
+// The nets of a netlist in an order, or N5.
+fn net_order(alloc: Global, netlist: &Netlist) -> Result<Items<u32>, CheckFault>
+    requires { IsWellFormed netlist.now }
+    ensures { MatchResult result (IsOrder netlist.now) (Refuses netlist.now) }
+{
+    let graph = graph_of(alloc, netlist.nets.as_slice())?;
+    order_of(alloc, netlist, graph.as_slice())
+}
+
+// Refuses a netlist that breaks one of N6 to N9.
+fn check_parts(alloc: Global, netlist: &Netlist, order: &[u32]) -> Result<(), CheckFault>
+    requires formed { IsWellFormed netlist.now }
+    requires order { IsOrder netlist.now order.now }
+    ensures { MatchResult result (λ _. KeepsRules netlist.now order.now) (Refuses netlist.now) }
+{
+    if let Some(role) = lacking_role(netlist) {
+        return Err(CheckFault::Fault(NetFault::Role(role)));
+    }
+    match control_fault(alloc, netlist, order)? {
+        Some(fault) => Err(CheckFault::Fault(fault)),
+        None => Ok(()),
+    }
+}
+
 // An order of the nets of a netlist that keeps N5 to N9.
 fn checked_order(alloc: Global, netlist: &Netlist) -> Result<Items<u32>, CheckFault>
     requires { IsWellFormed netlist.now }
     ensures { MatchResult result (KeepsRules netlist.now) (Refuses netlist.now) }
 {
-    let graph = graph_of(alloc, netlist.nets.as_slice())?;
-    let order = order_of(alloc, netlist, graph.as_slice())?;
-    if let Some(role) = lacking_role(netlist) {
-        return Err(CheckFault::Fault(NetFault::Role(role)));
-    }
-    if let Some(fault) = control_fault(alloc, netlist, order.as_slice())? {
-        return Err(CheckFault::Fault(fault));
-    }
+    let order = net_order(alloc, netlist)?;
+    check_parts(alloc, netlist, order.as_slice())?;
     Ok(order)
 }
 

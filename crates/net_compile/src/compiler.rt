@@ -75,7 +75,7 @@ fn places(alloc: Global, checked: &Checked, typed: &Typed) -> Result<Places, Com
 }
 
 /// A program and its image for a netlist.
-#[derive(Debug, Drop)]
+#[derive(Drop)]
 pub struct Compiled {
     pub checked: Checked,
     pub typed: Typed,

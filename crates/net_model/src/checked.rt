@@ -16,7 +16,7 @@ use std::marker::Model;
 
 /// A netlist that keeps the rules N1 to N9 and N11, and an order of its nets in which each stands
 /// after those that it depends on.
-#[derive(Debug, Drop)]
+#[derive(Drop)]
 pub struct Checked {
     netlist: Netlist,
     order: Items<u32>,

@@ -5,7 +5,7 @@ use rec_bits::{Op1, Op2};
 /// An expression over registers, the memory, constants and the instruction word. Each tells its own
 /// width: in `Word`, `Reg` and `Read` the last number is the width, in `Zext` and `Sext` the width
 /// that is reached.
-#[derive(Debug, Drop)]
+#[derive(Drop)]
 pub enum Expr {
     Word(u8),
     Reg(u32, u8),
@@ -23,7 +23,7 @@ pub enum Expr {
 }
 
 /// What a storage does at a clock.
-#[derive(Debug, Drop)]
+#[derive(Drop)]
 pub enum Transfer {
     Keep,
     /// A register takes a value.

@@ -8,7 +8,7 @@ ghost use Rattle.net_model.specs.CheckedRules.{code_size};
 use rec_bits::{Items, Name, Op1, Op2};
 
 /// What gives a net its value. Nets, storages and codes are named by their numbers.
-#[derive(Debug, Drop)]
+#[derive(Drop)]
 pub enum Gate {
     /// The instruction word of a code.
     Word(u32),
@@ -50,7 +50,7 @@ pub enum Gate {
 }
 
 /// A net: its width of 1 to 64 bits, the offset of its item's name in the text, and its gate.
-#[derive(Debug, Drop)]
+#[derive(Drop)]
 pub struct Net {
     pub width: u8,
     pub name_at: u64,
@@ -59,7 +59,7 @@ pub struct Net {
 
 /// A register or a memory. What feeds it is named by the numbers of nets; without a `when` it takes
 /// its input at each clock.
-#[derive(Debug, Drop)]
+#[derive(Drop)]
 pub enum Storage {
     Register {
         name: Name,
@@ -80,7 +80,7 @@ pub enum Storage {
 
 /// An instruction memory: the bits of a word, how many words there may be, and the storage that
 /// counts through them.
-#[derive(Debug, Drop)]
+#[derive(Drop)]
 pub struct Code {
     pub name: Name,
     pub bits: u8,
@@ -89,7 +89,7 @@ pub struct Code {
 }
 
 /// A netlist. A net, a storage or a code is named by its place.
-#[derive(Debug, Drop)]
+#[derive(Drop)]
 pub struct Netlist {
     pub nets: Items<Net>,
     pub storages: Items<Storage>,

@@ -4,7 +4,7 @@ use rec_bits::Items;
 
 /// The values of all storages: an entry for each storage, 0 at a memory's, and the cells of the
 /// data memory.
-#[derive(Debug, Drop)]
+#[derive(Drop)]
 pub struct State {
     pub regs: Items<u64>,
     pub cells: Items<u64>,

@@ -4,13 +4,13 @@ use grammar::Ident;
 use rec_bits::{Items, Op1, Op2};
 
 /// The items of a text, in their order.
-#[derive(Debug, Drop)]
+#[derive(Drop)]
 pub struct Units {
     pub items: Items<Unit>,
 }
 
 /// An item: its names, numbers and expressions, in their order.
-#[derive(Debug, Drop)]
+#[derive(Drop)]
 pub enum Unit {
     Code {
         name: Ident,
@@ -57,7 +57,7 @@ pub enum Unit {
 }
 
 /// An input or an output of a module.
-#[derive(Debug, Drop)]
+#[derive(Drop)]
 pub struct Port {
     pub output: bool,
     pub name: Ident,
@@ -65,7 +65,7 @@ pub struct Port {
 }
 
 /// An expression.
-#[derive(Debug, Drop)]
+#[derive(Drop)]
 pub enum NetExpr {
     /// What a name stands for, or an output of the part of that name; of it the bits from the first
     /// number down to the second. A bracket with one number gives that number twice.

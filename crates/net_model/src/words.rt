@@ -12,14 +12,14 @@ pub type Word = grammar::Word<Symbol, Key>;
 pub type Lexed = grammar::Lexed<Symbol, Key>;
 
 /// A reserved word that tells what stands behind it.
-#[derive(Clone, Copy, Debug, PartialEq, Eq)]
+#[derive(Clone, Copy, PartialEq, Eq)]
 pub enum Key {
     Item(ItemWord),
     Operator(Operator),
 }
 
 /// A reserved word that begins an item.
-#[derive(Clone, Copy, Debug, PartialEq, Eq)]
+#[derive(Clone, Copy, PartialEq, Eq)]
 pub enum ItemWord {
     Code,
     Register,
@@ -31,7 +31,7 @@ pub enum ItemWord {
 }
 
 /// A reserved word that begins an expression, and opens a level in it.
-#[derive(Clone, Copy, Debug, PartialEq, Eq)]
+#[derive(Clone, Copy, PartialEq, Eq)]
 pub enum Operator {
     Unary(Op1),
     Binary(Op2),
@@ -44,7 +44,7 @@ pub enum Operator {
 }
 
 /// A sign, or another reserved word.
-#[derive(Clone, Copy, Debug, PartialEq, Eq)]
+#[derive(Clone, Copy, PartialEq, Eq)]
 pub enum Symbol {
     Colon,
     Semicolon,

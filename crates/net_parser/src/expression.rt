@@ -2,17 +2,19 @@
 
 ghost use Rattle.std.specs.Prelude.{◌≡◌, MatchOption, false, map};
 ghost use Rattle.grammar.specs.Reading.{Gives, never};
-ghost use Rattle.net_model.specs.declared.words.Operator.TheVariants.{Case};
+ghost use Rattle.net_model.specs.declared.words.Operator.TheVariants.{Case, Read, Slice};
 ghost use Rattle.grammar.specs.declared.words.Word.TheVariants.{Number, Symbol as Shows};
 ghost use Rattle.net_model.specs.declared.words.Symbol.TheVariants.{Comma, RightParen};
-ghost use Rattle.net_model.specs.Grammar.{ArmsBehind, IsArms, IsElse, IsExpr, IsOperated, IsPair, IsReading, IsSliced, IsWidened, NumbersBehind, RowBehind, RowsBehind};
+ghost use Rattle.net_model.specs.Grammar.{ArmsBehind, IsArms, IsElse, IsExpr, IsOperated, IsPair, IsWidened, NumbersBehind, RowBehind, RowsBehind};
 ghost use Rattle.grammar.specs.Tokens.{Before, Behind, ByWord, IsNumber};
 ghost use Rattle.net_model.specs.Written.{other_of, phrase_of, row_of};
 ghost use Rattle.net_parser.specs.Inner.Steps.{HasNoNumber, HasNoOperator, OpensNumber, OpensOperator, after_arms, after_expr, after_list, after_rows, expr_word};
 
 use crate::leaf::leaf;
-use grammar::{Stop, begins_with, expect, front, name_behind, number_behind, number_between};
-use net_model::{Ident, Key, Lexed, NetExpr, Operator, Symbol, Word};
+use grammar::{
+    Stop, begins_with, expect, front, keeping, name_behind, number_behind, number_between,
+};
+use net_model::{Key, Lexed, NetExpr, Operator, Symbol, Word};
 use std::alloc::Global;
 
 /// The operator that the first token is, and the other tokens.
@@ -93,10 +95,7 @@ fn operated(
             let ((a, b), rest) = pair(alloc, depth, ts)?;
             Ok((NetExpr::Cat(a, b), rest))
         }
-        Operator::Slice => {
-            let ((a, high, low), rest) = sliced(alloc, depth, ts)?;
-            Ok((NetExpr::Slice(a, high, low), rest))
-        }
+        Operator::Slice => sliced(alloc, depth, ts),
         Operator::Zext => {
             let ((a, width), rest) = widened(alloc, depth, ts)?;
             Ok((NetExpr::Zext(a, width), rest))
@@ -105,10 +104,7 @@ fn operated(
             let ((a, width), rest) = widened(alloc, depth, ts)?;
             Ok((NetExpr::Sext(a, width), rest))
         }
-        Operator::Read => {
-            let ((memory, a), rest) = reading(alloc, depth, ts)?;
-            Ok((NetExpr::Read(memory, a), rest))
-        }
+        Operator::Read => reading(alloc, depth, ts),
         Operator::Case => choice(alloc, depth, ts),
     }
 }
@@ -140,8 +136,7 @@ pub fn enclosed(
     ensures { Gives (λ x. (phrase_of x.0, x.1.now)) (Before (Behind first (IsExpr depth)) last) never ts.now result }
 {
     let (a, rest) = expr_behind(alloc, first, depth, ts)?;
-    let rest = expect(last, rest)?;
-    Ok((a, rest))
+    keeping(a, expect(last, rest))
 }
 
 /// Two operands.
@@ -171,35 +166,27 @@ fn widened(alloc: Global, depth: u8, ts: &[Lexed]) -> Result<((Box<NetExpr>, u64
     Ok(((a, width), rest))
 }
 
-/// An operand and the numbers of a slice.
+/// A slice, behind its word.
 #[cycle(expr)]
-fn sliced(
-    alloc: Global,
-    depth: u8,
-    ts: &[Lexed],
-) -> Result<((Box<NetExpr>, u64, u64), &[Lexed]), Stop>
-    ensures { Gives (λ x. ((phrase_of x.0.0.value, x.0.1, x.0.2), x.1.now)) (IsSliced (IsExpr depth)) never ts.now result }
+fn sliced(alloc: Global, depth: u8, ts: &[Lexed]) -> Result<(NetExpr, &[Lexed]), Stop>
+    ensures { Gives (λ x. (phrase_of x.0, x.1.now)) (IsOperated (IsExpr depth) Slice) after_expr ts.now result }
 {
     let (a, rest) = expr_behind(alloc, Symbol::LeftParen, depth, ts)?;
     let a = Box::new(alloc, a)?;
     let (high, rest) = number_behind(Symbol::Comma, rest)?;
     let (low, rest) = number_between(Symbol::Comma, Symbol::RightParen, rest)?;
-    Ok(((a, high, low), rest))
+    Ok((NetExpr::Slice(a, high, low), rest))
 }
 
-/// A memory's name and an address.
+/// A read, behind its word.
 #[cycle(expr)]
-fn reading(
-    alloc: Global,
-    depth: u8,
-    ts: &[Lexed],
-) -> Result<((Ident, Box<NetExpr>), &[Lexed]), Stop>
-    ensures { Gives (λ x. ((x.0.0, phrase_of x.0.1.value), x.1.now)) (IsReading (IsExpr depth)) never ts.now result }
+fn reading(alloc: Global, depth: u8, ts: &[Lexed]) -> Result<(NetExpr, &[Lexed]), Stop>
+    ensures { Gives (λ x. (phrase_of x.0, x.1.now)) (IsOperated (IsExpr depth) Read) after_expr ts.now result }
 {
     let (memory, rest) = name_behind(alloc, Symbol::LeftParen, ts)?;
     let (a, rest) = enclosed(alloc, Symbol::Comma, Symbol::RightParen, depth, rest)?;
     let a = Box::new(alloc, a)?;
-    Ok(((memory, a), rest))
+    Ok((NetExpr::Read(memory, a), rest))
 }
 
 /// A case, behind its word.
@@ -227,8 +214,7 @@ fn braced(alloc: Global, depth: u8, ts: &[Lexed]) -> Result<(Arms, &[Lexed]), St
 {
     let rest = expect(Symbol::LeftBrace, ts)?;
     let (arms, rest) = arms(alloc, depth, rest)?;
-    let rest = expect(Symbol::RightBrace, rest)?;
-    Ok((arms, rest))
+    keeping(arms, expect(Symbol::RightBrace, rest))
 }
 
 /// The rows of a case, and the value for all other numbers.

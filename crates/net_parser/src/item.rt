@@ -13,7 +13,7 @@ use crate::expression::{enclosed, expr_behind};
 use crate::parts::{
     LEVELS, braced_drivers, braced_equations, enclosed_links, enclosed_ports, sized_name, when_end,
 };
-use grammar::{Stop, expect, front, name, name_behind, number_behind};
+use grammar::{Stop, expect, front, keeping, name, name_behind, number_behind};
 use net_model::{Ident, ItemWord, Key, Lexed, NetExpr, Symbol, Unit, Word};
 use rec_bits::Items;
 use std::alloc::Global;
@@ -36,8 +36,7 @@ fn counter(alloc: Global, ts: &[Lexed]) -> Result<(Ident, &[Lexed]), Stop>
     ensures { Gives (λ x. (x.0, x.1.now)) (Before (Behind At IsName) Semicolon) never ts.now result }
 {
     let (name, rest) = name_behind(alloc, Symbol::At, ts)?;
-    let rest = expect(Symbol::Semicolon, rest)?;
-    Ok((name, rest))
+    keeping(name, expect(Symbol::Semicolon, rest))
 }
 
 /// An instruction memory, behind its word.
@@ -64,7 +63,7 @@ fn fed(alloc: Global, symbol: Symbol, ts: &[Lexed]) -> Result<(Fed, &[Lexed]), S
     ensures { Gives (λ x. ((phrase_of x.0.0, when_of x.0.1), x.1.now)) (IsFed symbol) never ts.now result }
 {
     let (input, rest) = expr_behind(alloc, symbol, LEVELS, ts)?;
-    let (when, rest) = when_end(alloc, rest)?;
+    let (input, (when, rest)) = keeping(input, when_end(alloc, rest))?;
     Ok(((input, when), rest))
 }
 
@@ -88,7 +87,7 @@ fn written(alloc: Global, ts: &[Lexed]) -> Result<((NetExpr, Fed), &[Lexed]), St
     ensures { Gives (λ x. ((phrase_of x.0.0, (phrase_of x.0.1.0, when_of x.0.1.1)), x.1.now)) IsWrite never ts.now result }
 {
     let (value, rest) = expr_behind(alloc, Symbol::Write, LEVELS, ts)?;
-    let (fed, rest) = fed(alloc, Symbol::At, rest)?;
+    let (value, (fed, rest)) = keeping(value, fed(alloc, Symbol::At, rest))?;
     Ok(((value, fed), rest))
 }
 

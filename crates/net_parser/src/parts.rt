@@ -9,7 +9,7 @@ ghost use Rattle.net_model.specs.Written.{binding_of, driver_of, phrase_of, when
 ghost use Rattle.net_parser.specs.Inner.Steps.{after_drivers, after_equations, after_expr, after_links, after_list, after_when, first_word, name_word};
 
 use crate::expression::{enclosed, expr, expr_behind};
-use grammar::{Stop, begins_with, expect, front, is_symbol, name, number_behind};
+use grammar::{Stop, begins_with, expect, front, is_symbol, keeping, name, number_behind};
 use net_model::{Ident, Key, Lexed, NetExpr, Port, Symbol, Word};
 use rec_bits::Items;
 use std::alloc::Global;
@@ -43,8 +43,7 @@ pub fn when_end(alloc: Global, ts: &[Lexed]) -> Result<(Option<NetExpr>, &[Lexed
     ensures { Gives (λ x. (when_of x.0, x.1.now)) (Before IsWhen Semicolon) never ts.now result }
 {
     let (when, rest) = when(alloc, ts)?;
-    let rest = expect(Symbol::Semicolon, rest)?;
-    Ok((when, rest))
+    keeping(when, expect(Symbol::Semicolon, rest))
 }
 
 /// Whether the first token begins an expression.
@@ -75,7 +74,10 @@ fn driver(alloc: Global, ts: &[Lexed]) -> Result<((NetExpr, NetExpr), &[Lexed]),
     ensures { Gives (λ x. (driver_of x.0, x.1.now)) IsDriver never ts.now result }
 {
     let (value, rest) = expr(alloc, LEVELS, ts)?;
-    let (enable, rest) = enclosed(alloc, Symbol::When, Symbol::Semicolon, LEVELS, rest)?;
+    let (value, (enable, rest)) = keeping(
+        value,
+        enclosed(alloc, Symbol::When, Symbol::Semicolon, LEVELS, rest),
+    )?;
     Ok(((value, enable), rest))
 }
 
@@ -104,8 +106,7 @@ pub fn braced_drivers(
 {
     let rest = expect(Symbol::LeftBrace, ts)?;
     let (drivers, rest) = drivers(alloc, rest)?;
-    let rest = expect(Symbol::RightBrace, rest)?;
-    Ok((drivers, rest))
+    keeping(drivers, expect(Symbol::RightBrace, rest))
 }
 
 /// A name and what it is given.
@@ -122,8 +123,7 @@ fn equation(alloc: Global, ts: &[Lexed]) -> Result<((Ident, NetExpr), &[Lexed]),
     ensures { Gives (λ x. (binding_of x.0, x.1.now)) IsEquation never ts.now result }
 {
     let (equation, rest) = binding(alloc, ts)?;
-    let rest = expect(Symbol::Semicolon, rest)?;
-    Ok((equation, rest))
+    keeping(equation, expect(Symbol::Semicolon, rest))
 }
 
 /// The equations of a module.
@@ -149,8 +149,7 @@ pub fn braced_equations(
 {
     let rest = expect(Symbol::LeftBrace, ts)?;
     let (equations, rest) = equations(alloc, rest)?;
-    let rest = expect(Symbol::RightBrace, rest)?;
-    Ok((equations, rest))
+    keeping(equations, expect(Symbol::RightBrace, rest))
 }
 
 /// One link or several.
@@ -191,8 +190,7 @@ pub fn enclosed_links(
 {
     let rest = expect(Symbol::LeftParen, ts)?;
     let (links, rest) = links(alloc, rest)?;
-    let rest = expect(Symbol::RightParen, rest)?;
-    Ok((links, rest))
+    keeping(links, expect(Symbol::RightParen, rest))
 }
 
 /// Whether a port is an output.
@@ -250,6 +248,5 @@ pub fn enclosed_ports(alloc: Global, ts: &[Lexed]) -> Result<(Items<Port>, &[Lex
 {
     let rest = expect(Symbol::LeftParen, ts)?;
     let (ports, rest) = ports(alloc, rest)?;
-    let rest = expect(Symbol::RightParen, rest)?;
-    Ok((ports, rest))
+    keeping(ports, expect(Symbol::RightParen, rest))
 }

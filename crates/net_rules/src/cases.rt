@@ -1,6 +1,6 @@
 //! N4 in expressions: cases with a number twice, or without a rest though a number is missing.
 
-ghost use Rattle.std.specs.Prelude.{◌≡◌, IfOk, map};
+ghost use Rattle.std.specs.Prelude.{◌≡◌, ◌&&◌, Bool, IfOk, [], map};
 ghost use Rattle.net_model.specs.DriverRules.{are_all, covers, covers_rest, covers_rows, is_covered, case_numbers};
 ghost use Rattle.net_model.specs.Written.{other_of, phrase_of, rest_of, row_of, rows_of};
 ghost use Rattle.net_rules.specs.Inner.Cases.{is_all};
@@ -33,12 +33,36 @@ fn is_covered(
         covered ≡ is_covered selector (rows_of (map row_of rows.now)) (rest_of (other_of other.now))) }
 {
     let mut seen = Numbers::new(alloc);
+    covers_values(&mut seen, selector, rows, other)
+}
+
+// The same, where no number was seen yet.
+fn covers_values(
+    seen: &mut Numbers,
+    selector: Option<u64>,
+    rows: &[(Vec<u64>, NetExpr)],
+    other: &Option<Box<NetExpr>>,
+) -> Result<bool, NoMemory>
+    requires { seen.old ≡ [] }
+    ensures { IfOk result (λ covered.
+        covered ≡ is_covered selector (rows_of (map row_of rows.now)) (rest_of (other_of other.now))) }
+{
     for row in rows {
-        if !add_all(&mut seen, row.0.as_slice())? {
+        if !add_all(seen, row.0.as_slice())? {
             return Ok(false);
         }
     }
     Ok(other.is_some() || is_all(selector, seen.len()))
+}
+
+/// Whether both hold, where both could be told.
+pub(crate) fn both(
+    first: Result<bool, NoMemory>,
+    second: Result<bool, NoMemory>,
+) -> Result<bool, NoMemory>
+    ensures { (a b : Bool) → IfOk first (λ x. x ≡ a) → IfOk second (λ x. x ≡ b) → IfOk result (λ x. x ≡ (a && b)) }
+{
+    Ok(first? & second?)
 }
 
 /// Whether each case in an expression has no number twice, and a rest or every number.
@@ -54,16 +78,12 @@ pub(crate) fn covers(alloc: Global, place: &Place, e: &NetExpr) -> Result<bool, 
         | NetExpr::Sext(a, _)
         | NetExpr::Read(_, a) => covers(alloc, place, a),
         NetExpr::Bin(_, a, b) | NetExpr::Cat(a, b) => {
-            let first = covers(alloc, place, a)?;
-            let second = covers(alloc, place, b)?;
-            Ok(first & second)
+            both(covers(alloc, place, a), covers(alloc, place, b))
         }
         NetExpr::Case { sel, rows, rest } => {
-            let selector = covers(alloc, place, sel)?;
-            let values = covers_rows(alloc, place, rows)?;
-            let other = covers_rest(alloc, place, rest)?;
-            let all = is_covered(alloc, wide(place, sel), rows, rest)?;
-            Ok(selector & values & other & all)
+            let values = both(covers(alloc, place, sel), covers_rows(alloc, place, rows));
+            let parts = both(values, covers_rest(alloc, place, rest));
+            both(parts, is_covered(alloc, wide(place, sel), rows, rest))
         }
     }
 }

@@ -11,7 +11,7 @@ ghost use Rattle.net_names.specs.Places.{lent};
 ghost use Rattle.net_rules.specs.Inner.Modules.{is_bound, item_ports};
 ghost use Rattle.net_rules.specs.Inner.Scopes.{scope_of};
 
-use crate::cases::covers;
+use crate::cases::{both, covers};
 use crate::text::{Place, Text};
 use net_model::{Ident, NetExpr, Port, Unit};
 use net_names::{Bindings, Ports, Table, name_of};
@@ -70,6 +70,14 @@ fn are_names_new(alloc: Global, bindings: &[(Ident, NetExpr)]) -> Result<bool, N
     ensures { IfOk result (λ new. new ≡ names_new [] (map binding_name (map binding_of bindings.now))) }
 {
     let mut seen = Table::new(alloc);
+    enter_new(&mut seen, bindings)
+}
+
+// Enters names until one is there already, and says whether all are new.
+fn enter_new<'a>(seen: &mut Table<'a>, bindings: &'a [(Ident, NetExpr)]) -> Result<bool, NoMemory>
+    requires { seen.old ≡ [] }
+    ensures { IfOk result (λ new. new ≡ names_new [] (map binding_name (map binding_of bindings.now))) }
+{
     for binding in bindings {
         if seen.place(&binding.0.name).is_some() {
             return Ok(false);
@@ -119,8 +127,7 @@ fn covers_if(alloc: Global, place: &Place, when: &Option<NetExpr>) -> Result<boo
 fn covers_two(alloc: Global, place: &Place, a: &NetExpr, b: &NetExpr) -> Result<bool, NoMemory>
     ensures { IfOk result (λ covered. covered ≡ covers_driver (scope_of place.now) (driver_of (a.now, b.now))) }
 {
-    let first = covers(alloc, place, a)?;
-    Ok(first & covers(alloc, place, b)?)
+    both(covers(alloc, place, a), covers(alloc, place, b))
 }
 
 fn covers_drivers(
@@ -155,60 +162,6 @@ fn covers_bindings(
     Ok(true)
 }
 
-fn covers_register(
-    alloc: Global,
-    place: &Place,
-    input: &NetExpr,
-    when: &Option<NetExpr>,
-) -> Result<bool, NoMemory>
-    ensures { IfOk result (λ covered.
-        covered ≡ (covers (scope_of place.now) (phrase_of input.now) && covers_if (scope_of place.now) (when_of when.now))) }
-{
-    let input = covers(alloc, place, input)?;
-    Ok(input & covers_if(alloc, place, when)?)
-}
-
-fn covers_memory(
-    alloc: Global,
-    place: &Place,
-    value: &NetExpr,
-    addr: &NetExpr,
-    when: &Option<NetExpr>,
-) -> Result<bool, NoMemory>
-    ensures { IfOk result (λ covered.
-        covered ≡ (covers_driver (scope_of place.now) (driver_of (value.now, addr.now)) && covers_if (scope_of place.now) (when_of when.now))) }
-{
-    let written = covers_two(alloc, place, value, addr)?;
-    Ok(written & covers_if(alloc, place, when)?)
-}
-
-// Whether the outputs of a module are driven once, and cases in its equations cover every number.
-fn covers_module(
-    alloc: Global,
-    ports: &Ports,
-    equations: &[(Ident, NetExpr)],
-) -> Result<bool, NoMemory>
-    ensures { IfOk result (λ covered.
-        covered ≡ (drives_once true ports.now (map binding_of equations.now) && list_all (covers_binding (in_module ports.now)) (map binding_of equations.now))) }
-{
-    let once = drives_outputs(alloc, ports.as_slice(), equations)?;
-    Ok(once & covers_bindings(alloc, &Place::Ports(ports), equations)?)
-}
-
-// Whether the inputs of a part are driven once, and cases in its links cover every number.
-fn covers_part(
-    alloc: Global,
-    text: &Text,
-    owner: &Name,
-    links: &[(Ident, NetExpr)],
-) -> Result<bool, NoMemory>
-    ensures { IfOk result (λ covered.
-        covered ≡ (drives_once false (ports_of (item_named (map entry_of text.now) owner.now)) (map binding_of links.now) && list_all (covers_binding (in_text (map entry_of text.now))) (map binding_of links.now))) }
-{
-    let once = drives_inputs(alloc, text, owner, links)?;
-    Ok(once & covers_bindings(alloc, &Place::Items(text), links)?)
-}
-
 fn is_driven_item(alloc: Global, text: &Text, ports: &Ports, unit: &Unit) -> Result<bool, NoMemory>
     requires { ports.now ≡ item_ports unit.now }
     ensures { IfOk result (λ driven. driven ≡ is_driven_item (map entry_of text.now) (entry_of unit.now)) }
@@ -216,18 +169,32 @@ fn is_driven_item(alloc: Global, text: &Text, ports: &Ports, unit: &Unit) -> Res
     let place = Place::Items(text);
     match unit {
         Unit::Code { .. } => Ok(true),
-        Unit::Register { input, when, .. } => covers_register(alloc, &place, input, when),
+        Unit::Register { input, when, .. } => {
+            both(covers(alloc, &place, input), covers_if(alloc, &place, when))
+        }
         Unit::Memory {
             value,
             addr,
             when,
             ..
-        } => covers_memory(alloc, &place, value, addr, when),
+        } => {
+            let written = covers_two(alloc, &place, value, addr);
+            both(written, covers_if(alloc, &place, when))
+        }
         Unit::Net { value, .. } => covers(alloc, &place, value),
         Unit::Bus { drivers, .. } => covers_drivers(alloc, &place, drivers.as_slice()),
-        Unit::Module { equations, .. } => covers_module(alloc, ports, equations.as_slice()),
+        Unit::Module { equations, .. } => {
+            let equations = equations.as_slice();
+            let once = drives_outputs(alloc, ports.as_slice(), equations);
+            both(
+                once,
+                covers_bindings(alloc, &Place::Ports(ports), equations),
+            )
+        }
         Unit::Part { module, links, .. } => {
-            covers_part(alloc, text, &module.name, links.as_slice())
+            let links = links.as_slice();
+            let once = drives_inputs(alloc, text, &module.name, links);
+            both(once, covers_bindings(alloc, &place, links))
         }
     }
 }

@@ -27,9 +27,16 @@ fn first_repeated_item(alloc: Global, units: &[Unit]) -> Result<Option<u64>, NoM
     ensures { IfOk result (λ found. found ≡ least (repeated [] (map own_name (map entry_of units.now)))) }
 {
     let mut seen = Table::new(alloc);
+    see_items(&mut seen, units)
+}
+
+fn see_items<'a>(seen: &mut Table<'a>, units: &'a [Unit]) -> Result<Option<u64>, NoMemory>
+    requires { seen.old ≡ [] }
+    ensures { IfOk result (λ found. found ≡ least (repeated [] (map own_name (map entry_of units.now)))) }
+{
     let mut found = None;
     for unit in units {
-        found = sooner(found, see(&mut seen, name_of(unit))?);
+        found = sooner(found, see(seen, name_of(unit))?);
     }
     Ok(found)
 }
@@ -57,9 +64,16 @@ fn repeated_among(alloc: Global, ports: &[Port]) -> Result<Option<u64>, NoMemory
     ensures { IfOk result (λ found. found ≡ least (repeated [] (map port_name ports.now))) }
 {
     let mut seen = Table::new(alloc);
+    see_ports(&mut seen, ports)
+}
+
+fn see_ports<'a>(seen: &mut Table<'a>, ports: &'a [Port]) -> Result<Option<u64>, NoMemory>
+    requires { seen.old ≡ [] }
+    ensures { IfOk result (λ found. found ≡ least (repeated [] (map port_name ports.now))) }
+{
     let mut found = None;
     for port in ports {
-        found = sooner(found, see(&mut seen, &port.name)?);
+        found = sooner(found, see(seen, &port.name)?);
     }
     Ok(found)
 }

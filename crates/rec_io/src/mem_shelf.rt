@@ -10,7 +10,7 @@ use crate::{Fetch, Shelf};
 use std::alloc::Global;
 
 /// Files in memory, and the numbers of the fetches that are to fail. It tells its files.
-#[derive(Debug, Drop)]
+#[derive(Drop)]
 pub struct MemShelf {
     files: Vec<(String, Vec<u8>)>,
     fails: Vec<u64>,

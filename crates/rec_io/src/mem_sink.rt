@@ -8,7 +8,7 @@ use std::alloc::Global;
 
 /// An output in memory, which takes a few bytes a put, up to its room, and the numbers of the puts
 /// that are to fail. It tells what it has taken.
-#[derive(Debug, Drop)]
+#[derive(Drop)]
 pub struct MemSink {
     bytes: Vec<u8>,
     step: usize,

@@ -11,7 +11,7 @@ const CLOCK_LIMIT: u64 = 1_000_000;
 const JOB_LIMIT: u64 = 1_000;
 
 /// What the words ask for.
-#[derive(Clone, Copy, Debug, PartialEq, Eq)]
+#[derive(Clone, Copy, PartialEq, Eq)]
 pub enum Command {
     /// `compile NET SRC`: the image text of a program for a netlist.
     Compile,

@@ -106,10 +106,10 @@ fn select_routes(
         then selects (terms_under book.old pool.old (routes_at nets.now sel) word) (target_terms book.old pool.old nets.now legal width one word) (target_terms book.old pool.old nets.now legal width zero word)
         else [])))) }
 {
-    let mut out = Items::new(alloc);
     let ones = row_routes(alloc, book, pool, legal, nets, one, width)?;
     let zeros = row_routes(alloc, book, pool, legal, nets, zero, width)?;
     let choices = routes_of(nets, sel);
+    let mut out = Items::new(alloc);
     add_selects(
         alloc,
         book,
@@ -169,11 +169,10 @@ pub(crate) fn case_routes(
     if bits.is_empty() {
         let one = target_of(rows, 1, rest);
         let zero = target_of(rows, 0, rest);
-        let out = select_routes(alloc, book, pool, legal, nets, sel, one, zero, width)?;
-        return Ok(out);
+        return select_routes(alloc, book, pool, legal, nets, sel, one, zero, width);
     }
     let tests = row_tests(alloc, book, bits, rows)?;
-    let out = routes_of_first(
+    routes_of_first(
         alloc,
         book,
         pool,
@@ -182,8 +181,7 @@ pub(crate) fn case_routes(
         nets,
         rest,
         width,
-    )?;
-    Ok(out)
+    )
 }
 
 // The routes of a bus.
@@ -215,7 +213,7 @@ pub(crate) fn bus_routes(
         terms ≡ only book.old controls.now.legal word (bus_term t u width drivers.now)))) }
 {
     let tests = driver_tests(alloc, book, controls, drivers)?;
-    let out = routes_of_first(
+    routes_of_first(
         alloc,
         book,
         pool,
@@ -224,6 +222,5 @@ pub(crate) fn bus_routes(
         nets,
         None,
         width,
-    )?;
-    Ok(out)
+    )
 }

@@ -41,8 +41,7 @@ pub(crate) fn without(
         (word : ℕ) → has_word book.new id word ≡ (has_word book.old set word && not (has_word book.old other word))) }
 {
     let outside = book.not(alloc, other)?;
-    let id = book.and(alloc, set, outside)?;
-    Ok(id)
+    book.and(alloc, set, outside)
 }
 
 // Adds the words of a set, each with the routes of the first net whose test holds it, and gives the

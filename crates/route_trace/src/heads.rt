@@ -11,7 +11,7 @@ use std::alloc::Global;
 use sym_expr::{ExprId, Node, Pool};
 
 // An operator that lacks its last operand, or nothing around it.
-#[derive(Clone, Copy, Debug)]
+#[derive(Clone, Copy)]
 pub(crate) enum Head {
     Same,
     Read(u8),
@@ -59,12 +59,12 @@ pub(crate) fn make_slice(
     ensures term { IfOk result (λ id. term_at pool.new id ≡ sliced (term_at pool.old of) hi lo) }
 {
     match slice_of_node(pool.node(of)) {
-        Some((a, _, low)) => Ok(pool.intern(alloc, Node::Slice(a, low + hi, low + lo))?),
+        Some((a, _, low)) => pool.intern(alloc, Node::Slice(a, low + hi, low + lo)),
         None => {
             if lo == 0 && hi + 1 == pool.width(of) {
                 Ok(of)
             } else {
-                Ok(pool.intern(alloc, Node::Slice(of, hi, lo))?)
+                pool.intern(alloc, Node::Slice(of, hi, lo))
             }
         }
     }
@@ -86,19 +86,19 @@ pub(crate) fn close(
 {
     match head {
         Head::Same => Ok(last),
-        Head::Read(width) => Ok(pool.intern(alloc, Node::Read(last, width))?),
-        Head::Un(op) => Ok(pool.intern(alloc, Node::Un(op, last))?),
+        Head::Read(width) => pool.intern(alloc, Node::Read(last, width)),
+        Head::Un(op) => pool.intern(alloc, Node::Un(op, last)),
         Head::Slice(hi, lo) => make_slice(alloc, pool, last, hi, lo),
-        Head::Zext(width) => Ok(pool.intern(alloc, Node::Zext(last, width))?),
-        Head::Sext(width) => Ok(pool.intern(alloc, Node::Sext(last, width))?),
-        Head::Bin(op, a) => Ok(pool.intern(alloc, Node::Bin(op, a, last))?),
-        Head::Cat(a) => Ok(pool.intern(alloc, Node::Cat(a, last))?),
-        Head::Select(c, a) => Ok(pool.intern(alloc, Node::Select(c, a, last))?),
+        Head::Zext(width) => pool.intern(alloc, Node::Zext(last, width)),
+        Head::Sext(width) => pool.intern(alloc, Node::Sext(last, width)),
+        Head::Bin(op, a) => pool.intern(alloc, Node::Bin(op, a, last)),
+        Head::Cat(a) => pool.intern(alloc, Node::Cat(a, last)),
+        Head::Select(c, a) => pool.intern(alloc, Node::Select(c, a, last)),
     }
 }
 
 // An operator that lacks its last two operands.
-#[derive(Clone, Copy, Debug)]
+#[derive(Clone, Copy)]
 pub(crate) enum Two {
     Bin(Op2),
     Cat,

@@ -6,7 +6,7 @@ ghost use Rattle.route_trace.specs.declared.stop.Stop.{Stop};
 use rec_bits::NoMemory;
 
 // Why the routes of a net are given up.
-#[derive(Clone, Copy, Debug, PartialEq, Eq)]
+#[derive(Clone, Copy, PartialEq, Eq)]
 pub(crate) enum Stop {
     // There are more than a net may have values.
     Many,

@@ -20,7 +20,7 @@ pub(crate) const MOST_VALUES: usize = 4096;
 const MOST_NODES: u64 = 255;
 
 // What is found out about a net.
-#[derive(Clone, Copy, Debug, PartialEq, Eq)]
+#[derive(Clone, Copy, PartialEq, Eq)]
 pub(crate) enum Verdict {
     // It keeps the limits, as all nets do that it depends on.
     Kept,

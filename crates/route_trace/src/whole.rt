@@ -1,13 +1,14 @@
 //! The routes of a net.
 
-ghost use Rattle.std.specs.Prelude.{◌≡◌, ℕ, ◌+◌, ◌^◌, ◌<◌, ◌≤◌, [], length, IfErr, IfOk, true, Some};
+ghost use Rattle.std.specs.Prelude.{◌≡◌, ℕ, ◌+◌, ◌^◌, ◌<◌, ◌≤◌, [], ◌∷◌, length, IfErr, IfOk, true, Some, if◌then◌else◌};
 ghost use Rattle.bit_bdd.specs.Diagrams.{Extends, has_word};
 ghost use Rattle.net_model.specs.Terms.{Term};
 ghost use Rattle.net_model.specs.Widths.{IsTyped, NetFits};
 ghost use Rattle.net_model.specs.Value.{value_of};
 ghost use Rattle.net_model.specs.Nets.{gate_nets};
 ghost use Rattle.net_model.specs.Symbolic.{no_state, gate_term, is_static};
-ghost use Rattle.sym_expr.specs.Pools.{Grows};
+ghost use Rattle.sym_expr.specs.Pools.{Grows, HeadFits, children_of, node_term, term_at};
+ghost use Rattle.route_trace.specs.declared.stop.Stop.TheVariants.{Memory};
 ghost use Rattle.transfer_set.specs.Routes.{IsRouteTable, terms_under, only};
 ghost use Rattle.route_trace.specs.Inner.Gates.{AllGive, HaveWidths};
 ghost use Rattle.route_trace.specs.Inner.Routing.{AreTables};
@@ -18,13 +19,35 @@ use crate::cases::{bus_routes, case_routes};
 use crate::gates::{leaf_routes, routes_over, routes_under};
 use crate::heads::{Head, Two};
 use crate::stop::Stop;
-use bit_bdd::Book;
+use bit_bdd::{Book, SetId};
 use ctl_bdd::ControlBits;
 use net_model::{Gate, Net, Netlist};
 use rec_bits::Items;
 use std::alloc::Global;
 use sym_expr::{Node, Pool};
 use transfer_set::Route;
+
+// The routes of an expression that has no operands, of which there aren't too many.
+fn routes_of_leaf(
+    alloc: Global,
+    book: &mut Book,
+    pool: &mut Pool,
+    legal: SetId,
+    node: Node,
+) -> Result<Items<Route>, Stop>
+    requires legal { legal < length book.old.nodes }
+    requires leaf { children_of node ≡ [] }
+    requires fits { HeadFits (node_term node (term_at pool.old)) }
+    ensures book { Extends book.old book.new }
+    ensures pool { Grows pool.old pool.new }
+    ensures table { IfOk result (λ out. IsRouteTable book.new pool.new out) }
+    ensures terms { IfOk result (λ out. (word : ℕ) → word < 2 ^ book.old.bits →
+        terms_under book.new pool.new out word ≡ (if has_word book.old legal word then node_term node (term_at pool.old) ∷ [] else [])) }
+    ensures few { IfErr result (λ stop. stop ≡ Memory) }
+{
+    let routes = leaf_routes(alloc, book, pool, legal, node)?;
+    Ok(routes)
+}
 
 // The routes of a net, from those of the nets that its gate names.
 pub(crate) fn net_routes(
@@ -57,11 +80,11 @@ pub(crate) fn net_routes(
     let legal = controls.legal;
     let width = net.width;
     match &net.gate {
-        Gate::Word(_) => Ok(leaf_routes(alloc, book, pool, legal, Node::Word(width))?),
-        Gate::Reg(id) => Ok(leaf_routes(alloc, book, pool, legal, Node::Reg(*id, width))?),
+        Gate::Word(_) => routes_of_leaf(alloc, book, pool, legal, Node::Word(width)),
+        Gate::Reg(id) => routes_of_leaf(alloc, book, pool, legal, Node::Reg(*id, width)),
         Gate::Const(value) => {
             let value = *value;
-            Ok(leaf_routes(alloc, book, pool, legal, Node::Const { width, value })?)
+            routes_of_leaf(alloc, book, pool, legal, Node::Const { width, value })
         }
         Gate::Read { addr, .. } => {
             routes_under(alloc, book, pool, legal, Head::Read(width), nets, *addr)
@@ -79,12 +102,10 @@ pub(crate) fn net_routes(
         Gate::Cat(a, b) => routes_over(alloc, book, pool, legal, Two::Cat, nets, *a, *b),
         Gate::Case { sel, rows, rest } => {
             let rows = rows.as_slice();
-            let out = case_routes(alloc, controls, book, pool, nets, *sel, rows, *rest, width)?;
-            Ok(out)
+            case_routes(alloc, controls, book, pool, nets, *sel, rows, *rest, width)
         }
         Gate::Bus(drivers) => {
-            let out = bus_routes(alloc, controls, book, pool, nets, drivers.as_slice(), width)?;
-            Ok(out)
+            bus_routes(alloc, controls, book, pool, nets, drivers.as_slice(), width)
         }
     }
 }

@@ -14,7 +14,7 @@
 //!   cell of each cut in place of its steps.
 //! - `proofs/`: `InOrder` carries both; `Zips` is for lists in two orders.
 //!
-//! Only `row_texts` and `cover_tests` call it; `emit_seq` gives cells as it goes.
+//! Only `row_texts` calls it; `emit_seq` gives cells as it goes.
 #![tactic(auto)]
 
 mod cut_cells;

@@ -3,14 +3,14 @@
 use rec_bits::{Items, Name, Op1, Op2};
 
 /// A program: its variables in the order of their declarations, and its statements.
-#[derive(Debug, Drop)]
+#[derive(Drop)]
 pub struct Program {
     pub vars: Items<Var>,
     pub body: Vec<Stmt>,
 }
 
 /// A variable: its name, the offset of the name in the text, and the length of an array.
-#[derive(Debug, Drop)]
+#[derive(Drop)]
 pub struct Var {
     pub name: Name,
     pub at: u64,
@@ -19,7 +19,7 @@ pub struct Var {
 }
 
 /// A statement.
-#[derive(Debug, Drop)]
+#[derive(Drop)]
 pub enum Stmt {
     /// The value is put into the place.
     Assign {
@@ -49,7 +49,7 @@ pub enum Stmt {
 }
 
 /// A place: a plain variable, or what an array has at an index.
-#[derive(Debug, Drop)]
+#[derive(Drop)]
 #[cycle(expr)]
 pub struct Spot {
     pub name: Name,
@@ -59,7 +59,7 @@ pub struct Spot {
 }
 
 /// An expression, and the offset of its first token, a parenthesis included.
-#[derive(Debug, Drop)]
+#[derive(Drop)]
 #[cycle(expr)]
 pub struct SrcExpr {
     pub at: u64,
@@ -67,7 +67,7 @@ pub struct SrcExpr {
 }
 
 /// What an expression is.
-#[derive(Debug, Drop)]
+#[derive(Drop)]
 #[cycle(expr)]
 pub enum SrcNode {
     Num(u64),
@@ -82,7 +82,7 @@ pub enum SrcNode {
 }
 
 /// A test: the left side compared with the right one.
-#[derive(Debug, Drop)]
+#[derive(Drop)]
 pub struct SrcTest {
     pub cmp: Cmp,
     pub left: SrcExpr,
@@ -90,7 +90,7 @@ pub struct SrcTest {
 }
 
 /// How a test compares. The orders with an `S` are those of signed numbers.
-#[derive(Clone, Copy, Debug, PartialEq, Eq)]
+#[derive(Clone, Copy, PartialEq, Eq)]
 pub enum Cmp {
     Eq,
     Ne,

@@ -3,7 +3,7 @@
 use rec_bits::Items;
 
 /// The cells of all variables, in the order of their declarations, arrays whole.
-#[derive(Debug, Drop)]
+#[derive(Drop)]
 pub struct Store {
     pub cells: Items<u64>,
 }

@@ -10,7 +10,7 @@ use crate::{Program, SrcFault};
 use rec_bits::NoMemory;
 
 /// A program that keeps the rules S1 to S6 for words of so many bits, 1 to 64.
-#[derive(Debug, Drop)]
+#[derive(Drop)]
 pub struct Typed {
     program: Program,
     width: u8,

@@ -13,7 +13,7 @@ pub type Word = grammar::Word<Symbol, Key>;
 pub type Lexed = grammar::Lexed<Symbol, Key>;
 
 /// A word that takes operands.
-#[derive(Clone, Copy, Debug, PartialEq, Eq)]
+#[derive(Clone, Copy, PartialEq, Eq)]
 pub enum Key {
     /// An operator between two operands. That of `-`, which also stands before one operand, is
     /// `Sub`.
@@ -23,7 +23,7 @@ pub enum Key {
 }
 
 /// A reserved word that calls for an expression and a number of bits.
-#[derive(Clone, Copy, Debug, PartialEq, Eq)]
+#[derive(Clone, Copy, PartialEq, Eq)]
 pub enum Call {
     Zext,
     Sext,
@@ -31,7 +31,7 @@ pub enum Call {
 }
 
 /// A sign, or another reserved word.
-#[derive(Clone, Copy, Debug, PartialEq, Eq)]
+#[derive(Clone, Copy, PartialEq, Eq)]
 pub enum Symbol {
     Equals,
     Semicolon,

@@ -7,6 +7,7 @@ use Rattle.grammar.proofs.Passing.{There, there_bind, there_return, there_maybe,
 use Rattle.grammar.proofs.Repeats.{Repeated}
 use Rattle.src_model.specs.declared.program.Var.{Var as Declared}
 use Rattle.src_model.specs.Grammar.{Lexed, Word, DeclsBehind, IsDecl, IsDecls, IsLines, IsBody}
+use Rattle.grammar.specs.declared.words.Lexed.{Lexed as LexedOf}
 use Rattle.grammar.specs.declared.words.Word.TheVariants.{Name, Symbol as Shows}
 use Rattle.src_model.specs.declared.words.Symbol.TheVariants.{Comma, Semicolon, LeftBracket, Var, If, Else, While, For}
 use Rattle.src_model.specs.Written.{Act, Listing}
@@ -14,6 +15,27 @@ use Rattle.grammar.specs.Tokens.{Behind, Before}
 use Rattle.src_parser.specs.Inner.Steps.{bracket_word, decls_word, var_word, act_word, acts_word, text_word, after_decl, after_decls, after_lines, after_acts, after_text}
 use Rattle.grammar.proofs.Tokens.{Shown, begun, there_name}
 use Rattle.src_parser.proofs.Statements.{acted}
+
+-- a sign in front and one behind, put together from either side
+pub from_either_side : {S K V : Type 0} {s z : S} {X : List (LexedOf S K) → V → Type 0} {more : LexedOf S K → Bool} {ts : List (LexedOf S K)} → Leads (λ v. v) (Before (Behind s X) z) more ts (Behind s (Before X z)) more ts
+from_either_side = leads_as
+    (λ x w b. record {
+      front = b.first.front;
+      back = b.first.back ++ b.back;
+      value = b.first.value;
+      parts = b.parts ∙ ap (λ y. y ++ b.back) b.first.parts ∙ append_assoc b.first.front b.first.back b.back;
+      first = b.first.first;
+      second = record { front = b.first.back; back = b.back; value = b.value; parts = refl; first = b.first.second; second = b.second };
+    })
+    (λ x w c h st b. record {
+      front = b.front ++ b.second.front;
+      back = b.second.back;
+      value = b.second.value;
+      parts = b.parts ∙ ap (λ y. b.front ++ y) b.second.parts ∙ sym (append_assoc b.front b.second.front b.second.back);
+      first = record { front = b.front; back = b.second.front; value = b.value; parts = refl; first = b.first; second = b.second.first };
+      second = b.second.second;
+    })
+    (λ c st. st)
 
 pub there_decl : There IsDecl
 there_decl = there_bind there_name (λ i. there_bind there_maybe (λ l. there_return))

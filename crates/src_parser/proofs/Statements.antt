@@ -182,3 +182,7 @@ for_reads {R = R} {more = more} {ts = ts} {rest = rest} counter at from to v r =
 
 pub if_reads : {R : List Lexed → Act → Type 0} {more : Lexed → Bool} {ts rest : List Lexed} (test : SrcTest) (v : Vec Stmt Global) (o : Option (Vec Stmt Global)) → Reads R more ts (choice (test_of test) (acts_of (map act_of v.items)) (other_of (others_of o))) rest → Reads R more ts (act_of (IfMade test v o)) rest
 if_reads {R = R} {more = more} {ts = ts} {rest = rest} test v o r = subst (λ (a : Act). Reads R more ts a rest) (sym (act_chosen test v o)) r
+
+-- the same of a test and statements that were kept together
+pub if_kept : {R : List Lexed → Act → Type 0} {more : Lexed → Bool} {ts rest : List Lexed} (test : SrcTest) (v : Vec Stmt Global) (o : Option (Vec Stmt Global)) {p : SrcTest × Vec Stmt Global} → p ≡ (test, v) → Reads R more ts (choice (test_of test) (acts_of (map act_of v.items)) (other_of (others_of o))) rest → Reads R more ts (act_of (IfMade p.0 p.1 o)) rest
+if_kept {R = R} {more = more} {ts = ts} {rest = rest} test v o e r = subst (λ p. Reads R more ts (act_of (IfMade p.0 p.1 o)) rest) (sym e) (if_reads test v o r)

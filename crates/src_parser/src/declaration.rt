@@ -7,7 +7,7 @@ ghost use Rattle.grammar.specs.Tokens.{Before, Behind, IsNumber};
 ghost use Rattle.src_model.specs.Grammar.{DeclsBehind, IsDecl, IsDecls, IsLines};
 ghost use Rattle.src_parser.specs.Inner.Steps.{after_decl, after_decls, after_lines};
 
-use grammar::{Stop, begins_with, expect, name, number};
+use grammar::{Stop, begins_with, expect, keeping, name, number_between};
 use src_model::{Lexed, Symbol, Var};
 use std::alloc::Global;
 
@@ -15,10 +15,7 @@ use std::alloc::Global;
 fn bracketed(ts: &[Lexed]) -> Result<(u64, &[Lexed]), Stop>
     ensures { Gives (λ x. (x.0, x.1.now)) (Behind LeftBracket (Before IsNumber RightBracket)) never ts.now result }
 {
-    let rest = expect(Symbol::LeftBracket, ts)?;
-    let (len, rest) = number(rest)?;
-    let rest = expect(Symbol::RightBracket, rest)?;
-    Ok((len, rest))
+    number_between(Symbol::LeftBracket, Symbol::RightBracket, ts)
 }
 
 /// The length of an array, if there is one.
@@ -76,8 +73,7 @@ fn line(alloc: Global, ts: &[Lexed]) -> Result<(Vec<Var>, &[Lexed]), Stop>
 {
     let (first, rest) = declared_behind(alloc, Symbol::Var, ts)?;
     let (vars, rest) = others(alloc, first, rest)?;
-    let rest = expect(Symbol::Semicolon, rest)?;
-    Ok((vars, rest))
+    keeping(vars, expect(Symbol::Semicolon, rest))
 }
 
 /// The variables of all lines.

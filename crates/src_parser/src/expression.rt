@@ -11,7 +11,7 @@ ghost use Rattle.src_model.specs.Grammar.{Called, Chains, Enclosed, IsExpr, IsIn
 ghost use Rattle.src_model.specs.Written.{index_of, phrase_of, place_of};
 ghost use Rattle.src_parser.specs.Inner.Steps.{HasRoom, InExpr, OpensIndex, OpenBehind, after, least_of, may_follow, opening_of};
 
-use grammar::{Stop, begins_with, expect, front, number_between};
+use grammar::{Stop, begins_with, expect, front, keeping, number_between};
 use rec_bits::{Items, Name, Op1, Op2};
 use src_model::{Call, Key, Lexed, Spot, SrcExpr, SrcNode, Symbol, Word};
 use std::alloc::Global;
@@ -23,7 +23,7 @@ const MOST_TOKENS: usize = 1024;
 const LOOSEST: u8 = 6;
 
 /// What opens a level of an expression.
-#[derive(Clone, Copy, Debug, PartialEq, Eq)]
+#[derive(Clone, Copy, PartialEq, Eq)]
 pub enum Opening {
     Sign(Op1),
     Paren,
@@ -181,9 +181,9 @@ fn tail(
         if spare < 2 {
             break;
         }
-        let (right, next) = chain(alloc, k - 1, levels, spare - 1, behind)?;
+        let (kept, (right, next)) = keeping(left, chain(alloc, k - 1, levels, spare - 1, behind))?;
         spare = spare - 1 - (behind.len() - next.len());
-        left = joined(alloc, left, op, right)?;
+        left = joined(alloc, kept, op, right)?;
         rest = next;
     }
     Ok((left, rest))
@@ -203,8 +203,7 @@ fn closed(
     ensures { Gives (λ x. (phrase_of x.0, x.1.now)) (Within room (Before (IsExpr levels) last)) never ts.now result }
 {
     let (a, rest) = chain(alloc, LOOSEST, levels, room - 1, ts)?;
-    let rest = expect(last, rest)?;
-    Ok((a, rest))
+    keeping(a, expect(last, rest))
 }
 
 /// An index.
@@ -324,7 +323,7 @@ fn call(
     ensures { Gives (λ x. (phrase_of x.0, x.1.now)) (Within room (Called (IsExpr levels) call at)) (after 0) ts.now result }
 {
     let (a, rest) = argument(alloc, levels, room - 3, ts)?;
-    let (width, rest) = number_between(Symbol::Comma, Symbol::RightParen, rest)?;
+    let (a, (width, rest)) = keeping(a, number_between(Symbol::Comma, Symbol::RightParen, rest))?;
     let e = called(alloc, call, at, a, width)?;
     Ok((e, rest))
 }

@@ -10,7 +10,7 @@ ghost use Rattle.src_model.specs.Written.{act_of, index_of, phrase_of, test_of};
 ghost use Rattle.src_parser.specs.Inner.Steps.{CompoundBehind, OpensBracket, act_word, after, after_acts, after_else, cmp_of, compound_of, may_follow, others_of};
 
 use crate::expression::expr;
-use grammar::{Stop, begins_with, expect, front, name, number_behind};
+use grammar::{Stop, begins_with, expect, front, keeping, name, number_behind};
 use rec_bits::{Items, Name};
 use src_model::{Cmp, Key, Lexed, Spot, SrcExpr, SrcTest, Stmt, Symbol, Word};
 use std::alloc::Global;
@@ -43,8 +43,8 @@ fn test(alloc: Global, levels: u8, ts: &[Lexed]) -> Result<(SrcTest, &[Lexed]), 
     ensures { Gives (λ x. (test_of x.0, x.1.now)) (IsTest levels) (after 6) ts.now result }
 {
     let (left, rest) = expr(alloc, levels, ts)?;
-    let (cmp, rest) = cmp(rest)?;
-    let (right, rest) = expr(alloc, levels, rest)?;
+    let (left, (cmp, rest)) = keeping(left, cmp(rest))?;
+    let (left, (right, rest)) = keeping(left, expr(alloc, levels, rest))?;
     Ok((SrcTest { cmp, left, right }, rest))
 }
 
@@ -61,8 +61,7 @@ fn between(
 {
     let rest = expect(first, ts)?;
     let (a, rest) = expr(alloc, levels, rest)?;
-    let rest = expect(last, rest)?;
-    Ok((a, rest))
+    keeping(a, expect(last, rest))
 }
 
 /// Whether an index stands first and a level can be opened for it.
@@ -148,8 +147,7 @@ fn block(alloc: Global, levels: u8, ts: &[Lexed]) -> Result<(Vec<Stmt>, &[Lexed]
 {
     let rest = expect(Symbol::LeftBrace, ts)?;
     let (body, rest) = body(alloc, levels - 1, rest)?;
-    let rest = expect(Symbol::RightBrace, rest)?;
-    Ok((body, rest))
+    keeping(body, expect(Symbol::RightBrace, rest))
 }
 
 /// An `else` part, if there is one.
@@ -168,7 +166,7 @@ fn otherwise(alloc: Global, levels: u8, ts: &[Lexed]) -> Result<(Option<Vec<Stmt
 }
 
 /// A word behind which blocks stand.
-#[derive(Clone, Copy, Debug, PartialEq, Eq)]
+#[derive(Clone, Copy, PartialEq, Eq)]
 pub enum Compound {
     If,
     While,
@@ -194,8 +192,8 @@ fn choice(alloc: Global, levels: u8, ts: &[Lexed]) -> Result<(Stmt, &[Lexed]), S
     ensures { Gives (λ x. (act_of x.0, x.1.now)) (CompoundBehind levels (IsBlock levels) Chooses) after_else ts.now result }
 {
     let (test, rest) = test(alloc, levels, ts)?;
-    let (yes, rest) = block(alloc, levels, rest)?;
-    let (no, rest) = otherwise(alloc, levels, rest)?;
+    let (test, (yes, rest)) = keeping(test, block(alloc, levels, rest))?;
+    let ((test, yes), (no, rest)) = keeping((test, yes), otherwise(alloc, levels, rest))?;
     Ok((Stmt::If { test, yes, no }, rest))
 }
 
@@ -206,7 +204,7 @@ fn repetition(alloc: Global, levels: u8, ts: &[Lexed]) -> Result<(Stmt, &[Lexed]
     ensures { Gives (λ x. (act_of x.0, x.1.now)) (CompoundBehind levels (IsBlock levels) Repeats) after_else ts.now result }
 {
     let (test, rest) = test(alloc, levels, ts)?;
-    let (body, rest) = block(alloc, levels, rest)?;
+    let (test, (body, rest)) = keeping(test, block(alloc, levels, rest))?;
     Ok((Stmt::While { test, body }, rest))
 }
 

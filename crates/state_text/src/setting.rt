@@ -1,7 +1,7 @@
 //! What a line of a memory text sets.
 
 /// A value for a register or for a cell of the data memory.
-#[derive(Clone, Copy, Debug, PartialEq, Eq)]
+#[derive(Clone, Copy, PartialEq, Eq)]
 pub enum Setting {
     /// The register with this storage's number.
     Entry { storage: u32, value: u64 },

@@ -20,7 +20,7 @@ pub type ExprId = u64;
 /// A leaf, or an operator over the ids of its operands, with the meanings of `net_model::Expr`.
 /// Each tells its own width: in `Word`, `Reg` and `Read` the last number is the width, in `Zext`
 /// and `Sext` the width that is reached.
-#[derive(Clone, Copy, Debug, PartialEq, Eq, Hash)]
+#[derive(Clone, Copy, PartialEq, Eq, Hash)]
 pub enum Node {
     Word(u8),
     Reg(u32, u8),
@@ -39,7 +39,7 @@ pub enum Node {
 
 // What is known of an expression from its parts alone: its width, and how many nodes it has, 2^64 -
 // 1 standing for more.
-#[derive(Clone, Copy, Debug, PartialEq, Eq)]
+#[derive(Clone, Copy, PartialEq, Eq)]
 struct Measure {
     width: u8,
     size: u64,

@@ -20,7 +20,7 @@ use sym_expr::{ExprId, Node, Pool};
 
 // A transfer of a storage, with an address where the storage is a memory, and the words that give
 // it.
-#[derive(Clone, Copy, Debug, PartialEq, Eq)]
+#[derive(Clone, Copy, PartialEq, Eq)]
 pub(crate) struct Entry {
     pub(crate) storage: u32,
     pub(crate) addr: Option<ExprId>,
@@ -111,8 +111,7 @@ fn add_write(
     if is_own(pool, route.expr, storage) {
         return Ok(());
     }
-    add_entry(alloc, book, out, storage, None, route.expr, on, route.set)?;
-    Ok(())
+    add_entry(alloc, book, out, storage, None, route.expr, on, route.set)
 }
 
 // Adds the transfers of a register that takes, under the words of a set, what some routes give.

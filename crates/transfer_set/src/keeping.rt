@@ -29,8 +29,7 @@ fn without(
         return Ok(left);
     }
     let others = book.not(alloc, entry.set)?;
-    let kept = book.and(alloc, left, others)?;
-    Ok(kept)
+    book.and(alloc, left, others)
 }
 
 // Those of some words that are in the set of no transfer of the storage.

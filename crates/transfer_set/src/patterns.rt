@@ -28,7 +28,7 @@ use sym_expr::{ExprId, Pool};
 /// The patterns of a netlist: what its instruction words do to its storages, each with all words
 /// that do it. They are numbered from 0 in the order of their storages and then of the texts of
 /// their transfers.
-#[derive(Debug, Drop)]
+#[derive(Drop)]
 pub struct Patterns {
     rows: Vec<Row>,
     keeps: Items<SetId>,
@@ -165,7 +165,6 @@ impl Patterns {
         requires { IsReady checked.now.netlist book.now _pool.now self.now }
         ensures { IfOk result (λ text. IsPatternsText checked.now.netlist (row_patterns _pool.now self.now.rows) text.items) }
     {
-        let text = text(alloc, checked, book, &self.rows)?;
-        Ok(text)
+        text(alloc, checked, book, &self.rows)
     }
 }

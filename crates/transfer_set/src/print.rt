@@ -1,7 +1,7 @@
 //! The text of patterns.
 
-ghost use Rattle.std.specs.Prelude.{◌≡◌, ◌≤◌, All, List, length, IfOk};
-ghost use Rattle.code_model.specs.ImageText.{bytes_of};
+ghost use Rattle.std.specs.Prelude.{◌≡◌, ◌≤◌, ◌++◌, All, List, length, IfOk, OnOk};
+ghost use Rattle.code_model.specs.ImageText.{bytes_of, hex_of};
 ghost use Rattle.net_model.specs.Nets.{word_width};
 ghost use Rattle.sym_expr.specs.declared.pool.Node.{Node};
 ghost use Rattle.transfer_set.specs.PatternsText.{AreLines, IsLeastOf, IsLine, IsPatternsText, line_text, text_of};
@@ -10,6 +10,7 @@ ghost use Rattle.transfer_set.specs.Rows.{row_pattern, row_patterns};
 ghost use Rattle.transfer_set.specs.Tables.{AreSets, IsRow};
 
 use crate::row::Row;
+use crate::texts::{add_bytes, add_number};
 use bit_bdd::{Book, SetId};
 use code_model::bytes_of;
 use net_model::Checked;
@@ -38,22 +39,33 @@ fn least_word(book: &Book, set: SetId) -> u64
     book.least(set).unwrap()
 }
 
-// The line of a pattern: its number, its transfer, and a word in so many bytes, the highest first.
-fn pattern_line(
+// A word in so many bytes, the highest first, in hexadecimal digits.
+fn add_word(alloc: Global, line: &mut Vec<u8>, bytes: usize, word: u64) -> Result<(), NoMemory>
+    requires { bytes ≤ WORD_BYTES }
+    ensures { OnOk result (line.new.items ≡ line.old.items ++ hex_of bytes word) }
+{
+    let digits = hex::encode(alloc, &word.to_be_bytes()[WORD_BYTES - bytes..])?;
+    add_bytes(line, digits.as_bytes())
+}
+
+// The line of a pattern: its number, its transfer, and a word in so many bytes.
+fn add_line(
     alloc: Global,
+    line: &mut Vec<u8>,
     number: usize,
     transfer: &[u8],
     bytes: usize,
     word: u64,
-) -> Result<Vec<u8>, NoMemory>
+) -> Result<(), NoMemory>
     requires { bytes ≤ WORD_BYTES }
-    ensures { IfOk result (λ line. line.items ≡ line_text number transfer.now bytes word) }
+    ensures { OnOk result (line.new.items ≡ line.old.items ++ line_text number transfer.now bytes word) }
 {
-    let digits = hex::encode(alloc, &word.to_be_bytes()[WORD_BYTES - bytes..])?;
-    let mut line = format!(in alloc; "{number} ")?.into_bytes();
-    line.extend_from_slice(transfer)?;
-    line.extend_from_slice(format!(in alloc; " ; {digits}\n")?.as_bytes())?;
-    Ok(line)
+    add_number(line, number as u64)?;
+    add_bytes(line, b" ")?;
+    add_bytes(line, transfer)?;
+    add_bytes(line, b" ; ")?;
+    add_word(alloc, line, bytes, word)?;
+    add_bytes(line, b"\n")
 }
 
 // The line of a pattern, with the least word of its set.
@@ -71,7 +83,15 @@ fn row_line(
 {
     let _ = checked.netlist();
     let word = least_word(book, row.set);
-    let line = pattern_line(alloc, number, &row.text, word_bytes(checked), word)?;
+    let mut line = Vec::new(alloc);
+    add_line(
+        alloc,
+        &mut line,
+        number,
+        &row.text,
+        word_bytes(checked),
+        word,
+    )?;
     Ok(line)
 }
 
@@ -95,13 +115,14 @@ fn row_lines(
 }
 
 // Lines with their count before them and the end behind.
-fn whole_text(alloc: Global, count: usize, lines: &[u8]) -> Result<Vec<u8>, NoMemory>
-    ensures { IfOk result (λ text. text.items ≡ text_of count lines.now) }
+fn add_whole(text: &mut Vec<u8>, count: usize, lines: &[u8]) -> Result<(), NoMemory>
+    ensures { OnOk result (text.new.items ≡ text.old.items ++ text_of count lines.now) }
 {
-    let mut text = format!(in alloc; "patterns {count}\n")?.into_bytes();
-    text.extend_from_slice(lines)?;
-    text.extend_from_slice(b"done\n")?;
-    Ok(text)
+    add_bytes(text, b"patterns ")?;
+    add_number(text, count as u64)?;
+    add_bytes(text, b"\n")?;
+    add_bytes(text, lines)?;
+    add_bytes(text, b"done\n")
 }
 
 // The text of patterns: how many there are, and for each a line with its number, from 0 on, its
@@ -118,6 +139,7 @@ pub(crate) fn text(
         IsPatternsText checked.now.netlist (row_patterns pool rows.now) text.items) }
 {
     let lines = row_lines(alloc, checked, book, rows)?;
-    let text = whole_text(alloc, rows.len(), &lines)?;
+    let mut text = Vec::new(alloc);
+    add_whole(&mut text, rows.len(), &lines)?;
     Ok(text)
 }

@@ -18,7 +18,7 @@ use sym_expr::{ExprId, Pool};
 /// A pattern with the text of its transfer, the words that give it, and the instruction bits that
 /// occur in it. The order is by storage and text; two patterns never have both alike where names of
 /// a netlist are names of its language.
-#[derive(Debug, PartialEq, Eq, PartialOrd, Ord, Drop)]
+#[derive(PartialEq, Eq, PartialOrd, Ord, Drop)]
 pub struct Row {
     pub(crate) storage: u32,
     pub(crate) text: Vec<u8>,

@@ -74,8 +74,7 @@ fn add_storage(
         Storage::Register { input, when, .. } => {
             let on = when_set(controls, *when);
             let inputs = routes_of(routes, *input);
-            add_register(alloc, book, pool, out, id, on, inputs)?;
-            Ok(())
+            add_register(alloc, book, pool, out, id, on, inputs)
         }
         Storage::Memory {
             value,
@@ -86,8 +85,7 @@ fn add_storage(
             let on = when_set(controls, *when);
             let addrs = routes_of(routes, *addr);
             let values = routes_of(routes, *value);
-            add_memory(alloc, book, out, id, on, addrs, values)?;
-            Ok(())
+            add_memory(alloc, book, out, id, on, addrs, values)
         }
     }
 }

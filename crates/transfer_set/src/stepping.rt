@@ -16,7 +16,7 @@ use std::alloc::Global;
 use sym_expr::{ExprId, Node, Pool};
 
 /// A program counter, by the number of its storage and its width in bits.
-#[derive(Clone, Copy, Debug)]
+#[derive(Clone, Copy)]
 pub struct Counter {
     pub storage: u32,
     pub width: u8,
@@ -106,8 +106,7 @@ fn with_step(
     if !steps(pool, entry, counter) {
         return Ok(words);
     }
-    let more = book.or(alloc, words, entry.set)?;
-    Ok(more)
+    book.or(alloc, words, entry.set)
 }
 
 // The words of all transfers that step.

@@ -64,14 +64,15 @@ pub fn word_of_two(op: Op2) -> &'static str
 }
 
 // Bytes as they stand.
-fn add_bytes(text: &mut Vec<u8>, bytes: &[u8]) -> Result<(), NoMemory>
+pub(crate) fn add_bytes(text: &mut Vec<u8>, bytes: &[u8]) -> Result<(), NoMemory>
     ensures { OnOk result (text.new.items ≡ text.old.items ++ bytes.now) }
 {
     text.extend_from_slice(bytes)?;
     Ok(())
 }
 
-fn add_number(text: &mut Vec<u8>, number: u64) -> Result<(), NoMemory>
+// A number in decimal digits.
+pub(crate) fn add_number(text: &mut Vec<u8>, number: u64) -> Result<(), NoMemory>
     ensures { OnOk result (text.new.items ≡ text.old.items ++ decimal number) }
 {
     let mut buffer = Buffer::new();
@@ -84,18 +85,69 @@ fn add_constant(text: &mut Vec<u8>, value: u64, width: u8) -> Result<(), NoMemor
     ensures { OnOk result (text.new.items ≡ text.old.items ++ concat (decimal value ∷ codes "#" ∷ decimal width ∷ [])) }
 {
     add_number(text, value)?;
-    text.extend_from_slice(b"#")?;
-    add_number(text, u64::from(width))?;
-    Ok(())
+    add_bytes(text, b"#")?;
+    add_number(text, u64::from(width))
 }
 
 // A number as an operand behind others.
 fn add_more(text: &mut Vec<u8>, number: u8) -> Result<(), NoMemory>
     ensures { OnOk result (text.new.items ≡ text.old.items ++ concat (codes "," ∷ decimal number ∷ [])) }
 {
-    text.extend_from_slice(b",")?;
-    add_number(text, u64::from(number))?;
-    Ok(())
+    add_bytes(text, b",")?;
+    add_number(text, u64::from(number))
+}
+
+// A number as the last operand, and the end.
+fn add_last(text: &mut Vec<u8>, number: u8) -> Result<(), NoMemory>
+    ensures { OnOk result (text.new.items ≡ text.old.items ++ concat (codes "," ∷ decimal number ∷ codes ")" ∷ [])) }
+{
+    add_more(text, number)?;
+    add_bytes(text, b")")
+}
+
+// The bounds of a slice as the last operands, and the end.
+fn add_bounds(text: &mut Vec<u8>, hi: u8, lo: u8) -> Result<(), NoMemory>
+    ensures { OnOk result (text.new.items ≡ text.old.items ++ concat (codes "," ∷ decimal hi ∷ codes "," ∷ decimal lo ∷ codes ")" ∷ [])) }
+{
+    add_more(text, hi)?;
+    add_last(text, lo)
+}
+
+// `read(MEMORY`.
+fn add_memory(text: &mut Vec<u8>, checked: &Checked) -> Result<(), NoMemory>
+    ensures { OnOk result (text.new.items ≡ text.old.items ++ concat (codes "read(" ∷ memory_name checked.now.netlist ∷ [])) }
+{
+    add_bytes(text, b"read(")?;
+    add_bytes(text, checked.memory_name())
+}
+
+// `WORD(A`.
+#[cycle(term)]
+fn add_first(
+    text: &mut Vec<u8>,
+    checked: &Checked,
+    pool: &Pool,
+    word: &[u8],
+    a: ExprId,
+) -> Result<(), NoMemory>
+    requires { a < length pool.now }
+    ensures { OnOk result (text.new.items ≡ text.old.items
+        ++ concat (word.now ∷ codes "(" ∷ term_text checked.now.netlist (term_at pool.now a) ∷ [])) }
+{
+    add_bytes(text, word)?;
+    add_bytes(text, b"(")?;
+    add_term(text, checked, pool, a)
+}
+
+// An expression as an operand behind others.
+#[cycle(term)]
+fn add_next(text: &mut Vec<u8>, checked: &Checked, pool: &Pool, b: ExprId) -> Result<(), NoMemory>
+    requires { b < length pool.now }
+    ensures { OnOk result (text.new.items ≡ text.old.items
+        ++ concat (codes "," ∷ term_text checked.now.netlist (term_at pool.now b) ∷ [])) }
+{
+    add_bytes(text, b",")?;
+    add_term(text, checked, pool, b)
 }
 
 // `read(MEMORY,ADDRESS)`.
@@ -110,12 +162,9 @@ fn add_read(
     ensures { OnOk result (text.new.items ≡ text.old.items
         ++ concat (codes "read(" ∷ memory_name checked.now.netlist ∷ codes "," ∷ term_text checked.now.netlist (term_at pool.now addr) ∷ codes ")" ∷ [])) }
 {
-    text.extend_from_slice(b"read(")?;
-    text.extend_from_slice(checked.memory_name())?;
-    text.extend_from_slice(b",")?;
-    add_term(text, checked, pool, addr)?;
-    text.extend_from_slice(b")")?;
-    Ok(())
+    add_memory(text, checked)?;
+    add_next(text, checked, pool, addr)?;
+    add_bytes(text, b")")
 }
 
 // `WORD(A)`.
@@ -124,18 +173,15 @@ fn add_one(
     text: &mut Vec<u8>,
     checked: &Checked,
     pool: &Pool,
-    word: &str,
+    word: &[u8],
     a: ExprId,
 ) -> Result<(), NoMemory>
     requires { a < length pool.now }
     ensures { OnOk result (text.new.items ≡ text.old.items
         ++ concat (word.now ∷ codes "(" ∷ term_text checked.now.netlist (term_at pool.now a) ∷ codes ")" ∷ [])) }
 {
-    text.extend_from_slice(word.as_bytes())?;
-    text.extend_from_slice(b"(")?;
-    add_term(text, checked, pool, a)?;
-    text.extend_from_slice(b")")?;
-    Ok(())
+    add_first(text, checked, pool, word, a)?;
+    add_bytes(text, b")")
 }
 
 // `WORD(A,B)`.
@@ -144,7 +190,7 @@ fn add_two(
     text: &mut Vec<u8>,
     checked: &Checked,
     pool: &Pool,
-    word: &str,
+    word: &[u8],
     a: ExprId,
     b: ExprId,
 ) -> Result<(), NoMemory>
@@ -154,13 +200,9 @@ fn add_two(
         ++ concat (word.now ∷ codes "(" ∷ term_text checked.now.netlist (term_at pool.now a) ∷ codes ","
         ∷ term_text checked.now.netlist (term_at pool.now b) ∷ codes ")" ∷ [])) }
 {
-    text.extend_from_slice(word.as_bytes())?;
-    text.extend_from_slice(b"(")?;
-    add_term(text, checked, pool, a)?;
-    text.extend_from_slice(b",")?;
-    add_term(text, checked, pool, b)?;
-    text.extend_from_slice(b")")?;
-    Ok(())
+    add_first(text, checked, pool, word, a)?;
+    add_next(text, checked, pool, b)?;
+    add_bytes(text, b")")
 }
 
 // `slice(A,HI,LO)`.
@@ -177,12 +219,8 @@ fn add_slice(
     ensures { OnOk result (text.new.items ≡ text.old.items
         ++ concat (codes "slice(" ∷ term_text checked.now.netlist (term_at pool.now a) ∷ codes "," ∷ decimal hi ∷ codes "," ∷ decimal lo ∷ codes ")" ∷ [])) }
 {
-    text.extend_from_slice(b"slice(")?;
-    add_term(text, checked, pool, a)?;
-    add_more(text, hi)?;
-    add_more(text, lo)?;
-    text.extend_from_slice(b")")?;
-    Ok(())
+    add_first(text, checked, pool, b"slice", a)?;
+    add_bounds(text, hi, lo)
 }
 
 // `WORD(A,WIDTH)`.
@@ -191,7 +229,7 @@ fn add_extension(
     text: &mut Vec<u8>,
     checked: &Checked,
     pool: &Pool,
-    word: &str,
+    word: &[u8],
     a: ExprId,
     width: u8,
 ) -> Result<(), NoMemory>
@@ -199,12 +237,8 @@ fn add_extension(
     ensures { OnOk result (text.new.items ≡ text.old.items
         ++ concat (word.now ∷ codes "(" ∷ term_text checked.now.netlist (term_at pool.now a) ∷ codes "," ∷ decimal width ∷ codes ")" ∷ [])) }
 {
-    text.extend_from_slice(word.as_bytes())?;
-    text.extend_from_slice(b"(")?;
-    add_term(text, checked, pool, a)?;
-    add_more(text, width)?;
-    text.extend_from_slice(b")")?;
-    Ok(())
+    add_first(text, checked, pool, word, a)?;
+    add_last(text, width)
 }
 
 // `select(C,A,B)`.
@@ -224,14 +258,10 @@ fn add_select(
         ++ concat (codes "select(" ∷ term_text checked.now.netlist (term_at pool.now c) ∷ codes ","
         ∷ term_text checked.now.netlist (term_at pool.now a) ∷ codes "," ∷ term_text checked.now.netlist (term_at pool.now b) ∷ codes ")" ∷ [])) }
 {
-    text.extend_from_slice(b"select(")?;
-    add_term(text, checked, pool, c)?;
-    text.extend_from_slice(b",")?;
-    add_term(text, checked, pool, a)?;
-    text.extend_from_slice(b",")?;
-    add_term(text, checked, pool, b)?;
-    text.extend_from_slice(b")")?;
-    Ok(())
+    add_first(text, checked, pool, b"select", c)?;
+    add_next(text, checked, pool, a)?;
+    add_next(text, checked, pool, b)?;
+    add_bytes(text, b")")
 }
 
 // The text of an expression.
@@ -250,14 +280,51 @@ fn add_term(
         Node::Reg(id, _) => add_bytes(text, storage_name(checked, id)),
         Node::Const { width, value } => add_constant(text, value, width),
         Node::Read(addr, _) => add_read(text, checked, pool, addr),
-        Node::Un(op, a) => add_one(text, checked, pool, word_of_one(op), a),
-        Node::Bin(op, a, b) => add_two(text, checked, pool, word_of_two(op), a, b),
+        Node::Un(op, a) => add_one(text, checked, pool, word_of_one(op).as_bytes(), a),
+        Node::Bin(op, a, b) => add_two(text, checked, pool, word_of_two(op).as_bytes(), a, b),
         Node::Slice(a, hi, lo) => add_slice(text, checked, pool, a, hi, lo),
-        Node::Cat(a, b) => add_two(text, checked, pool, "cat", a, b),
-        Node::Zext(a, width) => add_extension(text, checked, pool, "zext", a, width),
-        Node::Sext(a, width) => add_extension(text, checked, pool, "sext", a, width),
+        Node::Cat(a, b) => add_two(text, checked, pool, b"cat", a, b),
+        Node::Zext(a, width) => add_extension(text, checked, pool, b"zext", a, width),
+        Node::Sext(a, width) => add_extension(text, checked, pool, b"sext", a, width),
         Node::Select(c, a, b) => add_select(text, checked, pool, c, a, b),
     }
+}
+
+// `[ADDRESS]`.
+fn add_place(
+    text: &mut Vec<u8>,
+    checked: &Checked,
+    pool: &Pool,
+    addr: ExprId,
+) -> Result<(), NoMemory>
+    requires { addr < length pool.now }
+    ensures { OnOk result (text.new.items ≡ text.old.items
+        ++ concat (codes "[" ∷ term_text checked.now.netlist (term_at pool.now addr) ∷ codes "]" ∷ [])) }
+{
+    add_bytes(text, b"[")?;
+    add_term(text, checked, pool, addr)?;
+    add_bytes(text, b"]")
+}
+
+// A transfer of a storage.
+fn add_transfer(
+    text: &mut Vec<u8>,
+    checked: &Checked,
+    pool: &Pool,
+    storage: u32,
+    addr: Option<ExprId>,
+    value: ExprId,
+) -> Result<(), NoMemory>
+    requires addr { IsAddrKnown (length pool.now) addr }
+    requires value { value < length pool.now }
+    ensures { OnOk result (text.new.items ≡ text.old.items ++ move_text checked.now.netlist storage (ids_move pool.now addr value)) }
+{
+    add_bytes(text, storage_name(checked, storage))?;
+    if let Some(addr) = addr {
+        add_place(text, checked, pool, addr)?;
+    }
+    add_bytes(text, b" := ")?;
+    add_term(text, checked, pool, value)
 }
 
 /// The text of a transfer of a storage: of the memory where there is an address, and otherwise of a
@@ -274,13 +341,7 @@ pub(crate) fn transfer_text(
     requires value { value < length pool.now }
     ensures { IfOk result (λ text. text.items ≡ move_text checked.now.netlist storage (ids_move pool.now addr value)) }
 {
-    let mut text = Vec::from_slice(alloc, storage_name(checked, storage))?;
-    if let Some(addr) = addr {
-        text.extend_from_slice(b"[")?;
-        add_term(&mut text, checked, pool, addr)?;
-        text.extend_from_slice(b"]")?;
-    }
-    text.extend_from_slice(b" := ")?;
-    add_term(&mut text, checked, pool, value)?;
+    let mut text = Vec::new(alloc);
+    add_transfer(&mut text, checked, pool, storage, addr, value)?;
     Ok(text)
 }

@@ -8,7 +8,7 @@ use form_model::{Aim, Tree};
 use net_model::Expr;
 
 /// What a match leaves open, with the number of its tree among the subtrees.
-#[derive(Clone, Copy, Debug)]
+#[derive(Clone, Copy)]
 pub enum Part<'a> {
     /// A tree that another form has to put into the register of number `id` first. A whole tree
     /// can't be a cut.
@@ -27,7 +27,7 @@ pub enum Part<'a> {
 }
 
 /// What a form takes of a tree.
-#[derive(Debug, Drop)]
+#[derive(Drop)]
 pub struct Match<'a> {
     /// The bits of the word that the match settles, in their places, with 0 in those that will name
     /// a temporary cell.
@@ -37,7 +37,7 @@ pub struct Match<'a> {
 }
 
 /// Where a tree's value goes: an aim, or a register as an operand.
-#[derive(Clone, Copy, Debug)]
+#[derive(Clone, Copy)]
 pub enum Destination<'a> {
     /// To the register of this number.
     Register(u32),

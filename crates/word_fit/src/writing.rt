@@ -12,7 +12,7 @@ use form_model::Step;
 use transfer_set::Patterns;
 
 /// What a step writes.
-#[derive(Clone, Copy, Debug, PartialEq, Eq)]
+#[derive(Clone, Copy, PartialEq, Eq)]
 pub enum Written {
     /// The register of this number.
     Register(u32),

@@ -19,7 +19,7 @@ use std::alloc::Global;
 use sym_expr::{ExprId, Node, Pool};
 
 /// What a storage does at a clock, in the ids of a pool.
-#[derive(Clone, Copy, Debug, PartialEq, Eq)]
+#[derive(Clone, Copy, PartialEq, Eq)]
 pub enum StorageMove {
     Keep,
     /// A register takes a value.
@@ -29,7 +29,7 @@ pub enum StorageMove {
 }
 
 /// What a netlist does under one instruction word.
-#[derive(Debug, Drop)]
+#[derive(Drop)]
 pub struct WordMoves {
     /// The value of each net where all storages hold 0; of a static net it is that in every state.
     pub values: Items<u64>,

@@ -4,7 +4,8 @@ use Rattle.net_model.specs.Terms.{Term}
 use Rattle.form_model.specs.Trees.{tree_term}
 use Rattle.form_model.specs.Rules.{Rule}
 use Rattle.form_model.specs.Matches.{Found}
-use Rattle.form_model.specs.Plans.{Plan, use_form, Operands, operand_then, Cuts, cost, operands_cost, cuts_cost}
+use Rattle.form_model.specs.declared.covers.Cover.{Cover}
+use Rattle.form_model.specs.Plans.{Plan, use_form, Operands, operand_then, Cuts, cost, operands_cost, cuts_cost, operands_plan, cuts_plan}
 use Rattle.form_model.specs.Covers.{Stock, Operand, operands_of, cuts_of, IsBefore, AreBefore, CutsBefore, IsSooner, SamePlaces}
 use Rattle.tree_grammar.specs.Parts.{destination_at, Stands}
 use Rattle.cover.specs.declared.table.Instance.{Instance}
@@ -17,7 +18,7 @@ use Rattle.cover.specs.Inner.Rows.{row_ask}
 use Rattle.cover.specs.declared.parts.OpenOperand.{OpenOperand}
 use Rattle.cover.specs.declared.parts.OpenCut.{OpenCut}
 use Rattle.cover.specs.Inner.Asks.{Ask, operand_ask, cut_ask, with_reg, takes, IsSparing, AreSparing, AreStored}
-use Rattle.cover.specs.Inner.Least.{IsLeast, IsLeastForm, IsLeastOrder, IsLeastCut}
+use Rattle.cover.specs.Inner.Least.{AtMost, IsLeast, IsLeastForm, IsLeastOrder, IsLeastCut, IsFloor, summed}
 use Rattle.cover.specs.Inner.Jobs.{nodes_of, open_operands, open_cuts}
 
 abbrev pub ask_of : Want → Ask
@@ -47,6 +48,12 @@ abbrev pub FitOf : List OpenOperand → List OpenCut → Option ℕ → Option �
 FitOf operands stored a b None = (a ≡ None) ⊎ (b ≡ None)
 FitOf operands stored a b (Some f) = (f.operands.items ≡ operands) × (f.cuts.items ≡ stored) × (a ≡ Some f.operands_cost) × (b ≡ Some f.cuts_cost)
 
+-- the same of the parts of a match
+abbrev pub FitsParts : Stock → ℕ → List Operand → List Term → Option Fit → Type 0
+FitsParts stock avoid operands stored o =
+    (is : List OpenOperand) × (ss : List OpenCut) × (a : Option ℕ) × (b : Option ℕ) × (open_operands is ≡ operands) × (open_cuts ss ≡ stored)
+    × IsLeastOrder stock avoid (open_operands is) a × IsLeastCut stock (open_cuts ss) b × FitOf is ss a b o
+
 -- no cover of cost n begins with the form at k
 abbrev pub NeverBegins : Stock → ℕ → Ask → ℕ → ℕ → Type 0
 NeverBegins stock avoid ask n k = (ps : Operands) (cs : Cuts) → IsSparing stock avoid ask (use_form k ps cs) → 1 + operands_cost ps + cuts_cost cs ≢ n
@@ -63,6 +70,25 @@ matches_ask ms slot = row_ask (tree_term ms.tree.now) ms.whole slot
 abbrev pub CostsOf : ℕ → Option ℕ → Option ℕ → Option PartCosts → Type 0
 CostsOf n a b None = (j k : ℕ) → a ≡ Some j → b ≡ Some k → 1 + j + k ≢ n
 CostsOf n a b (Some c) = (a ≡ Some c.operands) × (b ≡ Some c.cuts) × (1 + c.operands + c.cuts ≡ n)
+
+-- the least costs of the parts of a match, where a form makes n with them
+pub record AreCosts (stock : Stock) (avoid : ℕ) (ops : List Operand) (ts : List Term) (n : ℕ) (o : Option PartCosts) : Type 0 where
+  pub operands : Option ℕ
+  pub cuts : Option ℕ
+  pub order : IsLeastOrder stock avoid ops operands
+  pub cut : IsLeastCut stock ts cuts
+  pub costs : CostsOf n operands cuts o
+
+-- a form with these parts costs more than n
+pub record IsAbove (stock : Stock) (avoid : ℕ) (ops : List Operand) (ts : List Term) (n : ℕ) : Type 0 where
+  pub operands : Option ℕ
+  pub cuts : Option ℕ
+  pub floor : IsFloor stock avoid ops operands
+  pub cut : IsLeastCut stock ts cuts
+  pub above : AtMost (summed (summed (Some 1) operands) cuts) n → ⊥
+
+abbrev pub CostsWithin : Stock → ℕ → List Operand → List Term → ℕ → Option PartCosts → Type 0
+CostsWithin stock avoid ops ts n o = AreCosts stock avoid ops ts n o ⊎ ((o ≡ None) × IsAbove stock avoid ops ts n)
 
 -- the match begins a cover of cost n, and these are the costs of its parts
 abbrev pub BeginsOne : Stock → ℕ → Ask → ℕ → FormMatch → Option PartCosts → Type 0
@@ -99,3 +125,14 @@ pub record IsFirstOrder (stock : Stock) (avoid : ℕ) (ops : List Operand) (ps :
 pub record IsFirstCuts (stock : Stock) (ts : List Term) (cs : Cuts) : Type 0 where
   pub covered : AreStored stock ts cs
   pub first : (ds : Cuts) → AreStored stock ts ds → (cuts_cost cs < cuts_cost ds) ⊎ ((cuts_cost cs ≡ cuts_cost ds) × ((cs ≡ ds) ⊎ CutsBefore cs ds))
+
+-- the first cover of the operand at i, and the first of the others, which spare its register
+abbrev pub IsFirstFrom : Stock → ℕ → List Operand → ℕ → Operands → Type 0
+IsFirstFrom stock avoid ops i all =
+    (o : Operand) × (p : Plan) × (ps : Operands) × (slice_get ops i ≡ Some o) × IsFirst stock avoid (operand_ask o) p
+    × IsFirstOrder stock (with_reg avoid o.id) (remove ops i) ps × (all ≡ operand_then i p ps)
+
+-- the cover has the first covers of the parts of a match of the form at k
+abbrev pub AreFirstParts : Stock → ℕ → List Operand → List Term → ℕ → Cover → Type 0
+AreFirstParts stock avoid ops ts k c =
+    (c.form ≡ k) × IsFirstOrder stock avoid ops (operands_plan c.operands) × IsFirstCuts stock ts (cuts_plan c.cuts)

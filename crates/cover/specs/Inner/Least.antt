@@ -1,9 +1,9 @@
 -- The least cost of covers.
-use Rattle.std.specs.Prelude.{ℕ, ◌+◌, ◌<◌, ◌≤◌, ◌≡◌, List, Option, Some, None, nat_lt, if◌then◌else◌}
+use Rattle.std.specs.Prelude.{ℕ, ◌+◌, ◌<◌, ◌≤◌, ◌≡◌, List, ◌⊎◌, Option, Some, None, nat_lt, if◌then◌else◌, slice_get, remove}
 use Rattle.net_model.specs.Terms.{Term}
 use Rattle.form_model.specs.Plans.{Plan, use_form, Operands, operand_then, Cuts, cost, operands_cost, cuts_cost}
 use Rattle.form_model.specs.Covers.{Stock, Operand}
-use Rattle.cover.specs.Inner.Asks.{Ask, IsSparing, AreSparing, AreStored}
+use Rattle.cover.specs.Inner.Asks.{Ask, with_reg, IsSparing, AreSparing, AreStored}
 
 -- a cost is known, and is at most n
 abbrev pub AtMost : Option ℕ → ℕ → Type 0
@@ -27,6 +27,10 @@ OrderReached stock avoid ops (Some n) = (ps : Operands) × AreSparing stock avoi
 pub record IsLeastOrder (stock : Stock) (avoid : ℕ) (ops : List Operand) (o : Option ℕ) : Type 0 where
   pub reached : OrderReached stock avoid ops o
   pub least : (ps : Operands) → AreSparing stock avoid ops ps → AtMost o (operands_cost ps)
+
+-- the same of the operands but the one at i, whose register they spare
+abbrev pub IsLeastAfter : Stock → ℕ → List Operand → ℕ → Option ℕ → Type 0
+IsLeastAfter stock avoid ops i o = (x : Operand) → slice_get ops i ≡ Some x → IsLeastOrder stock (with_reg avoid x.id) (remove ops i) o
 
 -- no order costs less than this; none only where there is no order
 abbrev pub IsFloor : Stock → ℕ → List Operand → Option ℕ → Type 0
@@ -76,3 +80,23 @@ abbrev pub summed : Option ℕ → Option ℕ → Option ℕ
 summed None b = None
 summed (Some m) None = None
 summed (Some m) (Some n) = Some (m + n)
+
+-- the least cost of a form with these parts
+pub record IsPartsCost (stock : Stock) (avoid : ℕ) (ops : List Operand) (ts : List Term) (o : Option ℕ) : Type 0 where
+  pub operands : Option ℕ
+  pub cuts : Option ℕ
+  pub order : IsLeastOrder stock avoid ops operands
+  pub cut : IsLeastCut stock ts cuts
+  pub sum : o ≡ summed (summed (Some 1) operands) cuts
+
+-- a form with these parts costs no less than what is known
+pub record IsDear (stock : Stock) (avoid : ℕ) (ops : List Operand) (ts : List Term) (known : Option ℕ) : Type 0 where
+  pub operands : Option ℕ
+  pub cuts : Option ℕ
+  pub floor : IsFloor stock avoid ops operands
+  pub cut : IsLeastCut stock ts cuts
+  pub dear : (n : ℕ) → AtMost (summed (summed (Some 1) operands) cuts) n → AtMost known n
+
+-- the least cost of a form with these parts, or nothing where it isn't less than what is known
+abbrev pub IsCostBelow : Stock → ℕ → List Operand → List Term → Option ℕ → Option ℕ → Type 0
+IsCostBelow stock avoid ops ts known o = IsPartsCost stock avoid ops ts o ⊎ ((o ≡ None) × IsDear stock avoid ops ts known)

@@ -5,6 +5,8 @@ use Rattle.form_model.specs.Trees.{tree_term}
 use Rattle.form_model.specs.Rules.{Rule}
 use Rattle.form_model.specs.Matches.{Found, operand}
 use Rattle.form_model.specs.Covers.{Stock, operands_of, cuts_of}
+use Rattle.tree_grammar.specs.declared.parts.Part.{Part}
+use Rattle.tree_grammar.specs.Parts.{sites_of, AreAt}
 use Rattle.cover.specs.declared.table.Instance.{Instance}
 use Rattle.cover.specs.declared.rows.Offer.{Offer}
 use Rattle.cover.specs.declared.matches.FormMatch.{FormMatch}
@@ -38,6 +40,18 @@ pub record IsFormMatch (instance : Instance) (t : Term) (whole : Bool) (m : Form
   pub operands_at : OperandsAt (nodes_of instance) m.operands.items
   pub cuts_at : CutsAt (nodes_of instance) m.cuts.items
 
+-- a match of a form that leaves these parts open
+pub record IsOpened (parts : List Part) (size k entry clobbered : ℕ) (m : FormMatch) : Type 0 where
+  pub form : m.form ≡ k
+  pub goal : m.goal ≡ entry
+  pub clobbers : m.clobbers ≡ clobbered
+  pub start : m.start ≡ rest size true (sites_of parts)
+  pub register : IfSome m.start (λ q. (u : Term) (w : Bool) → sites_of parts ≡ operand q u w ∷ [] → q < 16)
+  pub operands : open_operands m.operands.items ≡ operands_of (sites_of parts)
+  pub cuts : open_cuts m.cuts.items ≡ cuts_of (sites_of parts)
+  pub operands_at : (nodes : List Term) → AreAt nodes parts → OperandsAt nodes m.operands.items
+  pub cuts_at : (nodes : List Term) → AreAt nodes parts → CutsAt nodes m.cuts.items
+
 -- whether the form at k matches
 abbrev pub MatchesForm : Instance → Term → Bool → ℕ → Option FormMatch → Type 0
 MatchesForm instance t whole k None = Takes (stock_of instance) t whole k → ⊥
@@ -46,6 +60,10 @@ MatchesForm instance t whole k (Some m) = IsFormMatch instance t whole m × (m.f
 abbrev pub with_match : List FormMatch → Option FormMatch → List FormMatch
 with_match list None = list
 with_match list (Some m) = list ++ (m ∷ [])
+
+-- the list has the match of the form at k behind it, where there is one
+abbrev pub AddsMatch : Instance → Term → Bool → ℕ → List FormMatch → List FormMatch → Type 0
+AddsMatch instance t whole k old new = (o : Option FormMatch) × MatchesForm instance t whole k o × (new ≡ with_match old o)
 
 -- the matches of the first n forms, in their order
 pub record AreFirstMatches (instance : Instance) (t : Term) (whole : Bool) (n : ℕ) (list : List FormMatch) : Type 0 where

@@ -18,6 +18,10 @@ Row = List (Option ℕ)
 abbrev pub entry : Row → ℕ → Option ℕ
 entry row r = slice_index_or row r None
 
+-- no entry has a cost yet
+abbrev pub IsBlank : Row → Type 0
+IsBlank row = (r : ℕ) → entry row r ≡ None
+
 -- where the tree of a row's entry goes: to one of the registers below 16, or to a temporary cell
 abbrev pub entry_destination : ℕ → Destination
 entry_destination r = if nat_lt r 16 then into r else temporary

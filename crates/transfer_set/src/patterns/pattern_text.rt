@@ -21,7 +21,6 @@ impl Patterns {
             option_map (λ row. move_text netlist row.storage row.move) (slice_get (row_patterns pool self.now.rows) pattern) ≡ Some text) }
     {
         let row = &self.rows[pattern as usize];
-        let text = Items::from_slice(alloc, row.text.as_slice())?;
-        Ok(text)
+        Items::from_slice(alloc, row.text.as_slice())
     }
 }

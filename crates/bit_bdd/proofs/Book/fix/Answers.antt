@@ -1,3 +1,4 @@
+use Rattle.std.proofs.lemmas.Grind.{common_steps}
 use Rattle.std.proofs.Common.{◌≡◌, ℕ, ◌*◌, ◌%◌, ◌^◌, ◌<◌, ◌≤◌, subst, ap, ◌∙◌, arith}
 use Rattle.std.proofs.lemmas.Result.{IfOk-weaker}
 use Rattle.bit_bdd.specs.Diagrams.{Diagrams, bits_of, has_word, set_of, with_bit}
@@ -19,3 +20,9 @@ returns-clause-words c =
     (λ id. (word : ℕ) → has_word new id word ≡ has_word old c.args.a (with_bit word c.args.bit c.args.value))
     (λ id is word. fix_point c.args.bit small c.args.value (set_of old.nodes c.args.a) _ (set_of new.nodes id) _ both c.constant-empty.ensures.set is (bits_of word)
     ∙ ap (set_of old.nodes c.args.a) (with_bit_point word c.args.bit c.args.value)) c.project.ensures.is
+
+pub returns-in_err-both-clause-grows : goal.returns-in_err-both-clause-grows
+returns-in_err-both-clause-grows c = grind (arith, common_steps)
+
+pub returns-clause-grows : goal.returns-clause-grows
+returns-clause-grows c = grind (arith, common_steps)

@@ -1,3 +1,4 @@
+use Rattle.std.proofs.lemmas.Grind.{common_steps}
 use Rattle.std.proofs.Common.{◌≡◌, ℕ, ◌<◌, ◌∙◌, List, length, map, get_or, slice_get, Some, ap, arith, subst}
 use Rattle.std.proofs.lemmas.Option.{slice_get_within}
 use Rattle.bit_bdd.proofs.CallerLemmas.{extends_trans}
@@ -53,3 +54,9 @@ returns-clause-least c = record {
   long = omega (arith, c.loop-index.invariant.long, c.loop-index-test.false);
   least = λ k g e. c.loop-index.invariant.least k g (omega (arith, slice_get_within c.args.groups.now k g e, c.loop-index-test.false)) e;
 }
+
+pub returns-in_err-word-clause-grows : goal.returns-in_err-word-clause-grows
+returns-in_err-word-clause-grows c = grind (arith, common_steps)
+
+pub returns-in_err-push-clause-grows : goal.returns-in_err-push-clause-grows
+returns-in_err-push-clause-grows c = grind (arith, common_steps)

@@ -9,16 +9,25 @@ use Rattle.cover.specs.Inner.Tables.{AreRight}
 use Rattle.cover.proofs.choice.+choosing.Given as goal
 
 abbrev pub decreases-choose_entry : goal.decreases-choose_entry
-decreases-choose_entry l = 3 * l.n + 1
+decreases-choose_entry l = 5 * l.n + 1
 
 abbrev pub decreases-choose_among : goal.decreases-choose_among
-decreases-choose_among l = 3 * l.n
+decreases-choose_among l = 5 * l.n
+
+abbrev pub decreases-choose_parts : goal.decreases-choose_parts
+decreases-choose_parts l = 5 * (l.costs.operands + l.costs.cuts) + 4
+
+abbrev pub decreases-order_from : goal.decreases-order_from
+decreases-order_from l = 5 * l.n + 2
+
+abbrev pub decreases-order_without : goal.decreases-order_without
+decreases-order_without l = 5 * l.n + 4
 
 abbrev pub decreases-choose_order : goal.decreases-choose_order
-decreases-choose_order l = 3 * l.n + 2
+decreases-choose_order l = 5 * l.n + 3
 
 abbrev pub decreases-choose_cuts : goal.decreases-choose_cuts
-decreases-choose_cuts l = 3 * l.n + 2
+decreases-choose_cuts l = 5 * l.n + 3
 
 abbrev pub invariant-choose_among-loop-i : goal.invariant-choose_among-loop-i
 invariant-choose_among-loop-i l = record {

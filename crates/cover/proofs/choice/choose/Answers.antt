@@ -1,21 +1,37 @@
-use Rattle.std.proofs.Common.{arith, subst, Some}
+use Rattle.std.proofs.Common.{arith, sym, subst, Some}
+use Rattle.std.proofs.lemmas.Result.{IfOk-weaker}
+use Rattle.form_model.specs.declared.covers.Cover.{Cover}
 use Rattle.form_model.specs.Rules.{rule_of}
 use Rattle.std.proofs.lemmas.List.{length-map}
-use Rattle.form_model.specs.Plans.{operands_plan, cuts_plan}
+use Rattle.form_model.specs.Plans.{use_form, plan_of, operands_plan, cuts_plan}
+use Rattle.cover.specs.Inner.Least.{IsLeastOrder, IsLeastCut}
 use Rattle.cover.specs.Inner.Jobs.{stock_of, open_operands, open_cuts}
-use Rattle.cover.specs.Inner.Choice.{ask_of, Begins, IsFirstOrder, IsFirstCuts}
+use Rattle.cover.specs.Inner.Choice.{ask_of, Begins, IsFirst, IsFirstOrder, IsFirstCuts, AreFirstParts}
 use Rattle.cover.proofs.ChoiceLemmas.{cover_exists, first_by_form, forms_later}
 use Rattle.cover.proofs.choice.choose.Goals as goal
+
+pub choose_parts-requires-clause-order : goal.choose_parts-requires-clause-order
+choose_parts-requires-clause-order c =
+    let b : Begins (stock_of c.args.instance.now) c.args.avoid (ask_of c.args.want.now) c.args.n c.loop-k.k (Some c.in-Some.fit) =
+    subst (λ o. Begins (stock_of c.args.instance.now) c.args.avoid (ask_of c.args.want.now) c.args.n c.loop-k.k o) c.in-Some.is c.in_ok-fit.ensures.begins in
+    subst (λ l. IsLeastOrder (stock_of c.args.instance.now) c.args.avoid (open_operands l) (Some c.in-Some.fit.operands_cost)) (sym c.deref.ensures.value) b.0.order
+
+pub choose_parts-requires-clause-cut : goal.choose_parts-requires-clause-cut
+choose_parts-requires-clause-cut c =
+    let b : Begins (stock_of c.args.instance.now) c.args.avoid (ask_of c.args.want.now) c.args.n c.loop-k.k (Some c.in-Some.fit) =
+    subst (λ o. Begins (stock_of c.args.instance.now) c.args.avoid (ask_of c.args.want.now) c.args.n c.loop-k.k o) c.in-Some.is c.in_ok-fit.ensures.begins in
+    subst (λ l. IsLeastCut (stock_of c.args.instance.now) (open_cuts l) (Some c.in-Some.fit.cuts_cost)) (sym c.deref-in-Some.ensures.value) b.0.cut
 
 pub returns-in-Some-clause-first : goal.returns-in-Some-clause-first
 returns-in-Some-clause-first c =
     let b : Begins (stock_of c.args.instance.now) c.args.avoid (ask_of c.args.want.now) c.args.n c.loop-k.k (Some c.in-Some.fit) =
     subst (λ o. Begins (stock_of c.args.instance.now) c.args.avoid (ask_of c.args.want.now) c.args.n c.loop-k.k o) c.in-Some.is c.in_ok-fit.ensures.begins in
-    let a : IsFirstOrder (stock_of c.args.instance.now) c.args.avoid (open_operands c.in-Some.fit.operands.items) (operands_plan c.in_ok-operands.operands) =
-    subst (λ l. IsFirstOrder (stock_of c.args.instance.now) c.args.avoid (open_operands l) (operands_plan c.in_ok-operands.operands)) c.deref.ensures.value c.in_ok-operands.ensures.first in
-    let d : IsFirstCuts (stock_of c.args.instance.now) (open_cuts c.in-Some.fit.cuts.items) (cuts_plan c.in_ok-cuts.cuts) =
-    subst (λ l. IsFirstCuts (stock_of c.args.instance.now) (open_cuts l) (cuts_plan c.in_ok-cuts.cuts)) c.deref-in-Some.ensures.value c.in_ok-cuts.ensures.first in
-    first_by_form (stock_of c.args.instance.now) c.args.avoid (ask_of c.args.want.now) c.args.n c.requires.least c.loop-k.k _ _ _ _ _ _ c.loop-k.invariant.never b.0 b.1 a d
+    IfOk-weaker c.choose_parts.result (λ (x : Cover). AreFirstParts (stock_of c.args.instance.now) c.args.avoid (open_operands c.deref.result.now) (open_cuts c.deref-in-Some.result.now) c.loop-k.k x) (λ (x : Cover). IsFirst (stock_of c.args.instance.now) c.args.avoid (ask_of c.args.want.now) (plan_of x))
+    (λ x first.
+    subst (λ k. IsFirst (stock_of c.args.instance.now) c.args.avoid (ask_of c.args.want.now) (use_form k (operands_plan x.operands) (cuts_plan x.cuts))) (sym first.0)
+    (first_by_form (stock_of c.args.instance.now) c.args.avoid (ask_of c.args.want.now) c.args.n c.requires.least c.loop-k.k _ _ _ _ _ _ c.loop-k.invariant.never b.0 b.1
+    (subst (λ l. IsFirstOrder (stock_of c.args.instance.now) c.args.avoid (open_operands l) (operands_plan x.operands)) c.deref.ensures.value first.1)
+    (subst (λ l. IsFirstCuts (stock_of c.args.instance.now) (open_cuts l) (cuts_plan x.cuts)) c.deref-in-Some.ensures.value first.2))) c.choose_parts.ensures.first
 
 pub loop-k-preserved : goal.loop-k-preserved
 loop-k-preserved c = record {

@@ -1,26 +1,171 @@
-use Rattle.std.proofs.Common.{◌≡◌, ◌<◌, length, drop, arith, rules, refl, sym, ap, ◌∙◌, subst, Some, None, vec_len}
+use Rattle.std.proofs.Common.{◌≡◌, ◌<◌, length, drop, arith, rules, refl, sym, ap, ◌∙◌, subst, inl, inr, Option, Some, Vec, vec_len, ℕ}
 use Rattle.std.specs.Prelude.{slice_get, remove}
 use Rattle.std.proofs.lemmas.Bool.{OnTrue_at}
 use Rattle.std.proofs.lemmas.Option.{slice_get_read}
 use Rattle.std.proofs.lemmas.Result.{IfOk-weaker}
+use Rattle.std.specs.declared.alloc.Global.{Global}
 use Rattle.form_model.specs.Trees.{tree_term}
-use Rattle.cover.specs.Inner.Asks.{operands_size, terms_size, with_reg}
-use Rattle.cover.specs.Inner.Least.{IsLeast, IsLeastOrder, IsLeastFrom, IsLeastCut, IsFloor, AtMost, summed}
+use Rattle.form_model.specs.Covers.{Operand}
+use Rattle.cover.specs.Inner.Asks.{operand_ask, operands_size, terms_size, with_reg}
+use Rattle.cover.specs.Inner.Least.{IsLeast, IsLeastOrder, IsLeastAfter, IsLeastFrom, IsLeastCut, IsFloor, IsCostBelow, AtMost, summed}
 use Rattle.cover.specs.Inner.Jobs.{stock_of, nodes_of, open_operand, open_operands, open_cuts, OperandsAt, CutsAt}
 use Rattle.cover.proofs.SizeLemmas.{size_pos}
 use Rattle.cover.proofs.NodeLemmas.{input_get, inputs_remove}
 use Rattle.cover.proofs.InputLemmas.{inputs_at, inputs_without, length_inputs, no_inputs, inputs_split, inputs_later, size-remove, no_stored, stored_split, stored_first, stored_later, tail_is, register_slot, cut_slot, register_least, rank_le}
 use Rattle.cover.specs.declared.rows.Offer.TheVariants.{Nothing, Chains}
 use Rattle.cover.specs.declared.matches.Matches.{Matches}
-use Rattle.cover.specs.Inner.Rows.{Row, entry, row_ask, IsTried, IsClosed, IsLeastRow, IsOffer}
+use Rattle.cover.specs.Inner.Rows.{row_ask, IsTried, IsClosed, IsLeastRow, IsOffer}
 use Rattle.cover.specs.Inner.Matched.{AreMatches}
-use Rattle.cover.proofs.OfferLemmas.{look_within, tried_more, least_row_of}
-use Rattle.cover.proofs.MatchLemmas.{at_index, at_place, matches_all, match_sizes, offer_clobbers, offer_start, offer_dear, offer_costs}
+use Rattle.cover.proofs.OfferLemmas.{blank_row, look_within, tried_none, tried_more, least_row_of}
+use Rattle.cover.proofs.MatchLemmas.{at_index, at_place, matches_all, match_sizes, offer_clobbers, offer_start, offer_below}
 use Rattle.net_model.specs.Terms.{size_of}
 use Rattle.cover.proofs.LeastLemmas.{cut_none, cut_more, order_more, order_all, order_none, from_parts, from_none, from_last}
 use Rattle.cover.specs.declared.matches.FormMatch.{FormMatch}
 use Rattle.cover.proofs.FloorLemmas.{floor_none, floor_more}
 use Rattle.cover.proofs.least.+covering.Goals as goal
+
+pub operand_cost-least-requires : goal.operand_cost-least-requires
+operand_cost-least-requires t c = (omega (arith, c.decreases), (register_slot _ _ _ c.in_ok-slot.ensures, (c.requires.number, c.requires.right)))
+
+pub operand_cost-returns-clause-least : goal.operand_cost-returns-clause-least
+operand_cost-returns-clause-least t c =
+    IfOk-weaker c.least.result (λ o. IsLeast (stock_of c.args.instance.now) c.args.avoid (row_ask (tree_term c.args.operand.tree.now) c.args.operand.whole c.in_ok-slot.slot) o) (λ o. IsLeast (stock_of c.args.instance.now) c.args.avoid (operand_ask (open_operand c.args.operand)) o)
+    (λ o is. register_least (stock_of c.args.instance.now) c.args.avoid c.in_ok-slot.slot (open_operand c.args.operand) o c.in_ok-slot.ensures is) c.least.ensures.least
+
+pub least_row-row_of-requires : goal.least_row-row_of-requires
+least_row-row_of-requires t c =
+    let e : c.deref.result.now ≡ c.in_ok-matches.matches.value = c.deref.ensures in
+    (omega (arith, ap (λ (ms : Matches). size_of (tree_term ms.tree.now)) e, ap size_of c.in_ok-matches.ensures.tree, c.decreases), (subst (AreMatches c.args.instance.now) (sym e) c.in_ok-matches.ensures.matches, c.in_ok-matches.ensures.right))
+
+pub least_row-returns-clause-least : goal.least_row-returns-clause-least
+least_row-returns-clause-least t c =
+    let e : c.deref.result.now ≡ c.in_ok-matches.matches.value = c.deref.ensures in
+    IfOk-weaker c.row_of.result (λ (row : Vec (Option ℕ) Global). IsLeastRow (stock_of c.args.instance.now) c.args.avoid (tree_term c.deref.result.now.tree.now) c.deref.result.now.whole row.items) (λ (row : Vec (Option ℕ) Global). IsLeastRow (stock_of c.args.instance.now) c.args.avoid (tree_term c.args.tree.now) c.args.whole row.items)
+    (λ row least. subst (λ u. IsLeastRow (stock_of c.args.instance.now) c.args.avoid u c.args.whole row.items) (ap (λ (ms : Matches). tree_term ms.tree.now) e ∙ c.in_ok-matches.ensures.tree)
+    (subst (λ w. IsLeastRow (stock_of c.args.instance.now) c.args.avoid (tree_term c.deref.result.now.tree.now) w row.items) (ap (λ (ms : Matches). ms.whole) e ∙ c.in_ok-matches.ensures.whole) least)) c.row_of.ensures.least
+
+pub row_of-fill-requires : goal.row_of-fill-requires
+row_of-fill-requires t c = (omega (arith, c.decreases), (c.requires.matches, (c.requires.right, (search rules, search (rules, blank_row)))))
+
+pub fill-note-requires : goal.fill-note-requires
+fill-note-requires t c =
+    let lt : c.loop-i.i < length c.args.matches.now.list.items = search rules in
+    let (m, got) = at_index c.args.matches.now.list.items c.loop-i.i lt in
+    record { len = c.loop-i.invariant.len; within = look_within (stock_of c.args.instance.now) c.args.avoid (tree_term c.args.matches.now.tree.now) c.args.matches.now.whole c.deref.result.now m.form c.in_ok-offer.offer (c.in_ok-offer.ensures.offer m got) }
+
+pub fill-loop-i-preserved : goal.fill-loop-i-preserved
+fill-loop-i-preserved t c =
+    let lt : c.loop-i.i < length c.args.matches.now.list.items = search rules in
+    let (m, got) = at_index c.args.matches.now.list.items c.loop-i.i lt in
+    record {
+      len = c.note.ensures.len;
+      tried = tried_more (stock_of c.args.instance.now) c.args.avoid (tree_term c.args.matches.now.tree.now) c.args.matches.now.whole c.args.matches.now.list.items c.loop-i.i m got c.in_ok-offer.offer _ _ _ _ c.loop-i.invariant.tried (subst (λ l. IsOffer (stock_of c.args.instance.now) c.args.avoid (tree_term c.args.matches.now.tree.now) c.args.matches.now.whole l m.form c.in_ok-offer.offer) c.deref.ensures.value (c.in_ok-offer.ensures.offer m got)) c.in_ok-note.ensures.noted;
+      right = c.in_ok-offer.ensures.right;
+    }
+
+pub fill-returns-clause-least : goal.fill-returns-clause-least
+fill-returns-clause-least t c =
+    let v : vec_len c.args.matches.now.list ≡ length c.args.matches.now.list.items = search rules in
+    let n : c.loop-i.i ≡ length c.args.matches.now.list.items = omega (arith, v, c.loop-i-test.false, c.loop-i.auto.i-end) in
+    least_row_of _ _ _ _ c.args.matches.now.list.items (matches_all c.args.instance.now (tree_term c.args.matches.now.tree.now) c.args.matches.now.whole c.args.matches.now.list.items c.requires.matches) _ _ _
+    (subst (λ j. IsTried (stock_of c.args.instance.now) c.args.avoid (tree_term c.args.matches.now.tree.now) c.args.matches.now.whole c.args.matches.now.list.items j c.loop-i.chains.items c.loop-i.row.items) n c.loop-i.invariant.tried)
+    (subst (λ ms. IsClosed ms c.loop-i.row.items c.close.new.row.items) c.deref-2.ensures c.in_ok-close.ensures.closed)
+
+pub fill-loop-i-init : goal.fill-loop-i-init
+fill-loop-i-init t c = record {
+  len = c.requires.len;
+  tried = subst (λ l. IsTried (stock_of c.args.instance.now) c.args.avoid (tree_term c.args.matches.now.tree.now) c.args.matches.now.whole c.args.matches.now.list.items 0 l c.args.row.now.items) (search rules)
+      (tried_none (stock_of c.args.instance.now) c.args.avoid (tree_term c.args.matches.now.tree.now) c.args.matches.now.whole c.args.matches.now.list.items c.args.row.now.items c.requires.blank);
+  right = c.requires.right;
+}
+
+pub offer_at-returns-then-found-avoid-ne0-clause-offer : goal.offer_at-returns-then-found-avoid-ne0-clause-offer
+offer_at-returns-then-found-avoid-ne0-clause-offer t c =
+    let m : FormMatch = c.index-found.result.now in
+    let got : slice_get c.args.matches.now.list.items c.args.i ≡ Some m = slice_get_read _ _ _ _ refl c.requires.place c.index-found.ensures in
+    at_place (λ y. IsOffer (stock_of c.args.instance.now) c.args.avoid (tree_term c.args.matches.now.tree.now) c.args.matches.now.whole c.args.row.now y.form Nothing) c.args.matches.now.list.items c.args.i m got
+    (offer_clobbers c.args.instance.now c.args.avoid (tree_term c.args.matches.now.tree.now) c.args.matches.now.whole m (c.requires.matches.each c.args.i m got) c.args.row.now c.if-found-avoid-ne0.true)
+
+pub offer_at-returns-in-Some-clause-offer : goal.offer_at-returns-in-Some-clause-offer
+offer_at-returns-in-Some-clause-offer t c =
+    let m : FormMatch = c.index-found.result.now in
+    let got : slice_get c.args.matches.now.list.items c.args.i ≡ Some m = slice_get_read _ _ _ _ refl c.requires.place c.index-found.ensures in
+    at_place (λ y. IsOffer (stock_of c.args.instance.now) c.args.avoid (tree_term c.args.matches.now.tree.now) c.args.matches.now.whole c.args.row.now y.form (Chains (record { start = c.in-Some.start; goal = m.goal }))) c.args.matches.now.list.items c.args.i m got
+    (offer_start c.args.instance.now c.args.avoid (tree_term c.args.matches.now.tree.now) c.args.matches.now.whole m (c.requires.matches.each c.args.i m got) c.args.row.now c.start_of.result c.in-Some.start c.if-found-avoid-ne0.false c.start_of.ensures c.in-Some.is)
+
+pub offer_at-returns-clause-offer : goal.offer_at-returns-clause-offer
+offer_at-returns-clause-offer t c =
+    let m : FormMatch = c.index-found.result.now in
+    let got : slice_get c.args.matches.now.list.items c.args.i ≡ Some m = slice_get_read _ _ _ _ refl c.requires.place c.index-found.ensures in
+    at_place (λ y. IsOffer (stock_of c.args.instance.now) c.args.avoid (tree_term c.args.matches.now.tree.now) c.args.matches.now.whole c.args.row.now y.form c.offer_of.result) c.args.matches.now.list.items c.args.i m got
+    (offer_below c.args.instance.now c.args.avoid (tree_term c.args.matches.now.tree.now) c.args.matches.now.whole m (c.requires.matches.each c.args.i m got) c.args.row.now c.known_cost-known.result c.in_ok-cost.cost c.offer_of.result c.if-found-avoid-ne0.false c.known_cost-known.ensures
+    (subst (λ l. IsCostBelow (stock_of c.args.instance.now) c.args.avoid (open_operands l) (open_cuts m.cuts.items) c.known_cost-known.result c.in_ok-cost.cost) c.deref.ensures.value
+    (subst (λ l. IsCostBelow (stock_of c.args.instance.now) c.args.avoid (open_operands c.deref.result.now) (open_cuts l) c.known_cost-known.result c.in_ok-cost.cost) c.deref-2.ensures.value c.in_ok-cost.ensures.least)) c.offer_of.ensures)
+
+pub offer_at-cost_below-requires : goal.offer_at-cost_below-requires
+offer_at-cost_below-requires t c =
+    let m : FormMatch = c.index-found.result.now in
+    let got : slice_get c.args.matches.now.list.items c.args.i ≡ Some m = slice_get_read _ _ _ _ refl c.requires.place c.index-found.ensures in
+    let f = c.requires.matches.each c.args.i m got in
+    let z = match_sizes c.args.instance.now c.args.avoid (tree_term c.args.matches.now.tree.now) c.args.matches.now.whole m f c.start_of.result c.start_of.ensures c.in_default.is in (
+      omega (arith, z.0, z.1, rank_le c.args.avoid, ap (λ l. operands_size (open_operands l)) c.deref.ensures.value, ap (λ l. terms_size (open_cuts l)) c.deref-2.ensures.value, c.decreases),
+      (
+        subst (OperandsAt (nodes_of c.args.instance.now)) (sym c.deref.ensures.value) f.operands_at,
+        (subst (CutsAt (nodes_of c.args.instance.now)) (sym c.deref-2.ensures.value) f.cuts_at, c.requires.right),
+      ),
+    )
+
+pub cost_below-cuts_cost-requires : goal.cost_below-cuts_cost-requires
+cost_below-cuts_cost-requires t c = (omega (arith, c.decreases), (c.requires.cuts_at, c.requires.right))
+
+pub cost_below-floor_of-requires : goal.cost_below-floor_of-requires
+cost_below-floor_of-requires t c = (omega (arith, c.decreases), (c.requires.at, c.in_ok-b.ensures.right))
+
+pub cost_below-orders-requires : goal.cost_below-orders-requires
+cost_below-orders-requires t c = (omega (arith, c.decreases), (c.requires.at, c.in_ok-floor.ensures.right))
+
+pub cost_below-returns-then-is_as_dear-clause-least : goal.cost_below-returns-then-is_as_dear-clause-least
+cost_below-returns-then-is_as_dear-clause-least t c = inr (
+  refl,
+  record {
+    operands = c.in_ok-floor.floor;
+    cuts = c.in_ok-b.b;
+    floor = c.in_ok-floor.ensures.floor;
+    cut = c.in_ok-b.ensures.least;
+    dear = λ n h. OnTrue_at c.if-is_as_dear.true c.is_as_dear.ensures n (subst (λ o. AtMost o n) (sym c.in_ok-form_cost.ensures) h);
+  },
+)
+
+pub cost_below-returns-clause-least : goal.cost_below-returns-clause-least
+cost_below-returns-clause-least t c =
+    IfOk-weaker c.form_cost-2.result (λ o. o ≡ summed (summed (Some 1) c.in_ok-a.a) c.in_ok-b.b) (λ o. IsCostBelow (stock_of c.args.instance.now) c.args.avoid (open_operands c.args.operands.now) (open_cuts c.args.cuts.now) c.args.known o)
+    (λ o e. inl (record { operands = c.in_ok-a.a; cuts = c.in_ok-b.b; order = c.in_ok-a.ensures.least; cut = c.in_ok-b.ensures.least; sum = e })) c.form_cost-2.ensures
+
+pub floor_of-returns-then-is_empty-clause-floor : goal.floor_of-returns-then-is_empty-clause-floor
+floor_of-returns-then-is_empty-clause-floor t c = floor_none (stock_of c.args.instance.now) c.args.avoid (open_operands c.args.ops.now)
+
+pub floor_of-floor_of-requires : goal.floor_of-floor_of-requires
+floor_of-floor_of-requires t c =
+    let some : 0 < length c.args.ops.now = search rules in
+    let got = slice_get_read _ _ _ _ refl some c.index-ops-0.is in
+    let e = inputs_split c.args.ops.now c.index-ops-0.result got in
+    (omega (arith, ap operands_size e, ap (λ l. operands_size (open_operands l)) (tail_is c.args.ops.now), size_pos (tree_term c.index-ops-0.result.tree.now), c.decreases), (subst (OperandsAt (nodes_of c.args.instance.now)) (sym (tail_is c.args.ops.now)) (inputs_later (nodes_of c.args.instance.now) c.args.ops.now c.requires.at), c.in_ok-m.ensures.right))
+
+pub floor_of-returns-clause-floor : goal.floor_of-returns-clause-floor
+floor_of-returns-clause-floor t c =
+    let some : 0 < length c.args.ops.now = search rules in
+    let got = slice_get_read _ _ _ _ refl some c.index-ops-0.is in
+    let e = inputs_split c.args.ops.now c.index-ops-0.result got in
+    let parts = floor_more (stock_of c.args.instance.now) c.args.avoid (open_operand c.index-ops-0.result) (open_operands (drop 1 c.args.ops.now)) c.in_ok-m.m c.in_ok-n.n c.in_ok-m.ensures.least (subst (λ l. IsFloor (stock_of c.args.instance.now) c.args.avoid (open_operands l) c.in_ok-n.n) (tail_is c.args.ops.now) c.in_ok-n.ensures.floor) in
+    IfOk-weaker c.sum_of.result (λ x. x ≡ summed c.in_ok-m.m c.in_ok-n.n) (λ x. IsFloor (stock_of c.args.instance.now) c.args.avoid (open_operands c.args.ops.now) x)
+    (λ o same. subst (λ x. IsFloor (stock_of c.args.instance.now) c.args.avoid (open_operands c.args.ops.now) x) (sym same) (subst (λ xs. IsFloor (stock_of c.args.instance.now) c.args.avoid xs (summed c.in_ok-m.m c.in_ok-n.n)) (sym e) parts)) c.sum_of.ensures
+
+pub floor_of-operand_cost-requires : goal.floor_of-operand_cost-requires
+floor_of-operand_cost-requires t c =
+    let some : 0 < length c.args.ops.now = search rules in
+    let got = slice_get_read _ _ _ _ refl some c.index-ops-0.is in
+    let e = inputs_split c.args.ops.now c.index-ops-0.result got in
+    (omega (arith, ap operands_size e, c.decreases, rank_le c.args.avoid), (input_get _ _ 0 _ c.requires.at got, c.requires.right))
 
 pub orders-returns-then-is_empty-clause-least : goal.orders-returns-then-is_empty-clause-least
 orders-returns-then-is_empty-clause-least t c = order_none _ _ _ (let n : length c.args.ops.now ≡ 0 = search rules in no_inputs c.args.ops.now n)
@@ -36,28 +181,12 @@ orders-returns-clause-least t c =
     order_all _ _ _ _ (omega (arith, some, n)) c.loop-i.invariant.reached
     (λ i p ps lt orders. c.loop-i.invariant.least i p ps (omega (arith, n, lt, c.loop-i-test.false)) orders)
 
-pub orders_from-least-requires : goal.orders_from-least-requires
-orders_from-least-requires t c =
-    let got = slice_get_read _ _ _ _ refl c.requires.place c.index-ops-i.is in
-    let get = inputs_at c.args.ops.now c.args.i c.index-ops-i.result got in
-    let h = size-remove (open_operands c.args.ops.now) c.args.i (open_operand c.index-ops-i.result) get in
-    (omega (arith, h, c.decreases, rank_le c.args.avoid), (register_slot _ _ _ c.in_ok-slot.ensures, (input_get _ _ c.args.i _ c.requires.at got, c.requires.right)))
-
-pub orders_from-orders-requires : goal.orders_from-orders-requires
-orders_from-orders-requires t c =
-    let got = slice_get_read _ _ _ _ refl c.requires.place c.index-ops-i.is in
-    let get = inputs_at c.args.ops.now c.args.i c.index-ops-i.result got in
-    let h = size-remove (open_operands c.args.ops.now) c.args.i (open_operand c.index-ops-i.result) get in
-    let d : c.deref.result.now ≡ remove c.args.ops.now c.args.i = c.deref.ensures.value ∙ c.in_ok-rest.ensures in
-    let e : open_operands c.deref.result.now ≡ remove (open_operands c.args.ops.now) c.args.i = ap open_operands d ∙ inputs_without c.args.ops.now c.args.i in
-    (omega (arith, h, ap operands_size e, size_pos (tree_term c.index-ops-i.result.tree.now), c.decreases), (subst (OperandsAt (nodes_of c.args.instance.now)) (sym d) (inputs_remove (nodes_of c.args.instance.now) c.args.ops.now c.args.i c.requires.at), c.in_ok-m.ensures.right))
-
 pub orders_from-returns-in_default-clause-least : goal.orders_from-returns-in_default-clause-least
 orders_from-returns-in_default-clause-least t c =
     let got = slice_get_read _ _ _ _ refl c.requires.place c.index-ops-i.is in
     let get = inputs_at c.args.ops.now c.args.i c.index-ops-i.result got in
     from_none (stock_of c.args.instance.now) c.args.avoid (open_operands c.args.ops.now) c.args.i (open_operand c.index-ops-i.result) get
-    (register_least (stock_of c.args.instance.now) c.args.avoid c.in_ok-slot.slot (open_operand c.index-ops-i.result) None c.in_ok-slot.ensures (subst (λ o. IsLeast (stock_of c.args.instance.now) c.args.avoid (row_ask (tree_term c.index-ops-i.result.tree.now) c.index-ops-i.result.whole c.in_ok-slot.slot) o) c.in_default.is c.in_ok-m.ensures.least))
+    (subst (λ o. IsLeast (stock_of c.args.instance.now) c.args.avoid (operand_ask (open_operand c.index-ops-i.result)) o) c.in_default.is c.in_ok-m.ensures.least)
 
 pub orders_from-returns-then-ops-eq1-clause-least : goal.orders_from-returns-then-ops-eq1-clause-least
 orders_from-returns-then-ops-eq1-clause-least t c =
@@ -66,47 +195,47 @@ orders_from-returns-then-ops-eq1-clause-least t c =
     let one : length c.args.ops.now ≡ 1 = search rules in
     let n = length_inputs c.args.ops.now in
     from_last (stock_of c.args.instance.now) c.args.avoid (open_operands c.args.ops.now) c.args.i (open_operand c.index-ops-i.result) c.in-Some.m get (omega (arith, one, n))
-    (register_least (stock_of c.args.instance.now) c.args.avoid c.in_ok-slot.slot (open_operand c.index-ops-i.result) (Some c.in-Some.m) c.in_ok-slot.ensures (subst (λ o. IsLeast (stock_of c.args.instance.now) c.args.avoid (row_ask (tree_term c.index-ops-i.result.tree.now) c.index-ops-i.result.whole c.in_ok-slot.slot) o) c.in-Some.is c.in_ok-m.ensures.least))
+    (subst (λ o. IsLeast (stock_of c.args.instance.now) c.args.avoid (operand_ask (open_operand c.index-ops-i.result)) o) c.in-Some.is c.in_ok-m.ensures.least)
 
 pub orders_from-returns-clause-least : goal.orders_from-returns-clause-least
 orders_from-returns-clause-least t c =
     let got = slice_get_read _ _ _ _ refl c.requires.place c.index-ops-i.is in
     let get = inputs_at c.args.ops.now c.args.i c.index-ops-i.result got in
-    let d : c.deref.result.now ≡ remove c.args.ops.now c.args.i = c.deref.ensures.value ∙ c.in_ok-rest.ensures in
-    let e : open_operands c.deref.result.now ≡ remove (open_operands c.args.ops.now) c.args.i = ap open_operands d ∙ inputs_without c.args.ops.now c.args.i in
-    let rest : IsLeastOrder (stock_of c.args.instance.now) (with_reg c.args.avoid c.index-ops-i.result.id) (remove (open_operands c.args.ops.now) c.args.i) c.in_ok-n.n =
-    subst (λ xs. IsLeastOrder (stock_of c.args.instance.now) (with_reg c.args.avoid c.index-ops-i.result.id) xs c.in_ok-n.n) e
-    (subst (λ s. IsLeastOrder (stock_of c.args.instance.now) s (open_operands c.deref.result.now) c.in_ok-n.n) c.in_ok-later.ensures c.in_ok-n.ensures.least) in
-    let first = register_least (stock_of c.args.instance.now) c.args.avoid c.in_ok-slot.slot (open_operand c.index-ops-i.result) (Some c.in-Some.m) c.in_ok-slot.ensures (subst (λ o. IsLeast (stock_of c.args.instance.now) c.args.avoid (row_ask (tree_term c.index-ops-i.result.tree.now) c.index-ops-i.result.whole c.in_ok-slot.slot) o) c.in-Some.is c.in_ok-m.ensures.least) in
-    let parts = from_parts (stock_of c.args.instance.now) c.args.avoid (open_operands c.args.ops.now) c.args.i (open_operand c.index-ops-i.result) (Some c.in-Some.m) c.in_ok-n.n get first rest in
+    let first = (subst (λ o. IsLeast (stock_of c.args.instance.now) c.args.avoid (operand_ask (open_operand c.index-ops-i.result)) o) c.in-Some.is c.in_ok-m.ensures.least) in
+    let parts = from_parts (stock_of c.args.instance.now) c.args.avoid (open_operands c.args.ops.now) c.args.i (open_operand c.index-ops-i.result) (Some c.in-Some.m) c.in_ok-n.n get first (c.in_ok-n.ensures.least (open_operand c.index-ops-i.result) get) in
     IfOk-weaker c.sum_of.result (λ x. x ≡ summed (Some c.in-Some.m) c.in_ok-n.n) (λ x. IsLeastFrom (stock_of c.args.instance.now) c.args.avoid (open_operands c.args.ops.now) c.args.i x) (λ o same. subst (λ x. IsLeastFrom (stock_of c.args.instance.now) c.args.avoid (open_operands c.args.ops.now) c.args.i x) (sym same) parts) c.sum_of.ensures
 
-pub floor_of-returns-then-is_empty-clause-floor : goal.floor_of-returns-then-is_empty-clause-floor
-floor_of-returns-then-is_empty-clause-floor t c = floor_none (stock_of c.args.instance.now) c.args.avoid (open_operands c.args.ops.now)
+pub orders_from-operand_cost-requires : goal.orders_from-operand_cost-requires
+orders_from-operand_cost-requires t c =
+    let got = slice_get_read _ _ _ _ refl c.requires.place c.index-ops-i.is in
+    let get = inputs_at c.args.ops.now c.args.i c.index-ops-i.result got in
+    let h = size-remove (open_operands c.args.ops.now) c.args.i (open_operand c.index-ops-i.result) get in
+    (omega (arith, h, c.decreases, rank_le c.args.avoid), (input_get _ _ c.args.i _ c.requires.at got, c.requires.right))
 
-pub floor_of-least-requires : goal.floor_of-least-requires
-floor_of-least-requires t c =
-    let some : 0 < length c.args.ops.now = search rules in
-    let got = slice_get_read _ _ _ _ refl some c.index-ops-0.is in
-    let e = inputs_split c.args.ops.now c.index-ops-0.result got in
-    (omega (arith, ap operands_size e, c.decreases, rank_le c.args.avoid), (register_slot _ _ _ c.in_ok-slot.ensures, (input_get _ _ 0 _ c.requires.at got, c.requires.right)))
+pub orders_from-orders_after-requires : goal.orders_from-orders_after-requires
+orders_from-orders_after-requires t c = (omega (arith, c.decreases), (c.requires.place, (c.requires.at, c.in_ok-m.ensures.right)))
 
-pub floor_of-floor_of-requires : goal.floor_of-floor_of-requires
-floor_of-floor_of-requires t c =
-    let some : 0 < length c.args.ops.now = search rules in
-    let got = slice_get_read _ _ _ _ refl some c.index-ops-0.is in
-    let e = inputs_split c.args.ops.now c.index-ops-0.result got in
-    (omega (arith, ap operands_size e, ap (λ l. operands_size (open_operands l)) (tail_is c.args.ops.now), size_pos (tree_term c.index-ops-0.result.tree.now), c.decreases), (subst (OperandsAt (nodes_of c.args.instance.now)) (sym (tail_is c.args.ops.now)) (inputs_later (nodes_of c.args.instance.now) c.args.ops.now c.requires.at), c.in_ok-m.ensures.right))
+pub orders_after-orders-requires : goal.orders_after-orders-requires
+orders_after-orders-requires t c =
+    let got = slice_get_read _ _ _ _ refl c.requires.place c.index-ops-i.is in
+    let get = inputs_at c.args.ops.now c.args.i c.index-ops-i.result got in
+    let h = size-remove (open_operands c.args.ops.now) c.args.i (open_operand c.index-ops-i.result) get in
+    let d : c.deref.result.now ≡ remove c.args.ops.now c.args.i = c.deref.ensures.value ∙ c.in_ok-rest.ensures in
+    let e : open_operands c.deref.result.now ≡ remove (open_operands c.args.ops.now) c.args.i = ap open_operands d ∙ inputs_without c.args.ops.now c.args.i in
+    (omega (arith, h, ap operands_size e, size_pos (tree_term c.index-ops-i.result.tree.now), c.decreases), (subst (OperandsAt (nodes_of c.args.instance.now)) (sym d) (inputs_remove (nodes_of c.args.instance.now) c.args.ops.now c.args.i c.requires.at), c.requires.right))
 
-pub floor_of-returns-clause-floor : goal.floor_of-returns-clause-floor
-floor_of-returns-clause-floor t c =
-    let some : 0 < length c.args.ops.now = search rules in
-    let got = slice_get_read _ _ _ _ refl some c.index-ops-0.is in
-    let e = inputs_split c.args.ops.now c.index-ops-0.result got in
-    let first = register_least (stock_of c.args.instance.now) c.args.avoid c.in_ok-slot.slot (open_operand c.index-ops-0.result) c.in_ok-m.m c.in_ok-slot.ensures c.in_ok-m.ensures.least in
-    let parts = floor_more (stock_of c.args.instance.now) c.args.avoid (open_operand c.index-ops-0.result) (open_operands (drop 1 c.args.ops.now)) c.in_ok-m.m c.in_ok-n.n first (subst (λ l. IsFloor (stock_of c.args.instance.now) c.args.avoid (open_operands l) c.in_ok-n.n) (tail_is c.args.ops.now) c.in_ok-n.ensures.floor) in
-    IfOk-weaker c.sum_of.result (λ x. x ≡ summed c.in_ok-m.m c.in_ok-n.n) (λ x. IsFloor (stock_of c.args.instance.now) c.args.avoid (open_operands c.args.ops.now) x)
-    (λ o same. subst (λ x. IsFloor (stock_of c.args.instance.now) c.args.avoid (open_operands c.args.ops.now) x) (sym same) (subst (λ xs. IsFloor (stock_of c.args.instance.now) c.args.avoid xs (summed c.in_ok-m.m c.in_ok-n.n)) (sym e) parts)) c.sum_of.ensures
+pub orders_after-returns-clause-least : goal.orders_after-returns-clause-least
+orders_after-returns-clause-least t c =
+    let got = slice_get_read _ _ _ _ refl c.requires.place c.index-ops-i.is in
+    let get = inputs_at c.args.ops.now c.args.i c.index-ops-i.result got in
+    let d : c.deref.result.now ≡ remove c.args.ops.now c.args.i = c.deref.ensures.value ∙ c.in_ok-rest.ensures in
+    let e : open_operands c.deref.result.now ≡ remove (open_operands c.args.ops.now) c.args.i = ap open_operands d ∙ inputs_without c.args.ops.now c.args.i in
+    IfOk-weaker c.orders.result (λ o. IsLeastOrder (stock_of c.args.instance.now) c.in_ok-later.later (open_operands c.deref.result.now) o) (λ o. IsLeastAfter (stock_of c.args.instance.now) c.args.avoid (open_operands c.args.ops.now) c.args.i o)
+    (λ o least x here.
+    let same : open_operand c.index-ops-i.result ≡ x = cc in
+    subst (λ (y : Operand). IsLeastOrder (stock_of c.args.instance.now) (with_reg c.args.avoid y.id) (remove (open_operands c.args.ops.now) c.args.i) o) same
+    (subst (λ xs. IsLeastOrder (stock_of c.args.instance.now) (with_reg c.args.avoid c.index-ops-i.result.id) xs o) e
+    (subst (λ s. IsLeastOrder (stock_of c.args.instance.now) s (open_operands c.deref.result.now) o) c.in_ok-later.ensures least))) c.orders.ensures.least
 
 pub cuts_cost-returns-then-is_empty-clause-least : goal.cuts_cost-returns-then-is_empty-clause-least
 cuts_cost-returns-then-is_empty-clause-least t c = cut_none _ _ (let n : length c.args.cuts.now ≡ 0 = search rules in no_stored c.args.cuts.now n)
@@ -133,95 +262,3 @@ cuts_cost-returns-clause-least t c =
     let parts = cut_more (stock_of c.args.instance.now) (tree_term c.index-cuts-0.result.tree.now) (open_cuts (drop 1 c.args.cuts.now)) c.in_ok-m.m c.in_ok-n.n c.in_ok-m.ensures.least (subst (λ l. IsLeastCut (stock_of c.args.instance.now) (open_cuts l) c.in_ok-n.n) (tail_is c.args.cuts.now) c.in_ok-n.ensures.least) in
     IfOk-weaker c.sum_of.result (λ x. x ≡ summed c.in_ok-m.m c.in_ok-n.n) (λ x. IsLeastCut (stock_of c.args.instance.now) (open_cuts c.args.cuts.now) x)
     (λ o same. subst (λ x. IsLeastCut (stock_of c.args.instance.now) (open_cuts c.args.cuts.now) x) (sym same) (subst (λ xs. IsLeastCut (stock_of c.args.instance.now) xs (summed c.in_ok-m.m c.in_ok-n.n)) (sym e) parts)) c.sum_of.ensures
-
-pub least_row-row_of-requires : goal.least_row-row_of-requires
-least_row-row_of-requires t c =
-    let e : c.deref.result.now ≡ c.in_ok-matches.matches.value = c.deref.ensures in
-    (omega (arith, ap (λ (ms : Matches). size_of (tree_term ms.tree.now)) e, ap size_of c.in_ok-matches.ensures.tree, c.decreases), (subst (AreMatches c.args.instance.now) (sym e) c.in_ok-matches.ensures.matches, c.in_ok-matches.ensures.right))
-
-pub least_row-returns-clause-least : goal.least_row-returns-clause-least
-least_row-returns-clause-least t c =
-    let e : c.deref.result.now ≡ c.in_ok-matches.matches.value = c.deref.ensures in
-    subst (λ u. IsLeastRow (stock_of c.args.instance.now) c.args.avoid u c.args.whole c.in_ok-row.row.items) (ap (λ (ms : Matches). tree_term ms.tree.now) e ∙ c.in_ok-matches.ensures.tree)
-    (subst (λ w. IsLeastRow (stock_of c.args.instance.now) c.args.avoid (tree_term c.deref.result.now.tree.now) w c.in_ok-row.row.items) (ap (λ (ms : Matches). ms.whole) e ∙ c.in_ok-matches.ensures.whole) c.in_ok-row.ensures.least)
-
-pub row_of-note-requires : goal.row_of-note-requires
-row_of-note-requires t c =
-    let lt : c.loop-i.i < length c.args.matches.now.list.items = search rules in
-    let (m, got) = at_index c.args.matches.now.list.items c.loop-i.i lt in
-    record { len = c.loop-i.invariant.len; within = look_within (stock_of c.args.instance.now) c.args.avoid (tree_term c.args.matches.now.tree.now) c.args.matches.now.whole c.deref.result.now m.form c.in_ok-offer.offer (c.in_ok-offer.ensures.offer m got) }
-
-pub row_of-loop-i-preserved : goal.row_of-loop-i-preserved
-row_of-loop-i-preserved t c =
-    let lt : c.loop-i.i < length c.args.matches.now.list.items = search rules in
-    let (m, got) = at_index c.args.matches.now.list.items c.loop-i.i lt in
-    record {
-      len = c.note.ensures.len;
-      tried = tried_more (stock_of c.args.instance.now) c.args.avoid (tree_term c.args.matches.now.tree.now) c.args.matches.now.whole c.args.matches.now.list.items c.loop-i.i m got c.in_ok-offer.offer _ _ _ _ c.loop-i.invariant.tried (subst (λ l. IsOffer (stock_of c.args.instance.now) c.args.avoid (tree_term c.args.matches.now.tree.now) c.args.matches.now.whole l m.form c.in_ok-offer.offer) c.deref.ensures.value (c.in_ok-offer.ensures.offer m got)) c.in_ok-note.ensures.noted;
-      right = c.in_ok-offer.ensures.right;
-    }
-
-pub row_of-returns-clause-least : goal.row_of-returns-clause-least
-row_of-returns-clause-least t c =
-    let v : vec_len c.args.matches.now.list ≡ length c.args.matches.now.list.items = search rules in
-    let n : c.loop-i.i ≡ length c.args.matches.now.list.items = omega (arith, v, c.loop-i-test.false, c.loop-i.auto.i-end) in
-    least_row_of _ _ _ _ c.args.matches.now.list.items (matches_all c.args.instance.now (tree_term c.args.matches.now.tree.now) c.args.matches.now.whole c.args.matches.now.list.items c.requires.matches) _ _ _
-    (subst (λ j. IsTried (stock_of c.args.instance.now) c.args.avoid (tree_term c.args.matches.now.tree.now) c.args.matches.now.whole c.args.matches.now.list.items j c.loop-i.chains.items c.loop-i.row.items) n c.loop-i.invariant.tried)
-    (subst (λ ms. IsClosed ms c.loop-i.row.items c.close.new.row.items) c.deref-2.ensures c.in_ok-close.ensures.closed)
-
-pub offer_at-returns-then-found-avoid-ne0-clause-offer : goal.offer_at-returns-then-found-avoid-ne0-clause-offer
-offer_at-returns-then-found-avoid-ne0-clause-offer t c =
-    let m : FormMatch = c.index-found.result.now in
-    let got : slice_get c.args.matches.now.list.items c.args.i ≡ Some m = slice_get_read _ _ _ _ refl c.requires.place c.index-found.ensures in
-    at_place (λ y. IsOffer (stock_of c.args.instance.now) c.args.avoid (tree_term c.args.matches.now.tree.now) c.args.matches.now.whole c.args.row.now y.form Nothing) c.args.matches.now.list.items c.args.i m got
-    (offer_clobbers c.args.instance.now c.args.avoid (tree_term c.args.matches.now.tree.now) c.args.matches.now.whole m (c.requires.matches.each c.args.i m got) c.args.row.now c.if-found-avoid-ne0.true)
-
-pub offer_at-returns-in-Some-clause-offer : goal.offer_at-returns-in-Some-clause-offer
-offer_at-returns-in-Some-clause-offer t c =
-    let m : FormMatch = c.index-found.result.now in
-    let got : slice_get c.args.matches.now.list.items c.args.i ≡ Some m = slice_get_read _ _ _ _ refl c.requires.place c.index-found.ensures in
-    at_place (λ y. IsOffer (stock_of c.args.instance.now) c.args.avoid (tree_term c.args.matches.now.tree.now) c.args.matches.now.whole c.args.row.now y.form (Chains (record { start = c.in-Some.start; goal = m.goal }))) c.args.matches.now.list.items c.args.i m got
-    (offer_start c.args.instance.now c.args.avoid (tree_term c.args.matches.now.tree.now) c.args.matches.now.whole m (c.requires.matches.each c.args.i m got) c.args.row.now c.start_of.result c.in-Some.start c.if-found-avoid-ne0.false c.start_of.ensures c.in-Some.is)
-
-pub offer_at-cuts_cost-requires : goal.offer_at-cuts_cost-requires
-offer_at-cuts_cost-requires t c =
-    let m : FormMatch = c.index-found.result.now in
-    let got : slice_get c.args.matches.now.list.items c.args.i ≡ Some m = slice_get_read _ _ _ _ refl c.requires.place c.index-found.ensures in
-    let f = c.requires.matches.each c.args.i m got in
-    let z = match_sizes c.args.instance.now c.args.avoid (tree_term c.args.matches.now.tree.now) c.args.matches.now.whole m f c.start_of.result c.start_of.ensures c.in_default.is in
-    (omega (arith, z.1, rank_le c.args.avoid, ap (λ l. terms_size (open_cuts l)) c.deref.ensures.value, c.decreases), (subst (CutsAt (nodes_of c.args.instance.now)) (sym c.deref.ensures.value) f.cuts_at, c.requires.right))
-
-pub offer_at-floor_of-requires : goal.offer_at-floor_of-requires
-offer_at-floor_of-requires t c =
-    let m : FormMatch = c.index-found.result.now in
-    let got : slice_get c.args.matches.now.list.items c.args.i ≡ Some m = slice_get_read _ _ _ _ refl c.requires.place c.index-found.ensures in
-    let f = c.requires.matches.each c.args.i m got in
-    let z = match_sizes c.args.instance.now c.args.avoid (tree_term c.args.matches.now.tree.now) c.args.matches.now.whole m f c.start_of.result c.start_of.ensures c.in_default.is in
-    (omega (arith, z.0, ap (λ l. operands_size (open_operands l)) c.deref-2.ensures.value, c.decreases), (subst (OperandsAt (nodes_of c.args.instance.now)) (sym c.deref-2.ensures.value) f.operands_at, c.in_ok-b.ensures.right))
-
-pub offer_at-orders-requires : goal.offer_at-orders-requires
-offer_at-orders-requires t c =
-    let m : FormMatch = c.index-found.result.now in
-    let got : slice_get c.args.matches.now.list.items c.args.i ≡ Some m = slice_get_read _ _ _ _ refl c.requires.place c.index-found.ensures in
-    let f = c.requires.matches.each c.args.i m got in
-    let z = match_sizes c.args.instance.now c.args.avoid (tree_term c.args.matches.now.tree.now) c.args.matches.now.whole m f c.start_of.result c.start_of.ensures c.in_default.is in
-    (omega (arith, z.0, ap (λ l. operands_size (open_operands l)) c.deref-3.ensures.value, c.decreases), (subst (OperandsAt (nodes_of c.args.instance.now)) (sym c.deref-3.ensures.value) f.operands_at, c.in_ok-floor.ensures.right))
-
-pub offer_at-returns-then-is_as_dear-clause-offer : goal.offer_at-returns-then-is_as_dear-clause-offer
-offer_at-returns-then-is_as_dear-clause-offer t c =
-    let m : FormMatch = c.index-found.result.now in
-    let got : slice_get c.args.matches.now.list.items c.args.i ≡ Some m = slice_get_read _ _ _ _ refl c.requires.place c.index-found.ensures in
-    at_place (λ y. IsOffer (stock_of c.args.instance.now) c.args.avoid (tree_term c.args.matches.now.tree.now) c.args.matches.now.whole c.args.row.now y.form Nothing) c.args.matches.now.list.items c.args.i m got
-    (offer_dear c.args.instance.now c.args.avoid (tree_term c.args.matches.now.tree.now) c.args.matches.now.whole m (c.requires.matches.each c.args.i m got) c.args.row.now c.in_ok-floor.floor c.in_ok-b.b c.in_ok-form_cost.field-0
-    (subst (λ l. IsFloor (stock_of c.args.instance.now) c.args.avoid (open_operands l) c.in_ok-floor.floor) c.deref-2.ensures.value c.in_ok-floor.ensures.floor)
-    (subst (λ l. IsLeastCut (stock_of c.args.instance.now) (open_cuts l) c.in_ok-b.b) c.deref.ensures.value c.in_ok-b.ensures.least) c.in_ok-form_cost.ensures
-    (λ n h. subst (λ o. AtMost o n) c.known_cost.ensures (OnTrue_at c.if-is_as_dear.true c.is_as_dear.ensures n h)))
-
-pub offer_at-returns-clause-offer : goal.offer_at-returns-clause-offer
-offer_at-returns-clause-offer t c =
-    let m : FormMatch = c.index-found.result.now in
-    let got : slice_get c.args.matches.now.list.items c.args.i ≡ Some m = slice_get_read _ _ _ _ refl c.requires.place c.index-found.ensures in
-    at_place (λ y. IsOffer (stock_of c.args.instance.now) c.args.avoid (tree_term c.args.matches.now.tree.now) c.args.matches.now.whole c.args.row.now y.form c.offer_of.result) c.args.matches.now.list.items c.args.i m got
-    (offer_costs c.args.instance.now c.args.avoid (tree_term c.args.matches.now.tree.now) c.args.matches.now.whole m (c.requires.matches.each c.args.i m got) c.args.row.now c.in_ok-a.a c.in_ok-b.b c.in_ok-form_cost-2.field-0 c.offer_of.result c.if-found-avoid-ne0.false
-    (subst (λ l. IsLeastOrder (stock_of c.args.instance.now) c.args.avoid (open_operands l) c.in_ok-a.a) c.deref-3.ensures.value c.in_ok-a.ensures.least)
-    (subst (λ l. IsLeastCut (stock_of c.args.instance.now) (open_cuts l) c.in_ok-b.b) c.deref.ensures.value c.in_ok-b.ensures.least) c.in_ok-form_cost-2.ensures c.offer_of.ensures)

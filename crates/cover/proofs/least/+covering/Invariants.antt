@@ -1,4 +1,4 @@
-use Rattle.std.proofs.Common.{◌≡◌, ◌+◌, ◌*◌, vec_len}
+use Rattle.std.proofs.Common.{◌≡◌, ◌+◌, ◌*◌, max, vec_len}
 use Rattle.net_model.specs.Terms.{size_of}
 use Rattle.form_model.specs.Trees.{tree_term}
 use Rattle.cover.specs.Inner.Asks.{operands_size, terms_size, rank}
@@ -11,14 +11,23 @@ use Rattle.cover.proofs.least.+covering.Given as goal
 abbrev pub decreases-least : goal.decreases-least
 decreases-least l = 32 * size_of (tree_term l.tree.now) + 16 * rank l.avoid + 4
 
+abbrev pub decreases-operand_cost : goal.decreases-operand_cost
+decreases-operand_cost l = 32 * size_of (tree_term l.operand.tree.now) + 16 * rank l.avoid + 5
+
 abbrev pub decreases-least_row : goal.decreases-least_row
 decreases-least_row l = 32 * size_of (tree_term l.tree.now) + 16 * rank l.avoid + 3
 
 abbrev pub decreases-row_of : goal.decreases-row_of
 decreases-row_of l = 32 * size_of (tree_term l.matches.now.tree.now) + 16 * rank l.avoid + 2
 
+abbrev pub decreases-fill : goal.decreases-fill
+decreases-fill l = 32 * size_of (tree_term l.matches.now.tree.now) + 16 * rank l.avoid + 1
+
 abbrev pub decreases-offer_at : goal.decreases-offer_at
-decreases-offer_at l = 32 * size_of (tree_term l.matches.now.tree.now) + 16 * rank l.avoid + 1
+decreases-offer_at l = 32 * size_of (tree_term l.matches.now.tree.now) + 16 * rank l.avoid
+
+abbrev pub decreases-cost_below : goal.decreases-cost_below
+decreases-cost_below l = max (32 * operands_size (open_operands l.operands.now) + 26) (32 * terms_size (open_cuts l.cuts.now) + 9)
 
 abbrev pub decreases-floor_of : goal.decreases-floor_of
 decreases-floor_of l = 32 * operands_size (open_operands l.ops.now) + 25
@@ -28,6 +37,9 @@ decreases-orders l = 32 * operands_size (open_operands l.ops.now) + 25
 
 abbrev pub decreases-orders_from : goal.decreases-orders_from
 decreases-orders_from l = 32 * operands_size (open_operands l.ops.now) + 24
+
+abbrev pub decreases-orders_after : goal.decreases-orders_after
+decreases-orders_after l = 32 * operands_size (open_operands l.ops.now) + 23
 
 abbrev pub decreases-cuts_cost : goal.decreases-cuts_cost
 decreases-cuts_cost l = 32 * terms_size (open_cuts l.cuts.now) + 8
@@ -39,8 +51,8 @@ invariant-orders-loop-i l = record {
   right : AreRight l.instance l.table;
 }
 
-abbrev pub invariant-row_of-loop-i : goal.invariant-row_of-loop-i
-invariant-row_of-loop-i l = record {
+abbrev pub invariant-fill-loop-i : goal.invariant-fill-loop-i
+invariant-fill-loop-i l = record {
   len : vec_len l.row ≡ 17;
   tried : IsTried (stock_of l.instance) l.avoid (tree_term l.matches.tree.now) l.matches.whole l.matches.list.items l.i l.chains.items l.row.items;
   right : AreRight l.instance l.table;

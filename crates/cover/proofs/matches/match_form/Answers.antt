@@ -1,4 +1,4 @@
-use Rattle.std.proofs.Common.{◌≡◌, Some, refl, get_or}
+use Rattle.std.proofs.Common.{◌≡◌, Some, get_or}
 use Rattle.std.specs.Prelude.{slice_get}
 use Rattle.std.proofs.lemmas.Bool.{OnFalse_at}
 use Rattle.form_model.specs.Trees.{tree_term}
@@ -15,8 +15,8 @@ returns c =
     let got : slice_get c.args.instance.now.forms.now c.args.k ≡ Some form = listed _ _ _ c.requires.form in
     let s = start_of c.args.instance.now form c.args.k c.in-Some.goal (tree_term c.args.tree.now) c.args.whole (destination_at c.destination_of_entry.result) c.in_ok-goal.field-0 c.in_ok-found.field-0 c.in-Some-2.found got c.in_ok-goal.ensures c.in-Some.is c.in_ok-found.ensures.found c.in-Some-2.is c.destination_of_entry.ensures in
     let at = start_at c.args.instance.now c.args.number c.in-Some.goal (tree_term c.args.tree.now) (destination_at c.destination_of_entry.result) c.in_ok-found.field-0 c.in-Some-2.found c.requires.number c.in_ok-found.ensures.at c.in-Some-2.is c.destination_of_entry.ensures in (
-      form_match c.args.instance.now form c.args.k c.in-Some.goal (tree_term c.args.tree.now) c.args.whole c.args.size c.in-Some-2.found c.deref.result.now c.deref-2.result.now c.deref-3.result.now c.in_ok-start.start c.in_ok-operands.operands c.in_ok-cuts.cuts s at c.requires.size c.deref.ensures.value c.in_ok-start.ensures.is c.in_ok-start.ensures.register c.deref-2.ensures.value c.in_ok-operands.ensures.operands c.in_ok-operands.ensures.at c.deref-3.ensures.value c.in_ok-cuts.ensures.cuts c.in_ok-cuts.ensures.at,
-      refl,
+      form_match c.args.instance.now form c.args.k c.in-Some.goal (tree_term c.args.tree.now) c.args.whole c.args.size c.in-Some-2.found c.deref.result.now c.in_ok-opened.opened s at c.requires.size c.deref.ensures.value c.in_ok-opened.ensures,
+      c.in_ok-opened.ensures.form,
     )
 
 pub returns-in_default : goal.returns-in_default

@@ -8,7 +8,9 @@ pub loop-k-init : goal.loop-k-init
 loop-k-init c = subst (AreFirstMatches c.args.instance.now (tree_term c.args.tree.now) c.args.whole 0) (sym c.new-list.ensures.items) (matches_none c.args.instance.now (tree_term c.args.tree.now) c.args.whole)
 
 pub loop-k-preserved : goal.loop-k-preserved
-loop-k-preserved c = matches_more c.args.instance.now (tree_term c.args.tree.now) c.args.whole c.loop-k.k c.loop-k.list.items c.put_match.new.list.items c.in_ok-found.found c.loop-k.invariant c.in_ok-found.ensures c.in_ok-put_match.ensures
+loop-k-preserved c =
+    let (found, is, added) = c.in_ok-put_match.ensures in
+    matches_more c.args.instance.now (tree_term c.args.tree.now) c.args.whole c.loop-k.k c.loop-k.list.items c.put_match.new.list.items found c.loop-k.invariant is added
 
 pub returns-clause-matches : goal.returns-clause-matches
 returns-clause-matches c =

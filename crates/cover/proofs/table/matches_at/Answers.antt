@@ -1,14 +1,16 @@
 use Rattle.std.proofs.Common.{◌≡◌, Some, sym, ap, ◌∙◌, subst}
 use Rattle.std.specs.Option.{option_copied}
+use Rattle.std.specs.declared.rc.Rc.{Rc}
+use Rattle.std.specs.declared.alloc.Global.{Global}
+use Rattle.std.proofs.lemmas.Result.{IfOk-weaker}
 use Rattle.form_model.specs.Trees.{tree_term}
 use Rattle.cover.specs.declared.matches.Matches.{Matches}
-use Rattle.cover.specs.Inner.Entries.{EachEntry}
 use Rattle.cover.specs.Inner.Jobs.{nodes_of}
 use Rattle.cover.specs.Inner.Matched.{AreMatches}
 use Rattle.cover.specs.Inner.Sharing.{AreFirsts}
 use Rattle.cover.specs.Inner.Tables.{HasMatches}
 use Rattle.cover.specs.contracts.table.MatchKeyPartialEq.TheImpl.{ghosts as match_key_eq}
-use Rattle.cover.proofs.EntryLemmas.{each_found, each_added}
+use Rattle.cover.proofs.EntryLemmas.{each_found}
 use Rattle.cover.proofs.TableLemmas.{exact_match_key}
 use Rattle.cover.proofs.table.matches_at.Goals as goal
 
@@ -29,18 +31,23 @@ returns-in-Some-clause-tree c =
 pub returns-in-Some-clause-whole : goal.returns-in-Some-clause-whole
 returns-in-Some-clause-whole c = ap (λ (ms : Matches). ms.whole) c.in_ok-clone.ensures.cases ∙ (known c).whole
 
-pub returns-clause-right : goal.returns-clause-right
-returns-clause-right c =
+pub keep_matches-requires-clause-tree : goal.keep_matches-requires-clause-tree
+keep_matches-requires-clause-tree c =
     let firsts = subst (λ l. AreFirsts (nodes_of c.args.instance.now) l) (sym c.deref.ensures.value) c.requires.right.firsts in
     let here = c.first_equal.ensures (nodes_of c.args.instance.now) (tree_term c.args.tree.now) firsts c.requires.number in
-    let e : c.in_ok-clone-2.field-0.value ≡ c.in_ok-found.found = c.in_ok-clone-2.ensures.cases ∙ c.in_ok-matches.ensures.ok in
-    record {
-      firsts = c.requires.right.firsts;
-      matches = subst (EachEntry (HasMatches c.args.instance.now)) (sym c.in_ok-insert.ensures.entries)
-          (each_added (HasMatches c.args.instance.now) match_key_eq.eq exact_match_key c.args.table.now.matches.entries (record { number = c.first_equal.result; whole = c.args.whole }) c.in_ok-clone-2.field-0 c.requires.right.matches (record {
-            tree = here ∙ ap Some (sym c.in_ok-found.ensures.tree ∙ sym (ap (λ (ms : Matches). tree_term ms.tree.now) e));
-            whole = ap (λ (ms : Matches). ms.whole) e ∙ c.in_ok-found.ensures.whole;
-            matches = subst (AreMatches c.args.instance.now) (sym e) c.in_ok-found.ensures.matches;
-          }));
-      rows = c.requires.right.rows;
-    }
+    here ∙ ap Some (sym c.in_ok-found.ensures.tree)
+
+pub returns-clause-matches : goal.returns-clause-matches
+returns-clause-matches c =
+    IfOk-weaker c.keep_matches.result (λ (ms : Rc Matches Global). ms.value ≡ c.in_ok-found.found) (λ (ms : Rc Matches Global). AreMatches c.args.instance.now ms.value)
+    (λ ms e. subst (AreMatches c.args.instance.now) (sym e) c.in_ok-found.ensures.matches) c.keep_matches.ensures.value
+
+pub returns-clause-tree : goal.returns-clause-tree
+returns-clause-tree c =
+    IfOk-weaker c.keep_matches.result (λ (ms : Rc Matches Global). ms.value ≡ c.in_ok-found.found) (λ (ms : Rc Matches Global). tree_term ms.value.tree.now ≡ tree_term c.args.tree.now)
+    (λ ms e. ap (λ (x : Matches). tree_term x.tree.now) e ∙ c.in_ok-found.ensures.tree) c.keep_matches.ensures.value
+
+pub returns-clause-whole : goal.returns-clause-whole
+returns-clause-whole c =
+    IfOk-weaker c.keep_matches.result (λ (ms : Rc Matches Global). ms.value ≡ c.in_ok-found.found) (λ (ms : Rc Matches Global). ms.value.whole ≡ c.args.whole)
+    (λ ms e. ap (λ (x : Matches). x.whole) e ∙ c.in_ok-found.ensures.whole) c.keep_matches.ensures.value

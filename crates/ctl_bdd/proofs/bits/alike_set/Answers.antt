@@ -1,3 +1,4 @@
+use Rattle.std.proofs.lemmas.Result.{IfOk-from_err}
 use Rattle.std.proofs.Common.{if◌then◌else◌, ◌&&◌, ◌∙◌}
 use Rattle.bit_bdd.proofs.CallerLemmas.{same_words, extends_trans, still_within}
 use Rattle.ctl_bdd.proofs.bits.alike_set.Goals as goal
@@ -29,3 +30,15 @@ returns-clause-words c word =
     let g = c.in_ok-other.ensures.words word in
     let h = c.in_ok-same.ensures.words word ∙ (λ j. if e j then f j else g j) in
     c.in_ok-all.ensures.words word ∙ (λ j. d j && h j)
+
+pub returns-in_err-other-clause-within : goal.returns-in_err-other-clause-within
+returns-in_err-other-clause-within c = IfOk-from_err c.from_residual.result _ c.from_residual.ensures.0
+
+pub returns-in_err-other-clause-words : goal.returns-in_err-other-clause-words
+returns-in_err-other-clause-words c = IfOk-from_err c.from_residual.result _ c.from_residual.ensures.0
+
+pub returns-in_err-same-clause-within : goal.returns-in_err-same-clause-within
+returns-in_err-same-clause-within c = IfOk-from_err c.from_residual-in_err-same.result _ c.from_residual-in_err-same.ensures.0
+
+pub returns-in_err-same-clause-words : goal.returns-in_err-same-clause-words
+returns-in_err-same-clause-words c = IfOk-from_err c.from_residual-in_err-same.result _ c.from_residual-in_err-same.ensures.0

@@ -1,3 +1,4 @@
+use Rattle.std.proofs.lemmas.Result.{IfOk-from_err}
 use Rattle.std.proofs.Common.{◌++◌, ◌∷◌, [], ◌<◌, cond, length, sym, ◌∙◌, arith}
 use Rattle.std.proofs.lemmas.List.{length_push}
 use Rattle.bit_bdd.specs.Diagrams.{has_word}
@@ -47,3 +48,21 @@ loop-i-preserved c =
           ∙ choice_push (has_word c.args.book.now c.args.test word) _ _ _ _
           ∙ sym (λ j. choice_of (has_word c.args.book.now c.args.test word) (p j) (q j)));
     }
+
+pub returns-in_err-push-clause-sets : goal.returns-in_err-push-clause-sets
+returns-in_err-push-clause-sets c = IfOk-from_err c.from_residual-in_err-push.result _ c.from_residual-in_err-push.ensures.0
+
+pub returns-in_err-push-clause-long : goal.returns-in_err-push-clause-long
+returns-in_err-push-clause-long c = IfOk-from_err c.from_residual-in_err-push.result _ c.from_residual-in_err-push.ensures.0
+
+pub returns-in_err-push-clause-words : goal.returns-in_err-push-clause-words
+returns-in_err-push-clause-words c = IfOk-from_err c.from_residual-in_err-push.result _ c.from_residual-in_err-push.ensures.0
+
+pub returns-in_err-set-clause-sets : goal.returns-in_err-set-clause-sets
+returns-in_err-set-clause-sets c = IfOk-from_err c.from_residual.result _ c.from_residual.ensures.0
+
+pub returns-in_err-set-clause-long : goal.returns-in_err-set-clause-long
+returns-in_err-set-clause-long c = IfOk-from_err c.from_residual.result _ c.from_residual.ensures.0
+
+pub returns-in_err-set-clause-words : goal.returns-in_err-set-clause-words
+returns-in_err-set-clause-words c = IfOk-from_err c.from_residual.result _ c.from_residual.ensures.0

@@ -1,3 +1,4 @@
+use Rattle.std.proofs.lemmas.Result.{IfOk-from_err}
 use Rattle.std.proofs.Common.{◌==◌, ◌∙◌, ap, arith}
 use Rattle.std.proofs.lemmas.List.{length_push}
 use Rattle.std.proofs.lemmas.Nat.Bits.{shr_and_one}
@@ -14,3 +15,12 @@ loop-bit-preserved c = record {
       (number_more c.args.book.now c.loop-bit.out c.constant_set-set.result word c.args.value c.loop-bit.bit c.loop-bit.invariant.long
       (c.constant_set-set.ensures.words word ∙ ap (λ n. n == 1) (shr_and_one c.args.value c.loop-bit.bit)) (c.loop-bit.invariant.number word));
 }
+
+pub returns-in_err-push-clause-sets : goal.returns-in_err-push-clause-sets
+returns-in_err-push-clause-sets c = IfOk-from_err c.from_residual.result _ c.from_residual.ensures.0
+
+pub returns-in_err-push-clause-long : goal.returns-in_err-push-clause-long
+returns-in_err-push-clause-long c = IfOk-from_err c.from_residual.result _ c.from_residual.ensures.0
+
+pub returns-in_err-push-clause-number : goal.returns-in_err-push-clause-number
+returns-in_err-push-clause-number c = IfOk-from_err c.from_residual.result _ c.from_residual.ensures.0

@@ -1,3 +1,4 @@
+use Rattle.std.proofs.lemmas.Result.{IfOk-from_err}
 use Rattle.std.proofs.Common.{◌≡◌, ◌<◌, ◌&&◌, length, take, sym, ◌∙◌, arith}
 use Rattle.bit_bdd.proofs.CallerLemmas.{same_words, extends_trans}
 use Rattle.ctl_bdd.specs.Bits.{bools}
@@ -34,3 +35,9 @@ loop-i-preserved c =
           c.in_ok-same.ensures.words word ∙ (λ j. d j && alike (e j) (f j))
           ∙ sym ((λ j. all_alike (p j) (q j)) ∙ alike_push _ _ _ _ long);
     }
+
+pub returns-in_err-same-clause-within : goal.returns-in_err-same-clause-within
+returns-in_err-same-clause-within c = IfOk-from_err c.from_residual.result _ c.from_residual.ensures.0
+
+pub returns-in_err-same-clause-words : goal.returns-in_err-same-clause-words
+returns-in_err-same-clause-words c = IfOk-from_err c.from_residual.result _ c.from_residual.ensures.0

@@ -1,3 +1,4 @@
+use Rattle.std.proofs.lemmas.Result.{IfOk-from_err}
 use Rattle.std.proofs.Common.{◌++◌, ◌∷◌, [], not, map, sym, ap, ◌∙◌, arith}
 use Rattle.std.proofs.lemmas.List.{map-append, length_push}
 use Rattle.bit_bdd.proofs.CallerLemmas.{same_words, extends_trans}
@@ -23,3 +24,21 @@ loop-set-preserved c =
           (bools_push c.not.new.self c.loop-set.out c.in_ok-turned.turned word ∙ (λ j. old j ++ new j ∷ [])
           ∙ sym (ap (map not) (bools_more c.args.book.now c.args.sets.now c.loop-set.set-index word c.loop-set-test.true) ∙ map-append not _ _));
     }
+
+pub returns-in_err-push-clause-sets : goal.returns-in_err-push-clause-sets
+returns-in_err-push-clause-sets c = IfOk-from_err c.from_residual-in_err-push.result _ c.from_residual-in_err-push.ensures.0
+
+pub returns-in_err-push-clause-long : goal.returns-in_err-push-clause-long
+returns-in_err-push-clause-long c = IfOk-from_err c.from_residual-in_err-push.result _ c.from_residual-in_err-push.ensures.0
+
+pub returns-in_err-push-clause-words : goal.returns-in_err-push-clause-words
+returns-in_err-push-clause-words c = IfOk-from_err c.from_residual-in_err-push.result _ c.from_residual-in_err-push.ensures.0
+
+pub returns-in_err-turned-clause-sets : goal.returns-in_err-turned-clause-sets
+returns-in_err-turned-clause-sets c = IfOk-from_err c.from_residual.result _ c.from_residual.ensures.0
+
+pub returns-in_err-turned-clause-long : goal.returns-in_err-turned-clause-long
+returns-in_err-turned-clause-long c = IfOk-from_err c.from_residual.result _ c.from_residual.ensures.0
+
+pub returns-in_err-turned-clause-words : goal.returns-in_err-turned-clause-words
+returns-in_err-turned-clause-words c = IfOk-from_err c.from_residual.result _ c.from_residual.ensures.0

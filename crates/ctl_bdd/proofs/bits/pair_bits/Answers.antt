@@ -1,3 +1,4 @@
+use Rattle.std.proofs.lemmas.Result.{IfOk-from_err}
 use Rattle.std.proofs.Common.{◌≡◌, ◌++◌, ◌∷◌, [], ◌<◌, length, take, sym, ◌∙◌, arith}
 use Rattle.std.proofs.lemmas.List.{length_push}
 use Rattle.bit_bdd.proofs.CallerLemmas.{same_words, extends_trans}
@@ -44,3 +45,21 @@ loop-i-preserved c =
           (bools_push c.pair_set.new.book c.loop-i.out c.in_ok-set.set word ∙ (λ j. old j ++ new j ∷ [])
           ∙ sym ((λ j. pairs_of c.args.pairing (p j) (q j)) ∙ pairs_push c.args.pairing _ _ _ _ long));
     }
+
+pub returns-in_err-push-clause-sets : goal.returns-in_err-push-clause-sets
+returns-in_err-push-clause-sets c = IfOk-from_err c.from_residual-in_err-push.result _ c.from_residual-in_err-push.ensures.0
+
+pub returns-in_err-push-clause-long : goal.returns-in_err-push-clause-long
+returns-in_err-push-clause-long c = IfOk-from_err c.from_residual-in_err-push.result _ c.from_residual-in_err-push.ensures.0
+
+pub returns-in_err-push-clause-words : goal.returns-in_err-push-clause-words
+returns-in_err-push-clause-words c = IfOk-from_err c.from_residual-in_err-push.result _ c.from_residual-in_err-push.ensures.0
+
+pub returns-in_err-set-clause-sets : goal.returns-in_err-set-clause-sets
+returns-in_err-set-clause-sets c = IfOk-from_err c.from_residual.result _ c.from_residual.ensures.0
+
+pub returns-in_err-set-clause-long : goal.returns-in_err-set-clause-long
+returns-in_err-set-clause-long c = IfOk-from_err c.from_residual.result _ c.from_residual.ensures.0
+
+pub returns-in_err-set-clause-words : goal.returns-in_err-set-clause-words
+returns-in_err-set-clause-words c = IfOk-from_err c.from_residual.result _ c.from_residual.ensures.0

@@ -1,3 +1,4 @@
+use Rattle.std.proofs.lemmas.Result.{IfOk-from_err}
 use Rattle.std.proofs.Common.{◌∙◌, arith}
 use Rattle.std.proofs.lemmas.List.{length_push}
 use Rattle.bit_bdd.proofs.CallerLemmas.{extends_trans}
@@ -16,3 +17,21 @@ loop-bit-preserved c = record {
       (c.in_ok-set.ensures.words word)
       (number_later c.loop-bit.book c.bit.new.self c.in_ok-set.ensures.grows c.loop-bit.out c.loop-bit.invariant.sets word ∙ c.loop-bit.invariant.number word));
 }
+
+pub returns-in_err-push-clause-sets : goal.returns-in_err-push-clause-sets
+returns-in_err-push-clause-sets c = IfOk-from_err c.from_residual-in_err-push.result _ c.from_residual-in_err-push.ensures.0
+
+pub returns-in_err-push-clause-long : goal.returns-in_err-push-clause-long
+returns-in_err-push-clause-long c = IfOk-from_err c.from_residual-in_err-push.result _ c.from_residual-in_err-push.ensures.0
+
+pub returns-in_err-push-clause-number : goal.returns-in_err-push-clause-number
+returns-in_err-push-clause-number c = IfOk-from_err c.from_residual-in_err-push.result _ c.from_residual-in_err-push.ensures.0
+
+pub returns-in_err-set-clause-sets : goal.returns-in_err-set-clause-sets
+returns-in_err-set-clause-sets c = IfOk-from_err c.from_residual.result _ c.from_residual.ensures.0
+
+pub returns-in_err-set-clause-long : goal.returns-in_err-set-clause-long
+returns-in_err-set-clause-long c = IfOk-from_err c.from_residual.result _ c.from_residual.ensures.0
+
+pub returns-in_err-set-clause-number : goal.returns-in_err-set-clause-number
+returns-in_err-set-clause-number c = IfOk-from_err c.from_residual.result _ c.from_residual.ensures.0

@@ -1,3 +1,4 @@
+use Rattle.std.proofs.lemmas.Result.{IfOk-from_err}
 use Rattle.std.proofs.Common.{◌≡◌, nat_eq, true, ◌∙◌}
 use Rattle.std.specs.List.{list_any}
 use Rattle.net_model.specs.Flags.{flag_at}
@@ -18,3 +19,9 @@ returns-clause-table c = record {
       let flag : flag_at c.as_slice.result.now n ≡ true = rw c.as_slice.ensures (c.in_ok-needed.ensures.those n any) in
       c.in_ok-table.ensures.bits n lt flag;
 }
+
+pub returns-in_err-needed-clause-table : goal.returns-in_err-needed-clause-table
+returns-in_err-needed-clause-table c = IfOk-from_err c.from_residual.result _ c.from_residual.ensures.0
+
+pub returns-in_err-table-clause-table : goal.returns-in_err-table-clause-table
+returns-in_err-table-clause-table c = IfOk-from_err c.from_residual-in_err-table.result _ c.from_residual-in_err-table.ensures.0

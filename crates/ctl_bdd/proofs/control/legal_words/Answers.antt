@@ -1,3 +1,4 @@
+use Rattle.std.proofs.lemmas.Result.{IfOk-from_err}
 use Rattle.std.proofs.Common.{◌≡◌, None, ◌<◌, ◌^◌, ◌↔◌, not, true, sym, ◌∙◌, subst}
 use Rattle.std.specs.List.{list_any}
 use Rattle.net_model.specs.declared.hardware.Net.{Net}
@@ -26,3 +27,9 @@ returns-clause-legal c word lt =
       },
       λ (e : IsClean c.args.checked.now.netlist word). told ∙ is.1 e.clean,
     )
+
+pub returns-in_err-legal-clause-within : goal.returns-in_err-legal-clause-within
+returns-in_err-legal-clause-within c = IfOk-from_err c.from_residual.result _ c.from_residual.ensures.0
+
+pub returns-in_err-legal-clause-legal : goal.returns-in_err-legal-clause-legal
+returns-in_err-legal-clause-legal c = IfOk-from_err c.from_residual.result _ c.from_residual.ensures.0

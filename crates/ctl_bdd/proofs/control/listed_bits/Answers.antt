@@ -1,3 +1,4 @@
+use Rattle.std.proofs.lemmas.Result.{IfOk-from_err}
 use Rattle.std.proofs.Common.{◌≡◌, ℕ, ◌<◌, ◌++◌, ◌∷◌, [], nat_eq, length, sym, ◌∙◌}
 use Rattle.std.specs.List.{list_any}
 use Rattle.net_model.specs.Flags.{flag_at}
@@ -25,3 +26,12 @@ loop-at-preserved c =
     c.in_ok-push.ensures.pushed
     ∙ (λ j. c.loop-at.invariant j ++ (c.loop-at.at, sets j) ∷ [])
     ∙ listed_more (is_static_control c.args.netlist.now) (λ (n : ℕ). (n, sets_at c.args.table.now n)) c.loop-at.at (sym (set ∙ flags ∙ any) ∙ c.if-not-is_set.false)
+
+pub returns-in_err-flags : goal.returns-in_err-flags
+returns-in_err-flags c = IfOk-from_err c.from_residual.result _ c.from_residual.ensures.0
+
+pub returns-in_err-push : goal.returns-in_err-push
+returns-in_err-push c = IfOk-from_err c.from_residual-in_err-push.result _ c.from_residual-in_err-push.ensures.0
+
+pub returns-in_err-sets : goal.returns-in_err-sets
+returns-in_err-sets c = IfOk-from_err c.from_residual-in_err-sets.result _ c.from_residual-in_err-sets.ensures.0

@@ -1,3 +1,4 @@
+use Rattle.std.proofs.lemmas.Result.{IfOk-from_err}
 use Rattle.std.proofs.Common.{◌≡◌, ℕ, ◌==◌, ◌-◌, ◌<◌, ◌^◌, ◌∙◌, suc, cond, length, get_or, sym, ap, arith}
 use Rattle.std.proofs.lemmas.List.{drop_all}
 use Rattle.net_model.specs.Value.{case_value}
@@ -58,3 +59,21 @@ loop-left-preserved c =
           ∙ (λ j. cond ((get_or c.args.rows.now (c.loop-left.left - 1) (0, 0)).0 == sel j) (on j) (off j))
           ∙ case_step (numbers_at c.args.book.now c.args.table.now word) (number_at c.args.book.now c.args.sel.now word) c.args.rows.now c.args.rest (c.loop-left.left - 1) c.loop-left.left (0, 0) more lt;
     }
+
+pub returns-in_err-out-clause-sets : goal.returns-in_err-out-clause-sets
+returns-in_err-out-clause-sets c = IfOk-from_err c.from_residual.result _ c.from_residual.ensures.0
+
+pub returns-in_err-out-clause-long : goal.returns-in_err-out-clause-long
+returns-in_err-out-clause-long c = IfOk-from_err c.from_residual.result _ c.from_residual.ensures.0
+
+pub returns-in_err-out-clause-number : goal.returns-in_err-out-clause-number
+returns-in_err-out-clause-number c = IfOk-from_err c.from_residual.result _ c.from_residual.ensures.0
+
+pub returns-in_err-out-2-clause-sets : goal.returns-in_err-out-2-clause-sets
+returns-in_err-out-2-clause-sets c = IfOk-from_err c.from_residual-in_err-out-2.result _ c.from_residual-in_err-out-2.ensures.0
+
+pub returns-in_err-out-2-clause-long : goal.returns-in_err-out-2-clause-long
+returns-in_err-out-2-clause-long c = IfOk-from_err c.from_residual-in_err-out-2.result _ c.from_residual-in_err-out-2.ensures.0
+
+pub returns-in_err-out-2-clause-number : goal.returns-in_err-out-2-clause-number
+returns-in_err-out-2-clause-number c = IfOk-from_err c.from_residual-in_err-out-2.result _ c.from_residual-in_err-out-2.ensures.0

@@ -1,3 +1,4 @@
+use Rattle.std.proofs.lemmas.Result.{IfOk-from_err}
 use Rattle.std.proofs.Common.{◌≡◌, ℕ, ◌-◌, ◌<◌, ◌≤◌, ◌∙◌, length, sym, true, arith}
 use Rattle.std.specs.List.{AllByRecursion}
 use Rattle.net_model.specs.declared.hardware.Gate.TheVariants.{Word, Un, Bin, Slice, Cat, Zext, Sext, Case}
@@ -116,3 +117,33 @@ returns-in_ok-out-in-Sext-clause-bits c =
     rw c.in-Sext.is
     (sext_gate c.args.netlist.now c.args.book.now c.args.table.now c.requires.table c.args.net.now.width c.in-Sext.a c.in_ok-out-in-Sext.out fits (typed_width c.args.netlist.now c.in-Sext.a c.requires.typed fits.0).0 named.0
     (rw c.sets_of-sets.ensures at c.in_ok-out-in-Sext.ensures))
+
+pub returns-in_err-out-in-Bin-clause-bits : goal.returns-in_err-out-in-Bin-clause-bits
+returns-in_err-out-in-Bin-clause-bits c = IfOk-from_err c.from_residual-in_err-out-in-Bin.result _ c.from_residual-in_err-out-in-Bin.ensures.0
+
+pub returns-in_err-out-in-Case-clause-bits : goal.returns-in_err-out-in-Case-clause-bits
+returns-in_err-out-in-Case-clause-bits c = IfOk-from_err c.from_residual-in_err-out-in-Case.result _ c.from_residual-in_err-out-in-Case.ensures.0
+
+pub returns-in_err-out-in-Cat-clause-bits : goal.returns-in_err-out-in-Cat-clause-bits
+returns-in_err-out-in-Cat-clause-bits c = IfOk-from_err c.from_residual-in_err-out-in-Cat.result _ c.from_residual-in_err-out-in-Cat.ensures.0
+
+pub returns-in_err-out-in-Const-clause-bits : goal.returns-in_err-out-in-Const-clause-bits
+returns-in_err-out-in-Const-clause-bits c = IfOk-from_err c.from_residual-in_err-out-in-Const.result _ c.from_residual-in_err-out-in-Const.ensures.0
+
+pub returns-in_err-out-in-Sext-clause-bits : goal.returns-in_err-out-in-Sext-clause-bits
+returns-in_err-out-in-Sext-clause-bits c = IfOk-from_err c.from_residual-in_err-out-in-Sext.result _ c.from_residual-in_err-out-in-Sext.ensures.0
+
+pub returns-in_err-out-in-Slice-clause-bits : goal.returns-in_err-out-in-Slice-clause-bits
+returns-in_err-out-in-Slice-clause-bits c = IfOk-from_err c.from_residual-in_err-out-in-Slice.result _ c.from_residual-in_err-out-in-Slice.ensures.0
+
+pub returns-in_err-out-in-Un-clause-bits : goal.returns-in_err-out-in-Un-clause-bits
+returns-in_err-out-in-Un-clause-bits c = IfOk-from_err c.from_residual-in_err-out-in-Un.result _ c.from_residual-in_err-out-in-Un.ensures.0
+
+pub returns-in_err-out-in-Wire-clause-bits : goal.returns-in_err-out-in-Wire-clause-bits
+returns-in_err-out-in-Wire-clause-bits c = IfOk-from_err c.from_residual-in_err-out-in-Wire.result _ c.from_residual-in_err-out-in-Wire.ensures.0
+
+pub returns-in_err-out-in-Word-clause-bits : goal.returns-in_err-out-in-Word-clause-bits
+returns-in_err-out-in-Word-clause-bits c = IfOk-from_err c.from_residual.result _ c.from_residual.ensures.0
+
+pub returns-in_err-out-in-Zext-clause-bits : goal.returns-in_err-out-in-Zext-clause-bits
+returns-in_err-out-in-Zext-clause-bits c = IfOk-from_err c.from_residual-in_err-out-in-Zext.result _ c.from_residual-in_err-out-in-Zext.ensures.0

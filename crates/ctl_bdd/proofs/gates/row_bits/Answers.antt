@@ -1,3 +1,4 @@
+use Rattle.std.proofs.lemmas.Result.{IfOk-from_err}
 use Rattle.std.proofs.Common.{◌∙◌, cond, ap}
 use Rattle.ctl_bdd.specs.Bits.{bits_value, number_at}
 use Rattle.ctl_bdd.proofs.Sets.{sets_later, number_later}
@@ -25,3 +26,21 @@ returns-clause-number c word =
     ap bits_value (c.in_ok-out.ensures.words word)
     ∙ number_choice _ _ _
     ∙ (λ j. cond (test j) (on j) (off j))
+
+pub returns-in_err-out-clause-sets : goal.returns-in_err-out-clause-sets
+returns-in_err-out-clause-sets c = IfOk-from_err c.from_residual-in_err-out.result _ c.from_residual-in_err-out.ensures.0
+
+pub returns-in_err-out-clause-long : goal.returns-in_err-out-clause-long
+returns-in_err-out-clause-long c = IfOk-from_err c.from_residual-in_err-out.result _ c.from_residual-in_err-out.ensures.0
+
+pub returns-in_err-out-clause-number : goal.returns-in_err-out-clause-number
+returns-in_err-out-clause-number c = IfOk-from_err c.from_residual-in_err-out.result _ c.from_residual-in_err-out.ensures.0
+
+pub returns-in_err-test-clause-sets : goal.returns-in_err-test-clause-sets
+returns-in_err-test-clause-sets c = IfOk-from_err c.from_residual.result _ c.from_residual.ensures.0
+
+pub returns-in_err-test-clause-long : goal.returns-in_err-test-clause-long
+returns-in_err-test-clause-long c = IfOk-from_err c.from_residual.result _ c.from_residual.ensures.0
+
+pub returns-in_err-test-clause-number : goal.returns-in_err-test-clause-number
+returns-in_err-test-clause-number c = IfOk-from_err c.from_residual.result _ c.from_residual.ensures.0

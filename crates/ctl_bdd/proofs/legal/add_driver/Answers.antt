@@ -1,3 +1,4 @@
+use Rattle.std.proofs.lemmas.Result.{IfOk-from_err}
 use Rattle.std.proofs.Common.{◌&&◌, ◌||◌, not, ◌∙◌}
 use Rattle.bit_bdd.specs.Diagrams.{has_word}
 use Rattle.bit_bdd.proofs.CallerLemmas.{same_words, extends_trans, still_within}
@@ -45,3 +46,51 @@ returns-clause-seen c word =
     let s = same_words c.args.book.now c.not.new.self one c.args.seen c.requires.seen word in
     let d = same_words c.args.book.now c.not.new.self one c.args.driver c.requires.driver word in
     same_words c.or.new.self c.and-2.new.self c.in_ok-left.ensures.grows c.in_ok-more.more c.in_ok-more.ensures.within word ∙ c.in_ok-more.ensures.words word ∙ (λ j. s j || d j)
+
+pub returns-in_err-apart-clause-legal_in : goal.returns-in_err-apart-clause-legal_in
+returns-in_err-apart-clause-legal_in c = IfOk-from_err c.from_residual-in_err-apart.result _ c.from_residual-in_err-apart.ensures.0
+
+pub returns-in_err-apart-clause-seen_in : goal.returns-in_err-apart-clause-seen_in
+returns-in_err-apart-clause-seen_in c = IfOk-from_err c.from_residual-in_err-apart.result _ c.from_residual-in_err-apart.ensures.0
+
+pub returns-in_err-apart-clause-legal : goal.returns-in_err-apart-clause-legal
+returns-in_err-apart-clause-legal c = IfOk-from_err c.from_residual-in_err-apart.result _ c.from_residual-in_err-apart.ensures.0
+
+pub returns-in_err-apart-clause-seen : goal.returns-in_err-apart-clause-seen
+returns-in_err-apart-clause-seen c = IfOk-from_err c.from_residual-in_err-apart.result _ c.from_residual-in_err-apart.ensures.0
+
+pub returns-in_err-both-clause-legal_in : goal.returns-in_err-both-clause-legal_in
+returns-in_err-both-clause-legal_in c = IfOk-from_err c.from_residual.result _ c.from_residual.ensures.0
+
+pub returns-in_err-both-clause-seen_in : goal.returns-in_err-both-clause-seen_in
+returns-in_err-both-clause-seen_in c = IfOk-from_err c.from_residual.result _ c.from_residual.ensures.0
+
+pub returns-in_err-both-clause-legal : goal.returns-in_err-both-clause-legal
+returns-in_err-both-clause-legal c = IfOk-from_err c.from_residual.result _ c.from_residual.ensures.0
+
+pub returns-in_err-both-clause-seen : goal.returns-in_err-both-clause-seen
+returns-in_err-both-clause-seen c = IfOk-from_err c.from_residual.result _ c.from_residual.ensures.0
+
+pub returns-in_err-left-clause-legal_in : goal.returns-in_err-left-clause-legal_in
+returns-in_err-left-clause-legal_in c = IfOk-from_err c.from_residual-in_err-left.result _ c.from_residual-in_err-left.ensures.0
+
+pub returns-in_err-left-clause-seen_in : goal.returns-in_err-left-clause-seen_in
+returns-in_err-left-clause-seen_in c = IfOk-from_err c.from_residual-in_err-left.result _ c.from_residual-in_err-left.ensures.0
+
+pub returns-in_err-left-clause-legal : goal.returns-in_err-left-clause-legal
+returns-in_err-left-clause-legal c = IfOk-from_err c.from_residual-in_err-left.result _ c.from_residual-in_err-left.ensures.0
+
+pub returns-in_err-left-clause-seen : goal.returns-in_err-left-clause-seen
+returns-in_err-left-clause-seen c = IfOk-from_err c.from_residual-in_err-left.result _ c.from_residual-in_err-left.ensures.0
+
+pub returns-in_err-more-clause-legal_in : goal.returns-in_err-more-clause-legal_in
+returns-in_err-more-clause-legal_in c = IfOk-from_err c.from_residual-in_err-more.result _ c.from_residual-in_err-more.ensures.0
+
+pub returns-in_err-more-clause-seen_in : goal.returns-in_err-more-clause-seen_in
+returns-in_err-more-clause-seen_in c = IfOk-from_err c.from_residual-in_err-more.result _ c.from_residual-in_err-more.ensures.0
+
+pub returns-in_err-more-clause-legal : goal.returns-in_err-more-clause-legal
+returns-in_err-more-clause-legal c = IfOk-from_err c.from_residual-in_err-more.result _ c.from_residual-in_err-more.ensures.0
+
+pub returns-in_err-more-clause-seen : goal.returns-in_err-more-clause-seen
+returns-in_err-more-clause-seen c = IfOk-from_err c.from_residual-in_err-more.result _ c.from_residual-in_err-more.ensures.0

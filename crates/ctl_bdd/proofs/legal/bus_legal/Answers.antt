@@ -1,3 +1,4 @@
+use Rattle.std.proofs.lemmas.Result.{IfOk-from_err}
 use Rattle.std.proofs.Common.{◌+◌, ◌&&◌, ◌||◌, ◌==◌, [], ◌∷◌, cond, not, nat_lt, drop, get_or, sym, ap, ◌∙◌}
 use Rattle.rec_bits.specs.Operators.{bit_of}
 use Rattle.net_model.specs.Clock.{enabled_count}
@@ -31,3 +32,9 @@ loop-driver-preserved c =
           ∙ count_step (numbers_at c.args.book.now c.args.table.now word) c.args.drivers.now c.loop-driver.driver-index (0, 0) c.loop-driver-test.true)
           ∙ c.loop-driver.invariant.words word;
     }
+
+pub returns-in_err-left-clause-within : goal.returns-in_err-left-clause-within
+returns-in_err-left-clause-within c = IfOk-from_err c.from_residual.result _ c.from_residual.ensures.0
+
+pub returns-in_err-left-clause-words : goal.returns-in_err-left-clause-words
+returns-in_err-left-clause-words c = IfOk-from_err c.from_residual.result _ c.from_residual.ensures.0

@@ -1,3 +1,4 @@
+use Rattle.std.proofs.lemmas.Result.{IfOk-from_err}
 use Rattle.std.proofs.Common.{◌+◌, ◌&&◌, not, Bool, drop, ap, ◌∙◌}
 use Rattle.std.specs.List.{list_any}
 use Rattle.net_model.specs.declared.hardware.Net.{Net}
@@ -28,3 +29,9 @@ loop-net-preserved c = record {
       ∙ ap (λ b. has_word c.loop-net.book c.loop-net.legal word && not b) (any_step f c.args.nets.now c.loop-net.net-index c.net-item.result c.loop-net-test.true)
       ∙ c.loop-net.invariant.words word;
 }
+
+pub returns-in_err-legal-clause-within : goal.returns-in_err-legal-clause-within
+returns-in_err-legal-clause-within c = IfOk-from_err c.from_residual.result _ c.from_residual.ensures.0
+
+pub returns-in_err-legal-clause-words : goal.returns-in_err-legal-clause-words
+returns-in_err-legal-clause-words c = IfOk-from_err c.from_residual.result _ c.from_residual.ensures.0

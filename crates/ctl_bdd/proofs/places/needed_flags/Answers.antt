@@ -1,3 +1,4 @@
+use Rattle.std.proofs.lemmas.Result.{IfOk-from_err}
 use Rattle.std.proofs.Common.{◌≡◌, ℕ, ◌+◌, ◌-◌, ◌<◌, ◌∙◌, ◌&&◌, ◌||◌, Some, nat_eq, true, ap, sym, refl, arith, length, get_or, slice_get, slice_index}
 use Rattle.std.specs.List.{AllByRecursion, list_any}
 use Rattle.std.proofs.lemmas.Option.{slice_get_read}
@@ -60,3 +61,15 @@ returns-clause-closed c = record {
   control = c.loop-left.invariant.control;
   closed = λ n h e. c.loop-left.invariant.closed n h (omega (arith, c.loop-left-test.false)) e;
 }
+
+pub returns-in_err-flags-clause-closed : goal.returns-in_err-flags-clause-closed
+returns-in_err-flags-clause-closed c = IfOk-from_err c.from_residual.result _ c.from_residual.ensures.0
+
+pub returns-in_err-flags-clause-those : goal.returns-in_err-flags-clause-those
+returns-in_err-flags-clause-those c = IfOk-from_err c.from_residual.result _ c.from_residual.ensures.0
+
+pub returns-in_err-set_named-clause-closed : goal.returns-in_err-set_named-clause-closed
+returns-in_err-set_named-clause-closed c = IfOk-from_err c.from_residual-in_err-set_named.result _ c.from_residual-in_err-set_named.ensures.0
+
+pub returns-in_err-set_named-clause-those : goal.returns-in_err-set_named-clause-those
+returns-in_err-set_named-clause-those c = IfOk-from_err c.from_residual-in_err-set_named.result _ c.from_residual-in_err-set_named.ensures.0

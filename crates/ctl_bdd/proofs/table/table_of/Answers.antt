@@ -1,3 +1,4 @@
+use Rattle.std.proofs.lemmas.Result.{IfOk-from_err}
 use Rattle.std.proofs.Common.{◌≡◌, ◌<◌, ◌∙◌, Some, true, false, ap, sym, refl, arith, length, length-set, get_or, slice_get, slice_index}
 use Rattle.std.specs.List.{AllByRecursion}
 use Rattle.std.proofs.lemmas.Option.{slice_get_read}
@@ -128,3 +129,15 @@ returns-clause-bits c n h e =
     let items : c.as_slice-id-items.result.now ≡ c.args.checked.now.order = c.as_slice-id-items.ensures ∙ c.order.ensures.value in
     let o : IsOrder c.args.checked.now.netlist c.args.checked.now.order = c.order.ensures.kept.ordered in
     c.loop-id.invariant.done n (omega (arith, o.places n h, c.loop-id-test.false, ap length items)) e
+
+pub returns-in_err-bits-clause-table : goal.returns-in_err-bits-clause-table
+returns-in_err-bits-clause-table c = IfOk-from_err c.from_residual-in_err-bits.result _ c.from_residual-in_err-bits.ensures.0
+
+pub returns-in_err-bits-clause-bits : goal.returns-in_err-bits-clause-bits
+returns-in_err-bits-clause-bits c = IfOk-from_err c.from_residual-in_err-bits.result _ c.from_residual-in_err-bits.ensures.0
+
+pub returns-in_err-table-clause-table : goal.returns-in_err-table-clause-table
+returns-in_err-table-clause-table c = IfOk-from_err c.from_residual.result _ c.from_residual.ensures.0
+
+pub returns-in_err-table-clause-bits : goal.returns-in_err-table-clause-bits
+returns-in_err-table-clause-bits c = IfOk-from_err c.from_residual.result _ c.from_residual.ensures.0

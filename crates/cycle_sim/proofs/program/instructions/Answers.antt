@@ -1,3 +1,4 @@
+use Rattle.std.proofs.lemmas.Grind.{elements}
 use Rattle.std.proofs.Common.{◌≡◌, ◌≤◌, ◌∙◌, slice_index, length, arith, ap, get_or}
 use Rattle.net_model.specs.Order.{IsOrder}
 use Rattle.cycle_sim.specs.Inner.Decoding.{source_in, decoded}
@@ -25,3 +26,9 @@ returns c =
     let ge : c.loop-id.id-index ≤ length c.args.checked.now.order = omega (arith, c.loop-id.auto.id-index-end, ap length c.as_slice-order.ensures, ap length c.order.ensures.value) in
     let e : c.loop-id.id-index ≡ length c.args.checked.now.order = omega arith in
     all_built _ _ c.order.ensures.kept.ordered _ (rw e at c.loop-id.invariant)
+
+pub decode-requires-clause-low : goal.decode-requires-clause-low
+decode-requires-clause-low c = grind (arith, elements)
+
+pub decode-requires-clause-high : goal.decode-requires-clause-high
+decode-requires-clause-high c = grind (arith, elements)

@@ -1,3 +1,4 @@
+use Rattle.std.proofs.lemmas.Grind.{elements}
 use Rattle.std.proofs.Common.{◌≡◌, slice_index, length, arith, length-set, get_or}
 use mathlib.Core.Path.{fun_ext}
 use Rattle.net_model.specs.Order.{IsOrder}
@@ -21,3 +22,12 @@ pub returns-clause-values : goal.returns-clause-values
 returns-clause-values c =
     let o : IsOrder c.args.checked.now.netlist c.as_slice-order.result.now = rw (c.as_slice-order.ensures, c.order.ensures.value) c.order.ensures.kept.ordered in
     fun_ext (all_done _ _ _ _ o c.loop-id.values c.loop-id.invariant.long (λ m h. c.loop-id.invariant.done m (omega (arith, h, c.loop-id-test.false))))
+
+pub gate_of-value-requires-clause-low : goal.gate_of-value-requires-clause-low
+gate_of-value-requires-clause-low c = grind (arith, elements)
+
+pub gate_of-value-requires-clause-high : goal.gate_of-value-requires-clause-high
+gate_of-value-requires-clause-high c = grind (arith, elements)
+
+pub gate_of-value-requires-clause-gate : goal.gate_of-value-requires-clause-gate
+gate_of-value-requires-clause-gate c = grind (arith, elements)

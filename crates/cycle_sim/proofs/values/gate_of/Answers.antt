@@ -1,3 +1,4 @@
+use Rattle.std.proofs.lemmas.Grind.{elements}
 use Rattle.std.proofs.Common.{arith}
 use Rattle.net_model.specs.declared.hardware.Gate.TheVariants.{Cat, Sext}
 use Rattle.net_model.specs.Widths.{GateFits}
@@ -15,3 +16,9 @@ pub sext-requires-clause-low : goal.sext-requires-clause-low
 sext-requires-clause-low c =
     let g : GateFits c.args.netlist.now c.args.net.now.width (Sext c.in-Sext.a) = rw c.in-Sext.is at c.requires.gate in
     rw c.net_width-from.ensures (typed_width c.args.netlist.now c.in-Sext.a c.requires.typed g.0).0
+
+pub apply2-requires-clause-low : goal.apply2-requires-clause-low
+apply2-requires-clause-low c = grind (arith, elements)
+
+pub cat-requires-clause-low : goal.cat-requires-clause-low
+cat-requires-clause-low c = grind (arith, elements)

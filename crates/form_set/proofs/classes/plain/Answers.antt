@@ -1,4 +1,6 @@
-use Rattle.bit_bdd.proofs.CallerLemmas.{extends_trans}
+use Rattle.std.proofs.lemmas.Result.{IfOk-from_err}
+use Rattle.std.proofs.Common.{◌∙◌, sym, true≢false}
+use Rattle.bit_bdd.proofs.CallerLemmas.{extends_refl, extends_trans}
 use Rattle.form_set.specs.Inner.PatternIds.{ids_pattern}
 use Rattle.form_set.specs.Words.{KeepsOthers}
 use Rattle.form_set.proofs.Holding.{ids_later, set_later}
@@ -27,3 +29,78 @@ pub clobbers-requires-clause-words : goal.clobbers-requires-clause-words
 clobbers-requires-clause-words c =
     set_later c.step_words.new.book c.can_keep.new.book (KeepsOthers c.args.checked.now.netlist (ids_pattern c.args.pool.now c.args.ids) 0)
     c.in_ok-words.words c.in_ok-ok.ensures.grows c.in_ok-words.ensures.words
+
+pub returns-then-not-move_linear-clause-grows : goal.returns-then-not-move_linear-clause-grows
+returns-then-not-move_linear-clause-grows c = extends_refl c.args.book.now
+
+pub returns-then-not-move_linear-clause-plain : goal.returns-then-not-move_linear-clause-plain
+returns-then-not-move_linear-clause-plain c h = true≢false (sym (c.move_linear.ensures.1 h.linear) ∙ c.if-not-move_linear.true)
+
+pub returns-then-not-move_shaped-clause-grows : goal.returns-then-not-move_shaped-clause-grows
+returns-then-not-move_shaped-clause-grows c = extends_refl c.args.book.now
+
+pub returns-then-not-move_shaped-clause-plain : goal.returns-then-not-move_shaped-clause-plain
+returns-then-not-move_shaped-clause-plain c h = true≢false (sym h.shapes ∙ sym c.move_shaped.ensures ∙ c.if-not-move_shaped.true)
+
+pub returns-in_err-ok-clause-grows : goal.returns-in_err-ok-clause-grows
+returns-in_err-ok-clause-grows c =
+    extends_trans c.args.book.now c.step_words.new.book c.can_keep.new.book c.in_ok-words.ensures.grows c.in_err-ok.ensures.grows
+
+pub returns-then-not-ok-clause-grows : goal.returns-then-not-ok-clause-grows
+returns-then-not-ok-clause-grows c =
+    extends_trans c.args.book.now c.step_words.new.book c.can_keep.new.book c.in_ok-words.ensures.grows c.in_ok-ok.ensures.grows
+
+pub returns-then-not-ok-clause-plain : goal.returns-then-not-ok-clause-plain
+returns-then-not-ok-clause-plain c h = true≢false (sym (c.in_ok-ok.ensures.ok.1 h.ok) ∙ c.if-not-ok.true)
+
+pub returns-in_err-clobbers-clause-grows : goal.returns-in_err-clobbers-clause-grows
+returns-in_err-clobbers-clause-grows c =
+    extends_trans c.args.book.now c.can_keep.new.book c.clobbers.new.book
+    (extends_trans c.args.book.now c.step_words.new.book c.can_keep.new.book c.in_ok-words.ensures.grows c.in_ok-ok.ensures.grows) c.in_err-clobbers.ensures.grows
+
+pub returns-clause-grows : goal.returns-clause-grows
+returns-clause-grows c =
+    extends_trans c.args.book.now c.can_keep.new.book c.clobbers.new.book
+    (extends_trans c.args.book.now c.step_words.new.book c.can_keep.new.book c.in_ok-words.ensures.grows c.in_ok-ok.ensures.grows) c.in_ok-clobbers.ensures.grows
+
+pub returns-clause-plain : goal.returns-clause-plain
+returns-clause-plain c = (
+  record { linear = c.move_linear.ensures.0 c.if-not-move_linear.false; shapes = sym c.move_shaped.ensures ∙ c.if-not-move_shaped.false; ok = c.in_ok-ok.ensures.ok.0 c.if-not-ok.false },
+  c.in_ok-clobbers.ensures.clobbers,
+)
+
+pub move_linear-requires-clause-addr : goal.move_linear-requires-clause-addr
+move_linear-requires-clause-addr c = c.requires.ids.addr
+
+pub move_linear-requires-clause-value : goal.move_linear-requires-clause-value
+move_linear-requires-clause-value c = c.requires.ids.value
+
+pub move_linear-requires-clause-terms : goal.move_linear-requires-clause-terms
+move_linear-requires-clause-terms c = c.requires.ids.terms
+
+pub move_shaped-requires-clause-addr : goal.move_shaped-requires-clause-addr
+move_shaped-requires-clause-addr c = c.requires.ids.addr
+
+pub move_shaped-requires-clause-value : goal.move_shaped-requires-clause-value
+move_shaped-requires-clause-value c = c.requires.ids.value
+
+pub step_words-requires-clause-ready : goal.step_words-requires-clause-ready
+step_words-requires-clause-ready c = c.requires.ready
+
+pub step_words-requires-clause-ids : goal.step_words-requires-clause-ids
+step_words-requires-clause-ids c = c.requires.ids
+
+pub returns-in_err-words-clause-grows : goal.returns-in_err-words-clause-grows
+returns-in_err-words-clause-grows c = c.step_words.ensures.grows
+
+pub can_keep-requires-clause-words : goal.can_keep-requires-clause-words
+can_keep-requires-clause-words c = c.in_ok-words.ensures.words
+
+pub returns-in_err-words-clause-plain : goal.returns-in_err-words-clause-plain
+returns-in_err-words-clause-plain c = IfOk-from_err c.from_residual.result _ c.from_residual.ensures.0
+
+pub returns-in_err-ok-clause-plain : goal.returns-in_err-ok-clause-plain
+returns-in_err-ok-clause-plain c = IfOk-from_err c.from_residual-in_err-ok.result _ c.from_residual-in_err-ok.ensures.0
+
+pub returns-in_err-clobbers-clause-plain : goal.returns-in_err-clobbers-clause-plain
+returns-in_err-clobbers-clause-plain c = IfOk-from_err c.from_residual-in_err-clobbers.result _ c.from_residual-in_err-clobbers.ensures.0

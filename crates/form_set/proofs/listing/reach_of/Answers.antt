@@ -1,3 +1,4 @@
+use Rattle.std.proofs.lemmas.Result.{IfOk-from_err}
 use Rattle.std.proofs.Common.{add-one, arith}
 use Rattle.bit_bdd.proofs.CallerLemmas.{extends_trans}
 use Rattle.transfer_set.specs.Rows.{row_patterns}
@@ -20,3 +21,6 @@ loop-number-preserved c =
           (greatest_more c.args.checked.now.netlist (row_patterns c.args.pool.now c.args.patterns.now.rows) n some.0 some.1
           c.loop-number.reach c.in_ok-here.here c.loop-number.invariant.reach (c.in_ok-here.ensures.reach some.0 some.1));
     }
+
+pub returns-in_err-here-clause-reach : goal.returns-in_err-here-clause-reach
+returns-in_err-here-clause-reach c = IfOk-from_err c.from_residual.result _ c.from_residual.ensures.0

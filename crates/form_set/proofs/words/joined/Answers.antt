@@ -1,5 +1,6 @@
+use Rattle.std.proofs.lemmas.Result.{IfOk-from_err}
 use Rattle.std.proofs.Common.{◌∙◌, sym}
-use Rattle.bit_bdd.proofs.CallerLemmas.{extends_trans}
+use Rattle.bit_bdd.proofs.CallerLemmas.{extends_trans, extends_refl}
 use Rattle.form_set.specs.Inner.PatternIds.{ids_pattern}
 use Rattle.form_set.specs.Words.{KeepsOthers}
 use Rattle.form_set.proofs.Chosen.{fails_is, joins_is, none_is}
@@ -38,3 +39,45 @@ returns-else-ok-clause-joins c =
 pub returns-then-not-is_register-clause-joins : goal.returns-then-not-is_register-clause-joins
 returns-then-not-is_register-clause-joins c =
     none_is c.args.checked.now.netlist (ids_pattern c.args.pool.now c.args.ids) c.args.id c.args.kept.registers (sym c.is_register.ensures ∙ c.if-not-is_register.true)
+
+pub returns-then-not-is_register-clause-grows : goal.returns-then-not-is_register-clause-grows
+returns-then-not-is_register-clause-grows c = extends_refl c.args.book.now
+
+pub returns-then-not-is_register-clause-words : goal.returns-then-not-is_register-clause-words
+returns-then-not-is_register-clause-words c = c.requires.words
+
+pub with_register-requires-clause-ready : goal.with_register-requires-clause-ready
+with_register-requires-clause-ready c = c.requires.ready
+
+pub with_register-requires-clause-words : goal.with_register-requires-clause-words
+with_register-requires-clause-words c = c.requires.words
+
+pub with_register-requires-clause-id : goal.with_register-requires-clause-id
+with_register-requires-clause-id c = c.requires.id
+
+pub returns-in_err-more-clause-grows : goal.returns-in_err-more-clause-grows
+returns-in_err-more-clause-grows c = c.with_register.ensures.grows
+
+pub can_keep-requires-clause-words : goal.can_keep-requires-clause-words
+can_keep-requires-clause-words c = c.in_ok-more.ensures.words
+
+pub returns-in_err-ok-clause-grows : goal.returns-in_err-ok-clause-grows
+returns-in_err-ok-clause-grows c = extends_trans c.args.book.now c.with_register.new.book c.can_keep.new.book c.in_ok-more.ensures.grows c.can_keep.ensures.grows
+
+pub returns-then-ok-clause-grows : goal.returns-then-ok-clause-grows
+returns-then-ok-clause-grows c = extends_trans c.args.book.now c.with_register.new.book c.can_keep.new.book c.in_ok-more.ensures.grows c.can_keep.ensures.grows
+
+pub returns-else-ok-clause-grows : goal.returns-else-ok-clause-grows
+returns-else-ok-clause-grows c = extends_trans c.args.book.now c.with_register.new.book c.can_keep.new.book c.in_ok-more.ensures.grows c.can_keep.ensures.grows
+
+pub returns-in_err-more-clause-words : goal.returns-in_err-more-clause-words
+returns-in_err-more-clause-words c = IfOk-from_err c.from_residual.result _ c.from_residual.ensures.0
+
+pub returns-in_err-more-clause-joins : goal.returns-in_err-more-clause-joins
+returns-in_err-more-clause-joins c = IfOk-from_err c.from_residual.result _ c.from_residual.ensures.0
+
+pub returns-in_err-ok-clause-words : goal.returns-in_err-ok-clause-words
+returns-in_err-ok-clause-words c = IfOk-from_err c.from_residual-in_err-ok.result _ c.from_residual-in_err-ok.ensures.0
+
+pub returns-in_err-ok-clause-joins : goal.returns-in_err-ok-clause-joins
+returns-in_err-ok-clause-joins c = IfOk-from_err c.from_residual-in_err-ok.result _ c.from_residual-in_err-ok.ensures.0

@@ -1,3 +1,4 @@
+use Rattle.std.proofs.lemmas.Result.{IfOk-from_err}
 use Rattle.form_set.proofs.Holding.{ids_later}
 use Rattle.transfer_set.proofs.ReadyLaws.{ready_later}
 use Rattle.form_set.proofs.words.kept_registers.Goals as goal
@@ -9,3 +10,6 @@ joined-requires-clause-ready c =
 pub joined-requires-clause-ids : goal.joined-requires-clause-ids
 joined-requires-clause-ids c =
     ids_later c.args.checked.now.netlist c.args.book.now c.loop-id.book c.args.pool.now c.args.ids c.loop-id.invariant.grows c.requires.ids
+
+pub returns-in_err-kept-clause-kept : goal.returns-in_err-kept-clause-kept
+returns-in_err-kept-clause-kept c = IfOk-from_err c.from_residual.result _ c.from_residual.ensures.0

@@ -1,4 +1,5 @@
-use Rattle.std.proofs.Common.{◌<◌, ◌≤◌, length}
+use Rattle.std.proofs.Common.{◌<◌, ◌≤◌, length, arith}
+use Rattle.std.proofs.lemmas.Grind.{common_steps}
 use Rattle.net_check.proofs.Closes.{start_completing, pop_inside, one_completed, end_completing}
 use Rattle.net_check.proofs.cycle.complete.Goals as goal
 
@@ -19,3 +20,6 @@ pub returns : goal.returns
 returns c =
     let low : length c.loop-search.search.met ≤ c.args.index = rw c.len.ensures at c.loop-search-test.false in
     end_completing c.args.graph.now c.args.index c.args.told c.args.search.now c.loop-search.search c.loop-search.invariant low
+
+pub loop-search-smaller-in-Some : goal.loop-search-smaller-in-Some
+loop-search-smaller-in-Some c = grind (arith, common_steps)

@@ -1,4 +1,5 @@
-use Rattle.std.proofs.Common.{◌++◌, ◌∷◌, [], sym, subst}
+use Rattle.std.proofs.Common.{◌++◌, ◌∷◌, [], sym, subst, arith}
+use Rattle.std.proofs.lemmas.Grind.{common_steps}
 use Rattle.net_model.specs.Depends.{Among}
 use Rattle.net_check.specs.Inner.Components.{Rising}
 use Rattle.net_check.proofs.Walks.{among_old}
@@ -30,3 +31,6 @@ returns c =
       low = λ s h. absurd h;
       rising = tt;
     })
+
+pub loop-start-smaller : goal.loop-start-smaller
+loop-start-smaller c = grind (arith, common_steps)

@@ -1,4 +1,5 @@
 use Rattle.std.proofs.Common.{◌≡◌, ◌<◌, ◌+◌, ◌++◌, ◌∷◌, [], ℕ, List, inl, inr, sym, ◌∙◌, ap, arith, length, slice_get, slice_index, slice_set, Some}
+use Rattle.std.proofs.lemmas.Grind.{common_steps}
 use Rattle.std.proofs.lemmas.List.{length_push}
 use Rattle.net_model.specs.Depends.{Among, direct}
 use Rattle.net_check.specs.Inner.Graphs.{named_in}
@@ -74,3 +75,9 @@ returns c =
             less = omega (arith, on_less _ _ _ _ _ _ parted c.in-Met.index c.in-Met.place here net at done _ set);
           })
     ]
+
+pub meet-requires : goal.meet-requires
+meet-requires c = grind (arith, common_steps)
+
+pub set-requires : goal.set-requires
+set-requires c = grind (arith, common_steps)

@@ -1,3 +1,5 @@
+use Rattle.std.proofs.Common.{arith}
+use Rattle.std.proofs.lemmas.Grind.{common_steps}
 use Rattle.net_check.specs.Inner.Walk.{IsOrdering}
 use Rattle.net_check.proofs.Netlists.{in_range, order_is, least_is}
 use Rattle.net_check.proofs.rules.order_of.Goals as goal
@@ -15,3 +17,9 @@ returns-in-Order c =
 
 pub returns-in_ok-net-in-Cycle : goal.returns-in_ok-net-in-Cycle
 returns-in_ok-net-in-Cycle c = (c.in_ok-net-in-Cycle.net, least_is c.args.netlist.now c.requires.formed c.args.graph.now c.requires.graph _ c.in_ok-net-in-Cycle.ensures, c.name_at.ensures)
+
+pub sort-requires-clause-short : goal.sort-requires-clause-short
+sort-requires-clause-short c = grind (arith, common_steps)
+
+pub least_on_cycle-requires-clause-short : goal.least_on_cycle-requires-clause-short
+least_on_cycle-requires-clause-short c = grind (arith, common_steps)

@@ -1,4 +1,5 @@
-use Rattle.std.proofs.Common.{◌≡◌, ◌<◌, ◌≤◌, sym, length, slice_get, slice_index, Some}
+use Rattle.std.proofs.Common.{◌≡◌, ◌<◌, ◌≤◌, sym, length, slice_get, slice_index, Some, arith}
+use Rattle.std.proofs.lemmas.Grind.{common_steps}
 use Rattle.net_check.specs.Inner.Graphs.{named_in}
 use Rattle.net_check.specs.Inner.Walk.{stage_at}
 use Rattle.net_check.specs.declared.walk.Stage.TheVariants.{New, Open, Placed}
@@ -39,3 +40,12 @@ returns-in_ok-push-in-Placed c =
     let done : Placed ≡ stage_at c.args.walk.now.stages (slice_index c.named_at-named.result.now c.in-Open.place) = rw c.as_slice-2.ensures at c.in-Placed.ensures in
     let at : slice_get (named_in c.args.graph.now c.args.top) c.in-Open.place ≡ Some (slice_index c.named_at-named.result.now c.in-Open.place) = rw c.named_at-named.ensures (read_at _ _ short) in
     goes_seen _ c.requires.range c.args.walk.now c.args.top c.requires.kept _ (sym here) _ at (sym done) _ _ c.set-in-Placed.ensures c.in_ok-push-in-Placed.ensures.pushed
+
+pub set-requires : goal.set-requires
+set-requires c = grind (arith, common_steps)
+
+pub set-requires-in-New : goal.set-requires-in-New
+set-requires-in-New c = grind (arith, common_steps)
+
+pub set-requires-in-Placed : goal.set-requires-in-Placed
+set-requires-in-Placed c = grind (arith, common_steps)

@@ -1,4 +1,5 @@
 use Rattle.std.proofs.Common.{arith, ap}
+use Rattle.std.proofs.lemmas.Grind.{common_steps}
 use Rattle.net_model.specs.Written.{phrase_of}
 use Rattle.net_model.specs.Numbering.{count, count_rows}
 use Rattle.net_model.specs.declared.units.NetExpr.{NetExpr}
@@ -46,3 +47,12 @@ count_rows-count_nets-total-requires t c =
     let less = row_nodes _ _ c.row-item.result c.loop-row-test.true c.row-item.is in
     let split = ap count_rows (rows_item _ _ c.row-item.result c.loop-row-test.true c.row-item.is) in
     (omega arith, omega arith)
+
+pub count_rows-overflow_add-total : goal.count_rows-overflow_add-total
+count_rows-overflow_add-total t c = grind (arith, common_steps)
+
+pub count_rows-loop-row-preserved : goal.count_rows-loop-row-preserved
+count_rows-loop-row-preserved t c = grind (arith, common_steps)
+
+pub count_rows-returns : goal.count_rows-returns
+count_rows-returns t c = grind (arith, common_steps)

@@ -1,4 +1,5 @@
 use Rattle.std.proofs.Common.{◌≡◌, sym, ap, ◌∙◌, subst, arith, map, IsSome}
+use Rattle.std.proofs.lemmas.Grind.{common_steps}
 use Rattle.net_model.specs.declared.units.NetExpr.{NetExpr}
 use Rattle.net_model.specs.Written.{Phrase, phrase_of, row_of, rows_of, rest_of, other_of, read}
 use Rattle.net_model.specs.TextWidths.{wide}
@@ -62,3 +63,27 @@ emit_rows-emit-requires t c =
     let nets = ap count_rows split in
     let w = c.loop-row.invariant in
     (omega arith, (row_wide _ _ _ _ _ split w.wide_so, omega (arith, w.long_so)))
+
+pub emit-returns-in_ok-a-in-Un : goal.emit-returns-in_ok-a-in-Un
+emit-returns-in_ok-a-in-Un t c = grind (arith, common_steps)
+
+pub emit-returns-in_ok-b-in-Bin : goal.emit-returns-in_ok-b-in-Bin
+emit-returns-in_ok-b-in-Bin t c = grind (arith, common_steps)
+
+pub emit-returns-in_ok-b-in-Cat : goal.emit-returns-in_ok-b-in-Cat
+emit-returns-in_ok-b-in-Cat t c = grind (arith, common_steps)
+
+pub emit-returns-in_ok-a-in-Slice : goal.emit-returns-in_ok-a-in-Slice
+emit-returns-in_ok-a-in-Slice t c = grind (arith, common_steps)
+
+pub emit-returns-in_ok-a-in-Zext : goal.emit-returns-in_ok-a-in-Zext
+emit-returns-in_ok-a-in-Zext t c = grind (arith, common_steps)
+
+pub emit-returns-in_ok-a-in-Sext : goal.emit-returns-in_ok-a-in-Sext
+emit-returns-in_ok-a-in-Sext t c = grind (arith, common_steps)
+
+pub emit_rows-loop-row-preserved : goal.emit_rows-loop-row-preserved
+emit_rows-loop-row-preserved t c = grind (arith, common_steps)
+
+pub emit_rows-returns : goal.emit_rows-returns
+emit_rows-returns t c = grind (arith, common_steps)

@@ -9,6 +9,7 @@ use Rattle.net_parser.specs.Inner.Steps.{comma_word, expr_word, arms_word}
 use Rattle.net_parser.proofs.Expressions.{there_expr, operated_leads, leaf_leads, bare_leads, there_arm, there_rows, there_arms, rowed, rows_apart, else_leads, case_reads, rows_start, number_reads}
 use Rattle.net_model.specs.Grammar.{IsExpr, ArmsBehind}
 use Rattle.net_model.specs.Written.{phrase_of, row_of, other_of}
+use Rattle.grammar.proofs.Kept.{kept_gives}
 use Rattle.net_parser.proofs.expression.+expr.Goals as goal
 
 pub expr-returns-in_default : goal.expr-returns-in_default
@@ -33,13 +34,12 @@ enclosed-returns-in_err-a t c =
     let p = err_from_is_err_and c.from_residual.result c.from_residual.ensures.1 in
     rw (p.1, p.2) (short_of (ends expr_word (λ a. begun) c.requires) (λ a. there_bind there_sign (λ u. there_return)) c.in_err-a.ensures)
 
-pub enclosed-returns-in_err-rest : goal.enclosed-returns-in_err-rest
-enclosed-returns-in_err-rest t c =
-    let p = err_from_is_err_and c.from_residual-in_err-rest.result c.from_residual-in_err-rest.ensures.1 in
-    rw (p.1, p.2) (beyond_fails (ends expr_word (λ a. begun) c.requires) c.in_ok-a.ensures (stuck (λ u. there_return) c.in_err-rest.ensures))
-
 pub enclosed-returns : goal.enclosed-returns
-enclosed-returns t c = beyond_reads (ends expr_word (λ a. begun) c.requires) c.in_ok-a.ensures (on c.in_ok-rest.ensures return_reads)
+enclosed-returns t c =
+    kept_gives (λ rest. (tt, rest.now)) (λ x. (phrase_of x.0, x.1.now))
+    (λ rest r. beyond_reads (ends expr_word (λ a. begun) c.requires) c.in_ok-a.ensures (on r return_reads))
+    (λ stop f. beyond_fails (ends expr_word (λ a. begun) c.requires) c.in_ok-a.ensures (stuck (λ u. there_return) f))
+    c.expect.result c.expect.ensures c.keeping.result c.keeping.ensures.read c.keeping.ensures.stopped
 
 pub operated-returns-in_err-a-in-Unary : goal.operated-returns-in_err-a-in-Unary
 operated-returns-in_err-a-in-Unary t c =
@@ -65,14 +65,6 @@ operated-returns-in_err-a-in-Cat t c =
 pub operated-returns-in_ok-a-in-Cat : goal.operated-returns-in_ok-a-in-Cat
 operated-returns-in_ok-a-in-Cat t c = rw c.in-Cat.is (on c.in_ok-a-in-Cat.ensures return_reads)
 
-pub operated-returns-in_err-a-in-Slice : goal.operated-returns-in_err-a-in-Slice
-operated-returns-in_err-a-in-Slice t c =
-    let p = err_from_is_err_and c.from_residual-in_err-a-in-Slice.result c.from_residual-in_err-a-in-Slice.ensures.1 in
-    rw (p.1, p.2, c.in-Slice.is) (stuck (λ a. there_return) c.in_err-a-in-Slice.ensures)
-
-pub operated-returns-in_ok-a-in-Slice : goal.operated-returns-in_ok-a-in-Slice
-operated-returns-in_ok-a-in-Slice t c = rw c.in-Slice.is (on c.in_ok-a-in-Slice.ensures return_reads)
-
 pub operated-returns-in_err-a-in-Zext : goal.operated-returns-in_err-a-in-Zext
 operated-returns-in_err-a-in-Zext t c =
     let p = err_from_is_err_and c.from_residual-in_err-a-in-Zext.result c.from_residual-in_err-a-in-Zext.ensures.1 in
@@ -88,14 +80,6 @@ operated-returns-in_err-a-in-Sext t c =
 
 pub operated-returns-in_ok-a-in-Sext : goal.operated-returns-in_ok-a-in-Sext
 operated-returns-in_ok-a-in-Sext t c = rw c.in-Sext.is (on c.in_ok-a-in-Sext.ensures return_reads)
-
-pub operated-returns-in_err-memory-in-Read : goal.operated-returns-in_err-memory-in-Read
-operated-returns-in_err-memory-in-Read t c =
-    let p = err_from_is_err_and c.from_residual-in_err-memory-in-Read.result c.from_residual-in_err-memory-in-Read.ensures.1 in
-    rw (p.1, p.2, c.in-Read.is) (stuck (λ a. there_return) c.in_err-memory-in-Read.ensures)
-
-pub operated-returns-in_ok-memory-in-Read : goal.operated-returns-in_ok-memory-in-Read
-operated-returns-in_ok-memory-in-Read t c = rw c.in-Read.is (on c.in_ok-memory-in-Read.ensures return_reads)
 
 pub pair-returns-in_err-a : goal.pair-returns-in_err-a
 pair-returns-in_err-a t c =
@@ -126,33 +110,33 @@ widened-returns t c = rw c.in_ok-a-2.ensures.ok (beyond_reads (ends expr_word (�
 pub sliced-returns-in_err-a : goal.sliced-returns-in_err-a
 sliced-returns-in_err-a t c =
     let p = err_from_is_err_and c.from_residual.result c.from_residual.ensures.1 in
-    rw (p.1, p.2) (short_of (ends expr_word (λ a. starts_inner begun) refl) (λ a. there_bind (there_behind there_number) (λ hi. there_bind (there_before (there_behind there_number)) (λ lo. there_return))) c.in_err-a.ensures)
+    rw (p.1, p.2) (stuck (λ a. there_return) (short_of (ends expr_word (λ a. starts_inner begun) refl) (λ a. there_bind (there_behind there_number) (λ hi. there_bind (there_before (there_behind there_number)) (λ lo. there_return))) c.in_err-a.ensures))
 
 pub sliced-returns-in_err-high : goal.sliced-returns-in_err-high
 sliced-returns-in_err-high t c =
     let p = err_from_is_err_and c.from_residual-in_err-high.result c.from_residual-in_err-high.ensures.1 in
-    rw (p.1, p.2) (beyond_fails (ends expr_word (λ a. starts_inner begun) refl) c.in_ok-a.ensures (stuck (λ hi. there_bind (there_before (there_behind there_number)) (λ lo. there_return)) c.in_err-high.ensures))
+    rw (p.1, p.2) (stuck (λ a. there_return) (beyond_fails (ends expr_word (λ a. starts_inner begun) refl) c.in_ok-a.ensures (stuck (λ hi. there_bind (there_before (there_behind there_number)) (λ lo. there_return)) c.in_err-high.ensures)))
 
 pub sliced-returns-in_err-low : goal.sliced-returns-in_err-low
 sliced-returns-in_err-low t c =
     let p = err_from_is_err_and c.from_residual-in_err-low.result c.from_residual-in_err-low.ensures.1 in
-    rw (p.1, p.2) (beyond_fails (ends expr_word (λ a. starts_inner begun) refl) c.in_ok-a.ensures (past c.in_ok-high.ensures (stuck (λ lo. there_return) c.in_err-low.ensures)))
+    rw (p.1, p.2) (stuck (λ a. there_return) (beyond_fails (ends expr_word (λ a. starts_inner begun) refl) c.in_ok-a.ensures (past c.in_ok-high.ensures (stuck (λ lo. there_return) c.in_err-low.ensures))))
 
 pub sliced-returns : goal.sliced-returns
-sliced-returns t c = rw c.in_ok-a-2.ensures.ok (beyond_reads (ends expr_word (λ a. starts_inner begun) refl) c.in_ok-a.ensures (on c.in_ok-high.ensures (on c.in_ok-low.ensures return_reads)))
+sliced-returns t c = rw c.in_ok-a-2.ensures.ok (on (beyond_reads (ends expr_word (λ a. starts_inner begun) refl) c.in_ok-a.ensures (on c.in_ok-high.ensures (on c.in_ok-low.ensures return_reads))) return_reads)
 
 pub reading-returns-in_err-memory : goal.reading-returns-in_err-memory
 reading-returns-in_err-memory t c =
     let p = err_from_is_err_and c.from_residual.result c.from_residual.ensures.1 in
-    rw (p.1, p.2) (stuck (λ n. there_bind (there_before (there_behind (there_expr c.args.depth))) (λ a. there_return)) c.in_err-memory.ensures)
+    rw (p.1, p.2) (stuck (λ a. there_return) (stuck (λ n. there_bind (there_before (there_behind (there_expr c.args.depth))) (λ a. there_return)) c.in_err-memory.ensures))
 
 pub reading-returns-in_err-a : goal.reading-returns-in_err-a
 reading-returns-in_err-a t c =
     let p = err_from_is_err_and c.from_residual-in_err-a.result c.from_residual-in_err-a.ensures.1 in
-    rw (p.1, p.2) (past c.in_ok-memory.ensures (stuck (λ a. there_return) c.in_err-a.ensures))
+    rw (p.1, p.2) (stuck (λ a. there_return) (past c.in_ok-memory.ensures (stuck (λ a. there_return) c.in_err-a.ensures)))
 
 pub reading-returns : goal.reading-returns
-reading-returns t c = rw c.in_ok-a-2.ensures.ok (on c.in_ok-memory.ensures (on c.in_ok-a.ensures return_reads))
+reading-returns t c = rw c.in_ok-a-2.ensures.ok (on (on c.in_ok-memory.ensures (on c.in_ok-a.ensures return_reads)) return_reads)
 
 pub choice-returns-in_err-sel : goal.choice-returns-in_err-sel
 choice-returns-in_err-sel t c =
@@ -177,13 +161,12 @@ braced-returns-in_err-arms t c =
     let p = err_from_is_err_and c.from_residual-in_err-arms.result c.from_residual-in_err-arms.ensures.1 in
     rw (p.1, p.2) (past c.in_ok-rest.ensures (short_of (ends arms_word (λ a. begun) refl) (λ a. there_bind there_sign (λ u. there_return)) c.in_err-arms.ensures))
 
-pub braced-returns-in_err-rest-2 : goal.braced-returns-in_err-rest-2
-braced-returns-in_err-rest-2 t c =
-    let p = err_from_is_err_and c.from_residual-in_err-rest-2.result c.from_residual-in_err-rest-2.ensures.1 in
-    rw (p.1, p.2) (past c.in_ok-rest.ensures (beyond_fails (ends arms_word (λ a. begun) refl) c.in_ok-arms.ensures (stuck (λ u. there_return) c.in_err-rest-2.ensures)))
-
 pub braced-returns : goal.braced-returns
-braced-returns t c = on c.in_ok-rest.ensures (beyond_reads (ends arms_word (λ a. begun) refl) c.in_ok-arms.ensures (on c.in_ok-rest-2.ensures return_reads))
+braced-returns t c =
+    kept_gives (λ rest. (tt, rest.now)) (λ x. ((map row_of x.0.0.items, other_of x.0.1), x.1.now))
+    (λ rest r. on c.in_ok-rest.ensures (beyond_reads (ends arms_word (λ a. begun) refl) c.in_ok-arms.ensures (on r return_reads)))
+    (λ stop f. past c.in_ok-rest.ensures (beyond_fails (ends arms_word (λ a. begun) refl) c.in_ok-arms.ensures (stuck (λ u. there_return) f)))
+    c.expect-2.result c.expect-2.ensures c.keeping.result c.keeping.ensures.read c.keeping.ensures.stopped
 
 pub arms-returns-in-Some : goal.arms-returns-in-Some
 arms-returns-in-Some t c = gives_too (λ x. ((map row_of x.0.0.items, other_of x.0.1), x.1.now)) (word_leads (ArmsBehind (IsExpr c.args.depth)) c.in-Some.ensures.parts c.in-Some.ensures.is) c.rows_behind.result c.rows_behind.ensures

@@ -1,9 +1,11 @@
-use Rattle.std.proofs.Common.{refl}
+use Rattle.std.proofs.Common.{map, refl}
 use Rattle.std.proofs.lemmas.Result.{err_from_is_err_and}
 use Rattle.grammar.proofs.Steps.{return_reads}
 use Rattle.grammar.proofs.Passing.{there_return, there_bind, there_many, beyond_reads, beyond_fails, short_of, on, past, stuck}
 use Rattle.grammar.proofs.Tokens.{there_sign, there_before, begun, ends}
 use Rattle.net_parser.specs.Inner.Steps.{name_word}
+use Rattle.net_model.specs.Written.{binding_of}
+use Rattle.grammar.proofs.Kept.{kept_gives}
 use Rattle.net_parser.proofs.parts.braced_equations.Goals as goal
 
 pub returns-in_err-rest : goal.returns-in_err-rest
@@ -16,10 +18,9 @@ returns-in_err-equations c =
     let p = err_from_is_err_and c.from_residual-in_err-equations.result c.from_residual-in_err-equations.ensures.1 in
     rw (p.1, p.2) (past c.in_ok-rest.ensures (short_of (ends name_word (λ a. begun) refl) (λ v. there_bind there_sign (λ u. there_return)) c.in_err-equations.ensures))
 
-pub returns-in_err-rest-2 : goal.returns-in_err-rest-2
-returns-in_err-rest-2 c =
-    let p = err_from_is_err_and c.from_residual-in_err-rest-2.result c.from_residual-in_err-rest-2.ensures.1 in
-    rw (p.1, p.2) (past c.in_ok-rest.ensures (beyond_fails (ends name_word (λ a. begun) refl) c.in_ok-equations.ensures (stuck (λ u. there_return) c.in_err-rest-2.ensures)))
-
 pub returns : goal.returns
-returns c = on c.in_ok-rest.ensures (beyond_reads (ends name_word (λ a. begun) refl) c.in_ok-equations.ensures (on c.in_ok-rest-2.ensures return_reads))
+returns c =
+    kept_gives (λ rest. (tt, rest.now)) (λ x. (map binding_of x.0, x.1.now))
+    (λ rest r. on c.in_ok-rest.ensures (beyond_reads (ends name_word (λ a. begun) refl) c.in_ok-equations.ensures (on r return_reads)))
+    (λ stop f. past c.in_ok-rest.ensures (beyond_fails (ends name_word (λ a. begun) refl) c.in_ok-equations.ensures (stuck (λ u. there_return) f)))
+    c.expect-2.result c.expect-2.ensures c.keeping.result c.keeping.ensures.read c.keeping.ensures.stopped

@@ -1,4 +1,5 @@
 use Rattle.std.proofs.Common.{◌≡◌, ◌+◌, List, refl, arith, ap}
+use Rattle.std.proofs.lemmas.Grind.{common_steps}
 use Rattle.net_model.specs.Numbering.{count, count_rows, count_rest}
 use Rattle.net_model.specs.Written.{phrase_of, rest_of, other_of}
 use Rattle.net_rules.proofs.Rows.{seen_rows, case_seen, case_nodes, row_nodes}
@@ -23,3 +24,6 @@ count_rows-count-requires t c =
 
 pub count_rows-returns : goal.count_rows-returns
 count_rows-returns t c = counted_last (λ (rows : List _). count_rows (seen_rows rows)) c.args.rows.now _ _ _ refl c.loop-row-test.false c.loop-row.invariant
+
+pub count_rows-loop-row-preserved : goal.count_rows-loop-row-preserved
+count_rows-loop-row-preserved t c = grind (arith, common_steps)

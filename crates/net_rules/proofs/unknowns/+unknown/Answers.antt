@@ -1,4 +1,5 @@
 use Rattle.std.proofs.Common.{arith, drop, ◌+◌, ap, sym, ◌∙◌}
+use Rattle.std.proofs.lemmas.Grind.{common_steps}
 use Rattle.rec_bits.specs.Faults.{least}
 use Rattle.net_model.specs.Written.{Phrase, phrase_of, rest_of, other_of}
 use Rattle.net_model.specs.NameRules.{unknown_in, unknown_rows, unknown_rest}
@@ -31,3 +32,6 @@ unknown_rows-loop-row-preserved t c =
     rw (c.sooner-found.ensures, c.unknown_in.ensures)
     (scanned_next c.loop-row.found _ (unknown_in s (phrase_of c.row-item.result.1)) (unknown_rows s (seen_rows (drop (c.loop-row.row-index + 1) c.args.rows.now))) _
     (ap (unknown_rows s) (rows_item c.args.rows.now c.loop-row.row-index c.row-item.result c.loop-row-test.true c.row-item.is)) c.loop-row.invariant)
+
+pub unknown_rows-returns : goal.unknown_rows-returns
+unknown_rows-returns t c = grind (arith, common_steps)

@@ -1,4 +1,5 @@
-use Rattle.std.proofs.Common.{map}
+use Rattle.std.proofs.Common.{map, arith}
+use Rattle.std.proofs.lemmas.Grind.{common_steps, elements}
 use Rattle.net_model.specs.NameRules.{unknown_in_item}
 use Rattle.net_model.specs.Written.{entry_of}
 use Rattle.net_rules.proofs.Scans.{gathered_next}
@@ -8,3 +9,9 @@ pub loop-i-preserved : goal.loop-i-preserved
 loop-i-preserved c =
     rw (c.sooner-found.ensures, c.unknown_in_item.ensures)
     (gathered_next (unknown_in_item (map entry_of c.args.text.now)) entry_of c.args.units.now c.loop-i.i c.index-units-i.result c.loop-i.found _ c.loop-i-test.true c.index-units-i.is c.loop-i.invariant)
+
+pub returns : goal.returns
+returns c = grind (arith, common_steps)
+
+pub unknown_in_item-requires : goal.unknown_in_item-requires
+unknown_in_item-requires c = grind (arith, elements)

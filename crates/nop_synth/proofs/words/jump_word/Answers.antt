@@ -1,3 +1,5 @@
+use Rattle.std.proofs.Common.{arith}
+use Rattle.std.proofs.lemmas.Grind.{elements}
 use Rattle.std.proofs.Common.{◌∙◌, sym, ap, ◌∷◌, []}
 use Rattle.net_model.specs.Nets.{word_width}
 use Rattle.transfer_set.proofs.ReadyLaws.{ready_later}
@@ -20,3 +22,9 @@ returns-clause-word c =
     (c.requires.ready.bits ∙ sym (c.word_width-width.ensures ∙ ap word_width c.netlist.ensures.value)) c.set_of-set.ensures (c.as_slice.ensures ∙ c.in_ok-sets.ensures) (ap (λ (k : FieldValue). k ∷ []) c.field_of.ensures)
     c.in_ok-fitting.ensures.words
     (record { within = c.least.ensures.within; some = c.least.ensures.some; least = c.least.ensures.least; none = c.least.ensures.none })
+
+pub meet-requires-clause-set : goal.meet-requires-clause-set
+meet-requires-clause-set c = grind (arith, elements)
+
+pub meet-requires-clause-sets : goal.meet-requires-clause-sets
+meet-requires-clause-sets c = grind (arith, elements)

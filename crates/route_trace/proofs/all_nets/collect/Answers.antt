@@ -1,3 +1,4 @@
+use Rattle.std.proofs.lemmas.Result.{IfOk-from_err}
 use Rattle.std.proofs.Common.{◌≡◌, ℕ, ◌<◌, ◌^◌, true, false, [], length, length-set, replicate, slice_get, slice_index, Option, Some, get_or, refl, sym, ap, subst, ◌∙◌, arith}
 use Rattle.std.proofs.lemmas.List.{length-replicate}
 use Rattle.std.proofs.lemmas.Option.{slice_get_read}
@@ -177,3 +178,48 @@ loop-id-preserved c =
                 (λ k before is word low. c.loop-id.invariant.done k word before is low) Skipped refl m less kept word low;
           }))
     ]
+
+pub returns-in_err-named-clause-long : goal.returns-in_err-named-clause-long
+returns-in_err-named-clause-long c = IfOk-from_err c.from_residual-in_err-named.result _ c.from_residual-in_err-named.ensures.0
+
+pub returns-in_err-named-clause-judged : goal.returns-in_err-named-clause-judged
+returns-in_err-named-clause-judged c = IfOk-from_err c.from_residual-in_err-named.result _ c.from_residual-in_err-named.ensures.0
+
+pub returns-in_err-named-clause-tables : goal.returns-in_err-named-clause-tables
+returns-in_err-named-clause-tables c = IfOk-from_err c.from_residual-in_err-named.result _ c.from_residual-in_err-named.ensures.0
+
+pub returns-in_err-named-clause-found : goal.returns-in_err-named-clause-found
+returns-in_err-named-clause-found c = IfOk-from_err c.from_residual-in_err-named.result _ c.from_residual-in_err-named.ensures.0
+
+pub returns-in_err-named-clause-gives : goal.returns-in_err-named-clause-gives
+returns-in_err-named-clause-gives c = IfOk-from_err c.from_residual-in_err-named.result _ c.from_residual-in_err-named.ensures.0
+
+pub returns-in_err-routes-clause-long : goal.returns-in_err-routes-clause-long
+returns-in_err-routes-clause-long c = IfOk-from_err c.from_residual.result _ c.from_residual.ensures.0
+
+pub returns-in_err-routes-clause-judged : goal.returns-in_err-routes-clause-judged
+returns-in_err-routes-clause-judged c = IfOk-from_err c.from_residual.result _ c.from_residual.ensures.0
+
+pub returns-in_err-routes-clause-tables : goal.returns-in_err-routes-clause-tables
+returns-in_err-routes-clause-tables c = IfOk-from_err c.from_residual.result _ c.from_residual.ensures.0
+
+pub returns-in_err-routes-clause-found : goal.returns-in_err-routes-clause-found
+returns-in_err-routes-clause-found c = IfOk-from_err c.from_residual.result _ c.from_residual.ensures.0
+
+pub returns-in_err-routes-clause-gives : goal.returns-in_err-routes-clause-gives
+returns-in_err-routes-clause-gives c = IfOk-from_err c.from_residual.result _ c.from_residual.ensures.0
+
+pub returns-in_err-verdicts-clause-long : goal.returns-in_err-verdicts-clause-long
+returns-in_err-verdicts-clause-long c = IfOk-from_err c.from_residual-in_err-verdicts.result _ c.from_residual-in_err-verdicts.ensures.0
+
+pub returns-in_err-verdicts-clause-judged : goal.returns-in_err-verdicts-clause-judged
+returns-in_err-verdicts-clause-judged c = IfOk-from_err c.from_residual-in_err-verdicts.result _ c.from_residual-in_err-verdicts.ensures.0
+
+pub returns-in_err-verdicts-clause-tables : goal.returns-in_err-verdicts-clause-tables
+returns-in_err-verdicts-clause-tables c = IfOk-from_err c.from_residual-in_err-verdicts.result _ c.from_residual-in_err-verdicts.ensures.0
+
+pub returns-in_err-verdicts-clause-found : goal.returns-in_err-verdicts-clause-found
+returns-in_err-verdicts-clause-found c = IfOk-from_err c.from_residual-in_err-verdicts.result _ c.from_residual-in_err-verdicts.ensures.0
+
+pub returns-in_err-verdicts-clause-gives : goal.returns-in_err-verdicts-clause-gives
+returns-in_err-verdicts-clause-gives c = IfOk-from_err c.from_residual-in_err-verdicts.result _ c.from_residual-in_err-verdicts.ensures.0

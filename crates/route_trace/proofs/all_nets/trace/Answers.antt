@@ -1,3 +1,4 @@
+use Rattle.std.proofs.lemmas.Result.{IfOk-from_err}
 use Rattle.std.proofs.Common.{sym}
 use Rattle.route_trace.proofs.Judging.{all_kept_by, keeps_limits, refused_by}
 use Rattle.route_trace.proofs.all_nets.trace.Goals as goal
@@ -14,3 +15,9 @@ returns-in-None-clause-routes c =
 pub returns-in-None-clause-limits : goal.returns-in-None-clause-limits
 returns-in-None-clause-limits c =
     keeps_limits c.args.checked.now.netlist c.in_ok-of.verdicts c.in_ok-of.ensures.judged c.in_ok-of.ensures.found (sym (rw c.as_slice.ensures at c.in-None.ensures))
+
+pub returns-in_err-of-clause-routes : goal.returns-in_err-of-clause-routes
+returns-in_err-of-clause-routes c = IfOk-from_err c.from_residual.result _ c.from_residual.ensures.0
+
+pub returns-in_err-of-clause-limits : goal.returns-in_err-of-clause-limits
+returns-in_err-of-clause-limits c = IfOk-from_err c.from_residual.result _ c.from_residual.ensures.0

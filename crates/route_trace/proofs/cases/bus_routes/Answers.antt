@@ -1,23 +1,31 @@
 use Rattle.std.proofs.Common.{inr}
-use Rattle.std.proofs.lemmas.Result.{err_from_is_err_and}
+use Rattle.std.proofs.lemmas.Result.{IfErr-weaker, IfOk-from_err, IfOk-weaker}
 use Rattle.route_trace.proofs.Given.{given_bus}
 use Rattle.route_trace.proofs.Selecting.{drivers_valued}
 use Rattle.route_trace.proofs.Stopping.{many_in}
 use Rattle.route_trace.proofs.cases.bus_routes.Goals as goal
 
 pub returns-clause-terms : goal.returns-clause-terms
-returns-clause-terms c t u word fits given enabled =
+returns-clause-terms c =
+    IfOk-weaker c.routes_of_first.result _ _
+    (λ out made t u word fits given enabled.
     given_bus c.args.book.now c.args.pool.now c.args.nets.now c.args.controls.now.legal t word c.args.width u c.in_ok-tests.tests c.args.drivers.now
     (drivers_valued c.args.book.now c.args.controls.now.bits word u c.in_ok-tests.tests c.args.drivers.now enabled (c.in_ok-tests.ensures.tests word)) given _
-    (rw c.as_slice.ensures at c.in_ok-out.ensures.terms word fits)
+    (made word fits))
+    (rw c.as_slice.ensures at c.routes_of_first.ensures.terms)
 
-pub returns-in_err-out-clause-many : goal.returns-in_err-out-clause-many
-returns-in_err-out-clause-many c =
-    let p = err_from_is_err_and c.from_residual-in_err-out.result c.from_residual-in_err-out.ensures.1 in
-    let many = rw c.as_slice.ensures at c.in_err-out.ensures.many in
-    rw (p.1, p.2)
-    (many_in c.in_err-out.field-0.0 c.routes_of_first.new.book c.routes_of_first.new.pool _ _
+pub returns-clause-many : goal.returns-clause-many
+returns-clause-many c =
+    IfErr-weaker c.routes_of_first.result _ _
+    (λ stop many. many_in stop c.routes_of_first.new.book c.routes_of_first.new.pool _ _
     (λ word fits terms e. inr (λ t u given enabled.
     given_bus c.args.book.now c.args.pool.now c.args.nets.now c.args.controls.now.legal t word c.args.width u c.in_ok-tests.tests c.args.drivers.now
     (drivers_valued c.args.book.now c.args.controls.now.bits word u c.in_ok-tests.tests c.args.drivers.now enabled (c.in_ok-tests.ensures.tests word)) given terms e))
     many)
+    (rw c.as_slice.ensures at c.routes_of_first.ensures.many)
+
+pub returns-in_err-tests-clause-table : goal.returns-in_err-tests-clause-table
+returns-in_err-tests-clause-table c = IfOk-from_err c.from_residual.result _ c.from_residual.ensures.0
+
+pub returns-in_err-tests-clause-terms : goal.returns-in_err-tests-clause-terms
+returns-in_err-tests-clause-terms c = IfOk-from_err c.from_residual.result _ c.from_residual.ensures.0

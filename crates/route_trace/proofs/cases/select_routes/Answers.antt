@@ -1,5 +1,5 @@
 use Rattle.std.proofs.Common.{◌^◌, ◌<◌, inr, sym, subst}
-use Rattle.std.proofs.lemmas.Result.{err_from_is_err_and}
+use Rattle.std.proofs.lemmas.Result.{err_from_is_err_and, IfOk-from_err}
 use Rattle.bit_bdd.specs.Diagrams.{Extends}
 use Rattle.bit_bdd.proofs.CallerLemmas.{extends_trans, still_within}
 use Rattle.sym_expr.specs.Pools.{Grows}
@@ -108,3 +108,21 @@ returns-in_err-add_selects-clause-many c =
     c.args.nets.now c.requires.nets c.args.legal c.requires.legal c.args.width c.args.sel c.args.one c.args.zero c.in_ok-ones.ones c.in_ok-zeros.zeros c.in_ok-ones.ensures.table word
     (c.in_ok-ones.ensures.terms word low) (c.in_ok-zeros.ensures.terms word (subst (λ b. word < 2 ^ b) (sym c.in_ok-ones.ensures.book.bits) low)) terms is)))
     many)
+
+pub returns-in_err-add_selects-clause-table : goal.returns-in_err-add_selects-clause-table
+returns-in_err-add_selects-clause-table c = IfOk-from_err c.from_residual-in_err-add_selects.result _ c.from_residual-in_err-add_selects.ensures.0
+
+pub returns-in_err-add_selects-clause-terms : goal.returns-in_err-add_selects-clause-terms
+returns-in_err-add_selects-clause-terms c = IfOk-from_err c.from_residual-in_err-add_selects.result _ c.from_residual-in_err-add_selects.ensures.0
+
+pub returns-in_err-ones-clause-table : goal.returns-in_err-ones-clause-table
+returns-in_err-ones-clause-table c = IfOk-from_err c.from_residual.result _ c.from_residual.ensures.0
+
+pub returns-in_err-ones-clause-terms : goal.returns-in_err-ones-clause-terms
+returns-in_err-ones-clause-terms c = IfOk-from_err c.from_residual.result _ c.from_residual.ensures.0
+
+pub returns-in_err-zeros-clause-table : goal.returns-in_err-zeros-clause-table
+returns-in_err-zeros-clause-table c = IfOk-from_err c.from_residual-in_err-zeros.result _ c.from_residual-in_err-zeros.ensures.0
+
+pub returns-in_err-zeros-clause-terms : goal.returns-in_err-zeros-clause-terms
+returns-in_err-zeros-clause-terms c = IfOk-from_err c.from_residual-in_err-zeros.result _ c.from_residual-in_err-zeros.ensures.0

@@ -1,3 +1,4 @@
+use Rattle.std.proofs.lemmas.Result.{IfOk-from_err}
 use Rattle.std.proofs.Common.{◌≡◌, ℕ, length, subst}
 use Rattle.std.specs.List.{slice_index_or}
 use Rattle.std.proofs.lemmas.List.{take_all}
@@ -22,3 +23,9 @@ loop-driver-preserved c =
 pub returns-clause-tests : goal.returns-clause-tests
 returns-clause-tests c word =
     subst (λ drivers. DriverTests c.args.book.now word (λ n. number_at c.args.book.now (sets_in c.args.controls.now.bits n) word) c.loop-driver.tests drivers) (take_all c.loop-driver.driver-index c.args.drivers.now c.loop-driver-test.false) (c.loop-driver.invariant.tests word)
+
+pub returns-in_err-push-clause-sets : goal.returns-in_err-push-clause-sets
+returns-in_err-push-clause-sets c = IfOk-from_err c.from_residual.result _ c.from_residual.ensures.0
+
+pub returns-in_err-push-clause-tests : goal.returns-in_err-push-clause-tests
+returns-in_err-push-clause-tests c = IfOk-from_err c.from_residual.result _ c.from_residual.ensures.0

@@ -1,3 +1,4 @@
+use Rattle.std.proofs.lemmas.Result.{IfOk-from_err}
 use Rattle.std.proofs.Common.{◌==◌, ap, ◌∙◌}
 use Rattle.std.specs.List.{slice_index_or}
 use Rattle.bit_bdd.proofs.CallerLemmas.{extends_trans}
@@ -21,3 +22,15 @@ loop-row-preserved c =
           (rows_later c.loop-row.book c.equals.new.book c.in_ok-set.ensures.grows word (number_at c.args.book.now c.args.bits.now word) c.loop-row.tests _ c.loop-row.invariant.sets (c.loop-row.invariant.tests word))
           (c.in_ok-set.ensures.words word ∙ ap (λ n. n == row.0) (number_later c.args.book.now c.loop-row.book c.loop-row.invariant.book c.args.bits.now c.requires.bits word) ∙ eqb_turned _ row.0);
     })
+
+pub returns-in_err-push-clause-sets : goal.returns-in_err-push-clause-sets
+returns-in_err-push-clause-sets c = IfOk-from_err c.from_residual-in_err-push.result _ c.from_residual-in_err-push.ensures.0
+
+pub returns-in_err-push-clause-tests : goal.returns-in_err-push-clause-tests
+returns-in_err-push-clause-tests c = IfOk-from_err c.from_residual-in_err-push.result _ c.from_residual-in_err-push.ensures.0
+
+pub returns-in_err-set-clause-sets : goal.returns-in_err-set-clause-sets
+returns-in_err-set-clause-sets c = IfOk-from_err c.from_residual.result _ c.from_residual.ensures.0
+
+pub returns-in_err-set-clause-tests : goal.returns-in_err-set-clause-tests
+returns-in_err-set-clause-tests c = IfOk-from_err c.from_residual.result _ c.from_residual.ensures.0

@@ -1,5 +1,5 @@
 use Rattle.std.proofs.Common.{◌≡◌, ℕ, ◌+◌, ◌<◌, ◌^◌, ◌&&◌, not, Bool, length, refl, sym, ap, subst, ◌∙◌, arith}
-use Rattle.std.proofs.lemmas.Result.{err_from_is_err_and}
+use Rattle.std.proofs.lemmas.Result.{err_from_is_err_and, IfOk-from_err}
 use Rattle.std.specs.List.{slice_index_or}
 use Rattle.std.proofs.lemmas.Option.{slice_get-get_or}
 use Rattle.bit_bdd.specs.Diagrams.{has_word, Extends}
@@ -114,3 +114,39 @@ returns-in_err-add_all-clause-many c =
     _ terms (has_word c.args.book.now c.args.set word) c.loop-test.left c.in_ok-here.here (c.loop-test.invariant.left word low) (c.in_ok-here.ensures.words word) (c.loop-test.invariant.terms word low)
     c.routes_of-routes.result.now c.routes_of-routes.ensures e)))
     c.in_err-add_all.ensures.many)
+
+pub returns-in_err-add_all-clause-table : goal.returns-in_err-add_all-clause-table
+returns-in_err-add_all-clause-table c = IfOk-from_err c.from_residual-in_err-add_all.result _ c.from_residual-in_err-add_all.ensures.0
+
+pub returns-in_err-add_all-clause-terms : goal.returns-in_err-add_all-clause-terms
+returns-in_err-add_all-clause-terms c = IfOk-from_err c.from_residual-in_err-add_all.result _ c.from_residual-in_err-add_all.ensures.0
+
+pub returns-in_err-add_all-clause-left_within : goal.returns-in_err-add_all-clause-left_within
+returns-in_err-add_all-clause-left_within c = IfOk-from_err c.from_residual-in_err-add_all.result _ c.from_residual-in_err-add_all.ensures.0
+
+pub returns-in_err-add_all-clause-left : goal.returns-in_err-add_all-clause-left
+returns-in_err-add_all-clause-left c = IfOk-from_err c.from_residual-in_err-add_all.result _ c.from_residual-in_err-add_all.ensures.0
+
+pub returns-in_err-here-clause-table : goal.returns-in_err-here-clause-table
+returns-in_err-here-clause-table c = IfOk-from_err c.from_residual.result _ c.from_residual.ensures.0
+
+pub returns-in_err-here-clause-terms : goal.returns-in_err-here-clause-terms
+returns-in_err-here-clause-terms c = IfOk-from_err c.from_residual.result _ c.from_residual.ensures.0
+
+pub returns-in_err-here-clause-left_within : goal.returns-in_err-here-clause-left_within
+returns-in_err-here-clause-left_within c = IfOk-from_err c.from_residual.result _ c.from_residual.ensures.0
+
+pub returns-in_err-here-clause-left : goal.returns-in_err-here-clause-left
+returns-in_err-here-clause-left c = IfOk-from_err c.from_residual.result _ c.from_residual.ensures.0
+
+pub returns-in_err-left-clause-table : goal.returns-in_err-left-clause-table
+returns-in_err-left-clause-table c = IfOk-from_err c.from_residual-in_err-left.result _ c.from_residual-in_err-left.ensures.0
+
+pub returns-in_err-left-clause-terms : goal.returns-in_err-left-clause-terms
+returns-in_err-left-clause-terms c = IfOk-from_err c.from_residual-in_err-left.result _ c.from_residual-in_err-left.ensures.0
+
+pub returns-in_err-left-clause-left_within : goal.returns-in_err-left-clause-left_within
+returns-in_err-left-clause-left_within c = IfOk-from_err c.from_residual-in_err-left.result _ c.from_residual-in_err-left.ensures.0
+
+pub returns-in_err-left-clause-left : goal.returns-in_err-left-clause-left
+returns-in_err-left-clause-left c = IfOk-from_err c.from_residual-in_err-left.result _ c.from_residual-in_err-left.ensures.0

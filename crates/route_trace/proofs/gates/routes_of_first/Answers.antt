@@ -1,5 +1,5 @@
 use Rattle.std.proofs.Common.{◌^◌, ◌<◌, inr, if◌then◌else◌, sym, ap, subst, ◌∙◌}
-use Rattle.std.proofs.lemmas.Result.{err_from_is_err_and}
+use Rattle.std.proofs.lemmas.Result.{err_from_is_err_and, IfOk-from_err}
 use Rattle.bit_bdd.specs.Diagrams.{has_word}
 use Rattle.transfer_set.specs.Routes.{terms_under}
 use Rattle.route_trace.proofs.Products.{both_later}
@@ -89,3 +89,21 @@ returns-in_err-add_all-in-Some-clause-many c =
     (map_same _ ∙ ap (λ l. terms_under c.add_first.new.book c.add_first.new.pool l word) c.routes_of-routes.ensures
     ∙ both_later c.args.book.now c.add_first.new.book c.args.pool.now c.add_first.new.pool c.in_ok-left.ensures.book c.in_ok-left.ensures.pool _ (c.requires.nets.tables _) word)))))
     c.in_err-add_all-in-Some.ensures.many)
+
+pub returns-in_err-add_all-in-Some-clause-table : goal.returns-in_err-add_all-in-Some-clause-table
+returns-in_err-add_all-in-Some-clause-table c = IfOk-from_err c.from_residual-in_err-add_all-in-Some.result _ c.from_residual-in_err-add_all-in-Some.ensures.0
+
+pub returns-in_err-add_all-in-Some-clause-terms : goal.returns-in_err-add_all-in-Some-clause-terms
+returns-in_err-add_all-in-Some-clause-terms c = IfOk-from_err c.from_residual-in_err-add_all-in-Some.result _ c.from_residual-in_err-add_all-in-Some.ensures.0
+
+pub returns-in_err-add_leaf-in-None-clause-table : goal.returns-in_err-add_leaf-in-None-clause-table
+returns-in_err-add_leaf-in-None-clause-table c = IfOk-from_err c.from_residual-in_err-add_leaf-in-None.result _ c.from_residual-in_err-add_leaf-in-None.ensures.0
+
+pub returns-in_err-add_leaf-in-None-clause-terms : goal.returns-in_err-add_leaf-in-None-clause-terms
+returns-in_err-add_leaf-in-None-clause-terms c = IfOk-from_err c.from_residual-in_err-add_leaf-in-None.result _ c.from_residual-in_err-add_leaf-in-None.ensures.0
+
+pub returns-in_err-left-clause-table : goal.returns-in_err-left-clause-table
+returns-in_err-left-clause-table c = IfOk-from_err c.from_residual.result _ c.from_residual.ensures.0
+
+pub returns-in_err-left-clause-terms : goal.returns-in_err-left-clause-terms
+returns-in_err-left-clause-terms c = IfOk-from_err c.from_residual.result _ c.from_residual.ensures.0

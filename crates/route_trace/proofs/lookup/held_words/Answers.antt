@@ -1,5 +1,5 @@
 use Rattle.std.proofs.Common.{◌≡◌, ℕ, ◌&&◌, not, ◌∙◌}
-use Rattle.std.proofs.lemmas.Result.{IfOk-weaker}
+use Rattle.std.proofs.lemmas.Result.{IfOk-weaker, IfOk-from_err}
 use Rattle.bit_bdd.specs.Diagrams.{has_word}
 use Rattle.bit_bdd.proofs.CallerLemmas.{same_words}
 use Rattle.transfer_set.specs.Routes.{exprs_under}
@@ -16,3 +16,9 @@ returns-clause-words c =
     let f = c.in_ok-free.ensures.words word in
     is word ∙ (λ j. e j && not (f j)) ∙ but_free (has_word c.args.book.now c.args.set word) (is_free (exprs_under c.args.book.now c.args.routes.now word))))
     c.without.ensures.words
+
+pub returns-in_err-free-clause-within : goal.returns-in_err-free-clause-within
+returns-in_err-free-clause-within c = IfOk-from_err c.from_residual.result _ c.from_residual.ensures.0
+
+pub returns-in_err-free-clause-words : goal.returns-in_err-free-clause-words
+returns-in_err-free-clause-words c = IfOk-from_err c.from_residual.result _ c.from_residual.ensures.0

@@ -1,3 +1,4 @@
+use Rattle.std.proofs.lemmas.Result.{IfOk-from_err}
 use Rattle.std.proofs.Common.{◌&&◌, not, take, sym, ap, ◌∙◌, arith}
 use Rattle.std.specs.List.{slice_index_or}
 use Rattle.std.proofs.lemmas.Option.{slice_get-get_or}
@@ -31,3 +32,9 @@ loop-route-preserved c =
           (slice_index_or c.args.routes.now c.loop-route.route-index (record { expr = 0; set = 0 })).expr
           ∙ ap (λ xs. has_word c.args.book.now c.args.set word && is_free xs) (sym (held_more c.args.book.now c.args.routes.now c.loop-route.route-index _ at word));
     }
+
+pub returns-in_err-left-clause-within : goal.returns-in_err-left-clause-within
+returns-in_err-left-clause-within c = IfOk-from_err c.from_residual.result _ c.from_residual.ensures.0
+
+pub returns-in_err-left-clause-words : goal.returns-in_err-left-clause-words
+returns-in_err-left-clause-words c = IfOk-from_err c.from_residual.result _ c.from_residual.ensures.0

@@ -1,3 +1,4 @@
+use Rattle.std.proofs.lemmas.Result.{IfOk-from_err}
 use Rattle.std.proofs.lemmas.Option.{slice_get_within}
 use Rattle.route_trace.proofs.Merging.{found_index, not_found, set_at, merged_routes, merged_exprs, merged_held, pushed_routes, pushed_held, exprs_push}
 use Rattle.bit_bdd.proofs.CallerLemmas.{extends_refl}
@@ -47,3 +48,21 @@ pub returns-in_ok-push-in-None-clause-held : goal.returns-in_ok-push-in-None-cla
 returns-in_ok-push-in-None-clause-held c word fits =
     rw c.in_ok-push-in-None.ensures.pushed
     (pushed_held c.args.book.now c.args.book.now (extends_refl c.args.book.now) c.args.out.now c.requires.routes c.args.expr c.args.set c.requires.set word (c.requires.apart word fits))
+
+pub returns-in_err-both-in-Some-clause-routes : goal.returns-in_err-both-in-Some-clause-routes
+returns-in_err-both-in-Some-clause-routes c = IfOk-from_err c.from_residual.result _ c.from_residual.ensures.0
+
+pub returns-in_err-both-in-Some-clause-exprs : goal.returns-in_err-both-in-Some-clause-exprs
+returns-in_err-both-in-Some-clause-exprs c = IfOk-from_err c.from_residual.result _ c.from_residual.ensures.0
+
+pub returns-in_err-both-in-Some-clause-held : goal.returns-in_err-both-in-Some-clause-held
+returns-in_err-both-in-Some-clause-held c = IfOk-from_err c.from_residual.result _ c.from_residual.ensures.0
+
+pub returns-in_err-push-in-None-clause-routes : goal.returns-in_err-push-in-None-clause-routes
+returns-in_err-push-in-None-clause-routes c = IfOk-from_err c.from_residual-in_err-push-in-None.result _ c.from_residual-in_err-push-in-None.ensures.0
+
+pub returns-in_err-push-in-None-clause-exprs : goal.returns-in_err-push-in-None-clause-exprs
+returns-in_err-push-in-None-clause-exprs c = IfOk-from_err c.from_residual-in_err-push-in-None.result _ c.from_residual-in_err-push-in-None.ensures.0
+
+pub returns-in_err-push-in-None-clause-held : goal.returns-in_err-push-in-None-clause-held
+returns-in_err-push-in-None-clause-held c = IfOk-from_err c.from_residual-in_err-push-in-None.result _ c.from_residual-in_err-push-in-None.ensures.0

@@ -1,6 +1,6 @@
 use Rattle.std.proofs.Common.{◌<◌, ◌^◌, ◌&&◌, not, map, length, refl, sym, ap, subst, ◌∙◌, arith}
 use Rattle.std.proofs.lemmas.List.{append-nil}
-use Rattle.std.proofs.lemmas.Result.{err_from_is_err_and}
+use Rattle.std.proofs.lemmas.Result.{err_from_is_err_and, IfOk-from_err}
 use Rattle.bit_bdd.specs.Diagrams.{has_word}
 use Rattle.bit_bdd.proofs.CallerLemmas.{extends_refl, extends_trans, same_words}
 use Rattle.sym_expr.specs.Pools.{term_at}
@@ -142,3 +142,15 @@ returns-in_err-left-2-clause-many c =
 pub returns-clause-terms : goal.returns-clause-terms
 returns-clause-terms c word fits =
     left_none (has_word c.args.book.now c.args.set word) (has_word c.loop-word.book c.loop-word.left word) _ _ _ (c.in_default.ensures.none word) (c.loop-word.invariant.terms word fits)
+
+pub returns-in_err-left-clause-table : goal.returns-in_err-left-clause-table
+returns-in_err-left-clause-table c = IfOk-from_err c.from_residual.result _ c.from_residual.ensures.0
+
+pub returns-in_err-left-clause-terms : goal.returns-in_err-left-clause-terms
+returns-in_err-left-clause-terms c = IfOk-from_err c.from_residual.result _ c.from_residual.ensures.0
+
+pub returns-in_err-left-2-clause-table : goal.returns-in_err-left-2-clause-table
+returns-in_err-left-2-clause-table c = IfOk-from_err c.from_residual-in_err-left-2.result _ c.from_residual-in_err-left-2.ensures.0
+
+pub returns-in_err-left-2-clause-terms : goal.returns-in_err-left-2-clause-terms
+returns-in_err-left-2-clause-terms c = IfOk-from_err c.from_residual-in_err-left-2.result _ c.from_residual-in_err-left-2.ensures.0

@@ -1,5 +1,5 @@
 use Rattle.std.proofs.Common.{◌≡◌, inr, ℕ, ◌<◌, ◌^◌, ◌&&◌, map, sym, ap, subst, ◌∙◌}
-use Rattle.std.proofs.lemmas.Result.{err_from_is_err_and}
+use Rattle.std.proofs.lemmas.Result.{err_from_is_err_and, IfOk-from_err}
 use Rattle.bit_bdd.specs.Diagrams.{Extends, has_word}
 use Rattle.bit_bdd.proofs.CallerLemmas.{extends_trans, same_words, still_within}
 use Rattle.sym_expr.specs.Pools.{term_at}
@@ -91,3 +91,39 @@ returns-in_err-add_all-clause-many c =
     (both_later c.args.book.now c.and.new.self c.args.pool.now c.args.pool.now grows (grows_refl c.args.pool.now) c.args.out.now c.requires.table word)
     is)))
     c.in_err-add_all.ensures.many)
+
+pub returns-in_err-add_all-clause-table : goal.returns-in_err-add_all-clause-table
+returns-in_err-add_all-clause-table c = IfOk-from_err c.from_residual-in_err-add_all.result _ c.from_residual-in_err-add_all.ensures.0
+
+pub returns-in_err-add_all-clause-terms : goal.returns-in_err-add_all-clause-terms
+returns-in_err-add_all-clause-terms c = IfOk-from_err c.from_residual-in_err-add_all.result _ c.from_residual-in_err-add_all.ensures.0
+
+pub returns-in_err-add_all-clause-left_within : goal.returns-in_err-add_all-clause-left_within
+returns-in_err-add_all-clause-left_within c = IfOk-from_err c.from_residual-in_err-add_all.result _ c.from_residual-in_err-add_all.ensures.0
+
+pub returns-in_err-add_all-clause-left : goal.returns-in_err-add_all-clause-left
+returns-in_err-add_all-clause-left c = IfOk-from_err c.from_residual-in_err-add_all.result _ c.from_residual-in_err-add_all.ensures.0
+
+pub returns-in_err-both-clause-table : goal.returns-in_err-both-clause-table
+returns-in_err-both-clause-table c = IfOk-from_err c.from_residual-in_err-both.result _ c.from_residual-in_err-both.ensures.0
+
+pub returns-in_err-both-clause-terms : goal.returns-in_err-both-clause-terms
+returns-in_err-both-clause-terms c = IfOk-from_err c.from_residual-in_err-both.result _ c.from_residual-in_err-both.ensures.0
+
+pub returns-in_err-both-clause-left_within : goal.returns-in_err-both-clause-left_within
+returns-in_err-both-clause-left_within c = IfOk-from_err c.from_residual-in_err-both.result _ c.from_residual-in_err-both.ensures.0
+
+pub returns-in_err-both-clause-left : goal.returns-in_err-both-clause-left
+returns-in_err-both-clause-left c = IfOk-from_err c.from_residual-in_err-both.result _ c.from_residual-in_err-both.ensures.0
+
+pub returns-in_err-left-clause-table : goal.returns-in_err-left-clause-table
+returns-in_err-left-clause-table c = IfOk-from_err c.from_residual.result _ c.from_residual.ensures.0
+
+pub returns-in_err-left-clause-terms : goal.returns-in_err-left-clause-terms
+returns-in_err-left-clause-terms c = IfOk-from_err c.from_residual.result _ c.from_residual.ensures.0
+
+pub returns-in_err-left-clause-left_within : goal.returns-in_err-left-clause-left_within
+returns-in_err-left-clause-left_within c = IfOk-from_err c.from_residual.result _ c.from_residual.ensures.0
+
+pub returns-in_err-left-clause-left : goal.returns-in_err-left-clause-left
+returns-in_err-left-clause-left c = IfOk-from_err c.from_residual.result _ c.from_residual.ensures.0

@@ -1,3 +1,4 @@
+use Rattle.std.proofs.lemmas.Result.{IfOk-from_err}
 use Rattle.std.proofs.Common.{◌<◌, ◌^◌, ◌&&◌, not, [], ◌∷◌, map, length, refl, sym, ap, subst, ◌∙◌, arith}
 use Rattle.bit_bdd.specs.Diagrams.{has_word}
 use Rattle.bit_bdd.proofs.CallerLemmas.{extends_refl, extends_trans, same_words}
@@ -123,3 +124,15 @@ returns-then-len-gt-MOST_VALUES-clause-many c = record {
 pub returns-clause-terms : goal.returns-clause-terms
 returns-clause-terms c word fits =
     left_none (has_word c.args.book.now c.args.set word) (has_word c.loop-word.book c.loop-word.left word) _ _ _ (c.in_default.ensures.none word) (c.loop-word.invariant.terms word fits)
+
+pub returns-in_err-left-clause-table : goal.returns-in_err-left-clause-table
+returns-in_err-left-clause-table c = IfOk-from_err c.from_residual.result _ c.from_residual.ensures.0
+
+pub returns-in_err-left-clause-terms : goal.returns-in_err-left-clause-terms
+returns-in_err-left-clause-terms c = IfOk-from_err c.from_residual.result _ c.from_residual.ensures.0
+
+pub returns-in_err-left-2-clause-table : goal.returns-in_err-left-2-clause-table
+returns-in_err-left-2-clause-table c = IfOk-from_err c.from_residual-in_err-left-2.result _ c.from_residual-in_err-left-2.ensures.0
+
+pub returns-in_err-left-2-clause-terms : goal.returns-in_err-left-2-clause-terms
+returns-in_err-left-2-clause-terms c = IfOk-from_err c.from_residual-in_err-left-2.result _ c.from_residual-in_err-left-2.ensures.0

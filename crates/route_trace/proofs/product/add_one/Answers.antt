@@ -1,3 +1,4 @@
+use Rattle.std.proofs.lemmas.Result.{IfOk-from_err}
 use Rattle.std.proofs.Common.{◌<◌, ◌^◌, ◌&&◌, sym, subst, ◌∙◌}
 use Rattle.bit_bdd.specs.Diagrams.{has_word}
 use Rattle.bit_bdd.proofs.CallerLemmas.{extends_trans, same_words, still_within}
@@ -76,3 +77,51 @@ returns-clause-left c word =
     same_words c.without.new.book c.add_route.new.book (extends_trans c.without.new.book c.and.new.self c.add_route.new.book c.in_ok-both.ensures.grows c.in_ok-add_route.ensures.grows)
     c.in_ok-left.left c.in_ok-left.ensures.within word
     ∙ c.in_ok-left.ensures.words word
+
+pub returns-in_err-add_route-clause-table : goal.returns-in_err-add_route-clause-table
+returns-in_err-add_route-clause-table c = IfOk-from_err c.from_residual-in_err-add_route.result _ c.from_residual-in_err-add_route.ensures.0
+
+pub returns-in_err-add_route-clause-terms : goal.returns-in_err-add_route-clause-terms
+returns-in_err-add_route-clause-terms c = IfOk-from_err c.from_residual-in_err-add_route.result _ c.from_residual-in_err-add_route.ensures.0
+
+pub returns-in_err-add_route-clause-left_within : goal.returns-in_err-add_route-clause-left_within
+returns-in_err-add_route-clause-left_within c = IfOk-from_err c.from_residual-in_err-add_route.result _ c.from_residual-in_err-add_route.ensures.0
+
+pub returns-in_err-add_route-clause-left : goal.returns-in_err-add_route-clause-left
+returns-in_err-add_route-clause-left c = IfOk-from_err c.from_residual-in_err-add_route.result _ c.from_residual-in_err-add_route.ensures.0
+
+pub returns-in_err-both-clause-table : goal.returns-in_err-both-clause-table
+returns-in_err-both-clause-table c = IfOk-from_err c.from_residual-in_err-both.result _ c.from_residual-in_err-both.ensures.0
+
+pub returns-in_err-both-clause-terms : goal.returns-in_err-both-clause-terms
+returns-in_err-both-clause-terms c = IfOk-from_err c.from_residual-in_err-both.result _ c.from_residual-in_err-both.ensures.0
+
+pub returns-in_err-both-clause-left_within : goal.returns-in_err-both-clause-left_within
+returns-in_err-both-clause-left_within c = IfOk-from_err c.from_residual-in_err-both.result _ c.from_residual-in_err-both.ensures.0
+
+pub returns-in_err-both-clause-left : goal.returns-in_err-both-clause-left
+returns-in_err-both-clause-left c = IfOk-from_err c.from_residual-in_err-both.result _ c.from_residual-in_err-both.ensures.0
+
+pub returns-in_err-expr-clause-table : goal.returns-in_err-expr-clause-table
+returns-in_err-expr-clause-table c = IfOk-from_err c.from_residual-in_err-expr.result _ c.from_residual-in_err-expr.ensures.0
+
+pub returns-in_err-expr-clause-terms : goal.returns-in_err-expr-clause-terms
+returns-in_err-expr-clause-terms c = IfOk-from_err c.from_residual-in_err-expr.result _ c.from_residual-in_err-expr.ensures.0
+
+pub returns-in_err-expr-clause-left_within : goal.returns-in_err-expr-clause-left_within
+returns-in_err-expr-clause-left_within c = IfOk-from_err c.from_residual-in_err-expr.result _ c.from_residual-in_err-expr.ensures.0
+
+pub returns-in_err-expr-clause-left : goal.returns-in_err-expr-clause-left
+returns-in_err-expr-clause-left c = IfOk-from_err c.from_residual-in_err-expr.result _ c.from_residual-in_err-expr.ensures.0
+
+pub returns-in_err-left-clause-table : goal.returns-in_err-left-clause-table
+returns-in_err-left-clause-table c = IfOk-from_err c.from_residual.result _ c.from_residual.ensures.0
+
+pub returns-in_err-left-clause-terms : goal.returns-in_err-left-clause-terms
+returns-in_err-left-clause-terms c = IfOk-from_err c.from_residual.result _ c.from_residual.ensures.0
+
+pub returns-in_err-left-clause-left_within : goal.returns-in_err-left-clause-left_within
+returns-in_err-left-clause-left_within c = IfOk-from_err c.from_residual.result _ c.from_residual.ensures.0
+
+pub returns-in_err-left-clause-left : goal.returns-in_err-left-clause-left
+returns-in_err-left-clause-left c = IfOk-from_err c.from_residual.result _ c.from_residual.ensures.0

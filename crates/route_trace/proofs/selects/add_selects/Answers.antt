@@ -1,7 +1,7 @@
 use Rattle.std.proofs.Common.{◌≡◌, ◌+◌, ◌<◌, ◌^◌, length, slice_get, Some, refl, sym, subst, ◌∙◌, arith}
 use Rattle.std.specs.List.{slice_index_or}
 use Rattle.std.proofs.lemmas.Option.{slice_get-get_or}
-use Rattle.std.proofs.lemmas.Result.{err_from_is_err_and}
+use Rattle.std.proofs.lemmas.Result.{err_from_is_err_and, IfOk-from_err}
 use Rattle.bit_bdd.specs.Diagrams.{has_word}
 use Rattle.bit_bdd.proofs.CallerLemmas.{same_words, extends_trans, still_within}
 use Rattle.sym_expr.proofs.CallerLemmas.{grows_refl, grows_trans}
@@ -123,3 +123,15 @@ returns-in_err-add_pairs-clause-many c =
     (both_later c.args.book.now c.and.new.self c.args.pool.now c.loop-route.pool grows c.loop-route.invariant.pool c.args.seconds.now c.requires.second word))
     e)))
     c.in_err-add_pairs.ensures.many)
+
+pub returns-in_err-add_pairs-clause-table : goal.returns-in_err-add_pairs-clause-table
+returns-in_err-add_pairs-clause-table c = IfOk-from_err c.from_residual-in_err-add_pairs.result _ c.from_residual-in_err-add_pairs.ensures.0
+
+pub returns-in_err-add_pairs-clause-terms : goal.returns-in_err-add_pairs-clause-terms
+returns-in_err-add_pairs-clause-terms c = IfOk-from_err c.from_residual-in_err-add_pairs.result _ c.from_residual-in_err-add_pairs.ensures.0
+
+pub returns-in_err-both-clause-table : goal.returns-in_err-both-clause-table
+returns-in_err-both-clause-table c = IfOk-from_err c.from_residual.result _ c.from_residual.ensures.0
+
+pub returns-in_err-both-clause-terms : goal.returns-in_err-both-clause-terms
+returns-in_err-both-clause-terms c = IfOk-from_err c.from_residual.result _ c.from_residual.ensures.0

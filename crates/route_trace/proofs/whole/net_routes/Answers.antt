@@ -1,5 +1,5 @@
 use Rattle.std.proofs.Common.{inr, ◌^◌, ◌<◌, sym, subst, ◌∙◌, arith}
-use Rattle.std.proofs.lemmas.Result.{err_from_is_err_and}
+use Rattle.std.proofs.lemmas.Result.{IfErr-weaker, IfOk-weaker}
 use Rattle.net_model.specs.Value.{value_of}
 use Rattle.net_model.specs.Symbolic.{no_state, is_static}
 use Rattle.route_trace.specs.declared.heads.Head.TheVariants.{Same, Read, Un, Slice, Zext, Sext}
@@ -66,24 +66,24 @@ case_routes-requires-clause-wide c =
     rw c.as_slice-rows.ensures
     (rows_wide c.args.netlist.now c.args.pool.now c.args.nets.now c.requires.widths _ c.args.net.now.width c.in-Case.rows c.in-Case.rest g.1 g.2)
 
-pub returns-in_ok-out-in-Case-clause-terms : goal.returns-in_ok-out-in-Case-clause-terms
-returns-in_ok-out-in-Case-clause-terms c t word fits given =
-    let g = rw c.in-Case.is at given in
-    let made = rw c.as_slice-rows.ensures at c.in_ok-out-in-Case.ensures.terms in
-    rw c.in-Case.is
-    (made t (value_of c.args.netlist.now no_state word) (is_static c.args.netlist.now) word fits g
-    (selected_at c.args.netlist.now c.requires.typed c.args.book.now _ c.in-Case.sel word (rw c.in-Case.is at c.requires.fits.2).0 fits (rw c.in-Case.is at c.requires.decided)))
+pub returns-in-Case-clause-terms : goal.returns-in-Case-clause-terms
+returns-in-Case-clause-terms c =
+    IfOk-weaker c.case_routes.result _ _
+    (λ out made t word fits given. rw c.in-Case.is
+    (made t (value_of c.args.netlist.now no_state word) (is_static c.args.netlist.now) word fits (rw c.in-Case.is at given)
+    (selected_at c.args.netlist.now c.requires.typed c.args.book.now _ c.in-Case.sel word (rw c.in-Case.is at c.requires.fits.2).0 fits (rw c.in-Case.is at c.requires.decided))))
+    (rw c.as_slice-rows.ensures at c.case_routes.ensures.terms)
 
-pub returns-in_err-out-in-Case-clause-many : goal.returns-in_err-out-in-Case-clause-many
-returns-in_err-out-in-Case-clause-many c =
-    let p = err_from_is_err_and c.from_residual-in_err-out-in-Case.result c.from_residual-in_err-out-in-Case.ensures.1 in
-    let many = rw c.as_slice-rows.ensures at c.in_err-out-in-Case.ensures.many in
-    rw (p.1, p.2, c.in-Case.is)
-    (many_in c.in_err-out-in-Case.field-0.0 c.case_routes.new.book c.case_routes.new.pool _ _
+pub returns-in-Case-clause-many : goal.returns-in-Case-clause-many
+returns-in-Case-clause-many c =
+    rw c.in-Case.is
+    (IfErr-weaker c.case_routes.result _ _
+    (λ stop many. many_in stop c.case_routes.new.book c.case_routes.new.pool _ _
     (λ word fits terms made. inr (λ t given.
     made t (value_of c.args.netlist.now no_state word) (is_static c.args.netlist.now) given
-    (selected_at c.args.netlist.now c.requires.typed c.args.book.now _ c.in-Case.sel word (rw c.in-Case.is at c.requires.fits.2).0 (subst (λ b. word < 2 ^ b) c.in_err-out-in-Case.ensures.book.bits fits) (rw c.in-Case.is at c.requires.decided))))
+    (selected_at c.args.netlist.now c.requires.typed c.args.book.now _ c.in-Case.sel word (rw c.in-Case.is at c.requires.fits.2).0 (subst (λ b. word < 2 ^ b) c.case_routes.ensures.book.bits fits) (rw c.in-Case.is at c.requires.decided))))
     many)
+    (rw c.as_slice-rows.ensures at c.case_routes.ensures.many))
 
 pub bus_routes-requires-clause-sets : goal.bus_routes-requires-clause-sets
 bus_routes-requires-clause-sets c = rw c.as_slice.ensures (driver_sets c.args.netlist.now c.args.book.now _ _ (rw c.in-Bus.is at c.requires.decided))
@@ -93,20 +93,29 @@ bus_routes-requires-clause-one c =
     let g = rw c.in-Bus.is at c.requires.fits.2 in
     rw c.as_slice.ensures (driver_one c.args.netlist.now c.args.book.now _ c.args.net.now.width _ g (rw c.in-Bus.is at c.requires.decided))
 
-pub returns-in_ok-out-in-Bus-clause-terms : goal.returns-in_ok-out-in-Bus-clause-terms
-returns-in_ok-out-in-Bus-clause-terms c t word fits given =
-    let g = rw c.in-Bus.is at given in
-    let made = rw c.as_slice.ensures at c.in_ok-out-in-Bus.ensures.terms in
-    rw c.in-Bus.is
-    (made t (value_of c.args.netlist.now no_state word) word fits g (enabled_at c.args.netlist.now c.args.book.now _ word fits _ (rw c.in-Bus.is at c.requires.decided)))
+pub returns-in-Bus-clause-terms : goal.returns-in-Bus-clause-terms
+returns-in-Bus-clause-terms c =
+    IfOk-weaker c.bus_routes.result _ _
+    (λ out made t word fits given. rw c.in-Bus.is
+    (made t (value_of c.args.netlist.now no_state word) word fits (rw c.in-Bus.is at given) (enabled_at c.args.netlist.now c.args.book.now _ word fits _ (rw c.in-Bus.is at c.requires.decided))))
+    (rw c.as_slice.ensures at c.bus_routes.ensures.terms)
 
-pub returns-in_err-out-in-Bus-clause-many : goal.returns-in_err-out-in-Bus-clause-many
-returns-in_err-out-in-Bus-clause-many c =
-    let p = err_from_is_err_and c.from_residual-in_err-out-in-Bus.result c.from_residual-in_err-out-in-Bus.ensures.1 in
-    let many = rw c.as_slice.ensures at c.in_err-out-in-Bus.ensures.many in
-    rw (p.1, p.2, c.in-Bus.is)
-    (many_in c.in_err-out-in-Bus.field-0.0 c.bus_routes.new.book c.bus_routes.new.pool _ _
+pub returns-in-Bus-clause-many : goal.returns-in-Bus-clause-many
+returns-in-Bus-clause-many c =
+    rw c.in-Bus.is
+    (IfErr-weaker c.bus_routes.result _ _
+    (λ stop many. many_in stop c.bus_routes.new.book c.bus_routes.new.pool _ _
     (λ word fits terms made. inr (λ t given.
     made t (value_of c.args.netlist.now no_state word) given
-    (enabled_at c.args.netlist.now c.args.book.now _ word (subst (λ b. word < 2 ^ b) c.in_err-out-in-Bus.ensures.book.bits fits) _ (rw c.in-Bus.is at c.requires.decided))))
+    (enabled_at c.args.netlist.now c.args.book.now _ word (subst (λ b. word < 2 ^ b) c.bus_routes.ensures.book.bits fits) _ (rw c.in-Bus.is at c.requires.decided))))
     many)
+    (rw c.as_slice.ensures at c.bus_routes.ensures.many))
+
+pub returns-in-Word-clause-many : goal.returns-in-Word-clause-many
+returns-in-Word-clause-many c = IfErr-weaker c.routes_of_leaf.result _ _ (λ stop is. rw is tt) c.routes_of_leaf.ensures.few
+
+pub returns-in-Reg-clause-many : goal.returns-in-Reg-clause-many
+returns-in-Reg-clause-many c = IfErr-weaker c.routes_of_leaf-in-Reg.result _ _ (λ stop is. rw is tt) c.routes_of_leaf-in-Reg.ensures.few
+
+pub returns-in-Const-clause-many : goal.returns-in-Const-clause-many
+returns-in-Const-clause-many c = IfErr-weaker c.routes_of_leaf-in-Const.result _ _ (λ stop is. rw is tt) c.routes_of_leaf-in-Const.ensures.few

@@ -7,6 +7,7 @@ use Rattle.src_model.specs.Grammar.{op_at}
 use Rattle.src_model.specs.Written.{phrase_of}
 use Rattle.src_parser.specs.Inner.Steps.{may_follow}
 use Rattle.grammar.proofs.Tokens.{begun, ends}
+use Rattle.grammar.proofs.Kept.{kept_reads, kept_fails, kept_gives}
 use Rattle.src_parser.proofs.Rooms.{within_all, within_returned, within_closed, fixed_leads, token_length, token_least, token_most, any_least, bind_least, bind_most, return_most, short_return, short_bind, first_fails, second_leads}
 use Rattle.src_parser.proofs.Expressions.{chain_some, short_chain, chain_stuck, chain_on, tail_stop, tail_stuck, tail_on, open_within, not_opened, unary_missed, unary_ended, named_within, number_within, no_index, index_within, width_behind, width_most, short_sign, short_width, shape_Var}
 use Rattle.src_parser.proofs.expression.+expr.Goals as goal
@@ -33,13 +34,15 @@ call-returns-in_err-a t c =
     let p = err_from_is_err_and c.from_residual.result c.from_residual.ensures.1 in
     rw (p.1, p.2) (first_fails (ends (may_follow 6) (λ a. starts_inner (starts_inner begun)) refl) c.args.room 3 (omega arith) (λ a. width_behind) (λ a. short_width) c.in_err-a.ensures)
 
-pub call-returns-in_err-width : goal.call-returns-in_err-width
-call-returns-in_err-width t c =
-    let p = err_from_is_err_and c.from_residual-in_err-width.result c.from_residual-in_err-width.ensures.1 in
-    rw (p.1, p.2) (fails_too (second_leads (ends (may_follow 6) (λ a. starts_inner (starts_inner begun)) refl) c.args.room 3 (omega arith) (λ a. width_behind) width_most c.in_ok-a.ensures) (stuck (λ b. there_return) c.in_err-width.ensures))
+pub call-returns-in_err-a-2 : goal.call-returns-in_err-a-2
+call-returns-in_err-a-2 t c =
+    let p = err_from_is_err_and c.from_residual-in_err-a-2.result c.from_residual-in_err-a-2.ensures.1 in
+    rw (p.1, p.2) (fails_too (second_leads (ends (may_follow 6) (λ a. starts_inner (starts_inner begun)) refl) c.args.room 3 (omega arith) (λ a. width_behind) width_most c.in_ok-a.ensures) (stuck (λ b. there_return) (kept_fails (λ x. (x.0, x.1.now)) c.number_between.ensures c.in_err-a-2.ensures.stopped)))
 
 pub call-returns : goal.call-returns
-call-returns t c = rw c.in_ok-e.ensures.made (reads_too (second_leads (ends (may_follow 6) (λ a. starts_inner (starts_inner begun)) refl) c.args.room 3 (omega arith) (λ a. width_behind) width_most c.in_ok-a.ensures) (on c.in_ok-width.ensures return_reads))
+call-returns t c =
+    let width = kept_reads (λ x. (x.0, x.1.now)) c.number_between.ensures c.in_ok-a-2.ensures.read.1 in
+    rw (c.in_ok-e.ensures.made, c.in_ok-a-2.ensures.read.0) (reads_too (second_leads (ends (may_follow 6) (λ a. starts_inner (starts_inner begun)) refl) c.args.room 3 (omega arith) (λ a. width_behind) width_most c.in_ok-a.ensures) (on width return_reads))
 
 pub chain-returns-in_err-first : goal.chain-returns-in_err-first
 chain-returns-in_err-first t c =
@@ -57,13 +60,10 @@ closed-returns-in_err-a t c =
     let p = err_from_is_err_and c.from_residual.result c.from_residual.ensures.1 in
     rw (p.1, p.2) (first_fails (ends (may_follow 6) (λ a. begun) c.requires.ends) c.args.room 1 (omega arith) (λ a. bind_least 1 0 token_least (λ u. any_least)) (λ a. short_bind 1 0 short_sign (λ u. short_return)) c.in_err-a.ensures)
 
-pub closed-returns-in_err-rest : goal.closed-returns-in_err-rest
-closed-returns-in_err-rest t c =
-    let p = err_from_is_err_and c.from_residual-in_err-rest.result c.from_residual-in_err-rest.ensures.1 in
-    rw (p.1, p.2) (fails_too (second_leads (ends (may_follow 6) (λ a. begun) c.requires.ends) c.args.room 1 (omega arith) (λ a. bind_least 1 0 token_least (λ u. any_least)) (bind_most 1 0 (token_most (omega arith)) (λ u. return_most)) c.in_ok-a.ensures) (stuck (λ u. there_return) c.in_err-rest.ensures))
-
 pub closed-returns : goal.closed-returns
-closed-returns t c = reads_too (second_leads (ends (may_follow 6) (λ a. begun) c.requires.ends) c.args.room 1 (omega arith) (λ a. bind_least 1 0 token_least (λ u. any_least)) (bind_most 1 0 (token_most (omega arith)) (λ u. return_most)) c.in_ok-a.ensures) (on c.in_ok-rest.ensures return_reads)
+closed-returns t c =
+    let leads = second_leads (ends (may_follow 6) (λ a. begun) c.requires.ends) c.args.room 1 (omega arith) (λ a. bind_least 1 0 token_least (λ u. any_least)) (bind_most 1 0 (token_most (omega arith)) (λ u. return_most)) c.in_ok-a.ensures in
+    kept_gives (λ rest. (tt, rest.now)) (λ x. (phrase_of x.0, x.1.now)) (λ rest r. reads_too leads (on r return_reads)) (λ stop f. fails_too leads (stuck (λ u. there_return) f)) c.expect.result c.expect.ensures c.keeping.result c.keeping.ensures.read c.keeping.ensures.stopped
 
 pub enclosed-returns-in_err-a : goal.enclosed-returns-in_err-a
 enclosed-returns-in_err-a t c =
@@ -102,18 +102,20 @@ signed-returns-in_err-a t c =
     let p = err_from_is_err_and c.from_residual.result c.from_residual.ensures.1 in
     rw (p.1, p.2) (fails_too within_returned c.in_err-a.ensures)
 
-pub tail-returns-in_err-right : goal.tail-returns-in_err-right
-tail-returns-in_err-right t c =
+pub tail-returns-in_err-kept : goal.tail-returns-in_err-kept
+tail-returns-in_err-kept t c =
     let p = err_from_is_err_and c.from_residual.result c.from_residual.ensures.1 in
     let s : suc (c.args.k - 1) ≡ c.args.k = omega arith in
     let is : op_at c.args.k c.in-Some.t.now ≡ Some c.in-Some-op_of.op = sym c.op_of.ensures ∙ c.in-Some-op_of.is in
-    rw (p.1, p.2) (fails_too c.chain.invariant (tail_stuck (c.args.k - 1) c.args.k c.args.levels s c.in-Some.ensures is (omega arith) c.in_err-right.ensures))
+    rw (p.1, p.2) (fails_too c.chain.invariant (tail_stuck (c.args.k - 1) c.args.k c.args.levels s c.in-Some.ensures is (omega arith) (kept_fails (λ x. (phrase_of x.0, x.1.now)) c.chain-in-Some.ensures c.in_err-kept.ensures.stopped)))
 
 pub tail-chain-preserved : goal.tail-chain-preserved
 tail-chain-preserved t c =
     let s : suc (c.args.k - 1) ≡ c.args.k = omega arith in
     let is : op_at c.args.k c.in-Some.t.now ≡ Some c.in-Some-op_of.op = sym c.op_of.ensures ∙ c.in-Some-op_of.is in
-    then_leads (tail_on (c.args.k - 1) c.args.k c.args.levels s c.in-Some.ensures is (omega arith) c.in_ok-left.ensures.made c.in_ok-right.ensures) c.chain.invariant
+    let right = kept_reads (λ x. (phrase_of x.0, x.1.now)) c.chain-in-Some.ensures c.in_ok-kept.ensures.read.1 in
+    let made = rw c.in_ok-kept.ensures.read.0 at c.in_ok-left.ensures.made in
+    then_leads (tail_on (c.args.k - 1) c.args.k c.args.levels s c.in-Some.ensures is (omega arith) made right) c.chain.invariant
 
 pub tail-returns : goal.tail-returns
 tail-returns t c =

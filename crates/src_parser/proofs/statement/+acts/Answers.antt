@@ -1,13 +1,14 @@
-use Rattle.std.proofs.Common.{◌≡◌, suc, ◌-◌, refl, sym, ap, ◌∙◌, arith}
+use Rattle.std.proofs.Common.{map, ◌≡◌, suc, ◌-◌, refl, sym, ap, ◌∙◌, arith}
 use Rattle.std.proofs.lemmas.Result.{err_from_is_err_and}
 use Rattle.grammar.specs.Reading.{head}
 use Rattle.grammar.proofs.Steps.{return_reads, never_stops}
 use Rattle.grammar.proofs.Passing.{fails_too, gives_too, reads_too, same_leads, there_return, there_bind, there_many, there_maybe, beyond_reads, beyond_fails, short_of, on, past, stuck, starts_inner, returned, returned_reads, maybe_none, maybe_reads, maybe_fails}
 use Rattle.grammar.proofs.Repeats.{list_ends, list_fails, list_goes_on}
 use Rattle.src_model.specs.Written.{act_of}
-use Rattle.src_parser.specs.Inner.Steps.{may_follow, else_word, acts_word}
+use Rattle.src_parser.specs.Inner.Steps.{others_of, may_follow, else_word, acts_word}
 use Rattle.grammar.proofs.Tokens.{begun, ends, there_sign, there_number, there_behind, there_before, not_there}
-use Rattle.src_parser.proofs.Statements.{block_leads, block_starts, there_block, acted, not_so, compound_leads, no_level, act_missed, act_ended, name_leads, while_reads, for_reads, if_reads}
+use Rattle.grammar.proofs.Kept.{kept_reads, kept_fails, kept_gives}
+use Rattle.src_parser.proofs.Statements.{block_leads, block_starts, there_block, acted, not_so, compound_leads, no_level, act_missed, act_ended, name_leads, while_reads, for_reads, if_kept}
 use Rattle.src_parser.proofs.statement.+acts.Goals as goal
 
 pub block-returns-in_err-rest : goal.block-returns-in_err-rest
@@ -22,16 +23,14 @@ block-returns-in_err-body t c =
     let s : c.args.levels ≡ suc (c.args.levels - 1) = omega arith in
     rw (p.1, p.2) (fails_too (block_leads c.args.levels (c.args.levels - 1) s) (past c.in_ok-rest.ensures (short_of (ends acts_word (λ a. begun) refl) (λ a. there_bind there_sign (λ u. there_return)) c.in_err-body.ensures)))
 
-pub block-returns-in_err-rest-2 : goal.block-returns-in_err-rest-2
-block-returns-in_err-rest-2 t c =
-    let p = err_from_is_err_and c.from_residual-in_err-rest-2.result c.from_residual-in_err-rest-2.ensures.1 in
-    let s : c.args.levels ≡ suc (c.args.levels - 1) = omega arith in
-    rw (p.1, p.2) (fails_too (block_leads c.args.levels (c.args.levels - 1) s) (past c.in_ok-rest.ensures (beyond_fails (ends acts_word (λ a. begun) refl) c.in_ok-body.ensures (stuck (λ u. there_return) c.in_err-rest-2.ensures))))
-
 pub block-returns : goal.block-returns
 block-returns t c =
     let s : c.args.levels ≡ suc (c.args.levels - 1) = omega arith in
-    reads_too (block_leads c.args.levels (c.args.levels - 1) s) (on c.in_ok-rest.ensures (beyond_reads (ends acts_word (λ a. begun) refl) c.in_ok-body.ensures (on c.in_ok-rest-2.ensures return_reads)))
+    let leads = block_leads c.args.levels (c.args.levels - 1) s in
+    kept_gives (λ rest. (tt, rest.now)) (λ x. (map act_of x.0.items, x.1.now))
+    (λ rest r. reads_too leads (on c.in_ok-rest.ensures (beyond_reads (ends acts_word (λ a. begun) refl) c.in_ok-body.ensures (on r return_reads))))
+    (λ stop f. fails_too leads (past c.in_ok-rest.ensures (beyond_fails (ends acts_word (λ a. begun) refl) c.in_ok-body.ensures (stuck (λ u. there_return) f))))
+    c.expect-2.result c.expect-2.ensures c.keeping.result c.keeping.ensures.read c.keeping.ensures.stopped
 
 pub body-acts-init : goal.body-acts-init
 body-acts-init t c = rw c.new-acts.ensures.items same_leads
@@ -68,31 +67,39 @@ choice-returns-in_err-test t c =
     let p = err_from_is_err_and c.from_residual.result c.from_residual.ensures.1 in
     rw (p.1, p.2) (short_of (ends (may_follow 6) (λ a. starts_inner (block_starts c.args.levels)) refl) (λ t. there_bind (there_block c.args.levels c.requires) (λ b. there_bind there_maybe (λ o. there_return))) c.in_err-test.ensures)
 
-pub choice-returns-in_err-yes : goal.choice-returns-in_err-yes
-choice-returns-in_err-yes t c =
-    let p = err_from_is_err_and c.from_residual-in_err-yes.result c.from_residual-in_err-yes.ensures.1 in
-    rw (p.1, p.2) (beyond_fails (ends (may_follow 6) (λ a. starts_inner (block_starts c.args.levels)) refl) c.in_ok-test.ensures (stuck (λ b. there_bind there_maybe (λ o. there_return)) c.in_err-yes.ensures))
+pub choice-returns-in_err-test-2 : goal.choice-returns-in_err-test-2
+choice-returns-in_err-test-2 t c =
+    let p = err_from_is_err_and c.from_residual-in_err-test-2.result c.from_residual-in_err-test-2.ensures.1 in
+    rw (p.1, p.2) (beyond_fails (ends (may_follow 6) (λ a. starts_inner (block_starts c.args.levels)) refl) c.in_ok-test.ensures (stuck (λ b. there_bind there_maybe (λ o. there_return)) (kept_fails (λ x. (map act_of x.0.items, x.1.now)) c.block.ensures c.in_err-test-2.ensures.stopped)))
 
-pub choice-returns-in_err-no : goal.choice-returns-in_err-no
-choice-returns-in_err-no t c =
-    let p = err_from_is_err_and c.from_residual-in_err-no.result c.from_residual-in_err-no.ensures.1 in
-    rw (p.1, p.2) (beyond_fails (ends (may_follow 6) (λ a. starts_inner (block_starts c.args.levels)) refl) c.in_ok-test.ensures (past c.in_ok-yes.ensures (fails_too returned c.in_err-no.ensures)))
+pub choice-returns-in_err-test-3 : goal.choice-returns-in_err-test-3
+choice-returns-in_err-test-3 t c =
+    let p = err_from_is_err_and c.from_residual-in_err-test-3.result c.from_residual-in_err-test-3.ensures.1 in
+    let yes = kept_reads (λ x. (map act_of x.0.items, x.1.now)) c.block.ensures c.in_ok-test-2.ensures.read.1 in
+    let no = kept_fails (λ x. (others_of x.0, x.1.now)) c.otherwise.ensures c.in_err-test-3.ensures.stopped in
+    rw (p.1, p.2) (beyond_fails (ends (may_follow 6) (λ a. starts_inner (block_starts c.args.levels)) refl) c.in_ok-test.ensures (past yes (fails_too returned no)))
 
 pub choice-returns : goal.choice-returns
-choice-returns t c = if_reads c.in_ok-test.test c.in_ok-yes.yes c.in_ok-no.no (beyond_reads (ends (may_follow 6) (λ a. starts_inner (block_starts c.args.levels)) refl) c.in_ok-test.ensures (on c.in_ok-yes.ensures (returned_reads c.in_ok-no.ensures)))
+choice-returns t c =
+    let yes = kept_reads (λ x. (map act_of x.0.items, x.1.now)) c.block.ensures c.in_ok-test-2.ensures.read.1 in
+    let no = kept_reads (λ x. (others_of x.0, x.1.now)) c.otherwise.ensures c.in_ok-test-3.ensures.read.1 in
+    if_kept c.in_ok-test-2.test c.in_ok-test-2.yes c.in_ok-test-3.no c.in_ok-test-3.ensures.read.0
+    (rw c.in_ok-test-2.ensures.read.0 (beyond_reads (ends (may_follow 6) (λ a. starts_inner (block_starts c.args.levels)) refl) c.in_ok-test.ensures (on yes (returned_reads no))))
 
 pub repetition-returns-in_err-test : goal.repetition-returns-in_err-test
 repetition-returns-in_err-test t c =
     let p = err_from_is_err_and c.from_residual.result c.from_residual.ensures.1 in
     rw (p.1, p.2) (short_of (ends (may_follow 6) (λ a. starts_inner (block_starts c.args.levels)) refl) (λ t. there_bind (there_block c.args.levels c.requires) (λ b. there_return)) c.in_err-test.ensures)
 
-pub repetition-returns-in_err-body : goal.repetition-returns-in_err-body
-repetition-returns-in_err-body t c =
-    let p = err_from_is_err_and c.from_residual-in_err-body.result c.from_residual-in_err-body.ensures.1 in
-    rw (p.1, p.2) (beyond_fails (ends (may_follow 6) (λ a. starts_inner (block_starts c.args.levels)) refl) c.in_ok-test.ensures (stuck (λ b. there_return) c.in_err-body.ensures))
+pub repetition-returns-in_err-test-2 : goal.repetition-returns-in_err-test-2
+repetition-returns-in_err-test-2 t c =
+    let p = err_from_is_err_and c.from_residual-in_err-test-2.result c.from_residual-in_err-test-2.ensures.1 in
+    rw (p.1, p.2) (beyond_fails (ends (may_follow 6) (λ a. starts_inner (block_starts c.args.levels)) refl) c.in_ok-test.ensures (stuck (λ b. there_return) (kept_fails (λ x. (map act_of x.0.items, x.1.now)) c.block.ensures c.in_err-test-2.ensures.stopped)))
 
 pub repetition-returns : goal.repetition-returns
-repetition-returns t c = while_reads c.in_ok-test.test c.in_ok-body.body (beyond_reads (ends (may_follow 6) (λ a. starts_inner (block_starts c.args.levels)) refl) c.in_ok-test.ensures (on c.in_ok-body.ensures return_reads))
+repetition-returns t c =
+    let body = kept_reads (λ x. (map act_of x.0.items, x.1.now)) c.block.ensures c.in_ok-test-2.ensures.read.1 in
+    rw c.in_ok-test-2.ensures.read.0 (while_reads c.in_ok-test.test c.in_ok-test-2.body (beyond_reads (ends (may_follow 6) (λ a. starts_inner (block_starts c.args.levels)) refl) c.in_ok-test.ensures (on body return_reads)))
 
 pub counting-returns-in_err-counter : goal.counting-returns-in_err-counter
 counting-returns-in_err-counter t c =

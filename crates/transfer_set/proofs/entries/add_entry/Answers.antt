@@ -1,3 +1,4 @@
+use Rattle.std.proofs.lemmas.Result.{IfOk-from_err}
 use Rattle.std.proofs.Common.{◌==◌, ◌&&◌, ◌++◌, [], ◌∷◌, sym, ◌∙◌}
 use Rattle.bit_bdd.specs.Diagrams.{has_word}
 use Rattle.transfer_set.specs.declared.entries.Entry.{Entry}
@@ -46,3 +47,27 @@ pub returns-in_ok-push-in-Some-clause-known : goal.returns-in_ok-push-in-Some-cl
 returns-in_ok-push-in-Some-clause-known c size h a v =
     let x : Entry = record { storage = c.args.storage; addr = c.args.addr; value = c.args.value; set = c.in_ok-set.set } in
     rw c.in_ok-push-in-Some.ensures.pushed (known_push size c.args.out.now x h a v)
+
+pub returns-in_err-push-in-Some-clause-held : goal.returns-in_err-push-in-Some-clause-held
+returns-in_err-push-in-Some-clause-held c = IfOk-from_err c.from_residual-in_err-push-in-Some.result _ c.from_residual-in_err-push-in-Some.ensures.0
+
+pub returns-in_err-push-in-Some-clause-moves : goal.returns-in_err-push-in-Some-clause-moves
+returns-in_err-push-in-Some-clause-moves c = IfOk-from_err c.from_residual-in_err-push-in-Some.result _ c.from_residual-in_err-push-in-Some.ensures.0
+
+pub returns-in_err-push-in-Some-clause-whole : goal.returns-in_err-push-in-Some-clause-whole
+returns-in_err-push-in-Some-clause-whole c = IfOk-from_err c.from_residual-in_err-push-in-Some.result _ c.from_residual-in_err-push-in-Some.ensures.0
+
+pub returns-in_err-push-in-Some-clause-known : goal.returns-in_err-push-in-Some-clause-known
+returns-in_err-push-in-Some-clause-known c = IfOk-from_err c.from_residual-in_err-push-in-Some.result _ c.from_residual-in_err-push-in-Some.ensures.0
+
+pub returns-in_err-set-clause-held : goal.returns-in_err-set-clause-held
+returns-in_err-set-clause-held c = IfOk-from_err c.from_residual.result _ c.from_residual.ensures.0
+
+pub returns-in_err-set-clause-moves : goal.returns-in_err-set-clause-moves
+returns-in_err-set-clause-moves c = IfOk-from_err c.from_residual.result _ c.from_residual.ensures.0
+
+pub returns-in_err-set-clause-whole : goal.returns-in_err-set-clause-whole
+returns-in_err-set-clause-whole c = IfOk-from_err c.from_residual.result _ c.from_residual.ensures.0
+
+pub returns-in_err-set-clause-known : goal.returns-in_err-set-clause-known
+returns-in_err-set-clause-known c = IfOk-from_err c.from_residual.result _ c.from_residual.ensures.0

@@ -1,3 +1,4 @@
+use Rattle.std.proofs.lemmas.Result.{IfOk-from_err}
 use Rattle.std.proofs.Common.{◌≡◌, ◌==◌, ◌&&◌, ◌++◌, take, slice_get, Some, ap, ◌∙◌, arith}
 use Rattle.std.specs.List.{slice_index_or}
 use Rattle.std.proofs.lemmas.Option.{slice_get-get_or}
@@ -65,3 +66,27 @@ loop-route-preserved c =
           (h c.loop-route.route-index route at place value there));
       known = λ size h a v. c.in_ok-add_values.ensures.known size (c.loop-route.invariant.known size h a v) (expr_at size c.args.addrs.now c.loop-route.route-index route at a) v;
     }
+
+pub returns-in_err-add_values-clause-held : goal.returns-in_err-add_values-clause-held
+returns-in_err-add_values-clause-held c = IfOk-from_err c.from_residual-in_err-add_values.result _ c.from_residual-in_err-add_values.ensures.0
+
+pub returns-in_err-add_values-clause-moves : goal.returns-in_err-add_values-clause-moves
+returns-in_err-add_values-clause-moves c = IfOk-from_err c.from_residual-in_err-add_values.result _ c.from_residual-in_err-add_values.ensures.0
+
+pub returns-in_err-add_values-clause-whole : goal.returns-in_err-add_values-clause-whole
+returns-in_err-add_values-clause-whole c = IfOk-from_err c.from_residual-in_err-add_values.result _ c.from_residual-in_err-add_values.ensures.0
+
+pub returns-in_err-add_values-clause-known : goal.returns-in_err-add_values-clause-known
+returns-in_err-add_values-clause-known c = IfOk-from_err c.from_residual-in_err-add_values.result _ c.from_residual-in_err-add_values.ensures.0
+
+pub returns-in_err-both-clause-held : goal.returns-in_err-both-clause-held
+returns-in_err-both-clause-held c = IfOk-from_err c.from_residual.result _ c.from_residual.ensures.0
+
+pub returns-in_err-both-clause-moves : goal.returns-in_err-both-clause-moves
+returns-in_err-both-clause-moves c = IfOk-from_err c.from_residual.result _ c.from_residual.ensures.0
+
+pub returns-in_err-both-clause-whole : goal.returns-in_err-both-clause-whole
+returns-in_err-both-clause-whole c = IfOk-from_err c.from_residual.result _ c.from_residual.ensures.0
+
+pub returns-in_err-both-clause-known : goal.returns-in_err-both-clause-known
+returns-in_err-both-clause-known c = IfOk-from_err c.from_residual.result _ c.from_residual.ensures.0

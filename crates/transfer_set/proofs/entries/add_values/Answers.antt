@@ -1,3 +1,4 @@
+use Rattle.std.proofs.lemmas.Result.{IfOk-from_err}
 use Rattle.std.proofs.Common.{◌≡◌, ◌==◌, ◌&&◌, take, slice_get, Some, refl, arith}
 use Rattle.std.specs.List.{slice_index_or}
 use Rattle.std.proofs.lemmas.Option.{slice_get-get_or}
@@ -43,3 +44,15 @@ loop-route-preserved c =
           grows.bits (λ word. λ j. on word j && of_route word j) (h c.loop-route.route-index route at));
       known = λ size h a v. c.in_ok-add_entry.ensures.known size (c.loop-route.invariant.known size h a v) a (expr_at size c.args.values.now c.loop-route.route-index route at v);
     }
+
+pub returns-in_err-add_entry-clause-held : goal.returns-in_err-add_entry-clause-held
+returns-in_err-add_entry-clause-held c = IfOk-from_err c.from_residual.result _ c.from_residual.ensures.0
+
+pub returns-in_err-add_entry-clause-moves : goal.returns-in_err-add_entry-clause-moves
+returns-in_err-add_entry-clause-moves c = IfOk-from_err c.from_residual.result _ c.from_residual.ensures.0
+
+pub returns-in_err-add_entry-clause-whole : goal.returns-in_err-add_entry-clause-whole
+returns-in_err-add_entry-clause-whole c = IfOk-from_err c.from_residual.result _ c.from_residual.ensures.0
+
+pub returns-in_err-add_entry-clause-known : goal.returns-in_err-add_entry-clause-known
+returns-in_err-add_entry-clause-known c = IfOk-from_err c.from_residual.result _ c.from_residual.ensures.0

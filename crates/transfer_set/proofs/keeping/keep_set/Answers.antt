@@ -1,3 +1,4 @@
+use Rattle.std.proofs.lemmas.Result.{IfOk-from_err}
 use Rattle.std.proofs.Common.{◌≡◌, Some, None, slice_get}
 use Rattle.std.specs.List.{slice_index_or}
 use Rattle.std.proofs.lemmas.Option.{slice_get-get_or}
@@ -22,3 +23,9 @@ loop-entry-preserved c =
           (has_word c.args.book.now c.args.legal word) (has_word c.loop-entry.book c.loop-entry.left word) (has_word c.without.new.book c.in_ok-left.left word) (has_word c.loop-entry.book entry.set word)
           (c.loop-entry.invariant.words word) (same_words c.args.book.now c.loop-entry.book grows entry.set set.within word) (c.in_ok-left.ensures.words word);
     }
+
+pub returns-in_err-left-clause-within : goal.returns-in_err-left-clause-within
+returns-in_err-left-clause-within c = IfOk-from_err c.from_residual.result _ c.from_residual.ensures.0
+
+pub returns-in_err-left-clause-words : goal.returns-in_err-left-clause-words
+returns-in_err-left-clause-words c = IfOk-from_err c.from_residual.result _ c.from_residual.ensures.0

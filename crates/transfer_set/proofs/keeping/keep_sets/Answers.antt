@@ -1,3 +1,4 @@
+use Rattle.std.proofs.lemmas.Result.{IfOk-from_err}
 use Rattle.bit_bdd.proofs.CallerLemmas.{extends_trans}
 use Rattle.transfer_set.proofs.Collecting.{held_entries_later}
 use Rattle.transfer_set.proofs.KeptWords.{left_push}
@@ -16,3 +17,9 @@ loop-storage-preserved c =
           (left_push c.args.book.now c.loop-storage.book c.keep_set.new.book before after c.args.legal c.requires.legal c.args.entries.now c.requires.held
           c.loop-storage.storage c.loop-storage.sets c.in_ok-set.set c.loop-storage.invariant.left c.in_ok-set.ensures.within c.in_ok-set.ensures.words);
     }
+
+pub returns-in_err-push-clause-left : goal.returns-in_err-push-clause-left
+returns-in_err-push-clause-left c = IfOk-from_err c.from_residual-in_err-push.result _ c.from_residual-in_err-push.ensures.0
+
+pub returns-in_err-set-clause-left : goal.returns-in_err-set-clause-left
+returns-in_err-set-clause-left c = IfOk-from_err c.from_residual.result _ c.from_residual.ensures.0

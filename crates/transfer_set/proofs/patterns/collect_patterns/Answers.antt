@@ -1,3 +1,4 @@
+use Rattle.std.proofs.lemmas.Result.{IfOk-from_err}
 use Rattle.std.proofs.Common.{◌≡◌, ◌≤◌, length, subst, arith, ◌∙◌}
 use Rattle.bit_bdd.proofs.CallerLemmas.{extends_trans}
 use Rattle.net_model.proofs.KeptRules.{few_storages}
@@ -53,3 +54,15 @@ returns-clause-ready c =
     c.in_ok-keeps.keeps left c.of.result c.of.ensures.storage c.of.ensures.width
     c.in_ok-step.step c.in_ok-step.ensures.within (rw c.as_slice-2.ensures at c.in_ok-step.ensures.words) c.memory.result c.memory.ensures in
     record { patterns = patterns; bits = (returns-clause-grows c).bits ∙ c.requires.word }
+
+pub returns-in_err-entries-clause-ready : goal.returns-in_err-entries-clause-ready
+returns-in_err-entries-clause-ready c = IfOk-from_err c.from_residual.result _ c.from_residual.ensures.0
+
+pub returns-in_err-keeps-clause-ready : goal.returns-in_err-keeps-clause-ready
+returns-in_err-keeps-clause-ready c = IfOk-from_err c.from_residual-in_err-keeps.result _ c.from_residual-in_err-keeps.ensures.0
+
+pub returns-in_err-rows-clause-ready : goal.returns-in_err-rows-clause-ready
+returns-in_err-rows-clause-ready c = IfOk-from_err c.from_residual-in_err-rows.result _ c.from_residual-in_err-rows.ensures.0
+
+pub returns-in_err-step-clause-ready : goal.returns-in_err-step-clause-ready
+returns-in_err-step-clause-ready c = IfOk-from_err c.from_residual-in_err-step.result _ c.from_residual-in_err-step.ensures.0

@@ -1,3 +1,4 @@
+use Rattle.std.proofs.lemmas.Result.{IfOk-from_err}
 use Rattle.std.proofs.Common.{◌≡◌, ◌∙◌, ◌++◌, ap, slice_index_or, subst, sym}
 use Rattle.transfer_set.specs.PatternsText.{IsLine}
 use Rattle.transfer_set.specs.Rows.{row_pattern}
@@ -21,3 +22,9 @@ pub returns : goal.returns
 returns c pool are =
     lines_end c.args.checked.now.netlist pool c.args.rows.now c.loop-number.number c.loop-number-test.false
     c.loop-number.lines.items (c.loop-number.invariant pool are)
+
+pub returns-in_err-extend_from_slice : goal.returns-in_err-extend_from_slice
+returns-in_err-extend_from_slice c = IfOk-from_err c.from_residual-in_err-extend_from_slice.result _ c.from_residual-in_err-extend_from_slice.ensures.0
+
+pub returns-in_err-row_line : goal.returns-in_err-row_line
+returns-in_err-row_line c = IfOk-from_err c.from_residual.result _ c.from_residual.ensures.0

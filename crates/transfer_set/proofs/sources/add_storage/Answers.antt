@@ -1,5 +1,6 @@
 use Rattle.std.proofs.Common.{◌≡◌, ℕ, ◌<◌, ◌++◌, List, length, Some, get_or, slice_get, refl, ap, ◌∙◌}
 use Rattle.std.proofs.lemmas.Option.{slice_get_read}
+use Rattle.std.proofs.lemmas.Result.{on_ok_weaker}
 use Rattle.net_model.specs.declared.hardware.Storage.{Storage}
 use Rattle.net_model.specs.Widths.{StorageFits}
 use Rattle.transfer_set.specs.Inner.Entries.{moves_under}
@@ -30,21 +31,23 @@ pub add_register-requires-clause-exprs : goal.add_register-requires-clause-exprs
 add_register-requires-clause-exprs c =
     rw c.routes_of-inputs.ensures (c.requires.source.routes.tables _).exprs
 
-pub returns-in_ok-add_register-in-Register-clause-moves : goal.returns-in_ok-add_register-in-Register-clause-moves
-returns-in_ok-add_register-in-Register-clause-moves c n word fits =
+pub returns-in-Register-clause-moves : goal.returns-in-Register-clause-moves
+returns-in-Register-clause-moves c = on_ok_weaker c.add_register.result (λ gives n word fits.
     let at = stored c.args.checked.now.netlist.storages c.args.id _ _ c.requires.id (rw (c.as_slice-storages.ensures, c.netlist.ensures.value) at c.index-storages-id.is) c.in-Register.is in
-    rw (c.when_set-on.ensures, c.routes_of-inputs.ensures) at c.in_ok-add_register-in-Register.ensures.moves n word
+    rw (c.when_set-on.ensures, c.routes_of-inputs.ensures) at gives n word
     ∙ ap (λ l. moves_under c.args.book.now c.args.pool.now c.args.out.now n word ++ l)
     (register_gives c.args.checked.now.netlist c.args.book.now c.args.pool.now c.args.controls.now c.args.routes.now.of c.requires.source c.len-ids.ensures.one_each
-    c.args.id _ _ _ _ at (all_at (StorageFits c.args.checked.now.netlist) c.args.checked.now.netlist.storages c.args.id _ at c.netlist.ensures.sound.typed.storages) n word fits)
+    c.args.id _ _ _ _ at (all_at (StorageFits c.args.checked.now.netlist) c.args.checked.now.netlist.storages c.args.id _ at c.netlist.ensures.sound.typed.storages) n word fits))
+    c.add_register.ensures.moves
 
-pub returns-in_ok-add_register-in-Register-clause-whole : goal.returns-in_ok-add_register-in-Register-clause-whole
-returns-in_ok-add_register-in-Register-clause-whole c w =
+pub returns-in-Register-clause-whole : goal.returns-in-Register-clause-whole
+returns-in-Register-clause-whole c = on_ok_weaker c.add_register.result (λ stays w.
     let at = stored c.args.checked.now.netlist.storages c.args.id _ _ c.requires.id (rw (c.as_slice-storages.ensures, c.netlist.ensures.value) at c.index-storages-id.is) c.in-Register.is in
-    c.in_ok-add_register-in-Register.ensures.whole c.args.checked.now.netlist w
+    stays c.args.checked.now.netlist w
     (rw (c.when_set-on.ensures, c.routes_of-inputs.ensures)
     (register_whole c.args.checked.now.netlist c.args.book.now c.args.pool.now c.args.controls.now c.args.routes.now.of c.requires.source c.len-ids.ensures.one_each
-    c.args.id _ _ _ _ at (all_at (StorageFits c.args.checked.now.netlist) c.args.checked.now.netlist.storages c.args.id _ at c.netlist.ensures.sound.typed.storages)))
+    c.args.id _ _ _ _ at (all_at (StorageFits c.args.checked.now.netlist) c.args.checked.now.netlist.storages c.args.id _ at c.netlist.ensures.sound.typed.storages))))
+    c.add_register.ensures.whole
 
 pub when_set-on-requires-in-Memory : goal.when_set-on-requires-in-Memory
 when_set-on-requires-in-Memory c =
@@ -66,24 +69,27 @@ pub add_memory-requires-clause-values : goal.add_memory-requires-clause-values
 add_memory-requires-clause-values c =
     rw c.routes_of-values.ensures (c.requires.source.routes.tables _).right.sets
 
-pub returns-in_ok-add_memory-in-Memory-clause-moves : goal.returns-in_ok-add_memory-in-Memory-clause-moves
-returns-in_ok-add_memory-in-Memory-clause-moves c n word fits =
+pub returns-in-Memory-clause-moves : goal.returns-in-Memory-clause-moves
+returns-in-Memory-clause-moves c = on_ok_weaker c.add_memory.result (λ gives n word fits.
     let at = stored c.args.checked.now.netlist.storages c.args.id _ _ c.requires.id (rw (c.as_slice-storages.ensures, c.netlist.ensures.value) at c.index-storages-id.is) c.in-Memory.is in
-    rw (c.when_set-on-in-Memory.ensures, c.routes_of-addrs.ensures, c.routes_of-values.ensures) at c.in_ok-add_memory-in-Memory.ensures.moves c.args.pool.now n word
+    rw (c.when_set-on-in-Memory.ensures, c.routes_of-addrs.ensures, c.routes_of-values.ensures) at gives c.args.pool.now n word
     ∙ ap (λ l. moves_under c.args.book.now c.args.pool.now c.args.out.now n word ++ l)
     (memory_gives c.args.checked.now.netlist c.args.book.now c.args.pool.now c.args.controls.now c.args.routes.now.of c.requires.source c.len-ids.ensures.one_each
-    c.args.id _ _ _ _ _ _ _ at (all_at (StorageFits c.args.checked.now.netlist) c.args.checked.now.netlist.storages c.args.id _ at c.netlist.ensures.sound.typed.storages) n word fits)
+    c.args.id _ _ _ _ _ _ _ at (all_at (StorageFits c.args.checked.now.netlist) c.args.checked.now.netlist.storages c.args.id _ at c.netlist.ensures.sound.typed.storages) n word fits))
+    c.add_memory.ensures.moves
 
-pub returns-in_ok-add_memory-in-Memory-clause-whole : goal.returns-in_ok-add_memory-in-Memory-clause-whole
-returns-in_ok-add_memory-in-Memory-clause-whole c w =
+pub returns-in-Memory-clause-whole : goal.returns-in-Memory-clause-whole
+returns-in-Memory-clause-whole c = on_ok_weaker c.add_memory.result (λ stays w.
     let at = stored c.args.checked.now.netlist.storages c.args.id _ _ c.requires.id (rw (c.as_slice-storages.ensures, c.netlist.ensures.value) at c.index-storages-id.is) c.in-Memory.is in
-    c.in_ok-add_memory-in-Memory.ensures.whole c.args.checked.now.netlist c.args.pool.now w
+    stays c.args.checked.now.netlist c.args.pool.now w
     (rw (c.when_set-on-in-Memory.ensures, c.routes_of-addrs.ensures, c.routes_of-values.ensures)
     (memory_whole c.args.checked.now.netlist c.args.book.now c.args.pool.now c.args.controls.now c.args.routes.now.of c.requires.source c.len-ids.ensures.one_each
-    c.args.id _ _ _ _ _ _ _ at (all_at (StorageFits c.args.checked.now.netlist) c.args.checked.now.netlist.storages c.args.id _ at c.netlist.ensures.sound.typed.storages)))
+    c.args.id _ _ _ _ _ _ _ at (all_at (StorageFits c.args.checked.now.netlist) c.args.checked.now.netlist.storages c.args.id _ at c.netlist.ensures.sound.typed.storages))))
+    c.add_memory.ensures.whole
 
-pub returns-in_ok-add_memory-in-Memory-clause-known : goal.returns-in_ok-add_memory-in-Memory-clause-known
-returns-in_ok-add_memory-in-Memory-clause-known c h =
-    c.in_ok-add_memory-in-Memory.ensures.known (length c.args.pool.now) h
+pub returns-in-Memory-clause-known : goal.returns-in-Memory-clause-known
+returns-in-Memory-clause-known c = on_ok_weaker c.add_memory.result (λ known h.
+    known (length c.args.pool.now) h
     (rw c.routes_of-addrs.ensures (c.requires.source.routes.tables _).exprs)
-    (rw c.routes_of-values.ensures (c.requires.source.routes.tables _).exprs)
+    (rw c.routes_of-values.ensures (c.requires.source.routes.tables _).exprs))
+    c.add_memory.ensures.known

@@ -1,3 +1,4 @@
+use Rattle.std.proofs.lemmas.Result.{IfOk-from_err}
 use Rattle.std.proofs.Common.{◌≡◌, ◌^◌, ◌<◌, ◌≤◌, ◌==◌, ◌&&◌, ◌++◌, length, sym, subst, ◌∙◌, arith}
 use Rattle.bit_bdd.specs.Diagrams.{has_word}
 use Rattle.bit_bdd.proofs.CallerLemmas.{extends_trans, same_words}
@@ -51,3 +52,21 @@ returns-clause-every c =
     (λ pattern i fits w. (c.requires.source.legal i fits).1 w.clean)
     (λ n word fits. c.loop-id.invariant.moves n word fits
     ∙ past c.args.checked.now.netlist word n c.loop-id.id (has_word c.args.book.now c.args.controls.now.legal word) (omega (arith, e, c.loop-id-test.false)))
+
+pub returns-in_err-add_storage-clause-held : goal.returns-in_err-add_storage-clause-held
+returns-in_err-add_storage-clause-held c = IfOk-from_err c.from_residual.result _ c.from_residual.ensures.0
+
+pub returns-in_err-add_storage-clause-moves : goal.returns-in_err-add_storage-clause-moves
+returns-in_err-add_storage-clause-moves c = IfOk-from_err c.from_residual.result _ c.from_residual.ensures.0
+
+pub returns-in_err-add_storage-clause-whole : goal.returns-in_err-add_storage-clause-whole
+returns-in_err-add_storage-clause-whole c = IfOk-from_err c.from_residual.result _ c.from_residual.ensures.0
+
+pub returns-in_err-add_storage-clause-known : goal.returns-in_err-add_storage-clause-known
+returns-in_err-add_storage-clause-known c = IfOk-from_err c.from_residual.result _ c.from_residual.ensures.0
+
+pub returns-in_err-add_storage-clause-each : goal.returns-in_err-add_storage-clause-each
+returns-in_err-add_storage-clause-each c = IfOk-from_err c.from_residual.result _ c.from_residual.ensures.0
+
+pub returns-in_err-add_storage-clause-every : goal.returns-in_err-add_storage-clause-every
+returns-in_err-add_storage-clause-every c = IfOk-from_err c.from_residual.result _ c.from_residual.ensures.0

@@ -1,0 +1,30 @@
+use Rattle.std.proofs.Common.{sym, subst}
+use Rattle.cover.specs.Inner.Least.{IsLeastOrder, IsLeastCut}
+use Rattle.cover.specs.Inner.Jobs.{stock_of, nodes_of, open_operands, open_cuts, OperandsAt, CutsAt}
+use Rattle.cover.proofs.FitLemmas.{fit_inputs, fit_stored}
+use Rattle.cover.proofs.fits.fit_parts.Goals as goal
+
+pub orders-requires-clause-at : goal.orders-requires-clause-at
+orders-requires-clause-at c = subst (OperandsAt (nodes_of c.args.instance.now)) (sym c.deref.ensures.value) (c.in_ok-operands.ensures.at (nodes_of c.args.instance.now) c.requires.at)
+
+pub cuts_cost-requires-clause-at : goal.cuts_cost-requires-clause-at
+cuts_cost-requires-clause-at c = subst (CutsAt (nodes_of c.args.instance.now)) (sym c.deref-2.ensures.value) (c.in_ok-cuts.ensures.at (nodes_of c.args.instance.now) c.requires.at)
+
+pub returns-clause-fit : goal.returns-clause-fit
+returns-clause-fit c = (
+  c.in_ok-operands.operands.items,
+  c.in_ok-cuts.cuts.items,
+  c.in_ok-a.a,
+  c.in_ok-b.b,
+  c.in_ok-operands.ensures.operands,
+  c.in_ok-cuts.ensures.cuts,
+  subst (λ l. IsLeastOrder (stock_of c.args.instance.now) c.args.avoid (open_operands l) c.in_ok-a.a) c.deref.ensures.value c.in_ok-a.ensures.least,
+  subst (λ l. IsLeastCut (stock_of c.args.instance.now) (open_cuts l) c.in_ok-b.b) c.deref-2.ensures.value c.in_ok-b.ensures.least,
+  c.fit_of.ensures,
+)
+
+pub returns-clause-at : goal.returns-clause-at
+returns-clause-at c = fit_inputs (OperandsAt (nodes_of c.args.instance.now)) _ _ _ _ _ c.fit_of.ensures (c.in_ok-operands.ensures.at (nodes_of c.args.instance.now) c.requires.at)
+
+pub returns-clause-cuts_at : goal.returns-clause-cuts_at
+returns-clause-cuts_at c = fit_stored (CutsAt (nodes_of c.args.instance.now)) _ _ _ _ _ c.fit_of.ensures (c.in_ok-cuts.ensures.at (nodes_of c.args.instance.now) c.requires.at)
