@@ -1,6 +1,6 @@
 //! How many cuts covers have.
 
-ghost use Rattle.std.specs.Prelude.{◌≡◌, ℕ, ◌+◌, IfOk, OnOk, insert};
+ghost use Rattle.std.specs.Prelude.{◌≡◌, ℕ, ◌+◌, IfOk, insert};
 ghost use Rattle.form_model.specs.Plans.{cuts_plan, operands_plan, plan_of};
 ghost use Rattle.form_model.specs.Steps.{cut_count as cut_count_of, cut_counts as cut_counts_of, cuts_count as cuts_count_of, operand_counts as operand_counts_of, operands_count as operands_count_of};
 
@@ -48,14 +48,15 @@ pub fn cut_count(cover: &Cover) -> Result<u64, NoMemory>
     plus(operands_count(&cover.operands)?, cuts_count(&cover.cuts)?)
 }
 
-fn insert_count(counts: &mut Vec<u64>, place: usize, count: u64) -> Result<(), NoMemory>
-    ensures { OnOk result (counts.new.items ≡ insert counts.old.items place count) }
+/// A list with one item more at this place. Want of memory where the place is past its end.
+pub fn inserted<T: Drop>(mut list: Vec<T>, place: usize, item: T) -> Result<Vec<T>, NoMemory>
+    ensures { IfOk result (λ made. made.items ≡ insert list.items place item) }
 {
-    if place > counts.len() {
+    if place > list.len() {
         return Err(NoMemory);
     }
-    counts.insert(place, count)?;
-    Ok(())
+    list.insert(place, item)?;
+    Ok(list)
 }
 
 /// The operands' numbers of cuts, from left to right.
@@ -65,8 +66,8 @@ pub fn operand_counts(alloc: Global, operands: &CoverOperands) -> Result<Vec<u64
     match operands {
         CoverOperands::Empty => Ok(Vec::new(alloc)),
         CoverOperands::Then { place, cover, rest } => {
-            let mut counts = operand_counts(alloc, rest)?;
-            insert_count(&mut counts, *place, cut_count(cover)?)?;
+            let count = cut_count(cover)?;
+            let counts = inserted(operand_counts(alloc, rest)?, *place, count)?;
             Ok(counts)
         }
     }
@@ -79,8 +80,8 @@ pub fn cut_counts(alloc: Global, cuts: &CoverCuts) -> Result<Vec<u64>, NoMemory>
     match cuts {
         CoverCuts::Empty => Ok(Vec::new(alloc)),
         CoverCuts::Then { cover, rest } => {
-            let mut counts = cut_counts(alloc, rest)?;
-            insert_count(&mut counts, 0, cut_count(cover)?)?;
+            let count = cut_count(cover)?;
+            let counts = inserted(cut_counts(alloc, rest)?, 0, count)?;
             Ok(counts)
         }
     }

@@ -1,13 +1,14 @@
 //! The steps that put cuts into their cells.
 
-ghost use Rattle.std.specs.Prelude.{◌≡◌, ◌++◌, IfOk, OnOk, insert};
+ghost use Rattle.std.specs.Prelude.{◌≡◌, ◌++◌, IfOk, OnOk};
 ghost use Rattle.form_model.specs.Plans.{cuts_plan, operands_plan, plan_of};
-ghost use Rattle.form_model.specs.Steps.{cut_steps as cut_steps_of, inside_operands as inside_operands_of, into_cells as into_cells_of, woven as woven_of};
+ghost use Rattle.form_model.specs.Steps.{cut_steps as cut_steps_of, inside_operands as inside_operands_of, into_cells as into_cells_of, own_steps, woven as woven_of};
 ghost use Rattle.form_model.specs.Trees.{tree_term};
 ghost use Rattle.tree_grammar.specs.Parts.{destination_at, sites_of};
 ghost use Rattle.emit_seq.specs.Views.{cells_of_cuts, cells_of_operands, stock_of};
 
 use crate::cells::{CutCells, OperandCells};
+use crate::counts::inserted;
 use crate::operands::put_own_steps;
 use crate::roots::{Covered, Stock, cut_covered, operand_covered, root_of, take_out};
 use form_model::{Cover, CoverCuts, CoverOperands, Step};
@@ -54,18 +55,17 @@ fn put_woven(
     }
 }
 
-fn insert_list(
-    lists: &mut Vec<Items<Step>>,
-    place: usize,
-    steps: Items<Step>,
-) -> Result<(), NoMemory>
-    ensures { OnOk result (lists.new.items ≡ insert lists.old.items place steps) }
+fn woven(
+    alloc: Global,
+    parts: &[Part],
+    inside: &[Items<Step>],
+    own: &[Items<Step>],
+) -> Result<Items<Step>, NoMemory>
+    ensures { IfOk result (λ steps. steps ≡ woven_of (sites_of parts.now) inside.now own.now) }
 {
-    if place > lists.len() {
-        return Err(NoMemory);
-    }
-    lists.insert(place, steps)?;
-    Ok(())
+    let mut out = Items::new(alloc);
+    put_woven(&mut out, parts, inside, own)?;
+    Ok(out)
 }
 
 /// The steps that put the cuts of a cover into their cells.
@@ -82,14 +82,29 @@ pub fn cut_steps<'a>(
     let mut root = root_of(alloc, stock, cover, covered)?;
     let inside = inside_operands(alloc, stock, &cover.operands, &mut root.operands)?;
     let own = into_cells(alloc, stock, &cover.cuts, root.cuts.as_slice())?;
-    let mut out = Items::new(alloc);
-    put_woven(
-        &mut out,
+    woven(
+        alloc,
         root.parts.as_slice(),
         inside.as_slice(),
         own.as_slice(),
-    )?;
-    Ok(out)
+    )
+}
+
+/// The steps that put the cuts of a cover into their cells, and then its own.
+#[cycle(cutting)]
+pub fn all_steps<'a>(
+    alloc: Global,
+    stock: Stock<'a>,
+    cover: &Cover,
+    covered: Covered<'a>,
+) -> Result<Items<Step>, NoMemory>
+    ensures { IfOk result (λ steps.
+        steps ≡ cut_steps_of (stock_of stock.entry) (plan_of cover.now) covered.entry.first (destination_at covered.entry.destination) (tree_term covered.entry.tree.now) covered.entry.whole
+        ++ own_steps (stock_of stock.entry) (plan_of cover.now) covered.entry.first (destination_at covered.entry.destination) (tree_term covered.entry.tree.now) covered.entry.whole) }
+{
+    let mut steps = cut_steps(alloc, stock, cover, covered)?;
+    put_own_steps(alloc, stock, cover, covered, &mut steps)?;
+    Ok(steps)
 }
 
 // For each operand, from left to right, the steps for the cuts inside it. The cells of each are
@@ -109,8 +124,8 @@ fn inside_operands<'a>(
         CoverOperands::Then { place, cover, rest } => {
             let operand = operand_covered(take_out(left, *place)?);
             let steps = cut_steps(alloc, stock, cover, operand)?;
-            let mut lists = inside_operands(alloc, stock, rest, left)?;
-            insert_list(&mut lists, *place, steps)?;
+            let others = inside_operands(alloc, stock, rest, left)?;
+            let lists = inserted(others, *place, steps)?;
             Ok(lists)
         }
     }
@@ -132,11 +147,9 @@ fn into_cells<'a>(
         CoverCuts::Then { cover, rest } => match cuts {
             [] => Err(NoMemory),
             [cells, later @ ..] => {
-                let cut = cut_covered(*cells);
-                let mut steps = cut_steps(alloc, stock, cover, cut)?;
-                put_own_steps(alloc, stock, cover, cut, &mut steps)?;
-                let mut lists = into_cells(alloc, stock, rest, later)?;
-                insert_list(&mut lists, 0, steps)?;
+                let steps = all_steps(alloc, stock, cover, cut_covered(*cells))?;
+                let others = into_cells(alloc, stock, rest, later)?;
+                let lists = inserted(others, 0, steps)?;
                 Ok(lists)
             }
         },

@@ -9,8 +9,7 @@ ghost use Rattle.tree_grammar.specs.Parts.{destination_at};
 ghost use Rattle.emit_seq.specs.Emits.{IsEmitted, branch_of as branch_setting_of, setting_of_test};
 ghost use Rattle.emit_seq.specs.Views.{stock_of, stock_with};
 
-use crate::cuts::cut_steps;
-use crate::operands::put_own_steps;
+use crate::cuts::all_steps;
 use crate::roots::{Covered, Stock, root_of};
 use form_model::{Cover, Forms, Job, Step, Tree};
 use rec_bits::{Items, NoMemory};
@@ -62,9 +61,8 @@ fn emit_at<'a>(
         whole: true,
         first: 0,
     };
-    let mut steps = cut_steps(alloc, stock, cover, covered)?;
-    put_own_steps(alloc, stock, cover, covered, &mut steps)?;
     let branch = branch_of(alloc, stock, cover, covered)?;
+    let steps = all_steps(alloc, stock, cover, covered)?;
     Ok(Emitted { steps, branch })
 }
 

@@ -1,16 +1,18 @@
 //! The form at the root of a cover, with its match, its operands and cuts, and its step.
 
 ghost use Rattle.std.specs.Prelude.{◌≡◌, ◌+◌, Some, IfOk, bit_or, false, remove, slice_get};
-ghost use Rattle.form_model.specs.Plans.{plan_of};
+ghost use Rattle.form_model.specs.Plans.{cuts_plan, operands_plan, plan_of};
 ghost use Rattle.form_model.specs.Rules.{rule_of};
 ghost use Rattle.form_model.specs.Matches.{taken};
+ghost use Rattle.form_model.specs.Steps.{cells_setting as cells_setting_of, cut_count as cut_count_of, cut_counts as cut_counts_of, operand_counts as operand_counts_of, temp_setting as temp_setting_of};
 ghost use Rattle.form_model.specs.Trees.{tree_term};
-ghost use Rattle.tree_grammar.specs.Parts.{destination_at, found_of};
+ghost use Rattle.tree_grammar.specs.Parts.{destination_at, found_of, sites_of};
 ghost use Rattle.tree_grammar.specs.declared.parts.Destination.TheVariants.{Register, Temp};
-ghost use Rattle.emit_seq.specs.Views.{cells_of_operand, cells_of_operands, stock_of};
+ghost use Rattle.emit_seq.specs.Inner.CellLists.{AreMatchCells};
+ghost use Rattle.emit_seq.specs.Views.{cells_of_cuts, cells_of_operand, cells_of_operands, stock_of};
 ghost use Rattle.emit_seq.specs.Emits.{IsRoot, IsTakenOut};
 
-use crate::cells::{CutCells, OperandCells, match_cells};
+use crate::cells::{CutCells, MatchCells, OperandCells, match_cells};
 use crate::counts::{cut_count, cut_counts, operand_counts, plus};
 use crate::settings::{cells_setting, temp_setting};
 use form_model::{Cover, Form, Step, Tree};
@@ -71,6 +73,38 @@ fn found_at<'a>(
     found.ok_or(NoMemory)
 }
 
+// The operands and the cuts of a match with these parts, with their cells from the first on.
+fn cells_from<'a>(
+    alloc: Global,
+    parts: &[Part<'a>],
+    cover: &Cover,
+    first: u64,
+) -> Result<MatchCells<'a>, NoMemory>
+    ensures { IfOk result (AreMatchCells (sites_of parts.now) (operand_counts_of (operands_plan cover.now.operands)) (cut_counts_of (cuts_plan cover.now.cuts)) first) }
+{
+    let inside = operand_counts(alloc, &cover.operands)?;
+    let own = cut_counts(alloc, &cover.cuts)?;
+    let cells = match_cells(alloc, parts, inside.as_slice(), own.as_slice(), first)?;
+    Ok(cells)
+}
+
+// The bits that are settled, with those that name the cells of a form's cuts and its own.
+fn setting_with(
+    settled: u64,
+    form: &Form,
+    cover: &Cover,
+    covered: Covered<'_>,
+    cuts: &[CutCells],
+) -> Result<u64, NoMemory>
+    ensures { IfOk result (λ n.
+        n ≡ bit_or (bit_or settled (cells_setting_of (cells_of_cuts cuts.now))) (temp_setting_of (destination_at covered.entry.destination) (rule_of form.now).addr (covered.entry.first + cut_count_of (plan_of cover.now)))) }
+{
+    let last = plus(covered.first, cut_count(cover)?)?;
+    let read = cells_setting(cuts)?;
+    let written = temp_setting(form, covered.destination, last)?;
+    Ok((settled | read) | written)
+}
+
 /// The form at the root of a cover.
 pub fn root_of<'a>(
     alloc: Global,
@@ -83,21 +117,11 @@ pub fn root_of<'a>(
 {
     let form = form_at(stock, cover.form)?;
     let found = found_at(alloc, stock, form, covered)?;
-    let inside = operand_counts(alloc, &cover.operands)?;
-    let own = cut_counts(alloc, &cover.cuts)?;
-    let cells = match_cells(
-        alloc,
-        found.parts.as_slice(),
-        inside.as_slice(),
-        own.as_slice(),
-        covered.first,
-    )?;
-    let last = plus(covered.first, cut_count(cover)?)?;
-    let read = cells_setting(cells.cuts.as_slice())?;
-    let written = temp_setting(form, covered.destination, last)?;
+    let cells = cells_from(alloc, found.parts.as_slice(), cover, covered.first)?;
+    let setting = setting_with(found.setting, form, cover, covered, cells.cuts.as_slice())?;
     let step = Step {
         pattern: form.pattern,
-        setting: (found.setting | read) | written,
+        setting,
     };
     Ok(Root {
         parts: found.parts,

@@ -195,8 +195,7 @@ pub fn build(
 {
     match statement {
         Stmt::Assign { place, value } => {
-            push_assign(alloc, word, table, steps, place, value, next)?;
-            Ok(())
+            push_assign(alloc, word, table, steps, place, value, next)
         }
         Stmt::If { test, yes, no } => {
             let tree = steps.len();
@@ -204,23 +203,21 @@ pub fn build(
             match no {
                 None => {
                     push_test(alloc, word, table, steps, test, on_true, next)?;
-                    build_block(alloc, word, table, steps, yes, next)?;
+                    build_block(alloc, word, table, steps, yes, next)
                 }
                 Some(other) => {
                     let on_false = entry(other, tree + 1 + trees_in(yes), next);
                     push_test(alloc, word, table, steps, test, on_true, on_false)?;
                     build_block(alloc, word, table, steps, yes, next)?;
-                    build_block(alloc, word, table, steps, other, next)?;
+                    build_block(alloc, word, table, steps, other, next)
                 }
             }
-            Ok(())
         }
         Stmt::While { test, body } => {
             let tree = steps.len();
             let on_true = entry(body, tree + 1, tree);
             push_test(alloc, word, table, steps, test, on_true, next)?;
-            build_block(alloc, word, table, steps, body, tree)?;
-            Ok(())
+            build_block(alloc, word, table, steps, body, tree)
         }
         Stmt::For {
             counter,
@@ -235,8 +232,7 @@ pub fn build(
             push_start(table, word, steps, counter, *from, tree + 1)?;
             push_counting(table, word, steps, counter, *to, on_true, next)?;
             build_block(alloc, word, table, steps, body, step)?;
-            push_step(alloc, word, table, steps, counter, tree + 1)?;
-            Ok(())
+            push_step(alloc, word, table, steps, counter, tree + 1)
         }
     }
 }

@@ -78,29 +78,45 @@ pub fn resolve(
         SrcNode::Var(spot) => read(alloc, word, table, asked, spot),
         SrcNode::Un(op, x) => {
             let width = width_of(word, asked, x);
-            let operand = Box::new(alloc, resolve(alloc, word, table, asked, x)?)?;
+            let operand = operand(alloc, word, table, asked, x)?;
             Ok(Formula::Un(*op, width, operand))
         }
         SrcNode::Bin(op, x, y) => {
             let width = operand_width(word, x, y);
-            let left = Box::new(alloc, resolve(alloc, word, table, width, x)?)?;
-            let right = Box::new(alloc, resolve(alloc, word, table, width, y)?)?;
+            let left = operand(alloc, word, table, width, x)?;
+            let right = operand(alloc, word, table, width, y)?;
             Ok(Formula::Bin(*op, width, left, right))
         }
-        SrcNode::Zext(x, _) => {
-            let formula = resolve(alloc, word, table, word, x)?;
-            Ok(formula)
-        }
+        SrcNode::Zext(x, _) => resolve(alloc, word, table, word, x),
         SrcNode::Sext(x, to) => {
             let from = width_of(word, word, x);
-            let operand = Box::new(alloc, resolve(alloc, word, table, word, x)?)?;
+            let operand = operand(alloc, word, table, word, x)?;
             Ok(Formula::Sext(from, *to as u8, operand))
         }
         SrcNode::Low(x, width) => {
-            let operand = Box::new(alloc, resolve(alloc, word, table, word, x)?)?;
+            let operand = operand(alloc, word, table, word, x)?;
             Ok(Formula::Low(*width as u8, operand))
         }
     }
+}
+
+// The same in a box, for an operator or an index.
+#[cycle(resolve)]
+fn operand(
+    alloc: Global,
+    word: u8,
+    table: &Table<'_>,
+    asked: u8,
+    e: &SrcExpr,
+) -> Result<Box<Formula>, NoMemory>
+    requires word { IsWidth word }
+    requires asked { IsWidth asked }
+    requires fitting { Fitting word asked (shape_of e.now.node) }
+    ensures { IfOk result (λ made. Resolves word table.now asked (shape_of e.now.node) made.value) }
+{
+    let formula = resolve(alloc, word, table, asked, e)?;
+    let made = Box::new(alloc, formula)?;
+    Ok(made)
 }
 
 // What a place holds.
@@ -120,7 +136,7 @@ fn read(
     match &spot.index {
         None => Ok(Formula::Cell(first)),
         Some(x) => {
-            let index = Box::new(alloc, resolve(alloc, word, table, word, x)?)?;
+            let index = operand(alloc, word, table, word, x)?;
             Ok(Formula::Element(first, index))
         }
     }

@@ -78,8 +78,7 @@ fn while_flow(
     ensures { IfOk result (λ flow. flow ≡ asked cmp tree (at + 1) (at + 1 + length inner.now + 1) ∷ (inner.now ++ JumpTo at ∷ [])) }
 {
     let test = asked(cmp, tree, at + 1, at + 1 + inner.len() as u32 + 1);
-    let flow = tested(alloc, test, inner, at)?;
-    Ok(flow)
+    tested(alloc, test, inner, at)
 }
 
 // The flow of an `if` without an else part.
@@ -207,8 +206,7 @@ fn lower_if(
     let job = test_job(alloc, memory, test)?;
     let tree = push_job(jobs, job)?;
     let inner = lower_block(alloc, memory, jobs, taken, at + 1)?;
-    let flow = if_flow(alloc, test.cmp, tree, at, inner.as_slice())?;
-    Ok(flow)
+    if_flow(alloc, test.cmp, tree, at, inner.as_slice())
 }
 
 // An `if` with an else part.
@@ -231,15 +229,14 @@ fn lower_else(
     let inner = lower_block(alloc, memory, jobs, taken, at + 1)?;
     let over = at + 1 + inner.len() as u32 + 1;
     let after = lower_block(alloc, memory, jobs, other, over)?;
-    let flow = else_flow(
+    else_flow(
         alloc,
         test.cmp,
         tree,
         at,
         inner.as_slice(),
         after.as_slice(),
-    )?;
-    Ok(flow)
+    )
 }
 
 #[cycle(lower)]
@@ -258,8 +255,7 @@ fn lower_while(
     let job = test_job(alloc, memory, test)?;
     let tree = push_job(jobs, job)?;
     let inner = lower_block(alloc, memory, jobs, body, at + 1)?;
-    let flow = while_flow(alloc, test.cmp, tree, at, inner.as_slice())?;
-    Ok(flow)
+    while_flow(alloc, test.cmp, tree, at, inner.as_slice())
 }
 
 // A `for` whose counter goes from the first of the numbers to the second.
@@ -285,8 +281,7 @@ fn lower_for(
     let inner = lower_block(alloc, memory, jobs, body, at + 2)?;
     let last = step_job(alloc, memory, counter)?;
     let step = push_job(jobs, last)?;
-    let flow = for_flow(alloc, tree, step, at, inner.as_slice())?;
-    Ok(flow)
+    for_flow(alloc, tree, step, at, inner.as_slice())
 }
 
 // The flow of statements, of which the first stands at `at`.

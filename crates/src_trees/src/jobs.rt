@@ -2,17 +2,18 @@
 
 ghost use Rattle.std.specs.Prelude.{◌≡◌, ◌+◌, ◌<◌, ◌^◌, IfOk, map, [], ◌∷◌};
 ghost use Rattle.net_model.specs.Terms.{const, read, bin};
+ghost use Rattle.rec_bits.specs.Operators.{IsWidth};
 ghost use Rattle.rec_bits.specs.declared.operator.Op2.TheVariants.{Sub, Eq as Equal};
 ghost use Rattle.src_model.specs.Written.{shape_of, spot_shape, place_of, phrase_of, test_of};
 ghost use Rattle.src_model.specs.Fitting.{Fitting, FitsSides};
 ghost use Rattle.form_model.specs.Trees.{tree_term};
 ghost use Rattle.form_model.specs.Rules.{destination_of};
-ghost use Rattle.src_trees.specs.Lowered.{base_of, assigned_destination, assign_work, compare_work, test_work, start_work, counting_work, step_work};
+ghost use Rattle.src_trees.specs.Lowered.{base_of, tree_of, assigned_destination, assign_work, compare_work, test_work, start_work, counting_work, step_work};
 ghost use Rattle.src_trees.specs.Inner.Near.{IsNear};
 ghost use Rattle.src_trees.specs.Jobs.{work_of};
 
 use crate::memory::DataMemory;
-use crate::trees::{computed, operand_width, tree};
+use crate::trees::{computed, keeping, operand, operand_width, over, tree};
 use form_model::{Aim, Job, Tree};
 use rec_bits::{Name, NoMemory, Op2};
 use src_model::{Cmp, Spot, SrcExpr, SrcTest, number_of};
@@ -39,12 +40,28 @@ fn aim(alloc: Global, memory: &DataMemory<'_>, spot: &Spot) -> Result<Aim, NoMem
     }
 }
 
+fn one<T: Drop>(alloc: Global, x: T) -> Result<Vec<T>, NoMemory>
+    ensures { IfOk result (λ made. made.items ≡ x ∷ []) }
+{
+    let mut made = Vec::new(alloc);
+    made.push(x)?;
+    Ok(made)
+}
+
+fn two<T: Drop>(alloc: Global, x: T, y: T) -> Result<Vec<T>, NoMemory>
+    ensures { IfOk result (λ made. made.items ≡ x ∷ y ∷ []) }
+{
+    let mut made = Vec::new(alloc);
+    made.push(x)?;
+    made.push(y)?;
+    Ok(made)
+}
+
 // A job of one tree.
 fn job(alloc: Global, aim: Aim, tree: Tree) -> Result<Job, NoMemory>
     ensures { IfOk result (λ made. work_of made ≡ record { destination = destination_of aim; trees = tree_term tree ∷ [] }) }
 {
-    let mut trees = Vec::new(alloc);
-    trees.push(tree)?;
+    let (aim, trees) = keeping(aim, one(alloc, tree))?;
     Ok(Job { aim, trees })
 }
 
@@ -62,48 +79,86 @@ pub(crate) fn assign_job(
     ensures { IfOk result (λ made. work_of made ≡ assign_work memory.now (place_of spot.now) (phrase_of value.now)) }
 {
     let aim = aim(alloc, memory, spot)?;
-    let tree = tree(alloc, memory, memory.word(), value)?;
+    let (aim, tree) = keeping(aim, tree(alloc, memory, memory.word(), value))?;
     let made = job(alloc, aim, tree)?;
     Ok(made)
 }
 
-// An operator over two trees.
-fn over(alloc: Global, op: Op2, x: Tree, y: Tree) -> Result<Tree, NoMemory>
-    ensures { IfOk result (λ made. tree_term made ≡ bin op (tree_term x) (tree_term y)) }
+// An operator over the trees of two expressions.
+fn operated(
+    alloc: Global,
+    memory: &DataMemory<'_>,
+    op: Op2,
+    width: u8,
+    x: &SrcExpr,
+    y: &SrcExpr,
+) -> Result<Tree, NoMemory>
+    requires width { IsWidth width }
+    requires left { Fitting memory.now.word width (shape_of x.now.node) }
+    requires right { Fitting memory.now.word width (shape_of y.now.node) }
+    requires near_left { IsNear memory.now.places (shape_of x.now.node) }
+    requires near_right { IsNear memory.now.places (shape_of y.now.node) }
+    ensures { IfOk result (λ made.
+        tree_term made ≡ bin op (tree_of memory.now width (shape_of x.now.node)) (tree_of memory.now width (shape_of y.now.node))) }
 {
-    let left = Box::new(alloc, x)?;
-    let right = Box::new(alloc, y)?;
+    let left = operand(alloc, memory, width, x)?;
+    let (left, right) = keeping(left, operand(alloc, memory, width, y))?;
     Ok(Tree::Bin(op, left, right))
 }
 
-// The two trees of a comparison for equality of two trees, each of which is given twice.
-fn equality(
-    alloc: Global,
-    width: u8,
-    x: Tree,
-    y: Tree,
-    x_again: Tree,
-    y_again: Tree,
-) -> Result<Vec<Tree>, NoMemory>
+// The two trees that tell whether two values are the same: their comparison, and that of their
+// difference with 0.
+fn equality(alloc: Global, width: u8, same: Tree, difference: Tree) -> Result<Vec<Tree>, NoMemory>
     ensures { IfOk result (λ made.
-        map tree_term made.items ≡ bin Equal (tree_term x) (tree_term y) ∷ bin Equal (bin Sub (tree_term x_again) (tree_term y_again)) (const width 0) ∷ []) }
+        map tree_term made.items ≡ tree_term same ∷ bin Equal (tree_term difference) (const width 0) ∷ []) }
 {
-    let first = over(alloc, Op2::Eq, x, y)?;
-    let difference = over(alloc, Op2::Sub, x_again, y_again)?;
     let zero = Tree::Lit { width, value: 0 };
-    let second = over(alloc, Op2::Eq, difference, zero)?;
-    let mut trees = Vec::new(alloc);
-    trees.push(first)?;
-    trees.push(second)?;
+    let (same, none) = keeping(same, over(alloc, Op2::Eq, difference, zero))?;
+    let trees = two(alloc, same, none)?;
     Ok(trees)
 }
 
-fn single(alloc: Global, op: Op2, x: Tree, y: Tree) -> Result<Vec<Tree>, NoMemory>
-    ensures { IfOk result (λ made. map tree_term made.items ≡ bin op (tree_term x) (tree_term y) ∷ []) }
+// The trees of a comparison for equality.
+fn equated(
+    alloc: Global,
+    memory: &DataMemory<'_>,
+    width: u8,
+    x: &SrcExpr,
+    y: &SrcExpr,
+) -> Result<Vec<Tree>, NoMemory>
+    requires width { IsWidth width }
+    requires left { Fitting memory.now.word width (shape_of x.now.node) }
+    requires right { Fitting memory.now.word width (shape_of y.now.node) }
+    requires near_left { IsNear memory.now.places (shape_of x.now.node) }
+    requires near_right { IsNear memory.now.places (shape_of y.now.node) }
+    ensures { IfOk result (λ made.
+        map tree_term made.items ≡ bin Equal (tree_of memory.now width (shape_of x.now.node)) (tree_of memory.now width (shape_of y.now.node))
+        ∷ bin Equal (bin Sub (tree_of memory.now width (shape_of x.now.node)) (tree_of memory.now width (shape_of y.now.node))) (const width 0) ∷ []) }
 {
-    let tree = over(alloc, op, x, y)?;
-    let mut trees = Vec::new(alloc);
-    trees.push(tree)?;
+    let same = operated(alloc, memory, Op2::Eq, width, x, y)?;
+    let (same, difference) = keeping(same, operated(alloc, memory, Op2::Sub, width, x, y))?;
+    let trees = equality(alloc, width, same, difference)?;
+    Ok(trees)
+}
+
+// The tree of a comparison for order.
+fn ordered(
+    alloc: Global,
+    memory: &DataMemory<'_>,
+    op: Op2,
+    width: u8,
+    x: &SrcExpr,
+    y: &SrcExpr,
+) -> Result<Vec<Tree>, NoMemory>
+    requires width { IsWidth width }
+    requires left { Fitting memory.now.word width (shape_of x.now.node) }
+    requires right { Fitting memory.now.word width (shape_of y.now.node) }
+    requires near_left { IsNear memory.now.places (shape_of x.now.node) }
+    requires near_right { IsNear memory.now.places (shape_of y.now.node) }
+    ensures { IfOk result (λ made. map tree_term made.items ≡ bin op (tree_of memory.now width (shape_of x.now.node)) (tree_of memory.now width (shape_of y.now.node)) ∷ []) }
+{
+    let tree = operated(alloc, memory, op, width, x, y)?;
+    let trees = one(alloc, tree)?;
     Ok(trees)
 }
 
@@ -122,18 +177,12 @@ fn compared(
         map tree_term made.items ≡ (compare_work memory.now cmp (shape_of x.now.node) (shape_of y.now.node)).trees) }
 {
     let width = operand_width(memory.word(), x, y);
-    let left = tree(alloc, memory, width, x)?;
-    let right = tree(alloc, memory, width, y)?;
     let trees = match cmp {
-        Cmp::Eq | Cmp::Ne => {
-            let left_again = tree(alloc, memory, width, x)?;
-            let right_again = tree(alloc, memory, width, y)?;
-            equality(alloc, width, left, right, left_again, right_again)?
-        }
-        Cmp::Lt | Cmp::Ge => single(alloc, Op2::Ltu, left, right)?,
-        Cmp::Gt | Cmp::Le => single(alloc, Op2::Ltu, right, left)?,
-        Cmp::Slt | Cmp::Sge => single(alloc, Op2::Lts, left, right)?,
-        Cmp::Sgt | Cmp::Sle => single(alloc, Op2::Lts, right, left)?,
+        Cmp::Eq | Cmp::Ne => equated(alloc, memory, width, x, y)?,
+        Cmp::Lt | Cmp::Ge => ordered(alloc, memory, Op2::Ltu, width, x, y)?,
+        Cmp::Gt | Cmp::Le => ordered(alloc, memory, Op2::Ltu, width, y, x)?,
+        Cmp::Slt | Cmp::Sge => ordered(alloc, memory, Op2::Lts, width, x, y)?,
+        Cmp::Sgt | Cmp::Sle => ordered(alloc, memory, Op2::Lts, width, y, x)?,
     };
     Ok(trees)
 }
@@ -178,6 +227,22 @@ fn number(memory: &DataMemory<'_>, value: u64) -> Tree
     }
 }
 
+// An operator over the counter of a `for` and a number.
+fn counted(
+    alloc: Global,
+    memory: &DataMemory<'_>,
+    op: Op2,
+    counter: &Name,
+    value: u64,
+) -> Result<Tree, NoMemory>
+    ensures { IfOk result (λ made.
+        tree_term made ≡ bin op (read (const memory.now.addr (base_of memory.now.places counter.now)) memory.now.word) (const memory.now.word value)) }
+{
+    let count = counter_tree(alloc, memory, counter)?;
+    let made = over(alloc, op, count, number(memory, value))?;
+    Ok(made)
+}
+
 /// The job that starts a `for`.
 pub(crate) fn start_job(
     alloc: Global,
@@ -202,11 +267,9 @@ pub(crate) fn counting_job(
     requires { to + 1 < 2 ^ 64 }
     ensures { IfOk result (λ made. work_of made ≡ counting_work memory.now counter.now 0 to) }
 {
-    let count = counter_tree(alloc, memory, counter)?;
-    let again = counter_tree(alloc, memory, counter)?;
-    let past = number(memory, to + 1);
-    let past_again = number(memory, to + 1);
-    let trees = equality(alloc, memory.word(), count, past, again, past_again)?;
+    let same = counted(alloc, memory, Op2::Eq, counter, to + 1)?;
+    let (same, difference) = keeping(same, counted(alloc, memory, Op2::Sub, counter, to + 1))?;
+    let trees = equality(alloc, memory.word(), same, difference)?;
     Ok(Job {
         aim: Aim::Test,
         trees,
@@ -221,8 +284,7 @@ pub(crate) fn step_job(
 ) -> Result<Job, NoMemory>
     ensures { IfOk result (λ made. work_of made ≡ step_work memory.now counter.now) }
 {
-    let count = counter_tree(alloc, memory, counter)?;
-    let next = over(alloc, Op2::Add, count, number(memory, 1))?;
+    let next = counted(alloc, memory, Op2::Add, counter, 1)?;
     let aim = Aim::Cell(memory.base(counter));
     let made = job(alloc, aim, next)?;
     Ok(made)

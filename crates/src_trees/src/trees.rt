@@ -1,7 +1,7 @@
 //! The trees of expressions.
 
-ghost use Rattle.std.specs.Prelude.{◌≡◌, IfOk};
-ghost use Rattle.net_model.specs.Terms.{read};
+ghost use Rattle.std.specs.Prelude.{◌≡◌, Ok, IfOk};
+ghost use Rattle.net_model.specs.Terms.{read, bin};
 ghost use Rattle.src_model.specs.Written.{shape_of, spot_shape};
 ghost use Rattle.src_model.specs.Meaning.{shape_width, operand_width};
 ghost use Rattle.src_model.specs.Fitting.{Fitting};
@@ -15,6 +15,33 @@ use form_model::Tree;
 use rec_bits::{Name, NoMemory, Op2, result_width};
 use src_model::{Spot, SrcExpr, SrcNode, is_literal, number_of};
 use std::alloc::Global;
+
+/// The value beside what was made behind it. The value is let go here where nothing was made,
+/// whatever its type, so that a maker has only its own ways out.
+pub(crate) fn keeping<T: Drop, R>(value: T, made: Result<R, NoMemory>) -> Result<(T, R), NoMemory>
+    ensures kept { IfOk result (λ x. x.0 ≡ value) }
+    ensures made { IfOk result (λ x. made ≡ Ok x.1) }
+{
+    let made = made?;
+    Ok((value, made))
+}
+
+fn boxes<T: Drop>(alloc: Global, x: T, y: T) -> Result<(Box<T>, Box<T>), NoMemory>
+    ensures left { IfOk result (λ made. made.0.value ≡ x) }
+    ensures right { IfOk result (λ made. made.1.value ≡ y) }
+{
+    let left = Box::new(alloc, x)?;
+    let right = Box::new(alloc, y)?;
+    Ok((left, right))
+}
+
+/// An operator over two trees.
+pub(crate) fn over(alloc: Global, op: Op2, x: Tree, y: Tree) -> Result<Tree, NoMemory>
+    ensures { IfOk result (λ made. tree_term made ≡ bin op (tree_term x) (tree_term y)) }
+{
+    let (left, right) = boxes(alloc, x, y)?;
+    Ok(Tree::Bin(op, left, right))
+}
 
 // A value of a cell's width as an address.
 fn narrowed(alloc: Global, memory: &DataMemory<'_>, value: Tree) -> Result<Tree, NoMemory>
@@ -42,9 +69,8 @@ pub(crate) fn computed(
         width: memory.word(),
         value: u64::from(memory.base(name)),
     };
-    let left = Box::new(alloc, index)?;
-    let right = Box::new(alloc, base)?;
-    let address = narrowed(alloc, memory, Tree::Bin(Op2::Add, left, right))?;
+    let sum = over(alloc, Op2::Add, index, base)?;
+    let address = narrowed(alloc, memory, sum)?;
     Ok(address)
 }
 
@@ -104,33 +130,50 @@ pub(crate) fn tree(
             value: *n,
         }),
         SrcNode::Var(spot) => {
-            let address = address(alloc, memory, spot)?;
-            let address = Box::new(alloc, address)?;
-            Ok(Tree::Read(address, word))
+            let place = Box::new(alloc, address(alloc, memory, spot)?)?;
+            Ok(Tree::Read(place, word))
         }
         SrcNode::Un(op, x) => {
-            let operand = Box::new(alloc, tree(alloc, memory, asked, x)?)?;
+            let operand = operand(alloc, memory, asked, x)?;
             Ok(Tree::Un(*op, operand))
         }
         SrcNode::Bin(op, x, y) => {
             let width = operand_width(word, x, y);
-            let left = Box::new(alloc, tree(alloc, memory, width, x)?)?;
-            let right = Box::new(alloc, tree(alloc, memory, width, y)?)?;
+            let left = operand(alloc, memory, width, x)?;
+            let (left, right) = keeping(left, operand(alloc, memory, width, y))?;
             Ok(Tree::Bin(*op, left, right))
         }
         SrcNode::Zext(x, to) => {
-            let operand = Box::new(alloc, tree(alloc, memory, word, x)?)?;
+            let operand = operand(alloc, memory, word, x)?;
             Ok(Tree::Zext(operand, *to as u8))
         }
         SrcNode::Sext(x, to) => {
-            let operand = Box::new(alloc, tree(alloc, memory, word, x)?)?;
+            let operand = operand(alloc, memory, word, x)?;
             Ok(Tree::Sext(operand, *to as u8))
         }
         SrcNode::Low(x, width) => {
-            let operand = Box::new(alloc, tree(alloc, memory, word, x)?)?;
+            let operand = operand(alloc, memory, word, x)?;
             Ok(Tree::Slice(operand, (*width - 1) as u8, 0))
         }
     }
+}
+
+/// The same in a box, for an operator.
+#[cycle(tree)]
+pub(crate) fn operand(
+    alloc: Global,
+    memory: &DataMemory<'_>,
+    asked: u8,
+    e: &SrcExpr,
+) -> Result<Box<Tree>, NoMemory>
+    requires asked { IsWidth asked }
+    requires fitting { Fitting memory.now.word asked (shape_of e.now.node) }
+    requires near { IsNear memory.now.places (shape_of e.now.node) }
+    ensures { IfOk result (λ made. tree_term made.value ≡ tree_of memory.now asked (shape_of e.now.node)) }
+{
+    let tree = tree(alloc, memory, asked, e)?;
+    let made = Box::new(alloc, tree)?;
+    Ok(made)
 }
 
 // The address of a place.

@@ -24,12 +24,12 @@ pub fn tree_size(tree: &Tree) -> Result<u64, NoMemory>
 {
     match tree {
         Tree::Lit { .. } => Ok(1),
-        Tree::Read(a, _) => plus(tree_size(a)?, 1),
-        Tree::Un(_, a) => plus(tree_size(a)?, 1),
         Tree::Bin(_, a, b) => plus(plus(tree_size(a)?, tree_size(b)?)?, 1),
-        Tree::Slice(a, _, _) => plus(tree_size(a)?, 1),
-        Tree::Zext(a, _) => plus(tree_size(a)?, 1),
-        Tree::Sext(a, _) => plus(tree_size(a)?, 1),
+        Tree::Read(a, _)
+        | Tree::Un(_, a)
+        | Tree::Slice(a, _, _)
+        | Tree::Zext(a, _)
+        | Tree::Sext(a, _) => plus(tree_size(a)?, 1),
     }
 }
 

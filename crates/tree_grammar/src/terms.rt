@@ -234,13 +234,13 @@ pub(crate) fn take<'a>(
             };
             Ok(Some(x | y))
         }
-        Expr::Word(_) => Ok(None),
-        Expr::Const { .. } => Ok(None),
-        Expr::Un(_, _) => Ok(None),
-        Expr::Slice(_, _, _) => Ok(None),
-        Expr::Zext(_, _) => Ok(None),
-        Expr::Sext(_, _) => Ok(None),
-        Expr::Cat(_, _) => Ok(None),
-        Expr::Select(_, _, _) => Ok(None),
+        Expr::Word(_)
+        | Expr::Const { .. }
+        | Expr::Un(_, _)
+        | Expr::Slice(_, _, _)
+        | Expr::Zext(_, _)
+        | Expr::Sext(_, _)
+        | Expr::Cat(_, _)
+        | Expr::Select(_, _, _) => Ok(None),
     }
 }

@@ -1,3 +1,4 @@
+use Rattle.std.proofs.lemmas.Result.{IfOk-from_err}
 use Rattle.std.proofs.Common.{subst, arith, take, drop, get_or, ◌+◌, ◌∙◌, ap, ◌∷◌, [], refl}
 use Rattle.form_model.specs.Live.{regs_of, live_before}
 use Rattle.compaction.specs.Inner.Machines.{Changes, fits_in, operation_in}
@@ -54,3 +55,9 @@ returns-in-Settled-clause-turn c =
     let a : IsAt c.args.groups.now.items c.args.pair c.as_slice-first.result.now c.as_slice-second.result.now (take c.args.pair c.args.groups.now.items) (drop (c.args.pair + 2) c.args.groups.now.items) = pair_in _ _ _ _ _ _ _ c.as_slice-all.ensures.value c.requires.within c.index-all-pair.is c.as_slice-first.ensures c.index-all-pair-2.is c.as_slice-second.ensures in
     let l = second_set m (regs_of c.args._after) _ _ _ _ _ _ c.as_slice.result.now c.args.lives.now.items a c.requires.lives c.as_slice.ensures.value (omega (arith, c.requires.as_long, c.requires.within)) in
     settled_turn m f0 (regs_of c.args._after) _ _ _ _ _ _ _ a l f c.requires.packed
+
+pub returns-in_err-both-clause-lives : goal.returns-in_err-both-clause-lives
+returns-in_err-both-clause-lives c = IfOk-from_err c.from_residual.result _ c.from_residual.ensures.0
+
+pub returns-in_err-both-clause-turn : goal.returns-in_err-both-clause-turn
+returns-in_err-both-clause-turn c = IfOk-from_err c.from_residual.result _ c.from_residual.ensures.0

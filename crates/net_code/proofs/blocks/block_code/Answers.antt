@@ -1,3 +1,5 @@
+use Rattle.bit_bdd.proofs.CallerLemmas.{extends_trans}
+use Rattle.std.proofs.lemmas.Result.{IfOk-from_err}
 use Rattle.std.proofs.Common.{◌≡◌, [], arith, length, rules, subst, sym}
 use Rattle.std.specs.List.{AllByRecursion}
 use Rattle.net_code.specs.Inner.Coded.{IsBlockCode, IsOnce}
@@ -30,3 +32,26 @@ returns-clause-code c =
     let all : c.loop-at.at ≡ length flow = omega (arith, most, least) in
     subst (λ upto. IsBlockCode (machine_netlist machine) (machine_patterns machine) (stock_of program) flow (works_in program) (choices_in program) upto c.loop-at.code.blocks.items c.loop-at.code.branches.items)
     all c.loop-at.invariant.code
+
+pub returns-in_err-entered-clause-code : goal.returns-in_err-entered-clause-code
+returns-in_err-entered-clause-code c = IfOk-from_err c.from_residual.result _ c.from_residual.ensures.0
+
+pub returns-in_err-entered-clause-once : goal.returns-in_err-entered-clause-once
+returns-in_err-entered-clause-once c = IfOk-from_err c.from_residual.result _ c.from_residual.ensures.0
+
+pub returns-in_err-push_code-clause-code : goal.returns-in_err-push_code-clause-code
+returns-in_err-push_code-clause-code c = IfOk-from_err c.from_residual-in_err-push_code.result _ c.from_residual-in_err-push_code.ensures.0
+
+pub returns-in_err-push_code-clause-once : goal.returns-in_err-push_code-clause-once
+returns-in_err-push_code-clause-once c = IfOk-from_err c.from_residual-in_err-push_code.result _ c.from_residual-in_err-push_code.ensures.0
+
+pub loop-at-preserved : goal.loop-at-preserved
+loop-at-preserved c = record {
+  grows = extends_trans c.args.book.now c.loop-at.book c.push_code.new.book c.loop-at.invariant.grows c.push_code.ensures.grows;
+  ready = c.push_code.ensures.ready;
+  once = c.in_ok-push_code.ensures.once;
+  code = c.in_ok-push_code.ensures.code;
+}
+
+pub returns-in_err-push_code-clause-grows : goal.returns-in_err-push_code-clause-grows
+returns-in_err-push_code-clause-grows c = extends_trans c.args.book.now c.loop-at.book c.push_code.new.book c.loop-at.invariant.grows c.push_code.ensures.grows

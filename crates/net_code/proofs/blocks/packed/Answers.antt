@@ -1,3 +1,5 @@
+use Rattle.bit_bdd.proofs.CallerLemmas.{extends_trans}
+use Rattle.std.proofs.lemmas.Result.{IfOk-from_err}
 use Rattle.std.proofs.Common.{◌≤◌, ℕ, List, arith, length, subst}
 use Rattle.form_model.specs.declared.forms.Step.{Step}
 use Rattle.form_model.specs.Live.{regs_of, singles}
@@ -22,3 +24,21 @@ returns-clause-packed c =
           c.in_ok-words.ensures.least;
       few = omega (arith, few, long);
     }
+
+pub returns-in_err-groups-clause-once : goal.returns-in_err-groups-clause-once
+returns-in_err-groups-clause-once c = IfOk-from_err c.from_residual.result _ c.from_residual.ensures.0
+
+pub returns-in_err-groups-clause-packed : goal.returns-in_err-groups-clause-packed
+returns-in_err-groups-clause-packed c = IfOk-from_err c.from_residual.result _ c.from_residual.ensures.0
+
+pub returns-in_err-words-clause-once : goal.returns-in_err-words-clause-once
+returns-in_err-words-clause-once c = IfOk-from_err c.from_residual-in_err-words.result _ c.from_residual-in_err-words.ensures.0
+
+pub returns-in_err-words-clause-packed : goal.returns-in_err-words-clause-packed
+returns-in_err-words-clause-packed c = IfOk-from_err c.from_residual-in_err-words.result _ c.from_residual-in_err-words.ensures.0
+
+pub returns-in_err-words-clause-grows : goal.returns-in_err-words-clause-grows
+returns-in_err-words-clause-grows c = extends_trans c.args.book.now c.pack.new.book c.words_of.new.book c.pack.ensures.grows c.words_of.ensures.grows
+
+pub returns-clause-grows : goal.returns-clause-grows
+returns-clause-grows c = extends_trans c.args.book.now c.pack.new.book c.words_of.new.book c.pack.ensures.grows c.words_of.ensures.grows

@@ -1,3 +1,4 @@
+use Rattle.std.proofs.lemmas.Result.{IfOk-from_err}
 use Rattle.std.proofs.Common.{◌≡◌, ◌∙◌, ◌+◌, inl, inr, Some, ap, slice_get, sym, true}
 use Rattle.std.proofs.lemmas.Option.{slice_get-get_or}
 use Rattle.form_model.specs.declared.flow.Flow.{Flow}
@@ -47,3 +48,15 @@ returns-in-Jump-clause-code c =
           (let place : slice_get flow c.args.at ≡ Some End = read ∙ ap (λ (f : Flow). Some f) e in
           past (ap (λ o. place_blocks o (continues flow c.args.at)) place) (ap place_tests place))
     ]
+
+pub returns-in_err-push_run-in-Assign-clause-code : goal.returns-in_err-push_run-in-Assign-clause-code
+returns-in_err-push_run-in-Assign-clause-code c = IfOk-from_err c.from_residual.result _ c.from_residual.ensures.0
+
+pub returns-in_err-push_run-in-Assign-clause-once : goal.returns-in_err-push_run-in-Assign-clause-once
+returns-in_err-push_run-in-Assign-clause-once c = IfOk-from_err c.from_residual.result _ c.from_residual.ensures.0
+
+pub returns-in_err-push_test-in-Test-clause-code : goal.returns-in_err-push_test-in-Test-clause-code
+returns-in_err-push_test-in-Test-clause-code c = IfOk-from_err c.from_residual-in_err-push_test-in-Test.result _ c.from_residual-in_err-push_test-in-Test.ensures.0
+
+pub returns-in_err-push_test-in-Test-clause-once : goal.returns-in_err-push_test-in-Test-clause-once
+returns-in_err-push_test-in-Test-clause-once c = IfOk-from_err c.from_residual-in_err-push_test-in-Test.result _ c.from_residual-in_err-push_test-in-Test.ensures.0

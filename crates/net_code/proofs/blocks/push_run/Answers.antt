@@ -1,3 +1,4 @@
+use Rattle.std.proofs.lemmas.Result.{IfOk-from_err}
 use Rattle.std.proofs.Common.{◌+◌, slice_get, sym, subst}
 use Rattle.net_code.specs.Inner.Coded.{IsBlockCode}
 use Rattle.net_code.specs.Inner.Covering.{machine_netlist, machine_patterns}
@@ -15,3 +16,15 @@ returns-clause-code c =
     (sym c.in_ok-push.ensures.items)
     (run_more (machine_netlist machine) (machine_patterns machine) (stock_of program) flow (works_in program) (choices_in program) c.args.at c.block_length-count.result
     code.blocks.items code.branches.items c.in_ok-block.block c.requires.code c.block_length-count.ensures.block (no_test (slice_get flow c.args.at) c.requires.assigns) c.in_ok-block.ensures.packed)
+
+pub returns-in_err-block-clause-code : goal.returns-in_err-block-clause-code
+returns-in_err-block-clause-code c = IfOk-from_err c.from_residual.result _ c.from_residual.ensures.0
+
+pub returns-in_err-block-clause-once : goal.returns-in_err-block-clause-once
+returns-in_err-block-clause-once c = IfOk-from_err c.from_residual.result _ c.from_residual.ensures.0
+
+pub returns-in_err-push-clause-code : goal.returns-in_err-push-clause-code
+returns-in_err-push-clause-code c = IfOk-from_err c.from_residual-in_err-push.result _ c.from_residual-in_err-push.ensures.0
+
+pub returns-in_err-push-clause-once : goal.returns-in_err-push-clause-once
+returns-in_err-push-clause-once c = IfOk-from_err c.from_residual-in_err-push.result _ c.from_residual-in_err-push.ensures.0

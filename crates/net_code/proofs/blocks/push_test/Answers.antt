@@ -1,3 +1,4 @@
+use Rattle.std.proofs.lemmas.Result.{IfOk-from_err}
 use Rattle.std.proofs.Common.{◌≡◌, ◌∙◌, ◌+◌, ◌++◌, [], ◌∷◌, Some, ap, arith, slice_get, sym, subst}
 use Rattle.std.specs.Prelude.{slice_index_or}
 use Rattle.std.proofs.lemmas.List.{length-map}
@@ -85,3 +86,21 @@ returns-clause-code c =
     (sym c.in_ok-push.ensures.items)
     (subst (λ branches. IsBlockCode (machine_netlist machine) (machine_patterns machine) (stock_of program) flow (works_in program) (choices_in program) (c.args.at + 1) (code.blocks.items ++ c.in_ok-block.block ∷ []) branches)
     (sym c.in_ok-push-2.ensures.items) more)
+
+pub returns-in_err-block-clause-code : goal.returns-in_err-block-clause-code
+returns-in_err-block-clause-code c = IfOk-from_err c.from_residual.result _ c.from_residual.ensures.0
+
+pub returns-in_err-block-clause-once : goal.returns-in_err-block-clause-once
+returns-in_err-block-clause-once c = IfOk-from_err c.from_residual.result _ c.from_residual.ensures.0
+
+pub returns-in_err-push-2-clause-code : goal.returns-in_err-push-2-clause-code
+returns-in_err-push-2-clause-code c = IfOk-from_err c.from_residual-in_err-push-2.result _ c.from_residual-in_err-push-2.ensures.0
+
+pub returns-in_err-push-2-clause-once : goal.returns-in_err-push-2-clause-once
+returns-in_err-push-2-clause-once c = IfOk-from_err c.from_residual-in_err-push-2.result _ c.from_residual-in_err-push-2.ensures.0
+
+pub returns-in_err-push-clause-code : goal.returns-in_err-push-clause-code
+returns-in_err-push-clause-code c = IfOk-from_err c.from_residual-in_err-push.result _ c.from_residual-in_err-push.ensures.0
+
+pub returns-in_err-push-clause-once : goal.returns-in_err-push-clause-once
+returns-in_err-push-clause-once c = IfOk-from_err c.from_residual-in_err-push.result _ c.from_residual-in_err-push.ensures.0

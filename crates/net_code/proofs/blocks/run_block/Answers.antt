@@ -1,3 +1,4 @@
+use Rattle.std.proofs.lemmas.Result.{IfOk-from_err}
 use Rattle.std.proofs.Common.{◌≡◌, ◌∙◌, subst, sym}
 use Rattle.form_model.specs.Effects.{operation_of}
 use Rattle.form_model.specs.Live.{Regs, no_regs, regs_of, singles}
@@ -36,3 +37,15 @@ returns-clause-packed c =
     jobs_steps (stock_of program) (jobs_at program.flow.now (works_in program) c.args.at c.args.count) (choices_at program.flow.now (choices_in program) c.args.at c.args.count) in
     subst (λ (after : Regs). IsPackedBlock (machine_netlist machine) (machine_patterns machine) steps after c.in_ok-block.block) none_live
     (subst (λ xs. IsPackedBlock (machine_netlist machine) (machine_patterns machine) xs (regs_of 0) c.in_ok-block.block) (c.as_slice.ensures ∙ c.in_ok-steps.ensures) c.in_ok-block.ensures.packed)
+
+pub returns-in_err-block-clause-once : goal.returns-in_err-block-clause-once
+returns-in_err-block-clause-once c = IfOk-from_err c.from_residual-in_err-block.result _ c.from_residual-in_err-block.ensures.0
+
+pub returns-in_err-block-clause-packed : goal.returns-in_err-block-clause-packed
+returns-in_err-block-clause-packed c = IfOk-from_err c.from_residual-in_err-block.result _ c.from_residual-in_err-block.ensures.0
+
+pub returns-in_err-steps-clause-once : goal.returns-in_err-steps-clause-once
+returns-in_err-steps-clause-once c = IfOk-from_err c.from_residual.result _ c.from_residual.ensures.0
+
+pub returns-in_err-steps-clause-packed : goal.returns-in_err-steps-clause-packed
+returns-in_err-steps-clause-packed c = IfOk-from_err c.from_residual.result _ c.from_residual.ensures.0

@@ -1,3 +1,4 @@
+use Rattle.std.proofs.lemmas.Result.{IfOk-from_err}
 use Rattle.std.proofs.Common.{◌≡◌, ◌∙◌, ap, sym, subst}
 use Rattle.std.specs.Option.{unwrap_or}
 use Rattle.cover.specs.Best.{choice_of}
@@ -58,3 +59,15 @@ returns-clause-code c =
       form = root_form machine program task covering t.tree job choice t.work t.covers;
       setting = c.unwrap_or.ensures ∙ ap (λ b. unwrap_or b 0) (e.branch ∙ ap (λ d. branch_of stock d e.tree choice.plan) t.test) ∙ ap (λ x. branch_setting stock x choice.plan) tree;
     }
+
+pub returns-in_err-block-clause-code : goal.returns-in_err-block-clause-code
+returns-in_err-block-clause-code c = IfOk-from_err c.from_residual-in_err-block.result _ c.from_residual-in_err-block.ensures.0
+
+pub returns-in_err-block-clause-once : goal.returns-in_err-block-clause-once
+returns-in_err-block-clause-once c = IfOk-from_err c.from_residual-in_err-block.result _ c.from_residual-in_err-block.ensures.0
+
+pub returns-in_err-emitted-clause-code : goal.returns-in_err-emitted-clause-code
+returns-in_err-emitted-clause-code c = IfOk-from_err c.from_residual.result _ c.from_residual.ensures.0
+
+pub returns-in_err-emitted-clause-once : goal.returns-in_err-emitted-clause-once
+returns-in_err-emitted-clause-once c = IfOk-from_err c.from_residual.result _ c.from_residual.ensures.0

@@ -1,3 +1,4 @@
+use Rattle.std.proofs.lemmas.Result.{IfOk-from_err}
 use Rattle.std.proofs.Common.{◌+◌, ◌++◌, ◌∙◌, ℕ, List, ap, arith, drop, get_or, subst, sym}
 use Rattle.std.specs.List.{AllByRecursion}
 use Rattle.std.proofs.lemmas.List.{drop_more}
@@ -22,3 +23,9 @@ loop-number-preserved c =
           subst (AllByRecursion CostFits) (sym pushed)
           (all_more CostFits c.loop-number.lines (number, cost) c.loop-number.invariant.fits (record { tree = omega arith; cost = omega (arith, c.type_inv.costs number) }));
     }
+
+pub returns-in_err-push-clause-fits : goal.returns-in_err-push-clause-fits
+returns-in_err-push-clause-fits c = IfOk-from_err c.from_residual.result _ c.from_residual.ensures.0
+
+pub returns-in_err-push-clause-lines : goal.returns-in_err-push-clause-lines
+returns-in_err-push-clause-lines c = IfOk-from_err c.from_residual.result _ c.from_residual.ensures.0

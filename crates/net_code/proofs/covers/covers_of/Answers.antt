@@ -1,5 +1,5 @@
 use Rattle.std.proofs.Common.{◌≡◌, Some, arith, map, slice_get}
-use Rattle.std.proofs.lemmas.Result.{err_from_is_err_and}
+use Rattle.std.proofs.lemmas.Result.{IfOk-from_err, err_from_is_err_and}
 use Rattle.std.proofs.lemmas.List.{length-map}
 use Rattle.cover.specs.Best.{choice_of, stock_with}
 use Rattle.src_trees.specs.Jobs.{work_of, works_of}
@@ -45,3 +45,15 @@ loop-job-preserved c =
           prices_more stock works c.loop-job.covers.items c.push.new.self.items number work c.in_ok-chosen.chosen at c.in_ok-push.ensures.items c.loop-job.invariant.chosen c.in_ok-chosen.ensures.cost
           c.loop-job.invariant.costs;
     }
+
+pub returns-in_err-chosen-clause-chosen : goal.returns-in_err-chosen-clause-chosen
+returns-in_err-chosen-clause-chosen c = IfOk-from_err c.from_residual.result _ c.from_residual.ensures.0
+
+pub returns-in_err-chosen-clause-costs : goal.returns-in_err-chosen-clause-costs
+returns-in_err-chosen-clause-costs c = IfOk-from_err c.from_residual.result _ c.from_residual.ensures.0
+
+pub returns-in_err-push-clause-chosen : goal.returns-in_err-push-clause-chosen
+returns-in_err-push-clause-chosen c = IfOk-from_err c.from_residual-in_err-push.result _ c.from_residual-in_err-push.ensures.0
+
+pub returns-in_err-push-clause-costs : goal.returns-in_err-push-clause-costs
+returns-in_err-push-clause-costs c = IfOk-from_err c.from_residual-in_err-push.result _ c.from_residual-in_err-push.ensures.0

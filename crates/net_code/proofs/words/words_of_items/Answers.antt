@@ -1,3 +1,4 @@
+use Rattle.std.proofs.lemmas.Result.{IfOk-from_err}
 use Rattle.std.proofs.Common.{◌++◌, [], ◌∷◌, get_or, subst, sym, take}
 use Rattle.std.proofs.lemmas.List.{take_more}
 use Rattle.bit_bdd.proofs.CallerLemmas.{extends_trans}
@@ -24,3 +25,15 @@ loop-item-preserved c =
           (subst (AreItemWords netlist patterns blocks (front ++ item ∷ [])) (sym c.in_ok-push.ensures.pushed)
           (words_more netlist patterns blocks front c.loop-item.words item c.in_ok-word.word c.loop-item.invariant.words c.in_ok-word.ensures.word));
     }
+
+pub returns-in_err-push-clause-words : goal.returns-in_err-push-clause-words
+returns-in_err-push-clause-words c = IfOk-from_err c.from_residual-in_err-push.result _ c.from_residual-in_err-push.ensures.0
+
+pub returns-in_err-word-clause-words : goal.returns-in_err-word-clause-words
+returns-in_err-word-clause-words c = IfOk-from_err c.from_residual.result _ c.from_residual.ensures.0
+
+pub returns-in_err-word-clause-grows : goal.returns-in_err-word-clause-grows
+returns-in_err-word-clause-grows c = extends_trans c.args.book.now c.loop-item.book c.word_of_item.new.book c.loop-item.invariant.grows c.word_of_item.ensures.grows
+
+pub returns-in_err-push-clause-grows : goal.returns-in_err-push-clause-grows
+returns-in_err-push-clause-grows c = extends_trans c.args.book.now c.loop-item.book c.word_of_item.new.book c.loop-item.invariant.grows c.word_of_item.ensures.grows

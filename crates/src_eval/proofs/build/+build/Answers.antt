@@ -1,4 +1,5 @@
 use Rattle.std.proofs.Common.{sym, ap, ◌∙◌, ◌≡◌, ◌+◌, length, subst, arith}
+use Rattle.std.proofs.lemmas.Result.{IfOk-from_err, on_ok_weaker}
 use Rattle.src_model.specs.Written.{act_of}
 use Rattle.src_model.specs.Sizes.{statements, statements_else}
 use Rattle.src_model.proofs.Views.{else_acts}
@@ -10,10 +11,12 @@ use Rattle.src_eval.proofs.build.+build.Goals as goal
 
 -- ---- assignments
 
-pub build-returns-in_ok-push_assign-in-Assign : goal.build-returns-in_ok-push_assign-in-Assign
-build-returns-in_ok-push_assign-in-Assign t c =
-    assign_all c.args.word c.args.table.now c.args.steps.now c.push_assign.new.steps c.args.statement.now c.in-Assign.place c.in-Assign.value c.args.next c.in-Assign.is
-    c.in_ok-push_assign-in-Assign.ensures c.requires.ready
+pub build-returns-in-Assign : goal.build-returns-in-Assign
+build-returns-in-Assign t c =
+    on_ok_weaker c.push_assign.result
+    (λ made. assign_all c.args.word c.args.table.now c.args.steps.now c.push_assign.new.steps c.args.statement.now c.in-Assign.place c.in-Assign.value c.args.next c.in-Assign.is
+    made c.requires.ready)
+    c.push_assign.ensures
 
 -- ---- `while`
 
@@ -26,11 +29,13 @@ build-build_block-requires-in-While t c =
     c.in_ok-push_test-in-While.ensures c.requires.ready c.deref-in-While-2.result.now c.deref-in-While-2.ensures.value c.requires.fits in
     (omega (arith, all, here), (may.ready, may.fits))
 
-pub build-returns-in_ok-build_block-in-While : goal.build-returns-in_ok-build_block-in-While
-build-returns-in_ok-build_block-in-While t c =
-    while_all c.args.word c.args.table.now c.args.steps.now c.push_test-in-While.new.steps c.args.statement.now c.in-While.test c.in-While.body c.args.next c.len-tree-in-While.result c.entry-on_true-in-While.result
+pub build-returns-in_ok-push_test-in-While : goal.build-returns-in_ok-push_test-in-While
+build-returns-in_ok-push_test-in-While t c =
+    on_ok_weaker c.build_block-in-While.result
+    (λ made. while_all c.args.word c.args.table.now c.args.steps.now c.push_test-in-While.new.steps c.args.statement.now c.in-While.test c.in-While.body c.args.next c.len-tree-in-While.result c.entry-on_true-in-While.result
     c.in-While.is c.len-tree-in-While.ensures (c.entry-on_true-in-While.ensures ∙ ap (λ l. entry (block_acts l) (c.len-tree-in-While.result + 1) c.len-tree-in-While.result) c.deref-in-While.ensures.value)
-    c.in_ok-push_test-in-While.ensures c.requires.ready c.build_block-in-While.new.steps c.deref-in-While-2.result.now c.deref-in-While-2.ensures.value c.in_ok-build_block-in-While.ensures
+    c.in_ok-push_test-in-While.ensures c.requires.ready c.build_block-in-While.new.steps c.deref-in-While-2.result.now c.deref-in-While-2.ensures.value made)
+    c.build_block-in-While.ensures
 
 -- ---- `if`
 
@@ -43,11 +48,13 @@ build-build_block-requires t c =
     c.in_ok-push_test-in-None.ensures c.requires.ready c.deref-in-None.result.now c.deref-in-None.ensures.value c.requires.fits in
     (omega (arith, all, here), (may.ready, may.fits))
 
-pub build-returns-in_ok-build_block-in-None : goal.build-returns-in_ok-build_block-in-None
-build-returns-in_ok-build_block-in-None t c =
-    if_all c.args.word c.args.table.now c.args.steps.now c.push_test.new.steps c.args.statement.now c.in-If.test c.in-If.yes c.in-If.no c.args.next c.len-tree.result c.entry-on_true.result
+pub build-returns-in_ok-push_test-in-None : goal.build-returns-in_ok-push_test-in-None
+build-returns-in_ok-push_test-in-None t c =
+    on_ok_weaker c.build_block.result
+    (λ made. if_all c.args.word c.args.table.now c.args.steps.now c.push_test.new.steps c.args.statement.now c.in-If.test c.in-If.yes c.in-If.no c.args.next c.len-tree.result c.entry-on_true.result
     c.in-If.is c.in-None.is c.len-tree.ensures (c.entry-on_true.ensures ∙ ap (λ l. entry (block_acts l) (c.len-tree.result + 1) c.args.next) c.deref.ensures.value)
-    c.in_ok-push_test-in-None.ensures c.requires.ready c.build_block.new.steps c.deref-in-None.result.now c.deref-in-None.ensures.value c.in_ok-build_block-in-None.ensures
+    c.in_ok-push_test-in-None.ensures c.requires.ready c.build_block.new.steps c.deref-in-None.result.now c.deref-in-None.ensures.value made)
+    c.build_block.ensures
 
 -- ---- `if` with `else`
 
@@ -87,14 +94,16 @@ build-build_block-requires-in-Some-2 t c =
     c.in_ok-build_block-in-Some.ensures c.requires.fits in
     (omega (arith, all, here, other), (may.ready, may.fits))
 
-pub build-returns-in_ok-build_block-in-Some-2 : goal.build-returns-in_ok-build_block-in-Some-2
-build-returns-in_ok-build_block-in-Some-2 t c =
-    else_all c.args.word c.args.table.now c.args.steps.now c.push_test-in-Some.new.steps c.args.statement.now c.in-If.test c.in-If.yes c.in-Some.other c.in-If.no c.args.next c.len-tree.result c.trees_in.result
+pub build-returns-in_ok-build_block-in-Some : goal.build-returns-in_ok-build_block-in-Some
+build-returns-in_ok-build_block-in-Some t c =
+    on_ok_weaker c.build_block-in-Some-2.result
+    (λ made. else_all c.args.word c.args.table.now c.args.steps.now c.push_test-in-Some.new.steps c.args.statement.now c.in-If.test c.in-If.yes c.in-Some.other c.in-If.no c.args.next c.len-tree.result c.trees_in.result
     c.entry-on_true.result c.entry-on_false.result c.in-If.is c.in-Some.is c.len-tree.ensures (c.trees_in.ensures ∙ ap trees_of c.deref-in-Some-2.ensures.value)
     (c.entry-on_true.ensures ∙ ap (λ l. entry (block_acts l) (c.len-tree.result + 1) c.args.next) c.deref.ensures.value)
     (c.entry-on_false.ensures ∙ ap (λ l. entry (block_acts l) (c.len-tree.result + 1 + c.trees_in.result) c.args.next) c.deref-in-Some.ensures.value)
     c.in_ok-push_test-in-Some.ensures c.requires.ready c.build_block-in-Some.new.steps c.build_block-in-Some-2.new.steps c.deref-in-Some-3.result.now c.deref-in-Some-4.result.now c.deref-in-Some-3.ensures.value c.deref-in-Some-4.ensures.value
-    c.in_ok-build_block-in-Some.ensures c.in_ok-build_block-in-Some-2.ensures
+    c.in_ok-build_block-in-Some.ensures made)
+    c.build_block-in-Some-2.ensures
 
 -- ---- `for`
 
@@ -120,13 +129,15 @@ build-build_block-requires-in-For t c =
     c.in_ok-push_start-in-For.ensures c.in_ok-push_counting-in-For.ensures c.requires.ready c.deref-in-For-3.result.now c.deref-in-For-3.ensures.value c.requires.fits in
     (omega (arith, all, here), (may.ready, may.fits))
 
-pub build-returns-in_ok-push_step-in-For : goal.build-returns-in_ok-push_step-in-For
-build-returns-in_ok-push_step-in-For t c =
-    for_all c.args.word c.args.table.now c.args.steps.now c.push_start.new.steps c.push_counting.new.steps c.args.statement.now c.in-For.counter c.in-For.at c.in-For.from c.in-For.to c.in-For.body
+pub build-returns-in_ok-build_block-in-For : goal.build-returns-in_ok-build_block-in-For
+build-returns-in_ok-build_block-in-For t c =
+    on_ok_weaker c.push_step.result
+    (λ made. for_all c.args.word c.args.table.now c.args.steps.now c.push_start.new.steps c.push_counting.new.steps c.args.statement.now c.in-For.counter c.in-For.at c.in-For.from c.in-For.to c.in-For.body
     c.args.next c.len-tree-in-For.result c.trees_in-in-For.result c.entry-on_true-in-For.result c.in-For.is c.len-tree-in-For.ensures (c.trees_in-in-For.ensures ∙ ap trees_of c.deref-in-For.ensures.value)
     (c.entry-on_true-in-For.ensures ∙ ap (λ l. entry (block_acts l) (c.len-tree-in-For.result + 2) (c.len-tree-in-For.result + 2 + c.trees_in-in-For.result)) c.deref-in-For-2.ensures.value)
     c.in_ok-push_start-in-For.ensures c.in_ok-push_counting-in-For.ensures c.requires.ready c.build_block-in-For.new.steps c.push_step.new.steps c.deref-in-For-3.result.now c.deref-in-For-3.ensures.value
-    c.in_ok-build_block-in-For.ensures c.in_ok-push_step-in-For.ensures
+    c.in_ok-build_block-in-For.ensures made)
+    c.push_step.ensures
 
 -- ---- blocks
 
@@ -171,3 +182,27 @@ build_block-loop-statement-preserved t c =
 
 pub build_block-returns : goal.build_block-returns
 build_block-returns t c = going_end c.args.word c.args.table.now c.args.steps.now c.loop-statement.steps c.args.block.now c.loop-statement.left.now c.args.next c.in_default.ensures.cases c.loop-statement.invariant
+
+pub build-returns-in_err-push_test-in-None : goal.build-returns-in_err-push_test-in-None
+build-returns-in_err-push_test-in-None t c = IfOk-from_err c.from_residual.result _ c.from_residual.ensures.0
+
+pub build-returns-in_err-push_test-in-Some : goal.build-returns-in_err-push_test-in-Some
+build-returns-in_err-push_test-in-Some t c = IfOk-from_err c.from_residual-in_err-push_test-in-Some.result _ c.from_residual-in_err-push_test-in-Some.ensures.0
+
+pub build-returns-in_err-build_block-in-Some : goal.build-returns-in_err-build_block-in-Some
+build-returns-in_err-build_block-in-Some t c = IfOk-from_err c.from_residual-in_err-build_block-in-Some.result _ c.from_residual-in_err-build_block-in-Some.ensures.0
+
+pub build-returns-in_err-push_test-in-While : goal.build-returns-in_err-push_test-in-While
+build-returns-in_err-push_test-in-While t c = IfOk-from_err c.from_residual-in_err-push_test-in-While.result _ c.from_residual-in_err-push_test-in-While.ensures.0
+
+pub build-returns-in_err-push_start-in-For : goal.build-returns-in_err-push_start-in-For
+build-returns-in_err-push_start-in-For t c = IfOk-from_err c.from_residual-in_err-push_start-in-For.result _ c.from_residual-in_err-push_start-in-For.ensures.0
+
+pub build-returns-in_err-push_counting-in-For : goal.build-returns-in_err-push_counting-in-For
+build-returns-in_err-push_counting-in-For t c = IfOk-from_err c.from_residual-in_err-push_counting-in-For.result _ c.from_residual-in_err-push_counting-in-For.ensures.0
+
+pub build-returns-in_err-build_block-in-For : goal.build-returns-in_err-build_block-in-For
+build-returns-in_err-build_block-in-For t c = IfOk-from_err c.from_residual-in_err-build_block-in-For.result _ c.from_residual-in_err-build_block-in-For.ensures.0
+
+pub build_block-returns-in_err-build : goal.build_block-returns-in_err-build
+build_block-returns-in_err-build t c = IfOk-from_err c.from_residual.result _ c.from_residual.ensures.0

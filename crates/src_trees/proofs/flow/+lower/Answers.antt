@@ -1,4 +1,5 @@
 use Rattle.std.proofs.Common.{◌≡◌, ◌+◌, ◌++◌, ◌∷◌, IfOk, drop, length, sym, ap, subst, ◌∙◌, arith, List, refl}
+use Rattle.std.proofs.lemmas.Result.{IfOk-from_err, IfOk-weaker}
 use Rattle.rec_bits.proofs.Faults.{drop_item}
 use Rattle.src_model.specs.Written.{Act, act_of, test_of, choice, while, count, without, otherwise}
 use Rattle.src_model.specs.Sizes.{statements, statements_in}
@@ -69,9 +70,11 @@ pub lower_if-returns : goal.lower_if-returns
 lower_if-returns t c =
     let m : MemoryMap = c.args.memory.now in
     let taken = block_acts c.args.taken.now in
-    if_lowered m (choice (test_of c.args.test.now) taken without) c.args.at c.args.jobs.now (test_of c.args.test.now) c.push_job.new.jobs c.in_ok-job.job c.in_ok-tree.tree c.in_ok-job.ensures c.in_ok-tree.ensures.pushed c.in_ok-tree.ensures.number
-    taken c.lower_block.new.jobs c.as_slice.result.now c.in_ok-flow.flow refl
-    (subst (AreLowered m taken (c.args.at + 1) c.push_job.new.jobs c.lower_block.new.jobs) (sym c.as_slice.ensures) c.in_ok-inner.ensures) c.in_ok-flow.ensures
+    IfOk-weaker c.if_flow.result _ _
+    (λ flow made. if_lowered m (choice (test_of c.args.test.now) taken without) c.args.at c.args.jobs.now (test_of c.args.test.now) c.push_job.new.jobs c.in_ok-job.job c.in_ok-tree.tree c.in_ok-job.ensures c.in_ok-tree.ensures.pushed c.in_ok-tree.ensures.number
+    taken c.lower_block.new.jobs c.as_slice.result.now flow refl
+    (subst (AreLowered m taken (c.args.at + 1) c.push_job.new.jobs c.lower_block.new.jobs) (sym c.as_slice.ensures) c.in_ok-inner.ensures) made)
+    c.if_flow.ensures
 
 pub lower_else-overflow_cast-over : goal.lower_else-overflow_cast-over
 lower_else-overflow_cast-over t c =
@@ -121,12 +124,14 @@ lower_else-returns t c =
     let taken = block_acts c.args.taken.now in
     let other = block_acts c.args.other.now in
     let n = c.len.ensures ∙ ap length (sym c.as_slice.ensures) in
-    else_lowered m (choice (test_of c.args.test.now) taken (otherwise other)) c.args.at c.args.jobs.now (test_of c.args.test.now) c.push_job.new.jobs c.in_ok-job.job c.in_ok-tree.tree c.in_ok-job.ensures c.in_ok-tree.ensures.pushed c.in_ok-tree.ensures.number
-    taken other c.lower_block.new.jobs c.lower_block-2.new.jobs c.as_slice.result.now c.as_slice-2.result.now c.in_ok-flow.flow refl
+    IfOk-weaker c.else_flow.result _ _
+    (λ flow made. else_lowered m (choice (test_of c.args.test.now) taken (otherwise other)) c.args.at c.args.jobs.now (test_of c.args.test.now) c.push_job.new.jobs c.in_ok-job.job c.in_ok-tree.tree c.in_ok-job.ensures c.in_ok-tree.ensures.pushed c.in_ok-tree.ensures.number
+    taken other c.lower_block.new.jobs c.lower_block-2.new.jobs c.as_slice.result.now c.as_slice-2.result.now flow refl
     (subst (AreLowered m taken (c.args.at + 1) c.push_job.new.jobs c.lower_block.new.jobs) (sym c.as_slice.ensures) c.in_ok-inner.ensures)
     (subst (λ k. AreLowered m other (c.args.at + 1 + k + 1) c.lower_block.new.jobs c.lower_block-2.new.jobs c.as_slice-2.result.now) n
     (subst (AreLowered m other (c.args.at + 1 + c.len.result + 1) c.lower_block.new.jobs c.lower_block-2.new.jobs) (sym c.as_slice-2.ensures) c.in_ok-after.ensures))
-    c.in_ok-flow.ensures
+    made)
+    c.else_flow.ensures
 
 -- ---- `while`
 
@@ -140,9 +145,11 @@ pub lower_while-returns : goal.lower_while-returns
 lower_while-returns t c =
     let m : MemoryMap = c.args.memory.now in
     let body = block_acts c.args.body.now in
-    while_lowered m (while (test_of c.args.test.now) body) c.args.at c.args.jobs.now (test_of c.args.test.now) c.push_job.new.jobs c.in_ok-job.job c.in_ok-tree.tree c.in_ok-job.ensures c.in_ok-tree.ensures.pushed c.in_ok-tree.ensures.number
-    body c.lower_block.new.jobs c.as_slice.result.now c.in_ok-flow.flow refl
-    (subst (AreLowered m body (c.args.at + 1) c.push_job.new.jobs c.lower_block.new.jobs) (sym c.as_slice.ensures) c.in_ok-inner.ensures) c.in_ok-flow.ensures
+    IfOk-weaker c.while_flow.result _ _
+    (λ flow made. while_lowered m (while (test_of c.args.test.now) body) c.args.at c.args.jobs.now (test_of c.args.test.now) c.push_job.new.jobs c.in_ok-job.job c.in_ok-tree.tree c.in_ok-job.ensures c.in_ok-tree.ensures.pushed c.in_ok-tree.ensures.number
+    body c.lower_block.new.jobs c.as_slice.result.now flow refl
+    (subst (AreLowered m body (c.args.at + 1) c.push_job.new.jobs c.lower_block.new.jobs) (sym c.as_slice.ensures) c.in_ok-inner.ensures) made)
+    c.while_flow.ensures
 
 -- ---- `for`
 
@@ -166,9 +173,11 @@ pub lower_for-returns : goal.lower_for-returns
 lower_for-returns t c =
     let m : MemoryMap = c.args.memory.now in
     let body = block_acts c.args.body.now in
-    for_lowered m (count c.args.counter.now 0 c.args.ends.0 c.args.ends.1 body) c.args.at c.args.jobs.now c.args.counter.now 0 c.args.ends.0 c.args.ends.1 body c.push_job.new.jobs c.push_job-2.new.jobs c.lower_block.new.jobs c.push_job-3.new.jobs
-    c.in_ok-start.start c.in_ok-test.test c.in_ok-last.last c.in_ok-tree.tree c.in_ok-step.step c.as_slice.result.now c.in_ok-flow.flow refl c.in_ok-start.ensures c.in_ok-test.ensures c.in_ok-last.ensures c.in_ok-tree.ensures.pushed c.in_ok-_test.ensures.pushed
-    (subst (AreLowered m body (c.args.at + 2) c.push_job-2.new.jobs c.lower_block.new.jobs) (sym c.as_slice.ensures) c.in_ok-inner.ensures) c.in_ok-step.ensures.pushed c.in_ok-tree.ensures.number c.in_ok-step.ensures.number c.in_ok-flow.ensures
+    IfOk-weaker c.for_flow.result _ _
+    (λ flow made. for_lowered m (count c.args.counter.now 0 c.args.ends.0 c.args.ends.1 body) c.args.at c.args.jobs.now c.args.counter.now 0 c.args.ends.0 c.args.ends.1 body c.push_job.new.jobs c.push_job-2.new.jobs c.lower_block.new.jobs c.push_job-3.new.jobs
+    c.in_ok-start.start c.in_ok-test.test c.in_ok-last.last c.in_ok-tree.tree c.in_ok-step.step c.as_slice.result.now flow refl c.in_ok-start.ensures c.in_ok-test.ensures c.in_ok-last.ensures c.in_ok-tree.ensures.pushed c.in_ok-_test.ensures.pushed
+    (subst (AreLowered m body (c.args.at + 2) c.push_job-2.new.jobs c.lower_block.new.jobs) (sym c.as_slice.ensures) c.in_ok-inner.ensures) c.in_ok-step.ensures.pushed c.in_ok-tree.ensures.number c.in_ok-step.ensures.number made)
+    c.for_flow.ensures
 
 -- ---- blocks
 
@@ -206,3 +215,69 @@ lower_block-loop-statement-preserved t c =
       plain = (subst (λ l. ArePlain m.word m.places (block_acts l)) is c.loop-statement.invariant.plain).1;
       less = omega (arith, s, less);
     }
+
+pub lower_statement-returns-in_err-job-in-Assign : goal.lower_statement-returns-in_err-job-in-Assign
+lower_statement-returns-in_err-job-in-Assign t c = IfOk-from_err c.from_residual.result _ c.from_residual.ensures.0
+
+pub lower_statement-returns-in_err-tree-in-Assign : goal.lower_statement-returns-in_err-tree-in-Assign
+lower_statement-returns-in_err-tree-in-Assign t c = IfOk-from_err c.from_residual-in_err-tree-in-Assign.result _ c.from_residual-in_err-tree-in-Assign.ensures.0
+
+pub lower_statement-returns-in_err-push-in-Assign : goal.lower_statement-returns-in_err-push-in-Assign
+lower_statement-returns-in_err-push-in-Assign t c = IfOk-from_err c.from_residual-in_err-push-in-Assign.result _ c.from_residual-in_err-push-in-Assign.ensures.0
+
+pub lower_if-returns-in_err-job : goal.lower_if-returns-in_err-job
+lower_if-returns-in_err-job t c = IfOk-from_err c.from_residual.result _ c.from_residual.ensures.0
+
+pub lower_if-returns-in_err-tree : goal.lower_if-returns-in_err-tree
+lower_if-returns-in_err-tree t c = IfOk-from_err c.from_residual-in_err-tree.result _ c.from_residual-in_err-tree.ensures.0
+
+pub lower_if-returns-in_err-inner : goal.lower_if-returns-in_err-inner
+lower_if-returns-in_err-inner t c = IfOk-from_err c.from_residual-in_err-inner.result _ c.from_residual-in_err-inner.ensures.0
+
+pub lower_else-returns-in_err-job : goal.lower_else-returns-in_err-job
+lower_else-returns-in_err-job t c = IfOk-from_err c.from_residual.result _ c.from_residual.ensures.0
+
+pub lower_else-returns-in_err-tree : goal.lower_else-returns-in_err-tree
+lower_else-returns-in_err-tree t c = IfOk-from_err c.from_residual-in_err-tree.result _ c.from_residual-in_err-tree.ensures.0
+
+pub lower_else-returns-in_err-inner : goal.lower_else-returns-in_err-inner
+lower_else-returns-in_err-inner t c = IfOk-from_err c.from_residual-in_err-inner.result _ c.from_residual-in_err-inner.ensures.0
+
+pub lower_else-returns-in_err-after : goal.lower_else-returns-in_err-after
+lower_else-returns-in_err-after t c = IfOk-from_err c.from_residual-in_err-after.result _ c.from_residual-in_err-after.ensures.0
+
+pub lower_while-returns-in_err-job : goal.lower_while-returns-in_err-job
+lower_while-returns-in_err-job t c = IfOk-from_err c.from_residual.result _ c.from_residual.ensures.0
+
+pub lower_while-returns-in_err-tree : goal.lower_while-returns-in_err-tree
+lower_while-returns-in_err-tree t c = IfOk-from_err c.from_residual-in_err-tree.result _ c.from_residual-in_err-tree.ensures.0
+
+pub lower_while-returns-in_err-inner : goal.lower_while-returns-in_err-inner
+lower_while-returns-in_err-inner t c = IfOk-from_err c.from_residual-in_err-inner.result _ c.from_residual-in_err-inner.ensures.0
+
+pub lower_for-returns-in_err-start : goal.lower_for-returns-in_err-start
+lower_for-returns-in_err-start t c = IfOk-from_err c.from_residual.result _ c.from_residual.ensures.0
+
+pub lower_for-returns-in_err-tree : goal.lower_for-returns-in_err-tree
+lower_for-returns-in_err-tree t c = IfOk-from_err c.from_residual-in_err-tree.result _ c.from_residual-in_err-tree.ensures.0
+
+pub lower_for-returns-in_err-test : goal.lower_for-returns-in_err-test
+lower_for-returns-in_err-test t c = IfOk-from_err c.from_residual-in_err-test.result _ c.from_residual-in_err-test.ensures.0
+
+pub lower_for-returns-in_err-_test : goal.lower_for-returns-in_err-_test
+lower_for-returns-in_err-_test t c = IfOk-from_err c.from_residual-in_err-_test.result _ c.from_residual-in_err-_test.ensures.0
+
+pub lower_for-returns-in_err-inner : goal.lower_for-returns-in_err-inner
+lower_for-returns-in_err-inner t c = IfOk-from_err c.from_residual-in_err-inner.result _ c.from_residual-in_err-inner.ensures.0
+
+pub lower_for-returns-in_err-last : goal.lower_for-returns-in_err-last
+lower_for-returns-in_err-last t c = IfOk-from_err c.from_residual-in_err-last.result _ c.from_residual-in_err-last.ensures.0
+
+pub lower_for-returns-in_err-step : goal.lower_for-returns-in_err-step
+lower_for-returns-in_err-step t c = IfOk-from_err c.from_residual-in_err-step.result _ c.from_residual-in_err-step.ensures.0
+
+pub lower_block-returns-in_err-more : goal.lower_block-returns-in_err-more
+lower_block-returns-in_err-more t c = IfOk-from_err c.from_residual.result _ c.from_residual.ensures.0
+
+pub lower_block-returns-in_err-append : goal.lower_block-returns-in_err-append
+lower_block-returns-in_err-append t c = IfOk-from_err c.from_residual-in_err-append.result _ c.from_residual-in_err-append.ensures.0

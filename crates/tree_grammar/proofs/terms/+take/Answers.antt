@@ -1,4 +1,5 @@
 use Rattle.std.proofs.Common.{ap, ◌∙◌, ◌+◌, refl, sym}
+use Rattle.std.proofs.lemmas.Result.{IfOk-from_err}
 use Rattle.net_model.specs.Terms.{size_of}
 use Rattle.form_model.specs.Trees.{tree_term}
 use Rattle.tree_grammar.specs.Numbers.{subtrees}
@@ -27,3 +28,39 @@ returns-in-Some-3-clause-at t c = λ nodes holds old.
 pub returns-in_ok-plus-in-Read-clause-at : goal.returns-in_ok-plus-in-Read-clause-at
 returns-in_ok-plus-in-Read-clause-at t c =
     inner_ok _ (tree_term c.args.tree.now) _ (tree_term c.in-Read-tree.b.value) _ c.args.at c.in_ok-plus-in-Read.field-0 _ _ (ap (λ x. subtrees (tree_term x)) c.in-Read-tree.is) (ap tree_term c.deref-in-Read-2.ensures) c.in_ok-plus-in-Read.ensures c.take-in-Read.ensures.at
+
+pub returns-in_err-plus-clause-found : goal.returns-in_err-plus-clause-found
+returns-in_err-plus-clause-found t c = IfOk-from_err c.from_residual.result _ c.from_residual.ensures.0
+
+pub returns-in_err-plus-clause-at : goal.returns-in_err-plus-clause-at
+returns-in_err-plus-clause-at t c = IfOk-from_err c.from_residual.result _ c.from_residual.ensures.0
+
+pub returns-in_err-plus-in-Read-clause-found : goal.returns-in_err-plus-in-Read-clause-found
+returns-in_err-plus-in-Read-clause-found t c = IfOk-from_err c.from_residual-in_err-plus-in-Read.result _ c.from_residual-in_err-plus-in-Read.ensures.0
+
+pub returns-in_err-plus-in-Read-clause-at : goal.returns-in_err-plus-in-Read-clause-at
+returns-in_err-plus-in-Read-clause-at t c = IfOk-from_err c.from_residual-in_err-plus-in-Read.result _ c.from_residual-in_err-plus-in-Read.ensures.0
+
+pub returns-in_err-next-in-Bin-clause-found : goal.returns-in_err-next-in-Bin-clause-found
+returns-in_err-next-in-Bin-clause-found t c = IfOk-from_err c.from_residual-in_err-next-in-Bin.result _ c.from_residual-in_err-next-in-Bin.ensures.0
+
+pub returns-in_err-next-in-Bin-clause-at : goal.returns-in_err-next-in-Bin-clause-at
+returns-in_err-next-in-Bin-clause-at t c = IfOk-from_err c.from_residual-in_err-next-in-Bin.result _ c.from_residual-in_err-next-in-Bin.ensures.0
+
+pub returns-in_err-after-in-Bin-clause-found : goal.returns-in_err-after-in-Bin-clause-found
+returns-in_err-after-in-Bin-clause-found t c = IfOk-from_err c.from_residual-in_err-after-in-Bin.result _ c.from_residual-in_err-after-in-Bin.ensures.0
+
+pub returns-in_err-after-in-Bin-clause-at : goal.returns-in_err-after-in-Bin-clause-at
+returns-in_err-after-in-Bin-clause-at t c = IfOk-from_err c.from_residual-in_err-after-in-Bin.result _ c.from_residual-in_err-after-in-Bin.ensures.0
+
+pub returns-in_err-x-in-Bin-clause-found : goal.returns-in_err-x-in-Bin-clause-found
+returns-in_err-x-in-Bin-clause-found t c = IfOk-from_err c.from_residual-in_err-x-in-Bin.result _ c.from_residual-in_err-x-in-Bin.ensures.0
+
+pub returns-in_err-x-in-Bin-clause-at : goal.returns-in_err-x-in-Bin-clause-at
+returns-in_err-x-in-Bin-clause-at t c = IfOk-from_err c.from_residual-in_err-x-in-Bin.result _ c.from_residual-in_err-x-in-Bin.ensures.0
+
+pub returns-in_err-y-in-Bin-clause-found : goal.returns-in_err-y-in-Bin-clause-found
+returns-in_err-y-in-Bin-clause-found t c = IfOk-from_err c.from_residual-in_err-y-in-Bin.result _ c.from_residual-in_err-y-in-Bin.ensures.0
+
+pub returns-in_err-y-in-Bin-clause-at : goal.returns-in_err-y-in-Bin-clause-at
+returns-in_err-y-in-Bin-clause-at t c = IfOk-from_err c.from_residual-in_err-y-in-Bin.result _ c.from_residual-in_err-y-in-Bin.ensures.0

@@ -1,4 +1,5 @@
 use Rattle.std.proofs.Common.{ℕ, List, sym, ap, subst, ◌∙◌, arith}
+use Rattle.std.proofs.lemmas.Result.{IfOk-from_err}
 use Rattle.src_model.specs.declared.program.Program.{Program}
 use Rattle.src_model.specs.declared.program.Stmt.{Stmt}
 use Rattle.src_model.specs.Written.{listing_of}
@@ -24,3 +25,15 @@ returns-clause-ahead c = λ m.
     let few = (rules_hold typed.width (listing_of typed.program) typed.kept).few_statements in
     new_ahead c.width-word.result typed.width c.in_ok-table.table typed.program.vars c.new-steps.result c.build_block.new.steps c.deref.result.now typed.program.body.items 18446744073709551615
     c.width-word.ensures.value vars c.new-steps.ensures block c.in_ok-build_block.ensures (omega (arith, few)) m c.args.store.cells
+
+pub returns-in_err-table-clause-cells : goal.returns-in_err-table-clause-cells
+returns-in_err-table-clause-cells c = IfOk-from_err c.from_residual.result _ c.from_residual.ensures.0
+
+pub returns-in_err-table-clause-ahead : goal.returns-in_err-table-clause-ahead
+returns-in_err-table-clause-ahead c = IfOk-from_err c.from_residual.result _ c.from_residual.ensures.0
+
+pub returns-in_err-build_block-clause-cells : goal.returns-in_err-build_block-clause-cells
+returns-in_err-build_block-clause-cells c = IfOk-from_err c.from_residual-in_err-build_block.result _ c.from_residual-in_err-build_block.ensures.0
+
+pub returns-in_err-build_block-clause-ahead : goal.returns-in_err-build_block-clause-ahead
+returns-in_err-build_block-clause-ahead c = IfOk-from_err c.from_residual-in_err-build_block.result _ c.from_residual-in_err-build_block.ensures.0

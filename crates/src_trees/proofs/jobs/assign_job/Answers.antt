@@ -1,0 +1,9 @@
+use Rattle.std.proofs.Common.{arith}
+use Rattle.std.proofs.lemmas.Grind.{common_steps}
+use Rattle.std.proofs.lemmas.Result.{IfOk-at_ok}
+use Rattle.src_trees.proofs.jobs.assign_job.Goals as goal
+
+pub returns : goal.returns
+returns c =
+    let made = IfOk-at_ok _ c.in_ok-aim-2.ensures.made c.tree.ensures in
+    grind (arith, common_steps, made)
