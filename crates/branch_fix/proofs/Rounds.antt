@@ -116,7 +116,8 @@ widened_at rules addresses at (q ∷ parts) zero p n e z =
     one q p e = cc
 widened_at rules addresses at (q ∷ parts) (suc k) p n e z = widened_at rules addresses (at + room q) parts k p n e (omega (arith, z))
 
-still_shows : (rules : List Rule) (addresses : List ℕ) (parts : List Part) (k : ℕ) (f : Fork) → slice_get parts k ≡ Some (Test f)
+-- a test that is not three words, and stays so, shows its distance
+pub still_shows : (rules : List Rule) (addresses : List ℕ) (parts : List Part) (k : ℕ) (f : Fork) → slice_get parts k ≡ Some (Test f)
     → widened_from rules addresses 0 parts ≡ parts → f.long ≡ false
     → rule_shows (slice_get rules f.form) (address parts k + f.words) (slice_index addresses f.to) ≡ true
 still_shows rules addresses parts k f e still short =

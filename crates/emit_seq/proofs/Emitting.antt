@@ -12,7 +12,7 @@ use Rattle.emit_seq.specs.Views.{cells_of_cuts, cells_of_operand, cells_of_opera
 use Rattle.emit_seq.specs.Emits.{IsTakenOut}
 use Rattle.emit_seq.proofs.Fields.{or_assoc}
 use Rattle.emit_seq.proofs.Places.{drop_item}
-use Rattle.emit_seq.proofs.Zips.{map-remove}
+use Rattle.form_model.proofs.Zips.{map-remove}
 
 -- an operand that is taken out of the list
 pub taken_out : (xs ys : List OperandCells) (i : ℕ) (x : OperandCells) → x ≡ get_or xs i x → ys ≡ remove xs i → i < length xs

@@ -13,7 +13,7 @@ use Rattle.emit_seq.specs.Formed.{uses, BitsApart, IsOnce, MeansAlike, IsIntoReg
 use Rattle.emit_seq.specs.Leaves.{LeaveValue}
 use Rattle.emit_seq.specs.Spares.{clobbers_of, AreShared, ReadsCounter, AreSpare}
 use Rattle.emit_seq.specs.Worked.{field, acc_rules, acc_stock, acc_patterns, less_tree, less_plan, less_orderly}
-use Rattle.emit_seq.proofs.Zips.{Each}
+use Rattle.form_model.proofs.Zips.{Each}
 use Rattle.emit_seq.proofs.Leaving.{leave_value}
 use Rattle.emit_seq.proofs.Spared.{steps_spare}
 

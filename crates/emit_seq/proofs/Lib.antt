@@ -2,7 +2,6 @@ pub mod Fields
 pub mod Matched
 pub mod Sites
 pub mod Forms
-pub mod Zips
 pub mod Walks
 pub mod Opened
 pub mod Works

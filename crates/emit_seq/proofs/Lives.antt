@@ -8,7 +8,7 @@ use Rattle.form_model.specs.Effects.{Operation, register, reads, writes}
 use Rattle.form_model.specs.Live.{Regs, group_reads, group_writes, live_before, singles, AllSpare}
 use Rattle.form_model.specs.Steps.{woven}
 use Rattle.emit_seq.specs.Spares.{AreDefined, AreApart}
-use Rattle.emit_seq.proofs.Zips.{Each}
+use Rattle.form_model.proofs.Zips.{Each}
 
 pub singles-append : {A : Type 0} (xs ys : List A) → singles (xs ++ ys) ≡ singles xs ++ singles ys
 singles-append [] ys = refl

@@ -18,7 +18,7 @@ use Rattle.emit_seq.specs.Leaves.{ReadsFrom, DestinationReads}
 use Rattle.emit_seq.proofs.Fields.{picked}
 use Rattle.emit_seq.proofs.Matched.{Joined, joined, settled_some}
 use Rattle.emit_seq.proofs.Sites.{SitesRead, read-append, matched_taken}
-use Rattle.emit_seq.proofs.Zips.{get_mapped, map-remove, total, total-insert}
+use Rattle.form_model.proofs.Zips.{get_mapped, map-remove, total, total-insert}
 use Rattle.emit_seq.proofs.Walks.{operands_in, past_sites, past_total}
 
 pub record IsOpened (stock : Stock) (k : ℕ) (ps : Operands) (cs : Cuts) (destination : Destination) (tree : Term) (whole : Bool) : Type 0 where

@@ -12,7 +12,7 @@ use Rattle.form_model.specs.Steps.{OperandCells, CutCells, operand_cells, cut_ce
 use Rattle.emit_seq.specs.Leaves.{ReadsFrom}
 use Rattle.emit_seq.proofs.Matched.{Holds}
 use Rattle.emit_seq.proofs.Sites.{SitesRead}
-use Rattle.emit_seq.proofs.Zips.{Each, total}
+use Rattle.form_model.proofs.Zips.{Each, total}
 
 pub effect-steps : {A : Type 0} (m : A → Operation) (xs ys : List A) (s : State) → steps_effect m (xs ++ ys) s ≡ steps_effect m ys (steps_effect m xs s)
 effect-steps m [] ys s = refl

@@ -1,3 +1,4 @@
 pub mod FieldLaws
 pub mod ShapeLaws
 pub mod TreeLaws
+pub mod Zips

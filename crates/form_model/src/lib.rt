@@ -19,7 +19,8 @@
 //!   (covers, orderly ones, and the chosen one), `Steps` (the steps of a cover), `Effects` and
 //!   `Live` (what steps do and read, and live registers). `Worked` has shapes and matches,
 //!   computed.
-//! - `proofs/`: `FieldLaws` and `ShapeLaws` carry the law of shapes, `TreeLaws` that of trees.
+//! - `proofs/`: `FieldLaws` and `ShapeLaws` carry the law of shapes, `TreeLaws` that of trees;
+//!   `Zips` is for lists in two orders, in the crates above.
 #![tactic(auto)]
 
 mod covers;

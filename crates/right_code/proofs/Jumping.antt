@@ -38,7 +38,8 @@ use Rattle.right_code.proofs.Coded.{there}
 use Rattle.right_code.proofs.Forked.{setting_within}
 use Rattle.right_code.proofs.Inside.{Upto}
 use Rattle.right_code.proofs.Masks.{shape_bits, within_mask}
-use Rattle.right_code.proofs.Layouts.{IsBranchStep, branch_step_is, goals, near, start_is, ways}
+use Rattle.branch_fix.proofs.Addresses.{address_is}
+use Rattle.right_code.proofs.Layouts.{IsBranchStep, branch_step_is, goals, near, ways}
 use Rattle.right_code.proofs.Standing.{shown_some}
 use Rattle.right_code.proofs.Turns.{CanTurn, jump_can, turn_can}
 use Rattle.right_code.proofs.Ways.{way_bits}
@@ -135,7 +136,7 @@ module _ (netlist : Netlist) (order : List ℕ) (keeps : KeepsRules netlist orde
   module _ (flow : List Flow) (parts : List Part) (end : ℕ) (f : IsFlow flow end) (upto : Upto end flow) (layout : IsLayout stock.rules flow parts reach) where
     -- a jump to a place
     to_place : (k : ℕ) → k < length parts → HasWord (jump_step (jump_form stock.rules reach) (slice_index (starts 0 parts) k))
-    to_place k lt = subst (λ n. HasWord (jump_step (jump_form stock.rules reach) n)) (sym (start_is parts k lt)) (jump_word (address parts k) (near netlist order keeps patterns stock reach turns flow parts end f upto layout k lt))
+    to_place k lt = subst (λ n. HasWord (jump_step (jump_form stock.rules reach) n)) (sym (address_is parts k (omega (arith, lt)))) (jump_word (address parts k) (near netlist order keeps patterns stock reach turns flow parts end f upto layout k lt))
 
     behind_have : (next long : Bool) (to other : ℕ) → to < length parts → other < length parts
         → ItemsHave (behind (jump_form stock.rules reach) next long (slice_index (starts 0 parts) to) (slice_index (starts 0 parts) other))

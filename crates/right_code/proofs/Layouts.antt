@@ -21,7 +21,7 @@ use Rattle.branch_fix.specs.Inner.Flowing.{IsFlow}
 use Rattle.branch_fix.specs.declared.part.Fork.{Fork}
 use Rattle.branch_fix.specs.declared.part.Part.{Part}
 use Rattle.branch_fix.specs.declared.part.Part.TheVariants.{Test, Jump}
-use Rattle.branch_fix.proofs.Addresses.{address_next, address_rises, part_at, fit_length, starts_at}
+use Rattle.branch_fix.proofs.Addresses.{address_is, address_next, address_rises, part_at, fit_length}
 use Rattle.branch_fix.proofs.Laying.{address_total, settled_fit}
 use Rattle.right_code.specs.Forks.{plan_rule}
 use Rattle.right_code.specs.Inner.Forks.{IsTargetShown}
@@ -29,7 +29,8 @@ use Rattle.right_code.specs.Laid.{IsLayout}
 use Rattle.right_code.specs.Inner.Laid.{TargetReaches, AreTurns}
 use Rattle.right_code.proofs.Coded.{ended}
 use Rattle.right_code.proofs.Inside.{IsWide, AreWide, Upto, ways_inside, goals_inside, settled_wide}
-use Rattle.right_code.proofs.Standing.{shown_some, still_shows}
+use Rattle.branch_fix.proofs.Rounds.{still_shows}
+use Rattle.right_code.proofs.Standing.{shown_some}
 
 -- the form at the root of a test's cover is a branch form
 pub plan_goal : (stock : Stock) (tree : Term) (plan : Plan) → IsOrderly stock tested tree true plan → (b : Bool) × (way : BranchTarget) × ((plan_rule stock plan).goal ≡ branches b way)
@@ -52,9 +53,6 @@ within_code rules flow end parts k f fit l =
     let c : address parts (end + 1) ≡ total parts = address_total parts (end + 1) (sym (n ∙ long)) in
     let d : address parts k ≤ address parts end = address_rises parts k end (omega (arith, n, long, l)) in
     omega (arith, one, b, c, d)
-
-pub start_is : (parts : List Part) (k : ℕ) → k < length parts → slice_index (starts 0 parts) k ≡ address parts k
-start_is parts k l = let e = starts_at 0 parts k (omega (arith, l)) in omega (arith, e)
 
 -- the bits that the layout gives a branch word show its target
 shown_way : (netlist : Netlist) (reach : ℕ) (way : BranchTarget) (long : Bool) (from to : ℕ) → TargetReaches reach way → to < reach → to < 2 ^ counter_width netlist → (long ≡ true → IsWide way)
@@ -110,7 +108,7 @@ module _ (netlist : Netlist) (order : List ℕ) (keeps : KeepsRules netlist orde
         let way : BranchTarget = goal.1 in
         let is : rule.goal ≡ branches goal.0 way = goal.2 in
         let in_to = (ways at g e).0 in
-        let to_is : slice_index (starts 0 parts) g.to ≡ to = start_is parts g.to in_to in
+        let to_is : slice_index (starts 0 parts) g.to ≡ to = address_is parts g.to (omega (arith, in_to)) in
         let still : g.long ≡ false → target_shows way from to ≡ true =
         (λ z. sym (ap (λ o. rule_shows o from (slice_index (starts 0 parts) g.to)) form ∙ ap (λ n. kind_shows rule.goal from n) to_is ∙ ap (λ k. kind_shows k from to) is)
         ∙ still_shows stock.rules (starts 0 parts) parts at g e layout.settled.still z) in

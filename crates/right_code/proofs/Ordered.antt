@@ -44,7 +44,8 @@ use Rattle.right_code.specs.Words.{StandItems}
 use Rattle.right_code.proofs.Coded.{code_right, there}
 use Rattle.right_code.proofs.Inside.{Upto, program_upto}
 use Rattle.right_code.proofs.Standing.{shown_some, stand_split, part_stands, groups_stand}
-use Rattle.right_code.proofs.Layouts.{IsBranchStep, branch_step_is, fit, goals, near, start_is, ways}
+use Rattle.branch_fix.proofs.Addresses.{address_is}
+use Rattle.right_code.proofs.Layouts.{IsBranchStep, branch_step_is, fit, goals, near, ways}
 
 module _ (netlist : Netlist) (order : List ℕ) (keeps : KeepsRules netlist order) (image : Image) (patterns : List Pattern) (stock : Stock) (reach : ℕ) (turns : AreTurns netlist patterns stock.rules reach) where
   jump_made : (i to : ℕ) → FitsJump netlist i (operation_of patterns (jump_step (jump_form stock.rules reach) to)) → to < reach → IsJumpMade netlist patterns i to
@@ -82,8 +83,8 @@ module _ (netlist : Netlist) (order : List ℕ) (keeps : KeepsRules netlist orde
         branch_step_is netlist order keeps patterns stock reach turns flow parts end f upto laid.layout at g e r.covered.covers.tree r.choice.plan setting r.covered.covers.orderly r.form r.setting in
         let in_to = (ways netlist order keeps patterns stock reach turns flow parts end f upto laid.layout at g e).0 in
         let in_other = (ways netlist order keeps patterns stock reach turns flow parts end f upto laid.layout at g e).1 in
-        let to_is : slice_index (starts 0 parts) g.to ≡ address parts g.to = start_is parts g.to in_to in
-        let other_is : slice_index (starts 0 parts) g.other ≡ address parts g.other = start_is parts g.other in_other in
+        let to_is : slice_index (starts 0 parts) g.to ≡ address parts g.to = address_is parts g.to (omega (arith, in_to)) in
+        let other_is : slice_index (starts 0 parts) g.other ≡ address parts g.other = address_is parts g.other (omega (arith, in_other)) in
         let s = stand_split netlist patterns laid.words (words_of image) (groups g.block 0 g.words) _ a from (ap (λ n. a + n) (sym (groups_length g.block 0 g.words))) (stands at (Test g) e) in
         let word : FitsJump netlist (image_word image from) (operation_of patterns (branch_step (slice_get stock.rules g.form) g.setting from (slice_index (starts 0 parts) g.to) g.long)) = s.1.0.is in
         subst (λ b. IsForkMade netlist patterns stock image job b g a (address parts g.to) (address parts g.other)) (sym (ap rule_at_one r.form ∙ ap kind_at_one step.goal)) (record {
@@ -135,7 +136,7 @@ module _ (netlist : Netlist) (order : List ℕ) (keeps : KeepsRules netlist orde
       forks = λ at g e job has. fork_made at g e job (laid.forks at g e job has);
       jumps = λ at to e.
           jump_made _ (address parts to)
-          (subst (λ n. FitsJump netlist (image_word image (address parts at)) (operation_of patterns (jump_step (jump_form stock.rules reach) n))) (start_is parts to (goals netlist order keeps patterns stock reach turns flow parts end f upto laid.layout at to e)) (stands at (Jump to) e).0.is)
+          (subst (λ n. FitsJump netlist (image_word image (address parts at)) (operation_of patterns (jump_step (jump_form stock.rules reach) n))) (let lt = goals netlist order keeps patterns stock reach turns flow parts end f upto laid.layout at to e in address_is parts to (omega (arith, lt))) (stands at (Jump to) e).0.is)
           (near netlist order keeps patterns stock reach turns flow parts end f upto laid.layout to (goals netlist order keeps patterns stock reach turns flow parts end f upto laid.layout at to e));
       ends = λ at e. jump_made _ (address parts at) (stands at End e).0.is (near netlist order keeps patterns stock reach turns flow parts end f upto laid.layout at (there parts at End e));
     }

@@ -1,16 +1,13 @@
 -- The words of a layout's items, part by part.
-use Rattle.std.proofs.Common.{ℕ, zero, suc, ◌≡◌, ◌+◌, ◌||◌, not, unwrap_or, is_some, Bool, true, false, List, [], ◌∷◌, ◌++◌, length, Option, Some, None, slice_get, slice_index, refl, sym, ◌∙◌, ap, arith, subst}
+use Rattle.std.proofs.Common.{ℕ, zero, suc, ◌≡◌, ◌+◌, unwrap_or, is_some, true, List, [], ◌∷◌, ◌++◌, length, Option, Some, None, slice_get, slice_index, refl, sym, ◌∙◌, ap, arith, subst}
 use Rattle.net_model.specs.declared.hardware.Netlist.{Netlist}
 use Rattle.net_model.specs.Patterns.{Pattern}
 use Rattle.form_model.specs.Rules.{Rule}
 use Rattle.word_fit.specs.Runs.{StandAt}
 use Rattle.branch_fix.specs.Parts.{room, address}
-use Rattle.branch_fix.specs.Rounds.{widened_part, widened_from, rule_shows}
 use Rattle.branch_fix.specs.Items.{groups, part_items, items_from}
 use Rattle.branch_fix.specs.declared.laid.Item.{Item}
-use Rattle.branch_fix.specs.declared.part.Fork.{Fork}
 use Rattle.branch_fix.specs.declared.part.Part.{Part}
-use Rattle.branch_fix.specs.declared.part.Part.TheVariants.{Test}
 use Rattle.branch_fix.proofs.Words.{part_length}
 use Rattle.right_code.specs.Words.{StandItems}
 
@@ -46,31 +43,3 @@ module _ (netlist : Netlist) (patterns : List Pattern) (words : ℕ → List ℕ
   groups_stand block (x ∷ xs) i at f h =
       let z : i + 0 ≡ i = omega arith in
       (h.0 ∙ ap (slice_index (words block)) (sym z) ∙ f 0, groups_stand block xs (i + 1) (at + 1) (λ j. let e : i + 1 + j ≡ i + suc j = omega arith in ap (slice_index (words block)) e ∙ f (suc j)) h.1)
-
--- a part after a round
-widened_at : (rules : List Rule) (addresses : List ℕ) (at : ℕ) (parts : List Part) (k : ℕ) (p : Part) (n : ℕ) → slice_get parts k ≡ Some p → n ≡ at + address parts k
-    → slice_get (widened_from rules addresses at parts) k ≡ Some (widened_part rules addresses n p)
-widened_at rules addresses at [] k p n e z = absurd (cc e)
-widened_at rules addresses at (q ∷ parts) zero p n e z =
-    let same : at ≡ n = omega (arith, z) in
-    subst (λ a. Some (widened_part rules addresses at q) ≡ Some (widened_part rules addresses a p)) same (ap (λ r. Some (widened_part rules addresses at r)) (one q p e))
-  where
-    one : (q p : Part) → Some q ≡ Some p → q ≡ p
-    one q p e = cc
-widened_at rules addresses at (q ∷ parts) (suc k) p n e z = widened_at rules addresses (at + room q) parts k p n e (omega (arith, z))
-
--- a test that is not three words, and stays so, shows its distance
-pub still_shows : (rules : List Rule) (addresses : List ℕ) (parts : List Part) (k : ℕ) (f : Fork) → slice_get parts k ≡ Some (Test f) → widened_from rules addresses 0 parts ≡ parts → f.long ≡ false
-    → rule_shows (slice_get rules f.form) (address parts k + f.words) (slice_index addresses f.to) ≡ true
-still_shows rules addresses parts k f e still short =
-    let w : slice_get (widened_from rules addresses 0 parts) k ≡ Some (widened_part rules addresses (address parts k) (Test f)) = widened_at rules addresses 0 parts k (Test f) (address parts k) e (omega arith) in
-    let long : (f.long || not (rule_shows (slice_get rules f.form) (address parts k + f.words) (slice_index addresses f.to))) ≡ f.long = tests _ f (sym w ∙ ap (λ ps. slice_get ps k) still ∙ e) in
-    by f.long _ long short
-  where
-    tests : (g f : Fork) → Some (Test g) ≡ Some (Test f) → g.long ≡ f.long
-    tests g f e = cc
-
-    by : (l b : Bool) → (l || not b) ≡ l → l ≡ false → b ≡ true
-    by true b e s = absurd (cc s)
-    by false true e s = refl
-    by false false e s = absurd (cc e)

@@ -11,7 +11,7 @@ use Rattle.form_model.specs.Plans.{Plan, use_form, Operands, no_operands, operan
 use Rattle.form_model.specs.Covers.{Stock, Operand, operands_of, cuts_of, IsOrderly, AreOrderly, AreCut}
 use Rattle.form_model.specs.Steps.{OperandCells, CutCells, cut_count, operands_count, cuts_count, operand_counts, cut_counts, operand_cells, cut_cells, plan_operand_cells, plan_cut_cells, operand_cells_or_none, rule_or_none, found_or_none, rule_at, found_at}
 use Rattle.spill.specs.Filled.{woven_cells, filled_cells, filled_in_operands, filled_by_cuts}
-use Rattle.spill.proofs.Zips.{zip_put, zip_at, map-remove, get_mapped, length_in, length_out, total, total-insert}
+use Rattle.form_model.proofs.Zips.{zip_put, zip_at, map-remove, get_mapped, length_in, length_out, total, total-insert}
 
 range_joined : (a m n : ℕ) → range_with_len a m ++ range_with_len (a + m) n ≡ range_with_len a (m + n)
 range_joined a zero n = ap (λ b. range_with_len b n) (omega arith) ∙ ap (range_with_len a) (omega arith)

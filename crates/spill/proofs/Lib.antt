@@ -1,2 +1,1 @@
-mod Zips
 mod InOrder

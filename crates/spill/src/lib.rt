@@ -12,7 +12,7 @@
 //! - `laws`: `law_of_cells`.
 //! - `specs/`: `Filled`, cited by public contracts: the steps of `form_model/specs/Steps` with the
 //!   cell of each cut in place of its steps.
-//! - `proofs/`: `InOrder` carries both; `Zips` is for lists in two orders.
+//! - `proofs/`: `InOrder` carries both.
 //!
 //! Only `row_texts` calls it; `emit_seq` gives cells as it goes.
 #![tactic(auto)]

@@ -18,21 +18,8 @@ use Rattle.src_model.specs.Trace.{stepped}
 use Rattle.std.proofs.lemmas.Nat.{pow_pos}
 use Rattle.std.proofs.Math.Nat.{pow-le-pow_right}
 use Rattle.rec_bits.specs.declared.operator.Op2.TheVariants.{Add}
-use Rattle.src_eval.specs.Inner.Resolved.{Resolves, Small}
+use Rattle.src_eval.specs.Inner.Resolved.{Resolves}
 use Rattle.src_eval.proofs.FormulaLemmas.{fits_wider}
-
--- what fits has small widths
-pub small : (word asked : ℕ) (e : Shape) → IsWidth word → IsWidth asked → Fitting word asked e → Small e
-small word asked (num n) w a f = tt
-small word asked (plain name at) w a f = tt
-small word asked (element name at to x) w a f = tt
-small word asked (un op at x) w a f = small word asked x w a f
-small word asked (bin op at x to y) w a f =
-    let o = sides_wide word x y w f.0 f.1 in
-    (small word (operand_width word x y) x w o f.0, small word (operand_width word x y) y w o f.1)
-small word asked (zext at x to) w a f = f.2
-small word asked (sext at x to) w a f = f.2
-small word asked (low at x to) w a f = let i = width_wide word word x w w f.0 in omega (arith, i, f.2)
 
 module _ (word : ℕ) (vars : List Declared) (w : IsWidth word) where
   pub zext_resolves : (asked at : ℕ) (x : Shape) (to : ℕ) → Fitting word asked (zext at x to) → (f : Formula) → Resolves word vars word x f → Resolves word vars asked (zext at x to) f

@@ -2,62 +2,16 @@
 
 ghost use Rattle.std.specs.Prelude.{◌≡◌, List, IfOk};
 ghost use Rattle.src_model.specs.Written.{shape_of, spot_shape, place_of, test_of};
-ghost use Rattle.src_model.specs.Meaning.{shape_width, operand_width, holds};
+ghost use Rattle.src_model.specs.Meaning.{holds};
 ghost use Rattle.src_model.specs.Fitting.{Fitting, FitsSides};
 ghost use Rattle.rec_bits.specs.Operators.{IsWidth};
-ghost use Rattle.src_eval.specs.Inner.Resolved.{Resolves, ResolvesIndex, ResolvesTest, Small};
+ghost use Rattle.src_eval.specs.Inner.Resolved.{Resolves, ResolvesIndex, ResolvesTest};
 
 use crate::formula::{Comparison, Formula};
 use crate::table::Table;
-use rec_bits::{NoMemory, result_width};
-use src_model::{Spot, SrcExpr, SrcNode, SrcTest, is_literal};
+use rec_bits::NoMemory;
+use src_model::{Spot, SrcExpr, SrcNode, SrcTest, operand_width, width_of};
 use std::alloc::Global;
-
-// The width of an expression; a literal has the width `asked`.
-fn written_width(word: u8, asked: u8, e: &SrcExpr) -> u8
-    requires { Small (shape_of e.now.node) }
-    ensures { result ≡ shape_width word asked (shape_of e.now.node) }
-{
-    match &e.node {
-        SrcNode::Num(_) => asked,
-        SrcNode::Var(_) => word,
-        SrcNode::Un(_, x) => written_width(word, asked, x),
-        SrcNode::Bin(op, x, y) => {
-            let operand = if is_literal(x) { y } else { x };
-            result_width(*op, written_width(word, word, operand))
-        }
-        SrcNode::Zext(_, width) | SrcNode::Sext(_, width) | SrcNode::Low(_, width) => *width as u8,
-    }
-}
-
-// The same of an expression that fits.
-fn width_of(word: u8, asked: u8, e: &SrcExpr) -> u8
-    requires word { IsWidth word }
-    requires asked { IsWidth asked }
-    requires fitting { Fitting word asked (shape_of e.now.node) }
-    ensures value { result ≡ shape_width word asked (shape_of e.now.node) }
-    ensures wide { IsWidth result }
-{
-    written_width(word, asked, e)
-}
-
-// The width of both operands: a literal has that of the other one, and two literals have the
-// word's.
-fn operand_width(word: u8, x: &SrcExpr, y: &SrcExpr) -> u8
-    requires word { IsWidth word }
-    requires left { Fitting word (operand_width word (shape_of x.now.node) (shape_of y.now.node)) (shape_of x.now.node) }
-    requires right { Fitting word (operand_width word (shape_of x.now.node) (shape_of y.now.node)) (shape_of y.now.node) }
-    ensures value { result ≡ operand_width word (shape_of x.now.node) (shape_of y.now.node) }
-    ensures wide { IsWidth result }
-    ensures left { Fitting word result (shape_of x.now.node) }
-    ensures right { Fitting word result (shape_of y.now.node) }
-{
-    if is_literal(x) {
-        written_width(word, word, y)
-    } else {
-        written_width(word, word, x)
-    }
-}
 
 /// The formula of an expression. A literal in it has the width `asked`.
 #[cycle(resolve)]

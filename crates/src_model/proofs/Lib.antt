@@ -11,3 +11,4 @@ pub mod RangeLemmas
 pub mod CounterLemmas
 pub mod SoundLemmas
 pub mod InsideLemmas
+pub mod Narrow

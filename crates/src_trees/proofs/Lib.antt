@@ -6,7 +6,6 @@ pub mod Parts
 pub mod Standing
 pub mod Measured
 pub mod Temps
-pub mod Narrow
 pub mod LowerLemmas
 pub mod LowerCases
 pub mod Plain

@@ -13,10 +13,10 @@ ghost use Rattle.src_trees.specs.Inner.Near.{IsNear};
 ghost use Rattle.src_trees.specs.Jobs.{work_of};
 
 use crate::memory::DataMemory;
-use crate::trees::{computed, keeping, operand, operand_width, over, tree};
+use crate::trees::{computed, keeping, operand, over, tree};
 use form_model::{Aim, Job, Tree};
 use rec_bits::{Name, NoMemory, Op2};
-use src_model::{Cmp, Spot, SrcExpr, SrcTest, number_of};
+use src_model::{Cmp, Spot, SrcExpr, SrcTest, number_of, operand_width};
 use std::alloc::Global;
 
 // Where an assignment puts its value.

@@ -3,17 +3,16 @@
 ghost use Rattle.std.specs.Prelude.{◌≡◌, Ok, IfOk};
 ghost use Rattle.net_model.specs.Terms.{read, bin};
 ghost use Rattle.src_model.specs.Written.{shape_of, spot_shape};
-ghost use Rattle.src_model.specs.Meaning.{shape_width, operand_width};
 ghost use Rattle.src_model.specs.Fitting.{Fitting};
 ghost use Rattle.form_model.specs.Trees.{tree_term};
 ghost use Rattle.src_trees.specs.Lowered.{narrowed, computed_address, tree_of};
-ghost use Rattle.src_trees.specs.Inner.Near.{IsNear, IsNarrow};
+ghost use Rattle.src_trees.specs.Inner.Near.{IsNear};
 ghost use Rattle.rec_bits.specs.Operators.{IsWidth};
 
 use crate::memory::DataMemory;
 use form_model::Tree;
-use rec_bits::{Name, NoMemory, Op2, result_width};
-use src_model::{Spot, SrcExpr, SrcNode, is_literal, number_of};
+use rec_bits::{Name, NoMemory, Op2};
+use src_model::{Spot, SrcExpr, SrcNode, number_of, operand_width};
 use std::alloc::Global;
 
 /// The value beside what was made behind it. The value is let go here where nothing was made,
@@ -72,41 +71,6 @@ pub(crate) fn computed(
     let sum = over(alloc, Op2::Add, index, base)?;
     let address = narrowed(alloc, memory, sum)?;
     Ok(address)
-}
-
-// The width of an expression; a literal has the width `asked`.
-fn written_width(word: u8, asked: u8, e: &SrcExpr) -> u8
-    requires { IsNarrow (shape_of e.now.node) }
-    ensures { result ≡ shape_width word asked (shape_of e.now.node) }
-{
-    match &e.node {
-        SrcNode::Num(_) => asked,
-        SrcNode::Var(_) => word,
-        SrcNode::Un(_, x) => written_width(word, asked, x),
-        SrcNode::Bin(op, x, y) => {
-            let operand = if is_literal(x) { y } else { x };
-            result_width(*op, written_width(word, word, operand))
-        }
-        SrcNode::Zext(_, width) | SrcNode::Sext(_, width) | SrcNode::Low(_, width) => *width as u8,
-    }
-}
-
-/// The width of both operands: a literal has that of the other one, and two literals have the
-/// word's.
-pub(crate) fn operand_width(word: u8, x: &SrcExpr, y: &SrcExpr) -> u8
-    requires word { IsWidth word }
-    requires left { Fitting word (operand_width word (shape_of x.now.node) (shape_of y.now.node)) (shape_of x.now.node) }
-    requires right { Fitting word (operand_width word (shape_of x.now.node) (shape_of y.now.node)) (shape_of y.now.node) }
-    ensures value { result ≡ operand_width word (shape_of x.now.node) (shape_of y.now.node) }
-    ensures wide { IsWidth result }
-    ensures left { Fitting word result (shape_of x.now.node) }
-    ensures right { Fitting word result (shape_of y.now.node) }
-{
-    if is_literal(x) {
-        written_width(word, word, y)
-    } else {
-        written_width(word, word, x)
-    }
 }
 
 /// The tree of an expression. A literal that isn't an operand's, an index or an argument has the

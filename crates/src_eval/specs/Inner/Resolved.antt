@@ -1,7 +1,7 @@
 -- When a formula stands for an expression of a program.
-use Rattle.std.specs.Prelude.{◌≡◌, ◌≤◌, ℕ, List, Option}
+use Rattle.std.specs.Prelude.{◌≡◌, ℕ, List, Option}
 use Rattle.src_model.specs.declared.program.Var.{Var as Declared}
-use Rattle.src_model.specs.Written.{Shape, num, plain, element, un, bin, zext, sext, low, Phrase, Test}
+use Rattle.src_model.specs.Written.{Shape, Phrase, Test}
 use Rattle.src_model.specs.Meaning.{shape_width, shape_value, index_value, holds}
 use Rattle.src_eval.specs.declared.formula.Formula.{Formula}
 use Rattle.src_eval.specs.declared.formula.Comparison.{Comparison}
@@ -19,15 +19,3 @@ pub record ResolvesIndex (word : ℕ) (vars : List Declared) (index : Option Phr
 pub record ResolvesTest (word : ℕ) (vars : List Declared) (test : Test) (f : Comparison) : Type 0 where
   pub holds_as : (cells : List ℕ) → met f cells ≡ holds word vars test cells
   pub fits : FitsComparison word f
-
--- the widths that are written at the root of an expression, and of its operators' operands, are at
--- most 64
-abbrev pub Small : Shape → Type 0
-Small (num n) = Unit {0}
-Small (plain name at) = Unit {0}
-Small (element name at to x) = Unit {0}
-Small (un op at x) = Small x
-Small (bin op at x to y) = Small x × Small y
-Small (zext at x width) = width ≤ 64
-Small (sext at x width) = width ≤ 64
-Small (low at x width) = width ≤ 64

@@ -1,5 +1,5 @@
 -- Literal indexes of which the code can make addresses.
-use Rattle.std.specs.Prelude.{ℕ, ◌+◌, ◌^◌, ◌<◌, ◌≤◌, List, Option, Some, None}
+use Rattle.std.specs.Prelude.{ℕ, ◌+◌, ◌^◌, ◌<◌, List, Option, Some, None}
 use Rattle.src_model.specs.Written.{Shape, num, plain, element, un as un_of, bin as bin_of, zext as zext_of, sext as sext_of, low}
 use Rattle.src_model.specs.Indexes.{number_of}
 use Rattle.code_model.specs.declared.image.Place.{Place as VariablePlace}
@@ -18,14 +18,3 @@ IsNear places (bin_of op at x to y) = IsNear places x × IsNear places y
 IsNear places (zext_of at x width) = IsNear places x
 IsNear places (sext_of at x width) = IsNear places x
 IsNear places (low at x width) = IsNear places x
-
--- the widths that are written in an expression are at most 64
-abbrev pub IsNarrow : Shape → Type 0
-IsNarrow (num n) = Unit {0}
-IsNarrow (plain name at) = Unit {0}
-IsNarrow (element name at to x) = Unit {0}
-IsNarrow (un_of op at x) = IsNarrow x
-IsNarrow (bin_of op at x to y) = IsNarrow x × IsNarrow y
-IsNarrow (zext_of at x width) = width ≤ 64
-IsNarrow (sext_of at x width) = width ≤ 64
-IsNarrow (low at x width) = width ≤ 64

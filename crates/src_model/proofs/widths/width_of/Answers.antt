@@ -2,8 +2,8 @@ use Rattle.std.proofs.Common.{sym, subst}
 use Rattle.src_model.specs.Written.{shape_of}
 use Rattle.src_model.proofs.FittingLemmas.{width_wide}
 use Rattle.rec_bits.specs.Operators.{IsWidth}
-use Rattle.src_eval.proofs.ResolveLemmas.{small}
-use Rattle.src_eval.proofs.resolve.width_of.Goals as goal
+use Rattle.src_model.proofs.Narrow.{small}
+use Rattle.src_model.proofs.widths.width_of.Goals as goal
 
 pub written_width-requires : goal.written_width-requires
 written_width-requires c = small c.args.word c.args.asked (shape_of c.args.e.now.node) c.requires.word c.requires.asked c.requires.fitting

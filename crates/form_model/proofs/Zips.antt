@@ -4,6 +4,28 @@ use Rattle.std.proofs.Common.{◌≡◌, ℕ, zero, suc, ◌+◌, List, [], ◌�
 use Rattle.std.specs.Prelude.{slice_get, remove, insert}
 use Rattle.std.specs.List.{AllZip}
 
+abbrev pub Each : {X : Type 0} → (X → Type 0) → List X → Type 0
+Each P [] = Unit {0}
+Each P (x ∷ xs) = P x × Each P xs
+
+pub each_at : {X : Type 0} (P : X → Type 0) (xs : List X) (i : ℕ) (x : X) → slice_get xs i ≡ Some x → Each P xs → P x × Each P (remove xs i)
+each_at P [] i x e h = absurd (cc)
+each_at P (y ∷ xs) zero x e h = (subst P (cc) h.0, h.1)
+each_at P (y ∷ xs) (suc i) x e h = let r : P x × Each P (remove xs i) = each_at P xs i x e h.1 in (r.0, (h.0, r.1))
+
+pub each_put : {X : Type 0} (P : X → Type 0) (xs : List X) (i : ℕ) (x : X) → slice_get xs i ≡ Some x → P x → Each P (remove xs i) → Each P xs
+each_put P [] i x e p h = tt
+each_put P (y ∷ xs) zero x e p h = (subst P (cc) p, h)
+each_put P (y ∷ xs) (suc i) x e p h = (h.0, each_put P xs i x e p h.1)
+
+pub each_weaker : {X : Type 0} (P Q : X → Type 0) → ((x : X) → P x → Q x) → (xs : List X) → Each P xs → Each Q xs
+each_weaker P Q f [] h = tt
+each_weaker P Q f (x ∷ xs) h = (f x h.0, each_weaker P Q f xs h.1)
+
+pub each_both : {X : Type 0} (P Q : X → Type 0) → (xs : List X) → Each P xs → Each Q xs → Each (λ x. P x × Q x) xs
+each_both P Q [] h k = tt
+each_both P Q (x ∷ xs) h k = ((h.0, k.0), each_both P Q xs h.1 k.1)
+
 pub zip_put : {X Y : Type 0} (R : X → Y → Type 0) (xs : List X) (ys : List Y) (i : ℕ) (x : X) (y : Y) → slice_get xs i ≡ Some x → R x y → AllZip R (remove xs i) ys → AllZip R xs (insert ys i y)
 zip_put R [] ys i x y e r h = absurd (cc)
 zip_put R (z ∷ xs) ys zero x y e r h = (subst (λ w. R w y) (cc) r, h)

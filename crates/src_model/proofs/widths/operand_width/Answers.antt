@@ -3,8 +3,8 @@ use Rattle.src_model.specs.Written.{shape_of}
 use Rattle.src_model.specs.Meaning.{shape_width, operand_width}
 use Rattle.src_model.proofs.FittingLemmas.{sides_wide}
 use Rattle.rec_bits.specs.Operators.{IsWidth}
-use Rattle.src_eval.proofs.ResolveLemmas.{small}
-use Rattle.src_eval.proofs.resolve.operand_width.Goals as goal
+use Rattle.src_model.proofs.Narrow.{small}
+use Rattle.src_model.proofs.widths.operand_width.Goals as goal
 
 pub written_width-requires : goal.written_width-requires
 written_width-requires c =
