@@ -3,14 +3,14 @@
 ghost use Rattle.std.specs.Prelude.{◌≡◌, ℕ, ◌+◌, ◌^◌, ◌<◌, ◌≤◌, ◌&&◌, not, [], ◌∷◌, map, length, IfErr, IfOk, OnOk, true, if◌then◌else◌};
 ghost use Rattle.bit_bdd.specs.Diagrams.{Extends, has_word};
 ghost use Rattle.sym_expr.specs.Pools.{AllBelow, Grows, HeadFits, node_term, children_of, term_at};
-ghost use Rattle.route_trace.specs.Inner.Heads.{head_parts, head_term, two_parts};
+ghost use Rattle.route_trace.specs.Inner.Heads.{binary_parts, head_parts, head_term};
 ghost use Rattle.route_trace.specs.Inner.Routing.{AllFit, AllTests, AllBinaryFit, AreTables, first_terms, passes, pairs};
 ghost use Rattle.route_trace.specs.Inner.Stops.{IfMany, IsOver};
 ghost use Rattle.transfer_set.specs.Routes.{IsRouteTable, exprs_under, terms_under, routes_at};
 ghost use Rattle.route_trace.specs.Inner.Gates.{rest_terms};
 
 use crate::first::{add_first, routes_of};
-use crate::heads::{Head, Two};
+use crate::heads::{Binary, Head};
 use crate::merge::add_route;
 use crate::pairs::add_pairs;
 use crate::product::add_all;
@@ -107,27 +107,29 @@ pub(crate) fn routes_over(
     book: &mut Book,
     pool: &mut Pool,
     legal: SetId,
-    two: Two,
+    binary: Binary,
     nets: &[Items<Route>],
     a: u32,
     b: u32,
 ) -> Result<Items<Route>, Stop>
     requires legal { legal < length book.old.nodes }
-    requires parts { AllBelow (length pool.old) (two_parts two) }
+    requires parts { AllBelow (length pool.old) (binary_parts binary) }
     requires nets { AreTables book.old pool.old nets.now }
-    requires fits { AllBinaryFit two pool.old (routes_at nets.now a) (routes_at nets.now b) }
+    requires fits { AllBinaryFit binary pool.old (routes_at nets.now a) (routes_at nets.now b) }
     ensures book { Extends book.old book.new }
     ensures pool { Grows pool.old pool.new }
     ensures table { IfOk result (λ out. IsRouteTable book.new pool.new out) }
     ensures terms { IfOk result (λ out. (word : ℕ) → word < 2 ^ book.old.bits →
-        terms_under book.new pool.new out word ≡ (if has_word book.old legal word then pairs two (term_at pool.old) (terms_under book.old pool.old (routes_at nets.now a) word) (terms_under book.old pool.old (routes_at nets.now b) word) else [])) }
+        terms_under book.new pool.new out word ≡ (if has_word book.old legal word then pairs binary (term_at pool.old) (terms_under book.old pool.old (routes_at nets.now a) word) (terms_under book.old pool.old (routes_at nets.now b) word) else [])) }
     ensures many { IfErr result (λ stop. IfMany stop (IsOver book.new pool.new (λ word terms.
-        terms ≡ (if has_word book.old legal word then pairs two (term_at pool.old) (terms_under book.old pool.old (routes_at nets.now a) word) (terms_under book.old pool.old (routes_at nets.now b) word) else [])))) }
+        terms ≡ (if has_word book.old legal word then pairs binary (term_at pool.old) (terms_under book.old pool.old (routes_at nets.now a) word) (terms_under book.old pool.old (routes_at nets.now b) word) else [])))) }
 {
     let mut out = Items::new(alloc);
     let firsts = routes_of(nets, a);
     let seconds = routes_of(nets, b);
-    add_pairs(alloc, book, pool, &mut out, two, legal, firsts, seconds, 0)?;
+    add_pairs(
+        alloc, book, pool, &mut out, binary, legal, firsts, seconds, 0,
+    )?;
     Ok(out)
 }
 

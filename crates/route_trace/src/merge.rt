@@ -31,7 +31,7 @@ pub(crate) fn add_route(
     ensures grows { Extends book.old book.new }
     ensures routes { OnOk result (IsRoutes book.new out.new) }
     ensures exprs { OnOk result ((size : ℕ) → expr < size → AllExprs size out.old → AllExprs size out.new) }
-    ensures held { OnOk result ((word : ℕ) → word < 2 ^ book.old.bits →
+    ensures by_word { OnOk result ((word : ℕ) → word < 2 ^ book.old.bits →
         exprs_under book.new out.new word ≡ (if has_word book.old set word then expr ∷ [] else exprs_under book.old out.old word)) }
 {
     match find(out.as_slice(), expr) {

@@ -7,7 +7,7 @@ ghost use Rattle.transfer_set.specs.Routes.{IsRouteTable, exprs_under, terms_und
 ghost use Rattle.route_trace.specs.Inner.Selects.{AllSelectFit, selects};
 ghost use Rattle.route_trace.specs.Inner.Stops.{IfMany, IsOver};
 
-use crate::heads::Two;
+use crate::heads::Binary;
 use crate::pairs::add_pairs;
 use crate::stop::Stop;
 use bit_bdd::{Book, SetId};
@@ -53,7 +53,7 @@ pub(crate) fn add_selects(
             book,
             pool,
             out,
-            Two::Select(route.expr),
+            Binary::Select(route.expr),
             both,
             firsts,
             seconds,

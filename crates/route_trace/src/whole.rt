@@ -17,7 +17,7 @@ ghost use Rattle.route_trace.specs.Inner.Tests.{IsDecided};
 
 use crate::cases::{bus_routes, case_routes};
 use crate::gates::{leaf_routes, routes_over, routes_under};
-use crate::heads::{Head, Two};
+use crate::heads::{Binary, Head};
 use crate::stop::Stop;
 use bit_bdd::{Book, SetId};
 use ctl_bdd::ControlBits;
@@ -97,9 +97,9 @@ pub(crate) fn net_routes(
         Gate::Zext(a) => routes_under(alloc, book, pool, legal, Head::Zext(width), nets, *a),
         Gate::Sext(a) => routes_under(alloc, book, pool, legal, Head::Sext(width), nets, *a),
         Gate::Bin(op, a, b) => {
-            routes_over(alloc, book, pool, legal, Two::Bin(*op), nets, *a, *b)
+            routes_over(alloc, book, pool, legal, Binary::Bin(*op), nets, *a, *b)
         }
-        Gate::Cat(a, b) => routes_over(alloc, book, pool, legal, Two::Cat, nets, *a, *b),
+        Gate::Cat(a, b) => routes_over(alloc, book, pool, legal, Binary::Cat, nets, *a, *b),
         Gate::Case { sel, rows, rest } => {
             let rows = rows.as_slice();
             case_routes(alloc, controls, book, pool, nets, *sel, rows, *rest, width)

@@ -3,7 +3,7 @@ use Rattle.std.specs.Prelude.{List, [], ◌∷◌, map}
 use Rattle.net_model.specs.Terms.{Term, select}
 use Rattle.sym_expr.specs.declared.pool.Node.{Node}
 use Rattle.transfer_set.specs.declared.route.Route.{Route}
-use Rattle.route_trace.specs.declared.heads.Two.TheVariants.{Select}
+use Rattle.route_trace.specs.declared.heads.Binary.TheVariants.{Select}
 use Rattle.route_trace.specs.Inner.Routing.{AllBinaryFit, each}
 
 -- the two operands fit under each selector
