@@ -41,9 +41,9 @@ fn add_entry(
 ) -> Result<(), NoMemory>
     requires a { a < length book.old.nodes }
     requires b { b < length book.old.nodes }
-    requires held { HaveWords book.old out.old }
+    requires words { HaveWords book.old out.old }
     ensures grows { Extends book.old book.new }
-    ensures held { OnOk result (HaveWords book.new out.new) }
+    ensures words { OnOk result (HaveWords book.new out.new) }
     ensures moves { OnOk result ((pool : List TheNode) (id word : ℕ) →
         moves_under book.new pool out.new id word ≡
         moves_under book.old pool out.old id word ++
@@ -94,9 +94,9 @@ fn add_write(
     requires on { on < length book.old.nodes }
     requires set { route.set < length book.old.nodes }
     requires expr { route.expr < length pool.now }
-    requires held { HaveWords book.old out.old }
+    requires words { HaveWords book.old out.old }
     ensures grows { Extends book.old book.new }
-    ensures held { OnOk result (HaveWords book.new out.new) }
+    ensures words { OnOk result (HaveWords book.new out.new) }
     ensures moves { OnOk result ((id word : ℕ) →
         moves_under book.new pool.now out.new id word ≡
         moves_under book.old pool.now out.old id word ++
@@ -127,9 +127,9 @@ pub(crate) fn add_register(
     requires on { on < length book.old.nodes }
     requires sets { AllSets book.old routes.now }
     requires exprs { AllExprs (length pool.now) routes.now }
-    requires held { HaveWords book.old out.old }
+    requires words { HaveWords book.old out.old }
     ensures grows { Extends book.old book.new }
-    ensures held { OnOk result (HaveWords book.new out.new) }
+    ensures words { OnOk result (HaveWords book.new out.new) }
     ensures moves { OnOk result ((id word : ℕ) →
         moves_under book.new pool.now out.new id word ≡
         moves_under book.old pool.now out.old id word ++
@@ -159,9 +159,9 @@ fn add_values(
 ) -> Result<(), NoMemory>
     requires on { on < length book.old.nodes }
     requires values { AllSets book.old values.now }
-    requires held { HaveWords book.old out.old }
+    requires words { HaveWords book.old out.old }
     ensures grows { Extends book.old book.new }
-    ensures held { OnOk result (HaveWords book.new out.new) }
+    ensures words { OnOk result (HaveWords book.new out.new) }
     ensures moves { OnOk result ((pool : List TheNode) (id word : ℕ) →
         moves_under book.new pool out.new id word ≡
         moves_under book.old pool out.old id word ++
@@ -201,9 +201,9 @@ pub(crate) fn add_memory(
     requires on { on < length book.old.nodes }
     requires addrs { AllSets book.old addrs.now }
     requires values { AllSets book.old values.now }
-    requires held { HaveWords book.old out.old }
+    requires words { HaveWords book.old out.old }
     ensures grows { Extends book.old book.new }
-    ensures held { OnOk result (HaveWords book.new out.new) }
+    ensures words { OnOk result (HaveWords book.new out.new) }
     ensures moves { OnOk result ((pool : List TheNode) (id word : ℕ) →
         moves_under book.new pool out.new id word ≡
         moves_under book.old pool out.old id word ++
