@@ -73,7 +73,7 @@ fn merged(
     live: RegSet,
 ) -> Result<Option<Group>, NoMemory>
     requires ready { IsReadyFor machine.now book.old }
-    requires told { HasTables machine.now }
+    requires tables { HasTables machine.now }
     ensures grows { Extends book.old book.new }
     ensures ready { IsReadyFor machine.now book.new }
     ensures merged { IfOk result (λ found. MatchOption found (CanMerge machine.now first.now second.now (regs_of live) → ⊥)
@@ -134,7 +134,7 @@ fn moved_out(
     live: RegSet,
 ) -> Result<Option<Pair>, NoMemory>
     requires ready { IsReadyFor machine.now book.old }
-    requires told { HasTables machine.now }
+    requires tables { HasTables machine.now }
     ensures grows { Extends book.old book.new }
     ensures ready { IsReadyFor machine.now book.new }
     ensures moved { IfOk result (λ found. MatchOption found (CanMove machine.now first.now step (front.now ++ back.now) (regs_of live) → ⊥)
@@ -176,7 +176,7 @@ fn moved_at(
     live: RegSet,
 ) -> Result<Option<Pair>, NoMemory>
     requires ready { IsReadyFor machine.now book.old }
-    requires told { HasTables machine.now }
+    requires tables { HasTables machine.now }
     requires within { index < length second.now }
     ensures grows { Extends book.old book.new }
     ensures ready { IsReadyFor machine.now book.new }
@@ -201,7 +201,7 @@ fn moved(
     live: RegSet,
 ) -> Result<Option<Pair>, NoMemory>
     requires ready { IsReadyFor machine.now book.old }
-    requires told { HasTables machine.now }
+    requires tables { HasTables machine.now }
     ensures grows { Extends book.old book.new }
     ensures ready { IsReadyFor machine.now book.new }
     ensures moved { IfOk result (λ found. MatchOption found
@@ -227,7 +227,7 @@ pub(crate) fn change_of(
     live: RegSet,
 ) -> Result<Change, NoMemory>
     requires ready { IsReadyFor machine.now book.old }
-    requires told { HasTables machine.now }
+    requires tables { HasTables machine.now }
     ensures grows { Extends book.old book.new }
     ensures ready { IsReadyFor machine.now book.new }
     ensures change { IfOk result (Changes machine.now first.now second.now (regs_of live)) }

@@ -38,7 +38,7 @@ fn turn(
     _after: RegSet,
 ) -> Result<usize, NoMemory>
     requires ready { IsReadyFor machine.now book.old }
-    requires told { HasTables machine.now }
+    requires tables { HasTables machine.now }
     requires within { pair + 1 < length groups.old.items }
     requires as_long { length lives.old.items ≡ length groups.old.items }
     requires lives { map regs_of lives.old.items ≡ lives_of (operation_in machine.now) groups.old.items (regs_of _after) }
@@ -91,7 +91,7 @@ fn settle(
     after: RegSet,
 ) -> Result<(), NoMemory>
     requires ready { IsReadyFor machine.now book.old }
-    requires told { HasTables machine.now }
+    requires tables { HasTables machine.now }
     requires lives { map regs_of lives.old.items ≡ lives_of (operation_in machine.now) groups.old.items (regs_of after) }
     requires start { PackedTo machine.now (regs_of after) 0 groups.old.items }
     ensures grows { Extends book.old book.new }
