@@ -56,8 +56,10 @@ fn found_at<'a>(
     form: &'a Form,
     covered: Covered<'a>,
 ) -> Result<Match<'a>, NoMemory>
-    ensures { IfOk result (λ found.
-        taken stock.entry.temps (rule_of form.now) (destination_at covered.entry.destination) (tree_term covered.entry.tree.now) covered.entry.whole ≡ Some (found_of found)) }
+    ensures { IfOk result (λ found. taken stock.entry.temps (rule_of form.now)
+        (destination_at covered.entry.destination) (tree_term covered.entry.tree.now)
+        covered.entry.whole
+        ≡ Some (found_of found)) }
 {
     let found = match_at(
         alloc,
@@ -78,8 +80,9 @@ pub fn root_of<'a>(
     cover: &Cover,
     covered: Covered<'a>,
 ) -> Result<Root<'a>, NoMemory>
-    ensures { IfOk result (λ root.
-        IsRoot (stock_of stock.entry) (plan_of cover.now) covered.entry.first (destination_at covered.entry.destination) (tree_term covered.entry.tree.now) covered.entry.whole root) }
+    ensures { IfOk result (λ root. IsRoot (stock_of stock.entry) (plan_of cover.now)
+        covered.entry.first (destination_at covered.entry.destination)
+        (tree_term covered.entry.tree.now) covered.entry.whole root) }
 {
     let form = form_at(stock, cover.form)?;
     let found = found_at(alloc, stock, form, covered)?;
@@ -112,8 +115,8 @@ pub fn take_out<'a>(
     left: &mut Vec<OperandCells<'a>>,
     place: usize,
 ) -> Result<OperandCells<'a>, NoMemory>
-    ensures { IfOk result (λ cells.
-        IsTakenOut (cells_of_operands left.old.items) place (cells_of_operand cells) (cells_of_operands left.new.items)) }
+    ensures { IfOk result (λ cells. IsTakenOut (cells_of_operands left.old.items) place
+        (cells_of_operand cells) (cells_of_operands left.new.items)) }
 {
     if place >= left.len() {
         return Err(NoMemory);
@@ -123,7 +126,12 @@ pub fn take_out<'a>(
 
 /// What the cover of an operand is of.
 pub fn operand_covered<'a>(cells: OperandCells<'a>) -> Covered<'a>
-    ensures { result ≡ record { tree = cells.entry.tree; destination = Register cells.entry.id; whole = cells.entry.whole; first = cells.entry.first } }
+    ensures { result ≡ record {
+      tree = cells.entry.tree;
+      destination = Register cells.entry.id;
+      whole = cells.entry.whole;
+      first = cells.entry.first;
+    } }
 {
     Covered {
         tree: cells.tree,
@@ -135,7 +143,8 @@ pub fn operand_covered<'a>(cells: OperandCells<'a>) -> Covered<'a>
 
 /// What the cover of a cut is of.
 pub fn cut_covered<'a>(cells: CutCells<'a>) -> Covered<'a>
-    ensures { result ≡ record { tree = cells.entry.tree; destination = Temp; whole = false; first = cells.entry.first } }
+    ensures { result ≡
+        record { tree = cells.entry.tree; destination = Temp; whole = false; first = cells.entry.first } }
 {
     Covered {
         tree: cells.tree,

@@ -41,7 +41,8 @@ fn aim(alloc: Global, memory: &DataMemory<'_>, spot: &Spot) -> Result<Aim, NoMem
 
 // A job of one tree.
 fn job(alloc: Global, aim: Aim, tree: Tree) -> Result<Job, NoMemory>
-    ensures { IfOk result (λ made. work_of made ≡ record { destination = destination_of aim; trees = tree_term tree ∷ [] }) }
+    ensures { IfOk result (λ made.
+        work_of made ≡ record { destination = destination_of aim; trees = tree_term tree ∷ [] }) }
 {
     let mut trees = Vec::new(alloc);
     trees.push(tree)?;
@@ -85,8 +86,9 @@ fn equality(
     x_again: Tree,
     y_again: Tree,
 ) -> Result<Vec<Tree>, NoMemory>
-    ensures { IfOk result (λ made.
-        map tree_term made.items ≡ bin Equal (tree_term x) (tree_term y) ∷ bin Equal (bin Sub (tree_term x_again) (tree_term y_again)) (const width 0) ∷ []) }
+    ensures { IfOk result (λ made. map tree_term made.items
+        ≡ bin Equal (tree_term x) (tree_term y)
+        ∷ bin Equal (bin Sub (tree_term x_again) (tree_term y_again)) (const width 0) ∷ []) }
 {
     let first = over(alloc, Op2::Eq, x, y)?;
     let difference = over(alloc, Op2::Sub, x_again, y_again)?;
@@ -158,7 +160,8 @@ pub(crate) fn test_job(
 
 // The counter of a `for`.
 fn counter_tree(alloc: Global, memory: &DataMemory<'_>, counter: &Name) -> Result<Tree, NoMemory>
-    ensures { IfOk result (λ made. tree_term made ≡ read (const memory.now.addr (base_of memory.now.places counter.now)) memory.now.word) }
+    ensures { IfOk result (λ made. tree_term made
+        ≡ read (const memory.now.addr (base_of memory.now.places counter.now)) memory.now.word) }
 {
     let at = Tree::Lit {
         width: memory.addr(),

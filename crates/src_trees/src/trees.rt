@@ -69,8 +69,10 @@ fn written_width(word: u8, asked: u8, e: &SrcExpr) -> u8
 /// word's.
 pub(crate) fn operand_width(word: u8, x: &SrcExpr, y: &SrcExpr) -> u8
     requires word { IsWidth word }
-    requires left { Fitting word (operand_width word (shape_of x.now.node) (shape_of y.now.node)) (shape_of x.now.node) }
-    requires right { Fitting word (operand_width word (shape_of x.now.node) (shape_of y.now.node)) (shape_of y.now.node) }
+    requires left { Fitting word (operand_width word (shape_of x.now.node) (shape_of y.now.node))
+        (shape_of x.now.node) }
+    requires right { Fitting word (operand_width word (shape_of x.now.node) (shape_of y.now.node))
+        (shape_of y.now.node) }
     ensures value { result ≡ operand_width word (shape_of x.now.node) (shape_of y.now.node) }
     ensures wide { IsWidth result }
     ensures left { Fitting word result (shape_of x.now.node) }
@@ -138,7 +140,8 @@ pub(crate) fn tree(
 fn address(alloc: Global, memory: &DataMemory<'_>, spot: &Spot) -> Result<Tree, NoMemory>
     requires fitting { Fitting memory.now.word memory.now.word (spot_shape spot.now) }
     requires near { IsNear memory.now.places (spot_shape spot.now) }
-    ensures { IfOk result (λ made. read (tree_term made) memory.now.word ≡ tree_of memory.now memory.now.word (spot_shape spot.now)) }
+    ensures { IfOk result (λ made. read (tree_term made) memory.now.word
+        ≡ tree_of memory.now memory.now.word (spot_shape spot.now)) }
 {
     let first = u64::from(memory.base(&spot.name));
     let width = memory.addr();
