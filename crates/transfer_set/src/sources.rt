@@ -61,9 +61,10 @@ fn add_storage(
     ensures grows { Extends book.old book.new }
     ensures words { OnOk result (HaveWords book.new out.new) }
     ensures moves { OnOk result ((n word : ℕ) → word < 2 ^ book.old.bits →
-        moves_under book.new pool.now out.new n word ≡
-        moves_under book.old pool.now out.old n word ++
-        list_if ((id == n) && has_word book.old controls.now.legal word) (changes (move_at checked.now.netlist word id))) }
+        moves_under book.new pool.now out.new n word
+        ≡ moves_under book.old pool.now out.old n word
+        ++ list_if ((id == n) && has_word book.old controls.now.legal word)
+        (changes (move_at checked.now.netlist word id))) }
     ensures whole { OnOk result (AreWhole checked.now.netlist pool.now book.old out.old →
         AreWhole checked.now.netlist pool.now book.new out.new) }
     ensures known { OnOk result (AreKnown (length pool.now) out.old → AreKnown (length pool.now) out.new) }
