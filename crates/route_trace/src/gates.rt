@@ -34,12 +34,15 @@ fn add_leaf(
     requires leaf { children_of node ≡ [] }
     requires fits { HeadFits (node_term node (term_at pool.old)) }
     requires table { IsRouteTable book.old pool.old out.old }
-    requires apart { (word : ℕ) → word < 2 ^ book.old.bits → has_word book.old set word ≡ true → exprs_under book.old out.old word ≡ [] }
+    requires apart { (word : ℕ) → word < 2 ^ book.old.bits → has_word book.old set word ≡ true →
+        exprs_under book.old out.old word ≡ [] }
     ensures book { Extends book.old book.new }
     ensures pool { Grows pool.old pool.new }
     ensures table { OnOk result (IsRouteTable book.new pool.new out.new) }
     ensures terms { OnOk result ((word : ℕ) → word < 2 ^ book.old.bits →
-        terms_under book.new pool.new out.new word ≡ (if has_word book.old set word then node_term node (term_at pool.old) ∷ [] else terms_under book.old pool.old out.old word)) }
+        terms_under book.new pool.new out.new word
+        ≡ (if has_word book.old set word then node_term node (term_at pool.old) ∷ []
+        else terms_under book.old pool.old out.old word)) }
 {
     match book.least(set) {
         None => Ok(()),
@@ -66,7 +69,8 @@ pub(crate) fn leaf_routes(
     ensures pool { Grows pool.old pool.new }
     ensures table { IfOk result (λ out. IsRouteTable book.new pool.new out) }
     ensures terms { IfOk result (λ out. (word : ℕ) → word < 2 ^ book.old.bits →
-        terms_under book.new pool.new out word ≡ (if has_word book.old legal word then node_term node (term_at pool.old) ∷ [] else [])) }
+        terms_under book.new pool.new out word
+        ≡ (if has_word book.old legal word then node_term node (term_at pool.old) ∷ [] else [])) }
 {
     let mut out = Items::new(alloc);
     add_leaf(alloc, book, pool, &mut out, legal, node)?;
@@ -91,9 +95,14 @@ pub(crate) fn routes_under(
     ensures pool { Grows pool.old pool.new }
     ensures table { IfOk result (λ out. IsRouteTable book.new pool.new out) }
     ensures terms { IfOk result (λ out. (word : ℕ) → word < 2 ^ book.old.bits →
-        terms_under book.new pool.new out word ≡ (if has_word book.old legal word then map (head_term head (term_at pool.old)) (terms_under book.old pool.old (routes_at nets.now a) word) else [])) }
-    ensures many { IfErr result (λ stop. IfMany stop (IsOver book.new pool.new (λ word terms.
-        terms ≡ (if has_word book.old legal word then map (head_term head (term_at pool.old)) (terms_under book.old pool.old (routes_at nets.now a) word) else [])))) }
+        terms_under book.new pool.new out word
+        ≡ (if has_word book.old legal word
+        then map (head_term head (term_at pool.old)) (terms_under book.old pool.old (routes_at nets.now a) word)
+        else [])) }
+    ensures many { IfErr result (λ stop. IfMany stop (IsOver book.new pool.new
+        (λ word terms. terms ≡ (if has_word book.old legal word
+        then map (head_term head (term_at pool.old)) (terms_under book.old pool.old (routes_at nets.now a) word)
+        else [])))) }
 {
     let mut out = Items::new(alloc);
     let routes = routes_of(nets, a);
@@ -120,9 +129,18 @@ pub(crate) fn routes_over(
     ensures pool { Grows pool.old pool.new }
     ensures table { IfOk result (λ out. IsRouteTable book.new pool.new out) }
     ensures terms { IfOk result (λ out. (word : ℕ) → word < 2 ^ book.old.bits →
-        terms_under book.new pool.new out word ≡ (if has_word book.old legal word then pairs binary (term_at pool.old) (terms_under book.old pool.old (routes_at nets.now a) word) (terms_under book.old pool.old (routes_at nets.now b) word) else [])) }
-    ensures many { IfErr result (λ stop. IfMany stop (IsOver book.new pool.new (λ word terms.
-        terms ≡ (if has_word book.old legal word then pairs binary (term_at pool.old) (terms_under book.old pool.old (routes_at nets.now a) word) (terms_under book.old pool.old (routes_at nets.now b) word) else [])))) }
+        terms_under book.new pool.new out word
+        ≡ (if has_word book.old legal word
+        then pairs binary (term_at pool.old)
+        (terms_under book.old pool.old (routes_at nets.now a) word)
+        (terms_under book.old pool.old (routes_at nets.now b) word)
+        else [])) }
+    ensures many { IfErr result (λ stop. IfMany stop (IsOver book.new pool.new
+        (λ word terms. terms ≡ (if has_word book.old legal word
+        then pairs binary (term_at pool.old)
+        (terms_under book.old pool.old (routes_at nets.now a) word)
+        (terms_under book.old pool.old (routes_at nets.now b) word)
+        else [])))) }
 {
     let mut out = Items::new(alloc);
     let firsts = routes_of(nets, a);
@@ -153,9 +171,18 @@ pub(crate) fn routes_of_first(
     ensures pool { Grows pool.old pool.new }
     ensures table { IfOk result (λ out. IsRouteTable book.new pool.new out) }
     ensures terms { IfOk result (λ out. (word : ℕ) → word < 2 ^ book.old.bits →
-        terms_under book.new pool.new out word ≡ (if has_word book.old legal word then (if passes book.old word tests.now then first_terms book.old pool.old nets.now word tests.now else rest_terms book.old pool.old nets.now width rest word) else [])) }
-    ensures many { IfErr result (λ stop. IfMany stop (IsOver book.new pool.new (λ word terms.
-        terms ≡ (if has_word book.old legal word then (if passes book.old word tests.now then first_terms book.old pool.old nets.now word tests.now else rest_terms book.old pool.old nets.now width rest word) else [])))) }
+        terms_under book.new pool.new out word
+        ≡ (if has_word book.old legal word
+        then (if passes book.old word tests.now
+        then first_terms book.old pool.old nets.now word tests.now
+        else rest_terms book.old pool.old nets.now width rest word)
+        else [])) }
+    ensures many { IfErr result (λ stop. IfMany stop (IsOver book.new pool.new
+        (λ word terms. terms ≡ (if has_word book.old legal word
+        then (if passes book.old word tests.now
+        then first_terms book.old pool.old nets.now word tests.now
+        else rest_terms book.old pool.old nets.now width rest word)
+        else [])))) }
 {
     let mut out = Items::new(alloc);
     let left = add_first(alloc, book, pool, &mut out, legal, tests, nets)?;

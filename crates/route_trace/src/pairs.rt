@@ -39,18 +39,24 @@ fn add_part(
     requires one { (word : ℕ) → word < 2 ^ book.old.bits → length (exprs_under book.old routes.now word) ≤ 1 }
     requires fits { AllFit head pool.old routes.now }
     requires table { IsRouteTable book.old pool.old out.old }
-    requires apart { (word : ℕ) → word < 2 ^ book.old.bits → (has_word book.old set word && has_word book.old part word) ≡ true →
+    requires apart { (word : ℕ) → word < 2 ^ book.old.bits →
+        (has_word book.old set word && has_word book.old part word) ≡ true →
         exprs_under book.old out.old word ≡ [] }
     ensures book { Extends book.old book.new }
     ensures pool { Grows pool.old pool.new }
     ensures table { OnOk result (IsRouteTable book.new pool.new out.new) }
     ensures terms { OnOk result ((word : ℕ) → word < 2 ^ book.old.bits →
-        terms_under book.new pool.new out.new word ≡ (if has_word book.old set word && has_word book.old part word then map (head_term head (term_at pool.old)) (terms_under book.old pool.old routes.now word) else terms_under book.old pool.old out.old word)) }
+        terms_under book.new pool.new out.new word
+        ≡ (if has_word book.old set word && has_word book.old part word
+        then map (head_term head (term_at pool.old)) (terms_under book.old pool.old routes.now word)
+        else terms_under book.old pool.old out.old word)) }
     ensures left_within { IfOk result (λ left. left < length book.new.nodes) }
     ensures left { IfOk result (λ left.
         (word : ℕ) → has_word book.new left word ≡ (has_word book.old set word && not (has_word book.old part word))) }
-    ensures many { IfErr result (λ stop. IfMany stop (IsOver book.new pool.new (λ word terms.
-        terms ≡ (if has_word book.old set word && has_word book.old part word then map (head_term head (term_at pool.old)) (terms_under book.old pool.old routes.now word) else terms_under book.old pool.old out.old word)))) }
+    ensures many { IfErr result (λ stop. IfMany stop (IsOver book.new pool.new
+        (λ word terms. terms ≡ (if has_word book.old set word && has_word book.old part word
+        then map (head_term head (term_at pool.old)) (terms_under book.old pool.old routes.now word)
+        else terms_under book.old pool.old out.old word)))) }
 {
     let left = without(alloc, book, set, part)?;
     let both = book.and(alloc, set, part)?;
@@ -80,14 +86,22 @@ pub(crate) fn add_pairs(
     requires second_one { (word : ℕ) → word < 2 ^ book.old.bits → length (exprs_under book.old seconds.now word) ≤ 1 }
     requires fits { AllBinaryFit binary pool.old firsts.now seconds.now }
     requires table { IsRouteTable book.old pool.old out.old }
-    requires apart { (word : ℕ) → word < 2 ^ book.old.bits → has_word book.old set word ≡ true → exprs_under book.old out.old word ≡ [] }
+    requires apart { (word : ℕ) → word < 2 ^ book.old.bits → has_word book.old set word ≡ true →
+        exprs_under book.old out.old word ≡ [] }
     ensures book { Extends book.old book.new }
     ensures pool { Grows pool.old pool.new }
     ensures table { OnOk result (IsRouteTable book.new pool.new out.new) }
     ensures terms { OnOk result ((word : ℕ) → word < 2 ^ book.old.bits →
-        terms_under book.new pool.new out.new word ≡ (if has_word book.old set word then pairs binary (term_at pool.old) (terms_under book.old pool.old firsts.now word) (terms_under book.old pool.old seconds.now word) else terms_under book.old pool.old out.old word)) }
-    ensures many { IfErr result (λ stop. IfMany stop (IsOver book.new pool.new (λ word terms.
-        terms ≡ (if has_word book.old set word then pairs binary (term_at pool.old) (terms_under book.old pool.old firsts.now word) (terms_under book.old pool.old seconds.now word) else terms_under book.old pool.old out.old word)))) }
+        terms_under book.new pool.new out.new word
+        ≡ (if has_word book.old set word
+        then pairs binary (term_at pool.old) (terms_under book.old pool.old firsts.now word)
+        (terms_under book.old pool.old seconds.now word)
+        else terms_under book.old pool.old out.old word)) }
+    ensures many { IfErr result (λ stop. IfMany stop (IsOver book.new pool.new
+        (λ word terms. terms ≡ (if has_word book.old set word
+        then pairs binary (term_at pool.old) (terms_under book.old pool.old firsts.now word)
+        (terms_under book.old pool.old seconds.now word)
+        else terms_under book.old pool.old out.old word)))) }
 {
     let mut left = set;
     let mut start = start;

@@ -18,7 +18,8 @@ Finds expr routes (Some place) = (route : Route) × (slice_get routes place ≡ 
 -- each expression can be the last operand
 abbrev pub AllFit : Head → List Node → List Route → Type 0
 AllFit head pool [] = Unit {0}
-AllFit head pool (route ∷ routes) = LastFits head (term_at pool) (term_width (term_at pool route.expr)) × AllFit head pool routes
+AllFit head pool (route ∷ routes) =
+    LastFits head (term_at pool) (term_width (term_at pool route.expr)) × AllFit head pool routes
 
 -- each pair of expressions can be the two operands
 abbrev pub AllBinaryFit : Binary → List Node → List Route → List Route → Type 0
@@ -50,4 +51,6 @@ passes book word (test ∷ tests) = has_word book test.0 word || passes book wor
 
 abbrev pub first_terms : Diagrams → List Node → List (List Route) → ℕ → List (ℕ × ℕ) → List Term
 first_terms book pool nets word [] = []
-first_terms book pool nets word (test ∷ tests) = if has_word book test.0 word then terms_under book pool (routes_at nets test.1) word else first_terms book pool nets word tests
+first_terms book pool nets word (test ∷ tests) =
+    if has_word book test.0 word then terms_under book pool (routes_at nets test.1) word
+    else first_terms book pool nets word tests

@@ -9,7 +9,8 @@ use Rattle.route_trace.specs.Inner.Routing.{AllBinaryFit, each}
 -- the two operands fit under each selector
 abbrev pub AllSelectFit : List Node → List Route → List Route → List Route → Type 0
 AllSelectFit pool [] firsts seconds = Unit {0}
-AllSelectFit pool (c ∷ choices) firsts seconds = AllBinaryFit (Select c.expr) pool firsts seconds × AllSelectFit pool choices firsts seconds
+AllSelectFit pool (c ∷ choices) firsts seconds =
+    AllBinaryFit (Select c.expr) pool firsts seconds × AllSelectFit pool choices firsts seconds
 
 -- all choices under one selector
 abbrev pub under : Term → List Term → List Term → List Term
