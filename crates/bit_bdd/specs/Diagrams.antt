@@ -29,7 +29,8 @@ node_set (Ask bit low high) sets = branch bit (sets low) (sets high)
 -- the set of an id, by the nodes from the newest to the oldest: a node names older ids alone
 unfoldable pub set_of_newest : List Node → ℕ → PointSet
 set_of_newest [] id = λ _. false
-set_of_newest (node ∷ older) id = if id == length older then node_set node (set_of_newest older) else set_of_newest older id
+set_of_newest (node ∷ older) id =
+    if id == length older then node_set node (set_of_newest older) else set_of_newest older id
 
 -- the set of an id
 unfoldable pub set_of : List Node → ℕ → PointSet
@@ -61,7 +62,9 @@ DifferWithin mask a b = (bit : ℕ) → bit_at mask bit ≡ 0 → bit_at a bit �
 
 -- a word can be brought into a set by changing bits of the mask
 abbrev pub CanReach : Diagrams → ℕ → ℕ → ℕ → Type 0
-CanReach book id mask word = (other : ℕ) × (other < 2 ^ book.bits) × DifferWithin mask other word × (has_word book id other ≡ true)
+CanReach book id mask word =
+    (other : ℕ) × (other < 2 ^ book.bits) × DifferWithin mask other word
+    × (has_word book id other ≡ true)
 
 -- a word with one bit set to a value
 abbrev pub with_bit : ℕ → ℕ → Bool → ℕ

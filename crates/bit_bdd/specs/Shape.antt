@@ -42,7 +42,8 @@ pub record IsReducedBook (bits : ℕ) (nodes : List Node) : Type 0 where
   pub never : slice_get nodes 0 ≡ Some Never
   pub always : slice_get nodes 1 ≡ Some Always
   pub few : bits ≤ 64
-  pub reduced : (place bit low high : ℕ) → slice_get nodes place ≡ Some (Ask bit low high) → IsReduced bits nodes place bit low high
+  pub reduced : (place bit low high : ℕ) → slice_get nodes place ≡ Some (Ask bit low high) →
+      IsReduced bits nodes place bit low high
   pub distinct : (i j : ℕ) (node : Node) → slice_get nodes i ≡ Some node → slice_get nodes j ≡ Some node → i ≡ j
 
 -- what a book keeps of the node at a place
@@ -53,7 +54,9 @@ IsNodeAt book place (Ask bit low high) = IsReduced book.bits book.nodes place bi
 
 -- a set does not depend on the bits from this one on
 abbrev pub SeesBelow : Diagrams → ℕ → ℕ → Type 0
-SeesBelow book id bit = (f g : Point) → ((k : ℕ) → k < bit → f k ≡ g k) → set_of book.nodes id f ≡ set_of book.nodes id g
+SeesBelow book id bit =
+    (f g : Point) → ((k : ℕ) → k < bit → f k ≡ g k) →
+    set_of book.nodes id f ≡ set_of book.nodes id g
 
 -- the children's sets depend only on bits below the node's own
 abbrev pub ChildrenSeeBelow : Diagrams → Node → Type 0
@@ -71,8 +74,11 @@ SameOutside mask point other = (bit : ℕ) → bit_at mask bit ≡ 0 → other b
 
 -- the points that can be brought into the set by changing bits of the mask
 abbrev pub IsProjection : ℕ → PointSet → PointSet → Type 0
-IsProjection mask set projected = (point : Point) → (projected point ≡ true) ↔ ((other : Point) × SameOutside mask point other × (set other ≡ true))
+IsProjection mask set projected =
+    (point : Point) →
+    (projected point ≡ true) ↔ ((other : Point) × SameOutside mask point other × (set other ≡ true))
 
 -- the points that lie in either set, where the bit is in the mask, and else the branch
 abbrev pub projected_branch : ℕ → ℕ → PointSet → PointSet → PointSet
-projected_branch mask bit low high point = if bits_of mask bit then low point || high point else branch bit low high point
+projected_branch mask bit low high point =
+    if bits_of mask bit then low point || high point else branch bit low high point

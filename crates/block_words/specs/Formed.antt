@@ -26,7 +26,8 @@ pub record IsWorded (netlist : Netlist) (patterns : List Pattern) (step : Step) 
 -- each step is one, with its clobbers
 abbrev pub AreWorded : Netlist → List Pattern → (Step → Regs) → List Step → Type 0
 AreWorded netlist patterns clobbers [] = Unit {0}
-AreWorded netlist patterns clobbers (x ∷ xs) = IsWorded netlist patterns x (clobbers x) × AreWorded netlist patterns clobbers xs
+AreWorded netlist patterns clobbers (x ∷ xs) =
+    IsWorded netlist patterns x (clobbers x) × AreWorded netlist patterns clobbers xs
 
 -- for each setting some word does the pattern's transfer and keeps the data memory
 pub record IsJumpWorded (netlist : Netlist) (patterns : List Pattern) (step : Step) : Type 0 where

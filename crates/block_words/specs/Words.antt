@@ -11,8 +11,10 @@ use Rattle.word_fit.specs.Steps.{step_operation}
 
 -- each group has a word that fits it with the registers that are live after it
 abbrev pub HaveWords : Netlist → List Node → Table → List (List Step) → Regs → Type 0
-HaveWords netlist pool table groups after = AllHaveWords (step_operation pool table) (fits_over netlist (step_operation pool table)) groups after
+HaveWords netlist pool table groups after =
+    AllHaveWords (step_operation pool table) (fits_over netlist (step_operation pool table)) groups after
 
 -- the words are the least that fit, one for each group
 abbrev pub AreLeastWords : Netlist → List Node → Table → List ℕ → List (List Step) → Regs → Type 0
-AreLeastWords netlist pool table words groups after = AreLeast (step_operation pool table) (fits_over netlist (step_operation pool table)) words groups after
+AreLeastWords netlist pool table words groups after =
+    AreLeast (step_operation pool table) (fits_over netlist (step_operation pool table)) words groups after

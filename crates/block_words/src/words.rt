@@ -30,7 +30,8 @@ fn least_word(
     live: RegSet,
 ) -> Result<u64, NoMemory>
     requires ready { IsReady checked.now.netlist book.old pool.now patterns.now }
-    requires word { (w : ℕ) × FitsGroup checked.now.netlist (step_operation pool.now patterns.now) w group.now (regs_of live) }
+    requires word { (w : ℕ)
+        × FitsGroup checked.now.netlist (step_operation pool.now patterns.now) w group.now (regs_of live) }
     ensures grows { Extends book.old book.new }
     ensures ready { IsReady checked.now.netlist book.new pool.now patterns.now }
     ensures least { IfOk result (λ word. IsLeastFit (λ word.
@@ -59,7 +60,8 @@ pub fn words_of(
     requires words { HaveWords checked.now.netlist pool.now patterns.now groups.now (regs_of after) }
     ensures grows { Extends book.old book.new }
     ensures ready { IsReady checked.now.netlist book.new pool.now patterns.now }
-    ensures least { IfOk result (λ words. AreLeastWords checked.now.netlist pool.now patterns.now words groups.now (regs_of after)) }
+    ensures least { IfOk result (λ words.
+        AreLeastWords checked.now.netlist pool.now patterns.now words groups.now (regs_of after)) }
 {
     let lives = live(alloc, checked, patterns, pool, groups, after)?;
     let mut words = Items::new(alloc);

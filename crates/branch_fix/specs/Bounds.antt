@@ -21,7 +21,10 @@ control_words (End ∷ rest) = 1 + control_words rest
 abbrev pub bound_of : List Flow → List ℕ → ℕ
 bound_of flow costs = sum_of costs + control_words flow
 
--- ---- the same of a program as it is written: three words for each test, one for the jump back of each loop, and one for each `if` with an else part
+-- ---- the same of a program as it is written
+
+-- three words for each test, one for the jump back of each loop, and one for each `if` with an else
+-- part
 
 abbrev mutual
   pub control_of : Act → ℕ

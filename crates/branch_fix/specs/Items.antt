@@ -54,7 +54,8 @@ kind_setting _ from to long = 0
 -- the branch word at an address: the bits of its condition and those of its target
 abbrev pub branch_step : Option Rule → ℕ → ℕ → ℕ → Bool → Step
 branch_step None setting from to long = record { pattern = 0; setting = 0 }
-branch_step (Some rule) setting from to long = record { pattern = rule.pattern; setting = bit_or setting (kind_setting rule.goal from to long) }
+branch_step (Some rule) setting from to long =
+    record { pattern = rule.pattern; setting = bit_or setting (kind_setting rule.goal from to long) }
 
 -- the words behind it
 abbrev pub behind : Option Rule → Bool → Bool → ℕ → ℕ → List Item
@@ -69,10 +70,12 @@ part_items rules jump addresses at (Block block words) = groups block 0 words
 part_items rules jump addresses at Inner = []
 part_items rules jump addresses at (Test f) =
     groups f.block 0 f.words
-    ++ (Word (branch_step (slice_get rules f.form) f.setting (at + f.words) (slice_index addresses f.to) f.long) ∷ behind jump f.next f.long (slice_index addresses f.to) (slice_index addresses f.other))
+    ++ (Word (branch_step (slice_get rules f.form) f.setting (at + f.words) (slice_index addresses f.to) f.long)
+    ∷ behind jump f.next f.long (slice_index addresses f.to) (slice_index addresses f.other))
 part_items rules jump addresses at (Jump to) = Word (jump_step jump (slice_index addresses to)) ∷ []
 part_items rules jump addresses at End = Word (jump_step jump at) ∷ []
 
 abbrev pub items_from : List Rule → Option Rule → List ℕ → ℕ → List Part → List Item
 items_from rules jump addresses at [] = []
-items_from rules jump addresses at (p ∷ parts) = part_items rules jump addresses at p ++ items_from rules jump addresses (at + room p) parts
+items_from rules jump addresses at (p ∷ parts) =
+    part_items rules jump addresses at p ++ items_from rules jump addresses (at + room p) parts

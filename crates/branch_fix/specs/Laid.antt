@@ -26,7 +26,15 @@ pub record Outline : Type 0 where
 
 abbrev pub outline : List Flow → List ℕ → List (ℕ × ℕ) → Forms → ℕ → ℕ → Outline
 outline flow sizes branches forms words bound =
-    record { flow = flow; sizes = sizes; branches = branches; rules = rules_of forms.list.items; reach = forms.reach; words = words; bound = bound }
+    record {
+      flow = flow;
+      sizes = sizes;
+      branches = branches;
+      rules = rules_of forms.list.items;
+      reach = forms.reach;
+      words = words;
+      bound = bound;
+    }
 
 -- its parts when rounds have changed the branches
 abbrev pub ArePartsOf : Outline → List Part → Type 0

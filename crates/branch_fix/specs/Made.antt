@@ -24,11 +24,14 @@ use Rattle.branch_fix.specs.Parts.{rule_at_one, address, marks_from, PartsFit}
 -- so many clocks lead from s to t, each to the next address
 abbrev pub Walks : Netlist → Image → ℕ → State → ℕ → State → Type 0
 Walks netlist image at s zero t = (s ≡ t) × IsAt netlist at t
-Walks netlist image at s (suc n) t = IsAt netlist at s × ((u : State) × (clock netlist (words_of image) s ≡ Next u) × Walks netlist image (at + 1) u n t)
+Walks netlist image at s (suc n) t =
+    IsAt netlist at s
+    × ((u : State) × (clock netlist (words_of image) s ≡ Next u) × Walks netlist image (at + 1) u n t)
 
 -- the words of a block, so many from an address on: they do its jobs
 pub record DoesBlock (netlist : Netlist) (image : Image) (temps : ℕ) (jobs : List Work) (at n : ℕ) : Type 0 where
-  pub walks : (s : State) → IsAt netlist at s → AllLie temps s.cells jobs → (t : State) × Walks netlist image at s n t × (drop temps t.cells ≡ drop temps (all_done jobs s.cells))
+  pub walks : (s : State) → IsAt netlist at s → AllLie temps s.cells jobs →
+      (t : State) × Walks netlist image at s n t × (drop temps t.cells ≡ drop temps (all_done jobs s.cells))
 
 -- a word that goes to an address where a condition is 1, or where it is 0, and else on to the next
 -- word, and keeps the memory
@@ -43,34 +46,47 @@ pub record DoesBranch (netlist : Netlist) (i : ℕ) (condition : Term) (when_one
 
 -- the words of a test's operands' code, so many from an address on: behind them a condition has the
 -- value of one of the job's trees
-pub record DoesOperands (netlist : Netlist) (image : Image) (temps : ℕ) (job : Work) (i : ℕ) (condition : Term) (at n : ℕ) : Type 0 where
+pub record DoesOperands (netlist : Netlist) (image : Image) (temps : ℕ) (job : Work) (i : ℕ)
+    (condition : Term) (at n : ℕ) : Type 0 where
   pub which : ℕ
   pub used : Term
   pub among : slice_get job.trees which ≡ Some used
-  pub walks : (s : State) → IsAt netlist at s → Lies temps s.cells job → (t : State) × Walks netlist image at s n t × (drop temps t.cells ≡ drop temps s.cells) × (mean condition t i ≡ tree_value s.cells used)
+  pub walks : (s : State) → IsAt netlist at s → Lies temps s.cells job →
+      (t : State) × Walks netlist image at s n t × (drop temps t.cells ≡ drop temps s.cells)
+      × (mean condition t i ≡ tree_value s.cells used)
 
 abbrev pub image_word : Image → ℕ → ℕ
 image_word image at = slice_index (words_of image) at
 
 -- the words behind a branch word at an address
 abbrev pub TailGoes : Netlist → Image → Bool → Bool → ℕ → ℕ → ℕ → Type 0
-TailGoes netlist image next true at to other = DoesGoto netlist (image_word image (at + 1)) other × DoesGoto netlist (image_word image (at + 2)) to
+TailGoes netlist image next true at to other =
+    DoesGoto netlist (image_word image (at + 1)) other
+    × DoesGoto netlist (image_word image (at + 2)) to
 TailGoes netlist image true false at to other = Unit {0}
 TailGoes netlist image false false at to other = DoesGoto netlist (image_word image (at + 1)) other
 
 -- the words of a test, from an address on, where the addresses of its targets are given
-pub record DoesFork (netlist : Netlist) (image : Image) (temps : ℕ) (job : Work) (when_one : Bool) (f : Fork) (at to other : ℕ) : Type 0 where
+pub record DoesFork (netlist : Netlist) (image : Image) (temps : ℕ) (job : Work) (when_one : Bool)
+    (f : Fork) (at to other : ℕ) : Type 0 where
   pub condition : Term
   pub operands : DoesOperands netlist image temps job (image_word image (at + f.words)) condition at f.words
-  pub branch : DoesBranch netlist (image_word image (at + f.words)) condition when_one (at + f.words) (if f.long then at + f.words + 2 else to)
+  pub branch : DoesBranch netlist (image_word image (at + f.words)) condition when_one
+      (at + f.words) (if f.long then at + f.words + 2 else to)
   pub behind : TailGoes netlist image f.next f.long (at + f.words) to other
 
 -- words stand for all parts, and the marks are theirs
-pub record IsMade (netlist : Netlist) (image : Image) (temps : ℕ) (rules : List Rule) (flow : List Flow) (jobs : List Work) (parts : List Part) : Type 0 where
+pub record IsMade (netlist : Netlist) (image : Image) (temps : ℕ) (rules : List Rule)
+    (flow : List Flow) (jobs : List Work) (parts : List Part) : Type 0 where
   pub fit : PartsFit rules flow 0 flow parts
   pub marks : image.marks ≡ marks_from 0 parts
-  pub blocks : (at n block words : ℕ) → IsAssignBlock flow at n → slice_get parts at ≡ Some (Block block words) → DoesBlock netlist image temps (jobs_at flow jobs at n) (address parts at) words
+  pub blocks : (at n block words : ℕ) → IsAssignBlock flow at n →
+      slice_get parts at ≡ Some (Block block words) →
+      DoesBlock netlist image temps (jobs_at flow jobs at n) (address parts at) words
   pub forks : (at : ℕ) (f : Fork) → slice_get parts at ≡ Some (Test f) → (job : Work) → slice_get jobs f.tree ≡ Some job
-      → DoesFork netlist image temps job (rule_at_one (slice_get rules f.form)) f (address parts at) (address parts f.to) (address parts f.other)
-  pub jumps : (at to : ℕ) → slice_get parts at ≡ Some (Jump to) → DoesGoto netlist (image_word image (address parts at)) (address parts to)
-  pub ends : (at : ℕ) → slice_get parts at ≡ Some End → DoesGoto netlist (image_word image (address parts at)) (address parts at)
+      → DoesFork netlist image temps job (rule_at_one (slice_get rules f.form)) f (address parts at)
+      (address parts f.to) (address parts f.other)
+  pub jumps : (at to : ℕ) → slice_get parts at ≡ Some (Jump to) →
+      DoesGoto netlist (image_word image (address parts at)) (address parts to)
+  pub ends : (at : ℕ) → slice_get parts at ≡ Some End →
+      DoesGoto netlist (image_word image (address parts at)) (address parts at)

@@ -24,7 +24,17 @@ rule_at_one (Some rule) = kind_at_one rule.goal
 -- targets is the branch's
 abbrev pub fork_to : ℕ → ℕ → ℕ → ℕ → ℕ → ℕ → ℕ → ℕ → Part
 fork_to tree block words form setting at to other =
-    Test (record { tree = tree; block = block; words = words; form = form; setting = setting; to = to; other = other; next = other == at + 1; long = false })
+    Test (record {
+      tree = tree;
+      block = block;
+      words = words;
+      form = form;
+      setting = setting;
+      to = to;
+      other = other;
+      next = other == at + 1;
+      long = false;
+    })
 
 -- the branch form and the setting that are given for a test
 abbrev pub branch_or_zero : Option (ℕ × ℕ) → ℕ × ℕ
@@ -43,17 +53,22 @@ parts_from rules flow sizes forks (Assign tree ∷ rest) at block test =
     if continues flow at then Inner ∷ parts_from rules flow sizes forks rest (at + 1) block test
     else Block block (slice_index sizes block) ∷ parts_from rules flow sizes forks rest (at + 1) (block + 1) test
 parts_from rules flow sizes forks (Tested tree when_one when_zero ∷ rest) at block test =
-    fork_of rules tree block (slice_index sizes block) (branch_or_zero (slice_get forks test)) at when_one when_zero ∷ parts_from rules flow sizes forks rest (at + 1) (block + 1) (test + 1)
-parts_from rules flow sizes forks (Jumped to ∷ rest) at block test = Jump to ∷ parts_from rules flow sizes forks rest (at + 1) block test
-parts_from rules flow sizes forks (Ended ∷ rest) at block test = End ∷ parts_from rules flow sizes forks rest (at + 1) block test
+    fork_of rules tree block (slice_index sizes block) (branch_or_zero (slice_get forks test)) at when_one when_zero
+    ∷ parts_from rules flow sizes forks rest (at + 1) (block + 1) (test + 1)
+parts_from rules flow sizes forks (Jumped to ∷ rest) at block test =
+    Jump to ∷ parts_from rules flow sizes forks rest (at + 1) block test
+parts_from rules flow sizes forks (Ended ∷ rest) at block test =
+    End ∷ parts_from rules flow sizes forks rest (at + 1) block test
 
 abbrev pub parts_of : List Rule → List Flow → List ℕ → List (ℕ × ℕ) → List Part
 parts_of rules flow sizes forks = parts_from rules flow sizes forks flow 0 0 0
 
 -- the same, part by part
 abbrev pub part_for : List Rule → List Flow → List ℕ → List (ℕ × ℕ) → Flow → ℕ → ℕ → ℕ → Part
-part_for rules flow sizes forks (Assign tree) at block test = if continues flow at then Inner else Block block (slice_index sizes block)
-part_for rules flow sizes forks (Tested tree when_one when_zero) at block test = fork_of rules tree block (slice_index sizes block) (branch_or_zero (slice_get forks test)) at when_one when_zero
+part_for rules flow sizes forks (Assign tree) at block test =
+    if continues flow at then Inner else Block block (slice_index sizes block)
+part_for rules flow sizes forks (Tested tree when_one when_zero) at block test =
+    fork_of rules tree block (slice_index sizes block) (branch_or_zero (slice_get forks test)) at when_one when_zero
 part_for rules flow sizes forks (Jumped to) at block test = Jump to
 part_for rules flow sizes forks Ended at block test = End
 
@@ -122,7 +137,8 @@ FitsPart rules flow at (Assign tree) (Block block words) = continues flow at ≡
 FitsPart rules flow at (Assign tree) Inner = continues flow at ≡ true
 FitsPart rules flow at (Tested tree when_one when_zero) (Test f) =
     (f.tree ≡ tree) × (f.next ≡ (f.other == at + 1))
-    × (f.to ≡ (if rule_at_one (slice_get rules f.form) then when_one else when_zero)) × (f.other ≡ (if rule_at_one (slice_get rules f.form) then when_zero else when_one))
+    × (f.to ≡ (if rule_at_one (slice_get rules f.form) then when_one else when_zero))
+    × (f.other ≡ (if rule_at_one (slice_get rules f.form) then when_zero else when_one))
 FitsPart rules flow at (Jumped to) (Jump place) = place ≡ to
 FitsPart rules flow at Ended End = Unit {0}
 FitsPart rules flow at _ _ = ⊥

@@ -28,7 +28,10 @@ rule_shows (Some rule) from to = kind_shows rule.goal from to
 
 -- in a round each relative branch that doesn't show its distance becomes three words, and stays so
 abbrev pub widened : List Rule → List ℕ → ℕ → Fork → Fork
-widened rules addresses at f = record f { long = f.long || not (rule_shows (slice_get rules f.form) (at + f.words) (slice_index addresses f.to)) }
+widened rules addresses at f = record f {
+  long = f.long
+      || not (rule_shows (slice_get rules f.form) (at + f.words) (slice_index addresses f.to));
+}
 
 -- part by part
 abbrev pub widened_part : List Rule → List ℕ → ℕ → Part → Part
@@ -40,7 +43,8 @@ widened_part rules addresses at End = End
 
 abbrev pub widened_from : List Rule → List ℕ → ℕ → List Part → List Part
 widened_from rules addresses at [] = []
-widened_from rules addresses at (p ∷ parts) = widened_part rules addresses at p ∷ widened_from rules addresses (at + room p) parts
+widened_from rules addresses at (p ∷ parts) =
+    widened_part rules addresses at p ∷ widened_from rules addresses (at + room p) parts
 
 abbrev pub round : List Rule → List Part → List Part
 round rules parts = widened_from rules (starts 0 parts) 0 parts

@@ -34,36 +34,54 @@ abbrev jump_rule : Rule
 jump_rule = record { pattern = 2; goal = jumps 256; addr = None; value = field; fields = 255; clobbers = 3 }
 
 abbrev branch_rule : BranchTarget → Rule
-branch_rule target = record { pattern = 1; goal = branches true target; addr = None; value = condition; fields = 255; clobbers = 3 }
+branch_rule target = record {
+  pattern = 1;
+  goal = branches true target;
+  addr = None;
+  value = condition;
+  fields = 255;
+  clobbers = 3;
+}
 
 -- the words of a flow whose branches go so: one for the test, five for the block
 abbrev laid : BranchTarget → ℕ → List Item
 laid target n = items_from (branch_rule target ∷ jump_rule ∷ []) (jump_form (branch_rule target ∷ jump_rule ∷ []) 256)
-    (starts 0 (rounds (branch_rule target ∷ jump_rule ∷ []) n (parts_of (branch_rule target ∷ jump_rule ∷ []) flow (1 ∷ 5 ∷ []) ((0, 0) ∷ [])))) 0
-    (rounds (branch_rule target ∷ jump_rule ∷ []) n (parts_of (branch_rule target ∷ jump_rule ∷ []) flow (1 ∷ 5 ∷ []) ((0, 0) ∷ [])))
+    (starts 0 (rounds (branch_rule target ∷ jump_rule ∷ []) n
+    (parts_of (branch_rule target ∷ jump_rule ∷ []) flow (1 ∷ 5 ∷ []) ((0, 0) ∷ [])))) 0
+    (rounds (branch_rule target ∷ jump_rule ∷ []) n
+    (parts_of (branch_rule target ∷ jump_rule ∷ []) flow (1 ∷ 5 ∷ []) ((0, 0) ∷ [])))
 
 abbrev marked_at : BranchTarget → ℕ → List Mark
-marked_at target n = marks_from 0 (rounds (branch_rule target ∷ jump_rule ∷ []) n (parts_of (branch_rule target ∷ jump_rule ∷ []) flow (1 ∷ 5 ∷ []) ((0, 0) ∷ [])))
+marked_at target n =
+    marks_from 0 (rounds (branch_rule target ∷ jump_rule ∷ []) n
+    (parts_of (branch_rule target ∷ jump_rule ∷ []) flow (1 ∷ 5 ∷ []) ((0, 0) ∷ [])))
 
 abbrev to_word : ℕ → ℕ → Item
 to_word pattern setting = Jump (record { pattern = pattern; setting = setting })
 
-absolute_words : laid (absolute field) 1 ≡ Group 0 0 ∷ to_word 1 8 ∷ Group 1 0 ∷ Group 1 1 ∷ Group 1 2 ∷ Group 1 3 ∷ Group 1 4 ∷ to_word 2 0 ∷ to_word 2 8 ∷ []
+absolute_words : laid (absolute field) 1
+    ≡ Group 0 0 ∷ to_word 1 8 ∷ Group 1 0 ∷ Group 1 1 ∷ Group 1 2 ∷ Group 1 3 ∷ Group 1 4
+    ∷ to_word 2 0 ∷ to_word 2 8 ∷ []
 absolute_words = refl
 
-absolute_marks : marked_at (absolute field) 1 ≡ record { address = 0; label = Some 0 } ∷ record { address = 8; label = None } ∷ []
+absolute_marks : marked_at (absolute field) 1
+    ≡ record { address = 0; label = Some 0 } ∷ record { address = 8; label = None } ∷ []
 absolute_marks = refl
 
 -- a relative branch that shows 7
-near_words : laid (relative field) 1 ≡ Group 0 0 ∷ to_word 1 7 ∷ Group 1 0 ∷ Group 1 1 ∷ Group 1 2 ∷ Group 1 3 ∷ Group 1 4 ∷ to_word 2 0 ∷ to_word 2 8 ∷ []
+near_words : laid (relative field) 1
+    ≡ Group 0 0 ∷ to_word 1 7 ∷ Group 1 0 ∷ Group 1 1 ∷ Group 1 2 ∷ Group 1 3 ∷ Group 1 4
+    ∷ to_word 2 0 ∷ to_word 2 8 ∷ []
 near_words = refl
 
 -- one of two bits doesn't: it goes two words on, behind it a jump into the loop and one out of it
 far_words : laid (relative narrow) 1 ≡
-    Group 0 0 ∷ to_word 1 2 ∷ to_word 2 4 ∷ to_word 2 10 ∷ Group 1 0 ∷ Group 1 1 ∷ Group 1 2 ∷ Group 1 3 ∷ Group 1 4 ∷ to_word 2 0 ∷ to_word 2 10 ∷ []
+    Group 0 0 ∷ to_word 1 2 ∷ to_word 2 4 ∷ to_word 2 10 ∷ Group 1 0 ∷ Group 1 1 ∷ Group 1 2
+    ∷ Group 1 3 ∷ Group 1 4 ∷ to_word 2 0 ∷ to_word 2 10 ∷ []
 far_words = refl
 
-far_marks : marked_at (relative narrow) 1 ≡ record { address = 0; label = Some 0 } ∷ record { address = 10; label = None } ∷ []
+far_marks : marked_at (relative narrow) 1
+    ≡ record { address = 0; label = Some 0 } ∷ record { address = 10; label = None } ∷ []
 far_marks = refl
 
 -- and another round changes nothing
@@ -78,7 +96,9 @@ no_round e = cc e
 most_words : bound_of flow (1 ∷ 5 ∷ []) ≡ 11
 most_words = refl
 
-far_total : total (rounds (branch_rule (relative narrow) ∷ jump_rule ∷ []) 1 (parts_of (branch_rule (relative narrow) ∷ jump_rule ∷ []) flow (1 ∷ 5 ∷ []) ((0, 0) ∷ []))) ≡ 11
+far_total : total (rounds (branch_rule (relative narrow) ∷ jump_rule ∷ []) 1
+    (parts_of (branch_rule (relative narrow) ∷ jump_rule ∷ []) flow (1 ∷ 5 ∷ []) ((0, 0) ∷ [])))
+    ≡ 11
 far_total = refl
 
 -- if a == 1 { a = 2; } else { }: the branch goes to the next place, and behind it a jump over the
@@ -87,15 +107,21 @@ abbrev forked : List Flow
 forked = Test 0 1 3 ∷ Assign 1 ∷ Jumped 3 ∷ Ended ∷ []
 
 abbrev forked_laid : BranchTarget → List Item
-forked_laid target = items_from (branch_rule target ∷ jump_rule ∷ []) (jump_form (branch_rule target ∷ jump_rule ∷ []) 256)
-    (starts 0 (rounds (branch_rule target ∷ jump_rule ∷ []) 1 (parts_of (branch_rule target ∷ jump_rule ∷ []) forked (1 ∷ 1 ∷ []) ((0, 0) ∷ [])))) 0
-    (rounds (branch_rule target ∷ jump_rule ∷ []) 1 (parts_of (branch_rule target ∷ jump_rule ∷ []) forked (1 ∷ 1 ∷ []) ((0, 0) ∷ [])))
+forked_laid target =
+    items_from (branch_rule target ∷ jump_rule ∷ [])
+    (jump_form (branch_rule target ∷ jump_rule ∷ []) 256)
+    (starts 0 (rounds (branch_rule target ∷ jump_rule ∷ []) 1
+    (parts_of (branch_rule target ∷ jump_rule ∷ []) forked (1 ∷ 1 ∷ []) ((0, 0) ∷ [])))) 0
+    (rounds (branch_rule target ∷ jump_rule ∷ []) 1
+    (parts_of (branch_rule target ∷ jump_rule ∷ []) forked (1 ∷ 1 ∷ []) ((0, 0) ∷ [])))
 
-forked_words : forked_laid (absolute field) ≡ Group 0 0 ∷ to_word 1 3 ∷ to_word 2 5 ∷ Group 1 0 ∷ to_word 2 5 ∷ to_word 2 5 ∷ []
+forked_words : forked_laid (absolute field)
+    ≡ Group 0 0 ∷ to_word 1 3 ∷ to_word 2 5 ∷ Group 1 0 ∷ to_word 2 5 ∷ to_word 2 5 ∷ []
 forked_words = refl
 
 -- which is two words on
-forked_near : forked_laid (relative narrow) ≡ Group 0 0 ∷ to_word 1 2 ∷ to_word 2 5 ∷ Group 1 0 ∷ to_word 2 5 ∷ to_word 2 5 ∷ []
+forked_near : forked_laid (relative narrow)
+    ≡ Group 0 0 ∷ to_word 1 2 ∷ to_word 2 5 ∷ Group 1 0 ∷ to_word 2 5 ∷ to_word 2 5 ∷ []
 forked_near = refl
 
 -- a distance wraps round: from 5 to 3 in eight bits
@@ -110,5 +136,17 @@ longer_costs : block_costs longer (10 ∷ 20 ∷ 30 ∷ 40 ∷ 50 ∷ []) longer
 longer_costs = refl
 
 longer_parts : parts_of [] longer (3 ∷ 1 ∷ 9 ∷ []) ((0, 0) ∷ []) ≡
-    Block 0 3 ∷ Inner ∷ TestPart (record { tree = 2; block = 1; words = 1; form = 0; setting = 0; to = 6; other = 3; next = true; long = false }) ∷ Block 2 9 ∷ Inner ∷ JumpPart 2 ∷ EndPart ∷ []
+    Block 0 3 ∷ Inner
+    ∷ TestPart (record {
+      tree = 2;
+      block = 1;
+      words = 1;
+      form = 0;
+      setting = 0;
+      to = 6;
+      other = 3;
+      next = true;
+      long = false;
+    })
+    ∷ Block 2 9 ∷ Inner ∷ JumpPart 2 ∷ EndPart ∷ []
 longer_parts = refl

@@ -63,7 +63,8 @@ fn push_fork(
     fork: Fork,
 ) -> Result<(), NoMemory>
     requires { at + fork.words < 2 ^ 64 }
-    ensures { OnOk result (items.new ≡ items.old ++ part_items (rules_of forms.now) (rule_in jump.entry) addresses.now at (Test fork)) }
+    ensures { OnOk result (items.new ≡ items.old
+        ++ part_items (rules_of forms.now) (rule_in jump.entry) addresses.now at (Test fork)) }
 {
     let to = address_at(addresses, fork.to);
     let other = address_at(addresses, fork.other);
@@ -83,7 +84,8 @@ fn push_part(
     part: Part,
 ) -> Result<(), NoMemory>
     requires { at + room part < 2 ^ 64 }
-    ensures { OnOk result (items.new ≡ items.old ++ part_items (rules_of forms.now) (rule_in jump.entry) addresses.now at part) }
+    ensures { OnOk result (items.new
+        ≡ items.old ++ part_items (rules_of forms.now) (rule_in jump.entry) addresses.now at part) }
 {
     match part {
         Part::Block { block, words } => push_groups(items, block, words),
@@ -103,7 +105,8 @@ pub fn items(
     parts: &[Part],
 ) -> Result<Items<Item>, NoMemory>
     requires { total parts.now < 2 ^ 64 }
-    ensures { IfOk result (λ items. items ≡ items_from (rules_of forms.now) (rule_in jump.entry) addresses.now 0 parts.now) }
+    ensures { IfOk result (λ items.
+        items ≡ items_from (rules_of forms.now) (rule_in jump.entry) addresses.now 0 parts.now) }
 {
     let mut items = Items::new(alloc);
     let mut address = 0;

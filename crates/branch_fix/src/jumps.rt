@@ -69,7 +69,8 @@ fn kind_setting(form: &Form, from: u64, to: u64, long: bool) -> Result<u64, NoMe
 
 /// The branch word of a test, from an address to another.
 pub fn branch_step(forms: &[Form], fork: Fork, from: u64, to: u64) -> Result<Step, NoMemory>
-    ensures { IfOk result (λ step. step ≡ branch_step (slice_get (rules_of forms.now) fork.form) fork.setting from to fork.long) }
+    ensures { IfOk result (λ step. step
+        ≡ branch_step (slice_get (rules_of forms.now) fork.form) fork.setting from to fork.long) }
 {
     match form_at(forms, fork.form) {
         None => Ok(Step {

@@ -35,31 +35,43 @@ ghost use Rattle.branch_fix.specs.Made.{IsMade};
 /// An image whose words stand for the parts of a program's flow, and whose marks are theirs, traces
 /// the program.
 pub fn law_of_layouts()
-    ensures { (netlist : Netlist) (image : Image) (bits addr temps : ℕ) (l : Listing) (rules : List Rule) (parts : List Part) → IsSound netlist → first_fault bits l ≡ None →
-        memory_width netlist.storages ≡ bits → InReach bits addr temps l.vars → temps + cell_count l.vars ≤ memory_size netlist.storages →
+    ensures { (netlist : Netlist) (image : Image) (bits addr temps : ℕ) (l : Listing)
+        (rules : List Rule) (parts : List Part) →
+        IsSound netlist → first_fault bits l ≡ None → memory_width netlist.storages ≡ bits →
+        InReach bits addr temps l.vars → temps + cell_count l.vars ≤ memory_size netlist.storages →
         image.places ≡ places_from temps (variables_of l.vars) →
-        IsMade netlist image temps rules (program_flow l) (program_works (memory_map bits addr temps l.vars) l) parts →
-        length (words_of image) ≡ total parts → ((a : ℕ) → WordFits netlist (slice_index (words_of image) a)) → TracesRight netlist image (strace bits l) }
+        IsMade netlist image temps rules (program_flow l)
+        (program_works (memory_map bits addr temps l.vars) l) parts →
+        length (words_of image) ≡ total parts →
+        ((a : ℕ) → WordFits netlist (slice_index (words_of image) a)) →
+        TracesRight netlist image (strace bits l) }
 {}
 
 /// The rounds settle on one list of parts, which stand for the places of the flow one by one. Each
 /// relative branch that is not three words shows its distance, between the addresses that the parts
 /// have.
 pub fn law_of_parts()
-    ensures one { (rules : List Rule) (first a b : List Part) → IsFixpoint rules first a → IsFixpoint rules first b → a ≡ b }
-    ensures fit { (rules : List Rule) (flow : List Flow) (sizes : List ℕ) (branches : List (ℕ × ℕ)) (parts : List Part) →
-        IsFixpoint rules (parts_of rules flow sizes branches) parts → PartsFit rules flow 0 flow parts }
-    ensures shown { (rules : List Rule) (first parts : List Part) (k : ℕ) (f : Fork) → IsFixpoint rules first parts → slice_get parts k ≡ Some (Test f) →
-        f.long ≡ false → rule_shows (slice_get rules f.form) (address parts k + f.words) (slice_index (starts 0 parts) f.to) ≡ true }
-    ensures addresses { (parts : List Part) (k : ℕ) → k ≤ length parts → slice_index (starts 0 parts) k ≡ address parts k }
+    ensures one { (rules : List Rule) (first a b : List Part) → IsFixpoint rules first a →
+        IsFixpoint rules first b → a ≡ b }
+    ensures fit { (rules : List Rule) (flow : List Flow) (sizes : List ℕ) (branches : List (ℕ × ℕ))
+        (parts : List Part) →
+        IsFixpoint rules (parts_of rules flow sizes branches) parts →
+        PartsFit rules flow 0 flow parts }
+    ensures shown { (rules : List Rule) (first parts : List Part) (k : ℕ) (f : Fork) →
+        IsFixpoint rules first parts → slice_get parts k ≡ Some (Test f) → f.long ≡ false →
+        rule_shows (slice_get rules f.form) (address parts k + f.words) (slice_index (starts 0 parts) f.to) ≡ true }
+    ensures addresses { (parts : List Part) (k : ℕ) → k ≤ length parts →
+        slice_index (starts 0 parts) k ≡ address parts k }
 {}
 
 /// The bound of a program's flow is the program's own, and blocks that have no more words than they
 /// cost keep to it.
 pub fn law_of_bounds()
     ensures program { (l : Listing) (costs : List ℕ) → bound_of (program_flow l) costs ≡ program_bound l costs }
-    ensures blocks { (l : Listing) (costs sizes : List ℕ) → length costs ≡ statements_in (acts_of l.body) →
-        SizesWithin sizes (block_costs (program_flow l) costs (program_flow l) 0) → sum_of sizes + control_words (program_flow l) ≤ bound_of (program_flow l) costs }
+    ensures blocks { (l : Listing) (costs sizes : List ℕ) →
+        length costs ≡ statements_in (acts_of l.body) →
+        SizesWithin sizes (block_costs (program_flow l) costs (program_flow l) 0) →
+        sum_of sizes + control_words (program_flow l) ≤ bound_of (program_flow l) costs }
 {}
 
 /// The bits that a jump or branch word has for its target lead to it from every state, where the
@@ -69,8 +81,9 @@ pub fn law_of_targets()
         mean rule.value s (jump_step (Some rule) to).setting ≡ to }
     ensures absolute { (shape : Term) (s : State) (from to : ℕ) (long : Bool) → shows shape to ≡ true →
         mean shape s (target_setting (absolute shape) from to long) ≡ to }
-    ensures relative { (shape : Term) (s : State) (from to : ℕ) → term_width shape ≤ 64 → from ≤ 2 ^ 64 → to < 2 ^ term_width shape →
-        target_shows (relative shape) from to ≡ true → (from + mean shape s (target_setting (relative shape) from to false)) % 2 ^ term_width shape ≡ to }
+    ensures relative { (shape : Term) (s : State) (from to : ℕ) → term_width shape ≤ 64 →
+        from ≤ 2 ^ 64 → to < 2 ^ term_width shape → target_shows (relative shape) from to ≡ true →
+        (from + mean shape s (target_setting (relative shape) from to false)) % 2 ^ term_width shape ≡ to }
     ensures long { (shape : Term) (s : State) (from to : ℕ) → shows shape 2 ≡ true →
         mean shape s (target_setting (relative shape) from to true) ≡ 2 }
 {}

@@ -24,8 +24,8 @@ use std::alloc::Global;
 // The words and the marks of parts.
 fn lay(alloc: Global, forms: &[Form], reach: u64, parts: &[Part]) -> Result<Laid, NoMemory>
     requires { total parts.now < 2 ^ 64 }
-    ensures items { IfOk result (λ laid.
-        laid.items ≡ items_from (rules_of forms.now) (jump_form (rules_of forms.now) reach) (starts 0 parts.now) 0 parts.now) }
+    ensures items { IfOk result (λ laid. laid.items
+        ≡ items_from (rules_of forms.now) (jump_form (rules_of forms.now) reach) (starts 0 parts.now) 0 parts.now) }
     ensures marks { IfOk result (λ laid. laid.marks ≡ marks_from 0 parts.now) }
 {
     let jump = jump_form(forms, reach);
@@ -44,7 +44,8 @@ fn settled_parts(
     branches: &[(u64, u64)],
 ) -> Result<Items<Part>, NoMemory>
     requires { sum_of sizes.now + control_words flow.now < 2 ^ 64 }
-    ensures { IfOk result (λ last. IsFixpoint (rules_of forms.now) (parts_of (rules_of forms.now) flow.now sizes.now branches.now) last) }
+    ensures { IfOk result (λ last. IsFixpoint (rules_of forms.now)
+        (parts_of (rules_of forms.now) flow.now sizes.now branches.now) last) }
 {
     let first = parts(alloc, forms, flow, sizes, branches)?;
     settled(alloc, forms, first)

@@ -51,7 +51,8 @@ checkpoint_label End = codes "end"
 -- at CYCLE LABEL, and what changed since this store
 abbrev pub checkpoint_line : List Declared → List ℕ → TraceEntry → List ℕ
 checkpoint_line vars before entry =
-    concat (codes "at " ∷ decimal entry.cycle ∷ codes " " ∷ checkpoint_label entry.passed.label ∷ changes vars before entry.passed.cells ∷ codes "\n" ∷ [])
+    concat (codes "at " ∷ decimal entry.cycle ∷ codes " " ∷ checkpoint_label entry.passed.label
+    ∷ changes vars before entry.passed.cells ∷ codes "\n" ∷ [])
 
 -- a checkpoint that is seen
 abbrev pub trace_entry : ℕ → Checkpoint → List ℕ → TraceEntry
@@ -61,7 +62,8 @@ trace_entry cycle label cells = record { cycle = cycle; passed = record { label 
 -- the line before
 abbrev pub checkpoint_lines : List Declared → List ℕ → List TraceEntry → List ℕ
 checkpoint_lines vars before [] = []
-checkpoint_lines vars before (entry ∷ entries) = checkpoint_line vars before entry ++ checkpoint_lines vars entry.passed.cells entries
+checkpoint_lines vars before (entry ∷ entries) =
+    checkpoint_line vars before entry ++ checkpoint_lines vars entry.passed.cells entries
 
 -- ---- the text
 

@@ -23,7 +23,8 @@ counting_down = record {
   costs = [];
   marks = record { address = 0; label = Some 0 } ∷ record { address = 8; label = None } ∷ [];
   words =
-      word 0x103 ∷ word 0x708 ∷ word 0x501 ∷ word 0x400 ∷ word 0x103 ∷ word 0x300 ∷ word 0x403 ∷ word 0x600 ∷ word 0x608 ∷ [];
+      word 0x103 ∷ word 0x708 ∷ word 0x501 ∷ word 0x400 ∷ word 0x103 ∷ word 0x300 ∷ word 0x403
+      ∷ word 0x600 ∷ word 0x608 ∷ [];
 }
 
 abbrev counted : List Declared
@@ -42,7 +43,8 @@ pub from_zero : text_of (mtrace a16 counting_down (start 0) 0 10) ≡ codes "at 
 unfolding digits
 from_zero = refl
 
-pub from_greatest : text_of (mtrace a16 counting_down (start 65535) 0 10) ≡ codes "at 0 0 a=65535\nat 8 0 a=65534\nbudget\n"
+pub from_greatest : text_of (mtrace a16 counting_down (start 65535) 0 10)
+    ≡ codes "at 0 0 a=65535\nat 8 0 a=65534\nbudget\n"
 unfolding digits
 from_greatest = refl
 
@@ -54,6 +56,7 @@ one_each = record { name = codes "x"; at = 4; len = Some 1 } ∷ record { name =
 abbrev seen : ℕ → List ℕ → TraceEntry
 seen cycle cells = record { cycle = cycle; passed = record { label = At 7; cells = cells } }
 
-pub since_the_last : checkpoint_text one_each (seen 3 (1 ∷ 2 ∷ []) ∷ seen 5 (0 ∷ 2 ∷ []) ∷ []) ≡ codes "at 3 7 x[0]=1 y=2\nat 5 7 x[0]=0\nbudget\n"
+pub since_the_last : checkpoint_text one_each (seen 3 (1 ∷ 2 ∷ []) ∷ seen 5 (0 ∷ 2 ∷ []) ∷ [])
+    ≡ codes "at 3 7 x[0]=1 y=2\nat 5 7 x[0]=0\nbudget\n"
 unfolding digits
 since_the_last = refl

@@ -23,7 +23,8 @@ fn put_number(line: &mut Vec<u8>, number: u64) -> Result<(), NoMemory>
 fn put_cell_name(line: &mut Vec<u8>, var: &Var, index: u32) -> Result<(), NoMemory>
     ensures text { OnOk result (line.new.items ≡ line.old.items ++ cell_name var.now.name var.now.len index) }
     ensures room { vec_capacity line.old ≤ vec_capacity line.new }
-    ensures succeeds { length line.old.items + length (cell_name var.now.name var.now.len index) ≤ vec_capacity line.old → IsOk result }
+    ensures succeeds { length line.old.items + length (cell_name var.now.name var.now.len index)
+        ≤ vec_capacity line.old → IsOk result }
 {
     line.extend_from_slice(var.name.as_slice())?;
     if var.len.is_some() {
@@ -37,7 +38,8 @@ fn put_cell_name(line: &mut Vec<u8>, var: &Var, index: u32) -> Result<(), NoMemo
 fn put_change(line: &mut Vec<u8>, var: &Var, index: u32, old: u64, new: u64) -> Result<(), NoMemory>
     ensures text { OnOk result (line.new.items ≡ line.old.items ++ change var.now index old new) }
     ensures room { vec_capacity line.old ≤ vec_capacity line.new }
-    ensures succeeds { length line.old.items + length (change var.now index old new) ≤ vec_capacity line.old → IsOk result }
+    ensures succeeds { length line.old.items + length (change var.now index old new)
+        ≤ vec_capacity line.old → IsOk result }
 {
     if old == new {
         return Ok(());
@@ -66,9 +68,12 @@ fn put_cells(
 ) -> Result<(), NoMemory>
     requires within { address + length olds.now ≤ length sim.now.state.cells }
     requires few { length sim.now.state.cells < 2 ^ 32 }
-    ensures text { OnOk result (line.new.items ≡ line.old.items ++ changes_from var.now 0 olds.now (take (length olds.now) (drop address sim.now.state.cells))) }
+    ensures text { OnOk result (line.new.items ≡ line.old.items
+        ++ changes_from var.now 0 olds.now (take (length olds.now) (drop address sim.now.state.cells))) }
     ensures room { vec_capacity line.old ≤ vec_capacity line.new }
-    ensures succeeds { length line.old.items + length (changes_from var.now 0 olds.now (take (length olds.now) (drop address sim.now.state.cells))) ≤ vec_capacity line.old → IsOk result }
+    ensures succeeds { length line.old.items
+        + length (changes_from var.now 0 olds.now (take (length olds.now) (drop address sim.now.state.cells)))
+        ≤ vec_capacity line.old → IsOk result }
 {
     for (index, old) in olds.iter().enumerate() {
         let index = index as u32;
@@ -95,9 +100,12 @@ fn put_changes(
     requires whole { length before.now ≡ cell_count vars.now }
     requires within { address + cell_count vars.now ≤ length sim.now.state.cells }
     requires few { length sim.now.state.cells < 2 ^ 32 }
-    ensures text { OnOk result (line.new.items ≡ line.old.items ++ changes vars.now before.now (store_from vars.now address sim.now.state.cells)) }
+    ensures text { OnOk result (line.new.items ≡ line.old.items
+        ++ changes vars.now before.now (store_from vars.now address sim.now.state.cells)) }
     ensures room { vec_capacity line.old ≤ vec_capacity line.new }
-    ensures succeeds { length line.old.items + length (changes vars.now before.now (store_from vars.now address sim.now.state.cells)) ≤ vec_capacity line.old → IsOk result }
+    ensures succeeds { length line.old.items
+        + length (changes vars.now before.now (store_from vars.now address sim.now.state.cells))
+        ≤ vec_capacity line.old → IsOk result }
 {
     let mut olds = before;
     let mut at = address;
@@ -139,9 +147,14 @@ pub fn write_line(
     requires whole { length before.now ≡ cell_count vars.now }
     requires within { address + cell_count vars.now ≤ length sim.now.state.cells }
     requires few { length sim.now.state.cells < 2 ^ 32 }
-    ensures text { OnOk result (line.new.items ≡ line.old.items ++ checkpoint_line vars.now before.now (trace_entry cycle label (store_from vars.now address sim.now.state.cells))) }
+    ensures text { OnOk result (line.new.items ≡ line.old.items
+        ++ checkpoint_line vars.now before.now
+        (trace_entry cycle label (store_from vars.now address sim.now.state.cells))) }
     ensures room { vec_capacity line.old ≤ vec_capacity line.new }
-    ensures succeeds { length line.old.items + length (checkpoint_line vars.now before.now (trace_entry cycle label (store_from vars.now address sim.now.state.cells))) ≤ vec_capacity line.old → IsOk result }
+    ensures succeeds { length line.old.items
+        + length (checkpoint_line vars.now before.now
+        (trace_entry cycle label (store_from vars.now address sim.now.state.cells)))
+        ≤ vec_capacity line.old → IsOk result }
 {
     line.extend_from_slice(b"at ")?;
     put_number(line, u64::from(cycle))?;

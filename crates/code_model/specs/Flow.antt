@@ -11,4 +11,5 @@ use Rattle.code_model.specs.Machine.{label_in}
 abbrev pub Reaches : Netlist → Image → State → ℕ → State → Type 0
 Reaches netlist image s zero t = s ≡ t
 Reaches netlist image s (suc n) t =
-    (u : State) × (label_in netlist image s ≡ None) × (clock netlist (words_of image) s ≡ Next u) × Reaches netlist image u n t
+    (u : State) × (label_in netlist image s ≡ None) × (clock netlist (words_of image) s ≡ Next u)
+    × Reaches netlist image u n t

@@ -16,7 +16,9 @@ pub record IsImageText (limits : Limits) (bytes : List ℕ) (image : Image) : Ty
 
 -- the lines begin the text of an image that fits
 abbrev pub Begin : Limits → List (List ℕ) → Type 0
-Begin limits lines = (more : List (List ℕ)) × (image : Image) × ((lines ++ more) ≡ lines_of (image_text image)) × IsFitting limits image
+Begin limits lines =
+    (more : List (List ℕ)) × (image : Image) × ((lines ++ more) ≡ lines_of (image_text image))
+    × IsFitting limits image
 
 -- The bytes aren't such a text, and the fault is at this byte: the first of the first line such
 -- that the lines before it begin a text and with it they don't, or the end where all lines begin

@@ -17,7 +17,9 @@ image_head image =
 
 -- place NAME ADDRESS LENGTH
 abbrev pub place_line : Place → List ℕ
-place_line place = concat (codes "place " ∷ place.name ∷ codes " " ∷ decimal place.address ∷ codes " " ∷ decimal place.len ∷ codes "\n" ∷ [])
+place_line place =
+    concat (codes "place " ∷ place.name ∷ codes " " ∷ decimal place.address ∷ codes " "
+    ∷ decimal place.len ∷ codes "\n" ∷ [])
 
 -- tree NUMBER COST
 abbrev pub cost_line : ℕ × ℕ → List ℕ
@@ -50,7 +52,8 @@ numbers_text (n ∷ ns) = decimal n ++ flat_map after_comma ns
 -- word ADDRESS HEX LIST, where a word has so many bytes
 abbrev pub word_line : ℕ → ℕ → Word → List ℕ
 word_line bytes address word =
-    concat (codes "word " ∷ decimal address ∷ codes " " ∷ hex_of bytes word.word ∷ codes " " ∷ numbers_text word.patterns ∷ codes "\n" ∷ [])
+    concat (codes "word " ∷ decimal address ∷ codes " " ∷ hex_of bytes word.word ∷ codes " "
+    ∷ numbers_text word.patterns ∷ codes "\n" ∷ [])
 
 -- the lines of words from an address on
 abbrev pub word_lines : ℕ → ℕ → List Word → List ℕ
@@ -59,5 +62,6 @@ word_lines bytes address (word ∷ words) = word_line bytes address word ++ word
 
 abbrev pub image_text : Image → List ℕ
 image_text image =
-    concat (image_head image ∷ flat_map place_line image.places ∷ flat_map cost_line image.costs ∷ flat_map mark_line image.marks
-    ∷ word_lines (bytes_of image.bits) 0 image.words ∷ codes "done\n" ∷ [])
+    concat (image_head image ∷ flat_map place_line image.places ∷ flat_map cost_line image.costs
+    ∷ flat_map mark_line image.marks ∷ word_lines (bytes_of image.bits) 0 image.words
+    ∷ codes "done\n" ∷ [])

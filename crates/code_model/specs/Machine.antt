@@ -41,8 +41,10 @@ before entry Clashes = Clashes
 -- what is seen at a state with this label and this store, and then later: nothing past the end mark
 abbrev pub with_checkpoint : Option Checkpoint → ℕ → List ℕ → Traced → Traced
 with_checkpoint None cycle cells later = later
-with_checkpoint (Some (At tree)) cycle cells later = before (record { cycle = cycle; passed = record { label = At tree; cells = cells } }) later
-with_checkpoint (Some End) cycle cells later = Shows (record { cycle = cycle; passed = record { label = End; cells = cells } } ∷ [])
+with_checkpoint (Some (At tree)) cycle cells later =
+    before (record { cycle = cycle; passed = record { label = At tree; cells = cells } }) later
+with_checkpoint (Some End) cycle cells later =
+    Shows (record { cycle = cycle; passed = record { label = End; cells = cells } } ∷ [])
 
 abbrev pub after_clock : (State → Traced) → Outcome → Traced
 after_clock later (Next t) = later t

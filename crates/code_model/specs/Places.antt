@@ -19,7 +19,8 @@ checkpoint_of None = End
 -- the label of an address
 abbrev pub label_at : List Mark → ℕ → Option Checkpoint
 label_at [] address = None
-label_at (mark ∷ marks) address = if mark.address == address then Some (checkpoint_of mark.label) else label_at marks address
+label_at (mark ∷ marks) address =
+    if mark.address == address then Some (checkpoint_of mark.label) else label_at marks address
 
 -- ---- places
 

@@ -34,7 +34,8 @@ IsPaced clocks deadline (entry ∷ entries) = (entry.cycle ≤ deadline) × IsPa
 
 -- from this state the machine shows the source's first m checkpoints, each within one image length
 -- of the last, and nothing clashes
-pub record ShowsSource (netlist : Netlist) (image : Image) (trace : List ℕ → ℕ → List Passed) (s : State) (m : ℕ) : Type 0 where
+pub record ShowsSource (netlist : Netlist) (image : Image) (trace : List ℕ → ℕ → List Passed)
+    (s : State) (m : ℕ) : Type 0 where
   pub entries : List TraceEntry
   pub traced : mtrace netlist image s 0 (m * length (words_of image)) ≡ Shows entries
   pub passed : take m (passed_of entries) ≡ trace (store_in image s) m

@@ -14,8 +14,10 @@ use Rattle.compaction.specs.Chosen.{Packs}
 
 -- no two of the groups may be merged, and no step may move
 abbrev pub ArePacked : Netlist → List Node → Table → Regs → List (List Step) → Type 0
-ArePacked netlist pool table after gs = IsPacked (step_operation pool table) (fits_over netlist (step_operation pool table)) after gs
+ArePacked netlist pool table after gs =
+    IsPacked (step_operation pool table) (fits_over netlist (step_operation pool table)) after gs
 
 -- they are those that are written
 abbrev pub IsWritten : Netlist → List Node → Table → Regs → List (List Step) → List (List Step) → Type 0
-IsWritten netlist pool table after gs result = Packs (step_operation pool table) (fits_over netlist (step_operation pool table)) after 0 gs result
+IsWritten netlist pool table after gs result =
+    Packs (step_operation pool table) (fits_over netlist (step_operation pool table)) after 0 gs result

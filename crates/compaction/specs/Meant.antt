@@ -17,5 +17,7 @@ use Rattle.word_fit.specs.Runs.{RunsTo, StandAt}
 -- after the other; all other registers may differ
 abbrev pub MeansSteps : {A : Type 0} → Netlist → (A → Operation) → Regs → List A → List (List A) → Type 0
 MeansSteps netlist m after steps groups =
-    (code words : List ℕ) (s : State) → GroupsFit m (fits_over netlist m) words groups after → IsState netlist s → StandAt code (counter_in netlist s) words
-    → counter_in netlist s + length words < 2 ^ counter_width netlist → RunsTo netlist code s (length words) after (steps_effect m steps s)
+    (code words : List ℕ) (s : State) → GroupsFit m (fits_over netlist m) words groups after
+    → IsState netlist s → StandAt code (counter_in netlist s) words
+    → counter_in netlist s + length words < 2 ^ counter_width netlist
+    → RunsTo netlist code s (length words) after (steps_effect m steps s)

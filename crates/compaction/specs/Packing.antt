@@ -45,7 +45,8 @@ EachDiffers m gs = AllByRecursion (λ g. all_differ m g ≡ true) gs
 -- two neighbours may be merged, where `live` is live behind the second: their destinations all
 -- differ, no step of the second reads a destination of the first, and some word fits the steps of
 -- both
-pub record Mergeable {A : Type 0} (m : A → Operation) (fits : ℕ → List A → Regs → Type 0) (g h : List A) (live : Regs) : Type 0 where
+pub record Mergeable {A : Type 0} (m : A → Operation) (fits : ℕ → List A → Regs → Type 0)
+    (g h : List A) (live : Regs) : Type 0 where
   pub differ : all_differ m (g ++ h) ≡ true
   pub apart : reads_across m g h ≡ false
   pub word : (w : ℕ) × fits w (g ++ h) live
@@ -53,7 +54,8 @@ pub record Mergeable {A : Type 0} (m : A → Operation) (fits : ℕ → List A �
 -- a step may move from a group to the group g before it, where it leaves `rest` behind, which isn't
 -- empty: its destination is none of g's, it reads none of them, no step of the rest reads its own,
 -- and some word fits g with it and some the rest, with the registers that are live then
-pub record Movable {A : Type 0} (m : A → Operation) (fits : ℕ → List A → Regs → Type 0) (g : List A) (x : A) (rest : List A) (live : Regs) : Type 0 where
+pub record Movable {A : Type 0} (m : A → Operation) (fits : ℕ → List A → Regs → Type 0) (g : List A)
+    (x : A) (rest : List A) (live : Regs) : Type 0 where
   pub other : 1 ≤ length rest
   pub free : shares_destination m (m x) g ≡ false
   pub apart : reads_from m (m x) g ≡ false
@@ -62,11 +64,13 @@ pub record Movable {A : Type 0} (m : A → Operation) (fits : ℕ → List A →
   pub second : (w : ℕ) × fits w rest live
 
 -- the neighbours may not be merged, and no step of the second may move
-pub record IsSettled {A : Type 0} (m : A → Operation) (fits : ℕ → List A → Regs → Type 0) (g h : List A) (live : Regs) : Type 0 where
+pub record IsSettled {A : Type 0} (m : A → Operation) (fits : ℕ → List A → Regs → Type 0)
+    (g h : List A) (live : Regs) : Type 0 where
   pub unmergeable : Mergeable m fits g h live → ⊥
   pub unmovable : (i : ℕ) (x : A) → slice_get h i ≡ Some x → Movable m fits g x (remove h i) live → ⊥
 
 -- no two neighbours may be merged, and no step may move to the group before its own
 abbrev pub IsPacked : {A : Type 0} → (A → Operation) → (ℕ → List A → Regs → Type 0) → Regs → List (List A) → Type 0
 IsPacked {A} m fits after gs =
-    (k : ℕ) (g h : List A) → slice_get gs k ≡ Some g → slice_get gs (k + 1) ≡ Some h → IsSettled m fits g h (live_at m gs after (k + 1))
+    (k : ℕ) (g h : List A) → slice_get gs k ≡ Some g → slice_get gs (k + 1) ≡ Some h →
+    IsSettled m fits g h (live_at m gs after (k + 1))

@@ -44,8 +44,9 @@ fn has_word(
     requires ready { IsReadyFor machine.now book.old }
     ensures grows { Extends book.old book.new }
     ensures ready { IsReadyFor machine.now book.new }
-    ensures word { IfOk result (λ found.
-        MatchBool found (HasWord machine.now group.now (regs_of live)) (HasWord machine.now group.now (regs_of live) → ⊥)) }
+    ensures word { IfOk result (λ found. MatchBool found
+        (HasWord machine.now group.now (regs_of live))
+        (HasWord machine.now group.now (regs_of live) → ⊥)) }
 {
     let found = word_for(
         alloc,
@@ -73,10 +74,11 @@ fn merged(
     live: RegSet,
 ) -> Result<Option<Group>, NoMemory>
     requires ready { IsReadyFor machine.now book.old }
-    requires told { HasTables machine.now }
+    requires tables { HasTables machine.now }
     ensures grows { Extends book.old book.new }
     ensures ready { IsReadyFor machine.now book.new }
-    ensures merged { IfOk result (λ found. MatchOption found (CanMerge machine.now first.now second.now (regs_of live) → ⊥)
+    ensures merged { IfOk result (λ found. MatchOption found
+        (CanMerge machine.now first.now second.now (regs_of live) → ⊥)
         (λ both. (both ≡ first.now ++ second.now) × CanMerge machine.now first.now second.now (regs_of live))) }
 {
     if !all_differ(machine, first, second) {
@@ -103,7 +105,8 @@ fn is_free(
     back: &[Step],
 ) -> Result<bool, NoMemory>
     requires { HasTables machine.now }
-    ensures { IfOk result (λ free. MatchBool free (IsFree (operation_in machine.now) first.now step (front.now ++ back.now))
+    ensures { IfOk result (λ free. MatchBool free
+        (IsFree (operation_in machine.now) first.now step (front.now ++ back.now))
         (IsFree (operation_in machine.now) first.now step (front.now ++ back.now) → ⊥)) }
 {
     if front.is_empty() && back.is_empty() {
@@ -134,11 +137,13 @@ fn moved_out(
     live: RegSet,
 ) -> Result<Option<Pair>, NoMemory>
     requires ready { IsReadyFor machine.now book.old }
-    requires told { HasTables machine.now }
+    requires tables { HasTables machine.now }
     ensures grows { Extends book.old book.new }
     ensures ready { IsReadyFor machine.now book.new }
-    ensures moved { IfOk result (λ found. MatchOption found (CanMove machine.now first.now step (front.now ++ back.now) (regs_of live) → ⊥)
-        (λ pair. (pair.first ≡ first.now ++ step ∷ []) × (pair.second ≡ front.now ++ back.now) × CanMove machine.now first.now step (front.now ++ back.now) (regs_of live))) }
+    ensures moved { IfOk result (λ found. MatchOption found
+        (CanMove machine.now first.now step (front.now ++ back.now) (regs_of live) → ⊥)
+        (λ pair. (pair.first ≡ first.now ++ step ∷ []) × (pair.second ≡ front.now ++ back.now)
+        × CanMove machine.now first.now step (front.now ++ back.now) (regs_of live))) }
 {
     if !is_free(alloc, machine, first, step, front, back)? {
         return Ok(None);
@@ -176,12 +181,13 @@ fn moved_at(
     live: RegSet,
 ) -> Result<Option<Pair>, NoMemory>
     requires ready { IsReadyFor machine.now book.old }
-    requires told { HasTables machine.now }
+    requires tables { HasTables machine.now }
     requires within { index < length second.now }
     ensures grows { Extends book.old book.new }
     ensures ready { IsReadyFor machine.now book.new }
     ensures moved { IfOk result (λ found. MatchOption found
-        ((x : TheStep) → slice_get second.now index ≡ Some x → CanMove machine.now first.now x (remove second.now index) (regs_of live) → ⊥)
+        ((x : TheStep) → slice_get second.now index ≡ Some x →
+        CanMove machine.now first.now x (remove second.now index) (regs_of live) → ⊥)
         (λ pair. MovesAt machine.now first.now second.now (regs_of live) index pair.first pair.second)) }
 {
     let step = second[index];
@@ -201,11 +207,12 @@ fn moved(
     live: RegSet,
 ) -> Result<Option<Pair>, NoMemory>
     requires ready { IsReadyFor machine.now book.old }
-    requires told { HasTables machine.now }
+    requires tables { HasTables machine.now }
     ensures grows { Extends book.old book.new }
     ensures ready { IsReadyFor machine.now book.new }
     ensures moved { IfOk result (λ found. MatchOption found
-        ((index : ℕ) (x : TheStep) → slice_get second.now index ≡ Some x → CanMove machine.now first.now x (remove second.now index) (regs_of live) → ⊥)
+        ((index : ℕ) (x : TheStep) → slice_get second.now index ≡ Some x →
+        CanMove machine.now first.now x (remove second.now index) (regs_of live) → ⊥)
         (λ pair. Moves machine.now first.now second.now (regs_of live) pair.first pair.second)) }
 {
     for index in 0..second.len() {
@@ -227,7 +234,7 @@ pub(crate) fn change_of(
     live: RegSet,
 ) -> Result<Change, NoMemory>
     requires ready { IsReadyFor machine.now book.old }
-    requires told { HasTables machine.now }
+    requires tables { HasTables machine.now }
     ensures grows { Extends book.old book.new }
     ensures ready { IsReadyFor machine.now book.new }
     ensures change { IfOk result (Changes machine.now first.now second.now (regs_of live)) }

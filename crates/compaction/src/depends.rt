@@ -20,7 +20,8 @@ fn touches(
     writer: Step,
 ) -> Result<bool, NoMemory>
     requires { HasTables machine.now }
-    ensures { IfOk result (λ read. read ≡ reads (operation_in machine.now reader) (location_of (operation_in machine.now writer))) }
+    ensures { IfOk result (λ read. read
+        ≡ reads (operation_in machine.now reader) (location_of (operation_in machine.now writer))) }
 {
     if stores_memory(machine.patterns, writer) && !reads_memory(machine, reader) {
         return Ok(false);
@@ -44,7 +45,8 @@ pub(crate) fn reads_from(
     group: &[Step],
 ) -> Result<bool, NoMemory>
     requires { HasTables machine.now }
-    ensures { IfOk result (λ read. read ≡ reads_from (operation_in machine.now) (operation_in machine.now step) group.now) }
+    ensures { IfOk result (λ read.
+        read ≡ reads_from (operation_in machine.now) (operation_in machine.now step) group.now) }
 {
     match group {
         [] => Ok(false),
@@ -88,7 +90,8 @@ fn is_read_by(
     group: &[Step],
 ) -> Result<bool, NoMemory>
     requires { HasTables machine.now }
-    ensures { IfOk result (λ read. read ≡ is_read_by (operation_in machine.now) (operation_in machine.now step) group.now) }
+    ensures { IfOk result (λ read.
+        read ≡ is_read_by (operation_in machine.now) (operation_in machine.now step) group.now) }
 {
     match group {
         [] => Ok(false),
@@ -111,7 +114,8 @@ pub(crate) fn is_read_by_either(
     second: &[Step],
 ) -> Result<bool, NoMemory>
     requires { HasTables machine.now }
-    ensures { IfOk result (λ read. read ≡ is_read_by (operation_in machine.now) (operation_in machine.now step) (first.now ++ second.now)) }
+    ensures { IfOk result (λ read. read
+        ≡ is_read_by (operation_in machine.now) (operation_in machine.now step) (first.now ++ second.now)) }
 {
     let in_first = is_read_by(alloc, machine, step, first)?;
     let in_second = is_read_by(alloc, machine, step, second)?;
@@ -133,7 +137,8 @@ pub(crate) fn shares_destination(machine: &Machine<'_>, step: Step, group: &[Ste
 
 // Whether a step of one of two groups has the step's destination.
 fn shares_either(machine: &Machine<'_>, step: Step, first: &[Step], second: &[Step]) -> bool
-    ensures { result ≡ shares_destination (operation_in machine.now) (operation_in machine.now step) (first.now ++ second.now) }
+    ensures { result
+        ≡ shares_destination (operation_in machine.now) (operation_in machine.now step) (first.now ++ second.now) }
 {
     shares_destination(machine, step, first) || shares_destination(machine, step, second)
 }

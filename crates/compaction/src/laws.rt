@@ -10,6 +10,8 @@ ghost use Rattle.compaction.specs.Chosen.{Packs};
 
 /// There is one packing that is written.
 pub fn law_of_choice()
-    ensures { (netlist : Netlist) (m : Step → Operation) (after : Regs) (pair : ℕ) (groups one other : List (List Step)) →
-        Packs m (fits_over netlist m) after pair groups one → Packs m (fits_over netlist m) after pair groups other → one ≡ other }
+    ensures { (netlist : Netlist) (m : Step → Operation) (after : Regs) (pair : ℕ)
+        (groups one other : List (List Step)) →
+        Packs m (fits_over netlist m) after pair groups one →
+        Packs m (fits_over netlist m) after pair groups other → one ≡ other }
 {}

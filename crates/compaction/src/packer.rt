@@ -38,14 +38,16 @@ fn turn(
     _after: RegSet,
 ) -> Result<usize, NoMemory>
     requires ready { IsReadyFor machine.now book.old }
-    requires told { HasTables machine.now }
+    requires tables { HasTables machine.now }
     requires within { pair + 1 < length groups.old.items }
     requires as_long { length lives.old.items ≡ length groups.old.items }
-    requires lives { map regs_of lives.old.items ≡ lives_of (operation_in machine.now) groups.old.items (regs_of _after) }
+    requires lives { map regs_of lives.old.items
+        ≡ lives_of (operation_in machine.now) groups.old.items (regs_of _after) }
     requires packed { PackedTo machine.now (regs_of _after) pair groups.old.items }
     ensures grows { Extends book.old book.new }
     ensures ready { IsReadyFor machine.now book.new }
-    ensures turn { IfOk result (λ next. Turns machine.now (regs_of _after) groups.old.items groups.new.items pair next) }
+    ensures turn { IfOk result (λ next.
+        Turns machine.now (regs_of _after) groups.old.items groups.new.items pair next) }
     ensures lives { IfOk result (λ next.
         map regs_of lives.new.items ≡ lives_of (operation_in machine.now) groups.new.items (regs_of _after)) }
 {
@@ -91,8 +93,9 @@ fn settle(
     after: RegSet,
 ) -> Result<(), NoMemory>
     requires ready { IsReadyFor machine.now book.old }
-    requires told { HasTables machine.now }
-    requires lives { map regs_of lives.old.items ≡ lives_of (operation_in machine.now) groups.old.items (regs_of after) }
+    requires tables { HasTables machine.now }
+    requires lives { map regs_of lives.old.items
+        ≡ lives_of (operation_in machine.now) groups.old.items (regs_of after) }
     requires start { PackedTo machine.now (regs_of after) 0 groups.old.items }
     ensures grows { Extends book.old book.new }
     ensures ready { IsReadyFor machine.now book.new }
@@ -113,7 +116,8 @@ fn live_behind(
     after: RegSet,
 ) -> Result<Vec<RegSet>, NoMemory>
     requires { HasTables machine.now }
-    ensures { IfOk result (λ lives. map regs_of lives.items ≡ lives_of (operation_in machine.now) groups.now (regs_of after)) }
+    ensures { IfOk result (λ lives.
+        map regs_of lives.items ≡ lives_of (operation_in machine.now) groups.now (regs_of after)) }
 {
     let lives = live_with(
         alloc,
@@ -154,9 +158,11 @@ pub fn pack(
     ensures once { IfOk result EachHasPatternsOnce }
     ensures words { IfOk result (λ groups. HaveWords checked.now.netlist pool.now patterns.now groups (regs_of after)) }
 
-    ensures meaning { IfOk result (MeansSteps checked.now.netlist (step_operation pool.now patterns.now) (regs_of after) steps.now) }
+    ensures meaning { IfOk result (MeansSteps checked.now.netlist
+        (step_operation pool.now patterns.now) (regs_of after) steps.now) }
     ensures packed { IfOk result (ArePacked checked.now.netlist pool.now patterns.now (regs_of after)) }
-    ensures chosen { IfOk result (IsWritten checked.now.netlist pool.now patterns.now (regs_of after) (singles steps.now)) }
+    ensures chosen { IfOk result
+        (IsWritten checked.now.netlist pool.now patterns.now (regs_of after) (singles steps.now)) }
 {
     // the netlist is read for what it keeps
     let _netlist = checked.netlist();

@@ -29,7 +29,8 @@ pub record AreBits (netlist : Netlist) (book : Diagrams) (n : ℕ) (sets : List 
 -- ---- gates
 
 -- a set for each bit of a gate's value, in a book that has grown
-pub record AreGateBits (netlist : Netlist) (old new : Diagrams) (table : List (List ℕ)) (width : ℕ) (gate : Gate) (out : List ℕ) : Type 0 where
+pub record AreGateBits (netlist : Netlist) (old new : Diagrams) (table : List (List ℕ)) (width : ℕ)
+    (gate : Gate) (out : List ℕ) : Type 0 where
   pub sets : AreSets new out
   pub long : length out ≡ width
   pub number : (word : ℕ) → word < 2 ^ old.bits →
@@ -40,4 +41,5 @@ pub record AreGateBits (netlist : Netlist) (old new : Diagrams) (table : List (L
 -- the sets of each static net in a control place
 pub record HasControls (netlist : Netlist) (book : Diagrams) (table : List (List ℕ)) : Type 0 where
   pub sets : IsBitTable book table
-  pub bits : (n : ℕ) → n < length netlist.nets → is_static_control netlist n ≡ true → AreBits netlist book n (sets_at table n)
+  pub bits : (n : ℕ) → n < length netlist.nets → is_static_control netlist n ≡ true →
+      AreBits netlist book n (sets_at table n)

@@ -23,7 +23,8 @@ use std::alloc::Global;
 
 // The static nets that stand in control places, place by place.
 fn static_places(alloc: Global, checked: &Checked) -> Result<Items<u32>, NoMemory>
-    ensures { IfOk result (λ places. places ≡ filter (is_static checked.now.netlist) (control_places checked.now.netlist)) }
+    ensures { IfOk result (λ places.
+        places ≡ filter (is_static checked.now.netlist) (control_places checked.now.netlist)) }
 {
     let statics = checked.static_flags(alloc)?;
     let places = places_with_flag(alloc, checked.netlist(), statics.as_slice())?;
@@ -102,7 +103,8 @@ fn listed_bits(
 pub fn controls(alloc: Global, checked: &Checked, book: &mut Book) -> Result<ControlBits, CtlFault>
     requires { book.old.bits ≡ word_width checked.now.netlist }
     ensures grows { Extends book.old book.new }
-    ensures control { MatchResult result (IsControl checked.now.netlist book.new) (HasControlCause checked.now.netlist) }
+    ensures control { MatchResult result (IsControl checked.now.netlist book.new)
+        (HasControlCause checked.now.netlist) }
 {
     let netlist = checked.netlist();
     let places = static_places(alloc, checked)?;

@@ -189,7 +189,8 @@ pub(crate) fn gate_bits(
     requires high { net.now.width ≤ 64 }
     requires gate { GateFits netlist.now net.now.width net.now.gate }
     requires control { is_control_gate net.now.gate ≡ true }
-    requires named { AllByRecursion (λ n. length (sets_at table.now n) ≡ width_at netlist.now n) (gate_nets net.now.gate) }
+    requires named { AllByRecursion (λ n. length (sets_at table.now n) ≡ width_at netlist.now n)
+        (gate_nets net.now.gate) }
     ensures grows { Extends book.old book.new }
     ensures bits { IfOk result (AreGateBits netlist.now book.old book.new table.now net.now.width net.now.gate) }
 {

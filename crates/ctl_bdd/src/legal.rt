@@ -63,8 +63,9 @@ fn bus_legal(
     ensures grows { Extends book.old book.new }
     ensures within { IfOk result (λ id. id < length book.new.nodes) }
     ensures words { IfOk result (λ id. (word : ℕ) →
-        has_word book.new id word ≡
-        (has_word book.old legal word && not (nat_lt 1 (enabled_count (numbers_at book.old table.now word) drivers.now)))) }
+        has_word book.new id word
+        ≡ (has_word book.old legal word
+        && not (nat_lt 1 (enabled_count (numbers_at book.old table.now word) drivers.now)))) }
 {
     let mut left = legal;
     let mut seen = constant_set(book, false);

@@ -53,7 +53,8 @@ fn set_named(alloc: Global, flags: &mut Items<bool>, gate: &Gate, net: u32) -> R
     requires { AllByRecursion (λ n. n < length flags.old) (gate_nets gate.now) }
     ensures long { length flags.new ≡ length flags.old }
     ensures flags { OnOk result ((n : ℕ) →
-        flag_at flags.new n ≡ (flag_at flags.old n || (flag_at flags.old net && list_any (nat_eq n) (gate_nets gate.now)))) }
+        flag_at flags.new n
+        ≡ (flag_at flags.old n || (flag_at flags.old net && list_any (nat_eq n) (gate_nets gate.now)))) }
 {
     if is_set(flags.as_slice(), net) {
         let named = gate.named(alloc)?;

@@ -19,13 +19,17 @@ cuttable_below bits (reg r w) = 0
 cuttable_below bits (const w v) = 0
 cuttable_below bits (read a w) = cuttable_below bits a + one_if (not (is_number a) && is_cuttable bits a)
 cuttable_below bits (un o a) = cuttable_below bits a + one_if (is_cuttable bits a)
-cuttable_below bits (bin o a b) = (cuttable_below bits a + one_if (is_cuttable bits a)) + (cuttable_below bits b + one_if (is_cuttable bits b))
+cuttable_below bits (bin o a b) =
+    (cuttable_below bits a + one_if (is_cuttable bits a)) + (cuttable_below bits b + one_if (is_cuttable bits b))
 cuttable_below bits (slice a hi lo) = cuttable_below bits a + one_if (is_cuttable bits a)
-cuttable_below bits (cat a b) = (cuttable_below bits a + one_if (is_cuttable bits a)) + (cuttable_below bits b + one_if (is_cuttable bits b))
+cuttable_below bits (cat a b) =
+    (cuttable_below bits a + one_if (is_cuttable bits a)) + (cuttable_below bits b + one_if (is_cuttable bits b))
 cuttable_below bits (zext a w) = cuttable_below bits a + one_if (is_cuttable bits a)
 cuttable_below bits (sext a w) = cuttable_below bits a + one_if (is_cuttable bits a)
 cuttable_below bits (select c a b) =
-    (cuttable_below bits c + one_if (is_cuttable bits c)) + ((cuttable_below bits a + one_if (is_cuttable bits a)) + (cuttable_below bits b + one_if (is_cuttable bits b)))
+    (cuttable_below bits c + one_if (is_cuttable bits c))
+    + ((cuttable_below bits a + one_if (is_cuttable bits a))
+    + (cuttable_below bits b + one_if (is_cuttable bits b)))
 
 -- with the root, where it isn't whole
 abbrev pub cuttable_nodes : ℕ → Term → Bool → ℕ
@@ -60,4 +64,6 @@ AddressReadsWords bits (Some addr) = ReadsWords bits addr
 
 -- each form of the list reads such words, in its address and in its value
 abbrev pub AllReadWords : ℕ → List Rule → Type 0
-AllReadWords bits rules = (k : ℕ) (rule : Rule) → slice_get rules k ≡ Some rule → AddressReadsWords bits rule.addr × ReadsWords bits rule.value
+AllReadWords bits rules =
+    (k : ℕ) (rule : Rule) → slice_get rules k ≡ Some rule →
+    AddressReadsWords bits rule.addr × ReadsWords bits rule.value

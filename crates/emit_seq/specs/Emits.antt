@@ -12,9 +12,11 @@ use Rattle.emit_seq.specs.Views.{cells_of_operands, cells_of_cuts}
 
 -- the form at the root of a cover whose cuts have the cells from n on: its match, its operands and
 -- cuts, and its step
-pub record IsFormAtRoot (stock : Stock) (k : ℕ) (ps : Operands) (cs : Cuts) (n : ℕ) (destination : Destination) (tree : Term) (whole : Bool) (root : Root) : Type 0 where
+pub record IsFormAtRoot (stock : Stock) (k : ℕ) (ps : Operands) (cs : Cuts) (n : ℕ)
+    (destination : Destination) (tree : Term) (whole : Bool) (root : Root) : Type 0 where
   pub parts : sites_of root.parts.items ≡ (found_at stock k destination tree whole).sites
-  pub operands : cells_of_operands root.operands.items ≡ plan_operand_cells (found_at stock k destination tree whole).sites ps cs n
+  pub operands : cells_of_operands root.operands.items
+      ≡ plan_operand_cells (found_at stock k destination tree whole).sites ps cs n
   pub cuts : cells_of_cuts root.cuts.items ≡ plan_cut_cells (found_at stock k destination tree whole).sites ps cs n
   pub pattern : root.step.pattern ≡ (rule_at stock k).pattern
   pub setting : root.step.setting ≡ plan_setting stock (use_form k ps cs) n destination tree whole
@@ -37,7 +39,8 @@ branch_of stock destination tree plan = setting_of_test destination (plan_settin
 
 -- the steps of the tree that the cover names, and for a test the setting of the bits of its
 -- branch's condition
-pub record IsEmitted (stock : Stock) (destination : Destination) (trees : List Term) (choice : Choice) (e : Emitted) : Type 0 where
+pub record IsEmitted (stock : Stock) (destination : Destination) (trees : List Term)
+    (choice : Choice) (e : Emitted) : Type 0 where
   pub tree : Term
   pub used : slice_get trees choice.which ≡ Some tree
   pub steps : e.steps ≡ cover_steps stock destination tree choice.plan

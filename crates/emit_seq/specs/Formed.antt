@@ -83,4 +83,5 @@ IsFormed patterns count rule (branches when_one to) = IsOnce rule.value
 
 -- each form of the list is made of the pattern that it names
 abbrev pub AreFormed : List Pattern → ℕ → List Rule → Type 0
-AreFormed patterns count rules = (k : ℕ) (rule : Rule) → slice_get rules k ≡ Some rule → IsFormed patterns count rule rule.goal
+AreFormed patterns count rules =
+    (k : ℕ) (rule : Rule) → slice_get rules k ≡ Some rule → IsFormed patterns count rule rule.goal

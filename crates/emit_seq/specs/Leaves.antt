@@ -37,7 +37,8 @@ address_of before destination own = 0
 abbrev pub placed : State → State → Destination → ℕ → ℕ → State
 placed before now (into id) own v = record { regs = slice_set now.regs id v; cells = now.cells }
 placed before now tested own v = now
-placed before now destination own v = record { regs = now.regs; cells = slice_set now.cells (address_of before destination own) v }
+placed before now destination own v =
+    record { regs = now.regs; cells = slice_set now.cells (address_of before destination own) v }
 
 -- the address tree of a store reads nothing below, too
 abbrev pub DestinationReads : ℕ → State → Destination → Type 0
@@ -86,9 +87,14 @@ HasValue stock destination tree plan s t = Unit {0}
 
 -- the steps, done one after the other from s, leave the tree's value at its aim, and change no
 -- other cell from the temporary ones on
-pub record LeaveValue (stock : Stock) (patterns : List Pattern) (destination : Destination) (tree : Term) (plan : Plan) (s : State) : Type 0 where
-  pub value : HasValue stock destination tree plan s (steps_effect (operation_of patterns) (cover_steps stock destination tree plan) s)
+pub record LeaveValue (stock : Stock) (patterns : List Pattern) (destination : Destination)
+    (tree : Term) (plan : Plan) (s : State) : Type 0 where
+  pub value : HasValue stock destination tree plan s
+      (steps_effect (operation_of patterns) (cover_steps stock destination tree plan) s)
   pub others : (c : ℕ) → stock.temps ≤ c → (IsAim destination s c → ⊥)
-      → slice_index (steps_effect (operation_of patterns) (cover_steps stock destination tree plan) s).cells c ≡ slice_index s.cells c
-  pub regs : length (steps_effect (operation_of patterns) (cover_steps stock destination tree plan) s).regs ≡ length s.regs
-  pub cells : length (steps_effect (operation_of patterns) (cover_steps stock destination tree plan) s).cells ≡ length s.cells
+      → slice_index (steps_effect (operation_of patterns) (cover_steps stock destination tree plan) s).cells c
+      ≡ slice_index s.cells c
+  pub regs : length (steps_effect (operation_of patterns) (cover_steps stock destination tree plan) s).regs
+      ≡ length s.regs
+  pub cells : length (steps_effect (operation_of patterns) (cover_steps stock destination tree plan) s).cells
+      ≡ length s.cells

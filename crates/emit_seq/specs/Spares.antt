@@ -22,19 +22,24 @@ step_clobbers rules step = regs_of (clobbers_of rules step.pattern)
 
 -- forms of one pattern have the same clobbers
 abbrev pub AreShared : List Rule → Type 0
-AreShared rules = (j k : ℕ) (a b : Rule) → slice_get rules j ≡ Some a → slice_get rules k ≡ Some b → a.pattern ≡ b.pattern → a.clobbers ≡ b.clobbers
+AreShared rules =
+    (j k : ℕ) (a b : Rule) → slice_get rules j ≡ Some a → slice_get rules k ≡ Some b →
+    a.pattern ≡ b.pattern → a.clobbers ≡ b.clobbers
 
 -- a form that puts something into this register, the program counter, reads it: what it puts there
 -- is the next address
 abbrev pub ReadsCounter : List Rule → ℕ → Type 0
-ReadsCounter rules pc = (k : ℕ) (rule : Rule) → slice_get rules k ≡ Some rule → rule.goal ≡ into_reg pc → (i : ℕ) × (term_reads i rule.value (register pc) ≡ true)
+ReadsCounter rules pc =
+    (k : ℕ) (rule : Rule) → slice_get rules k ≡ Some rule → rule.goal ≡ into_reg pc →
+    (i : ℕ) × (term_reads i rule.value (register pc) ≡ true)
 
 -- each register that a step reads is known or the destination of an earlier step, and so is each
 -- that is wanted after the last
 abbrev pub AreDefined : {A : Type 0} → (A → Operation) → Regs → List A → Regs → Type 0
 AreDefined m known [] after = (r : ℕ) → after r ≡ true → known r ≡ true
 AreDefined m known (x ∷ xs) after =
-    ((r : ℕ) → reads (m x) (register r) ≡ true → known r ≡ true) × AreDefined m (λ r. known r || writes (m x) r) xs after
+    ((r : ℕ) → reads (m x) (register r) ≡ true → known r ≡ true)
+    × AreDefined m (λ r. known r || writes (m x) r) xs after
 
 -- no step reads or writes this register
 abbrev pub AreApart : {A : Type 0} → (A → Operation) → ℕ → List A → Type 0
@@ -49,8 +54,11 @@ wanted stock destination tree plan = no_regs
 
 -- apart from its own destination, a step's clobbers hold no register whose value is still needed;
 -- all that is read was put there by an earlier step; and the program counter takes no part
-pub record AreSpare (stock : Stock) (patterns : List Pattern) (pc : ℕ) (destination : Destination) (tree : Term) (plan : Plan) : Type 0 where
-  pub spare : AllSpare (operation_of patterns) (step_clobbers stock.rules) (cover_steps stock destination tree plan) (wanted stock destination tree plan)
-  pub given : AreDefined (operation_of patterns) no_regs (cover_steps stock destination tree plan) (wanted stock destination tree plan)
+pub record AreSpare (stock : Stock) (patterns : List Pattern) (pc : ℕ) (destination : Destination)
+    (tree : Term) (plan : Plan) : Type 0 where
+  pub spare : AllSpare (operation_of patterns) (step_clobbers stock.rules)
+      (cover_steps stock destination tree plan) (wanted stock destination tree plan)
+  pub given : AreDefined (operation_of patterns) no_regs (cover_steps stock destination tree plan)
+      (wanted stock destination tree plan)
   pub apart : AreApart (operation_of patterns) pc (cover_steps stock destination tree plan)
   pub unwanted : wanted stock destination tree plan pc ≡ false

@@ -19,7 +19,11 @@ stock_of stock = stock_with stock.forms.now stock.temps
 
 -- an operand and a cut with their cells
 abbrev pub cells_of_operand : CodeOperandCells → OperandCells
-cells_of_operand c = record { operand = record { id = c.id; tree = tree_term c.tree.now; whole = c.whole }; first = c.first; past = c.past }
+cells_of_operand c = record {
+  operand = record { id = c.id; tree = tree_term c.tree.now; whole = c.whole };
+  first = c.first;
+  past = c.past;
+}
 
 abbrev pub cells_of_operands : List CodeOperandCells → List OperandCells
 cells_of_operands list = map cells_of_operand list

@@ -15,10 +15,18 @@ abbrev pub field : Term
 field = slice (word 12) 7 0
 
 abbrev rule : ℕ → ℕ → Term → ℕ → Rule
-rule p r value clobbers = record { pattern = p; goal = into_reg r; addr = None; value = value; fields = 255; clobbers = clobbers }
+rule p r value clobbers =
+    record { pattern = p; goal = into_reg r; addr = None; value = value; fields = 255; clobbers = clobbers }
 
 abbrev store : ℕ → Term → ℕ → Rule
-store p value clobbers = record { pattern = p; goal = into_memory; addr = Some field; value = value; fields = 255; clobbers = clobbers }
+store p value clobbers = record {
+  pattern = p;
+  goal = into_memory;
+  addr = Some field;
+  value = value;
+  fields = 255;
+  clobbers = clobbers;
+}
 
 -- the accumulator machine: PC 0, ACC 1, M 2
 abbrev acc : Term
@@ -28,13 +36,21 @@ abbrev mem : Term
 mem = read field 16
 
 abbrev branch : Term → Rule
-branch value = record { pattern = 1; goal = branches true (absolute field); addr = None; value = value; fields = 255; clobbers = 3 }
+branch value = record {
+  pattern = 1;
+  goal = branches true (absolute field);
+  addr = None;
+  value = value;
+  fields = 255;
+  clobbers = 3;
+}
 
 abbrev pub acc_rules : List Rule
 acc_rules = rule 0 0 (bin Add (reg 0 8) (const 8 1)) 1 ∷ rule 0 0 (bin Add (const 8 1) (reg 0 8)) 1
     ∷ branch (bin Eq acc (const 16 0)) ∷ branch (bin Eq (const 16 0) acc)
     ∷ record { pattern = 2; goal = jumps 256; addr = None; value = field; fields = 255; clobbers = 3 }
-    ∷ rule 3 1 (bin Add acc mem) 3 ∷ rule 3 1 (bin Add mem acc) 3 ∷ rule 4 1 mem 3 ∷ rule 5 1 (bin Sub acc mem) 3 ∷ rule 6 1 (zext field 16) 3
+    ∷ rule 3 1 (bin Add acc mem) 3 ∷ rule 3 1 (bin Add mem acc) 3 ∷ rule 4 1 mem 3
+    ∷ rule 5 1 (bin Sub acc mem) 3 ∷ rule 6 1 (zext field 16) 3
     ∷ store 7 acc 5 ∷ []
 
 abbrev pub acc_stock : ℕ → Stock
@@ -54,7 +70,8 @@ abbrev step : ℕ → ℕ → Step
 step p setting = record { pattern = p; setting = setting }
 
 -- x = a + b
-sum_steps : cover_steps (acc_stock 0) (cell 2) (bin Add (at 0) (at 1)) (with_one 10 (with_one 5 (leaf 7))) ≡ step 4 0 ∷ step 3 1 ∷ step 7 2 ∷ []
+sum_steps : cover_steps (acc_stock 0) (cell 2) (bin Add (at 0) (at 1)) (with_one 10 (with_one 5 (leaf 7)))
+    ≡ step 4 0 ∷ step 3 1 ∷ step 7 2 ∷ []
 sum_steps = refl
 
 -- x = (a + b) - (a - b), where a - b is cut
@@ -62,7 +79,9 @@ abbrev pub less_tree : Term
 less_tree = bin Sub (bin Add (at 2) (at 3)) (bin Sub (at 2) (at 3))
 
 abbrev pub less_plan : Plan
-less_plan = with_one 10 (use_form 8 (operand_then 0 (with_one 5 (leaf 7)) no_operands) (cut_then (with_one 10 (with_one 8 (leaf 7))) no_cuts))
+less_plan =
+    with_one 10 (use_form 8 (operand_then 0 (with_one 5 (leaf 7)) no_operands)
+    (cut_then (with_one 10 (with_one 8 (leaf 7))) no_cuts))
 
 less_steps : cover_steps (acc_stock 2) (cell 4) less_tree less_plan
     ≡ step 4 2 ∷ step 5 3 ∷ step 7 0 ∷ step 4 2 ∷ step 3 3 ∷ step 5 0 ∷ step 7 4 ∷ []
@@ -92,7 +111,8 @@ less_orderly = (
 )
 
 -- x = a + 5, by the form with the operands swapped
-five_steps : cover_steps (acc_stock 1) (cell 2) (bin Add (at 1) (const 16 5)) (with_one 10 (with_one 6 (leaf 9))) ≡ step 6 5 ∷ step 3 1 ∷ step 7 2 ∷ []
+five_steps : cover_steps (acc_stock 1) (cell 2) (bin Add (at 1) (const 16 5)) (with_one 10 (with_one 6 (leaf 9)))
+    ≡ step 6 5 ∷ step 3 1 ∷ step 7 2 ∷ []
 five_steps = refl
 
 -- the form as extracted has to cut the number
@@ -103,11 +123,15 @@ five_cut = refl
 
 -- x = (a - (a - b)) - (b - a): the cut inside the operand has the cell 0, and the form's own cut
 -- the cell 1
-inner_steps : cover_steps (acc_stock 4) (cell 6) (bin Sub (bin Sub (at 4) (bin Sub (at 4) (at 5))) (bin Sub (at 5) (at 4)))
+inner_steps : cover_steps (acc_stock 4) (cell 6)
+    (bin Sub (bin Sub (at 4) (bin Sub (at 4) (at 5))) (bin Sub (at 5) (at 4)))
     (with_one 10 (use_form 8
-    (operand_then 0 (use_form 8 (operand_then 0 (leaf 7) no_operands) (cut_then (with_one 10 (with_one 8 (leaf 7))) no_cuts)) no_operands)
+    (operand_then 0
+    (use_form 8 (operand_then 0 (leaf 7) no_operands) (cut_then (with_one 10 (with_one 8 (leaf 7))) no_cuts))
+    no_operands)
     (cut_then (with_one 10 (with_one 8 (leaf 7))) no_cuts)))
-    ≡ step 4 4 ∷ step 5 5 ∷ step 7 0 ∷ step 4 5 ∷ step 5 4 ∷ step 7 1 ∷ step 4 4 ∷ step 5 0 ∷ step 5 1 ∷ step 7 6 ∷ []
+    ≡ step 4 4 ∷ step 5 5 ∷ step 7 0 ∷ step 4 5 ∷ step 5 4 ∷ step 7 1 ∷ step 4 4 ∷ step 5 0
+    ∷ step 5 1 ∷ step 7 6 ∷ []
 inner_steps = refl
 
 -- while a != 0: the operand of the test, and the branch's setting
@@ -121,7 +145,9 @@ test_setting = refl
 abbrev pub acc_patterns : List Pattern
 acc_patterns = record { storage = 0; move = write (bin Add (reg 0 8) (const 8 1)) }
     ∷ record { storage = 0; move = write (select (bin Eq acc (const 16 0)) field (bin Add (reg 0 8) (const 8 1))) }
-    ∷ record { storage = 0; move = write field } ∷ record { storage = 1; move = write (bin Add acc mem) } ∷ record { storage = 1; move = write mem }
+    ∷ record { storage = 0; move = write field }
+    ∷ record { storage = 1; move = write (bin Add acc mem) }
+    ∷ record { storage = 1; move = write mem }
     ∷ record { storage = 1; move = write (bin Sub acc mem) } ∷ record { storage = 1; move = write (zext field 16) }
     ∷ record { storage = 2; move = write_at field acc } ∷ []
 
@@ -135,7 +161,8 @@ x_reg = reg 2 16
 abbrev two_rules : List Rule
 two_rules = rule 0 0 (bin Add (reg 0 8) (const 8 1)) 1 ∷ rule 0 0 (bin Add (const 8 1) (reg 0 8)) 1
     ∷ record { pattern = 1; goal = jumps 256; addr = None; value = field; fields = 255; clobbers = 7 }
-    ∷ rule 2 1 x_reg 3 ∷ rule 3 1 (bin Add a_reg x_reg) 3 ∷ rule 3 1 (bin Add x_reg a_reg) 3 ∷ rule 4 2 mem 5 ∷ store 5 a_reg 9 ∷ []
+    ∷ rule 2 1 x_reg 3 ∷ rule 3 1 (bin Add a_reg x_reg) 3 ∷ rule 3 1 (bin Add x_reg a_reg) 3
+    ∷ rule 4 2 mem 5 ∷ store 5 a_reg 9 ∷ []
 
 abbrev two_stock : Stock
 two_stock = record { rules = two_rules; temps = 0 }
@@ -148,19 +175,23 @@ two_steps = refl
 -- the patterns of that machine, and the steps of a cover that isn't orderly: X first, and then the
 -- way to A through X. They leave a + a, not a + b
 abbrev two_patterns : List Pattern
-two_patterns = record { storage = 0; move = write (bin Add (reg 0 8) (const 8 1)) } ∷ record { storage = 0; move = write field }
-    ∷ record { storage = 1; move = write x_reg } ∷ record { storage = 1; move = write (bin Add a_reg x_reg) } ∷ record { storage = 2; move = write mem }
-    ∷ record { storage = 3; move = write_at field a_reg } ∷ []
+two_patterns =
+    record { storage = 0; move = write (bin Add (reg 0 8) (const 8 1)) }
+    ∷ record { storage = 0; move = write field } ∷ record { storage = 1; move = write x_reg }
+    ∷ record { storage = 1; move = write (bin Add a_reg x_reg) }
+    ∷ record { storage = 2; move = write mem } ∷ record { storage = 3; move = write_at field a_reg } ∷ []
 
 abbrev two_start : State
 two_start = record { regs = 0 ∷ 0 ∷ 0 ∷ 0 ∷ []; cells = 5 ∷ 7 ∷ 0 ∷ [] }
 
 two_right : steps_effect (operation_of two_patterns) (cover_steps two_stock (cell 2) (bin Add (at 0) (at 1))
-    (with_one 7 (use_form 4 (operand_then 0 (with_one 3 (leaf 6)) (operand_then 0 (leaf 6) no_operands)) no_cuts))) two_start
+    (with_one 7 (use_form 4 (operand_then 0 (with_one 3 (leaf 6)) (operand_then 0 (leaf 6) no_operands)) no_cuts)))
+    two_start
     ≡ record { regs = 0 ∷ 12 ∷ 7 ∷ 0 ∷ []; cells = 5 ∷ 7 ∷ 12 ∷ [] }
 two_right = refl
 
 two_wrong : steps_effect (operation_of two_patterns) (cover_steps two_stock (cell 2) (bin Add (at 0) (at 1))
-    (with_one 7 (use_form 4 (operand_then 1 (leaf 6) (operand_then 0 (with_one 3 (leaf 6)) no_operands)) no_cuts))) two_start
+    (with_one 7 (use_form 4 (operand_then 1 (leaf 6) (operand_then 0 (with_one 3 (leaf 6)) no_operands)) no_cuts)))
+    two_start
     ≡ record { regs = 0 ∷ 10 ∷ 5 ∷ 0 ∷ []; cells = 5 ∷ 7 ∷ 10 ∷ [] }
 two_wrong = refl

@@ -56,8 +56,10 @@ fn add_part<'a>(
     first: u64,
 ) -> Result<u64, NoMemory>
     ensures { IfOk result (λ past. (sites rest : List Site) (start : ℕ) →
-        HaveCells sites inside.now own.now start (cells_of_operands cells.old.operands.items) (cells_of_cuts cells.old.cuts.items) (part_of part.entry ∷ rest) first →
-        HaveCells sites inside.now own.now start (cells_of_operands cells.new.operands.items) (cells_of_cuts cells.new.cuts.items) rest past) }
+        HaveCells sites inside.now own.now start (cells_of_operands cells.old.operands.items)
+        (cells_of_cuts cells.old.cuts.items) (part_of part.entry ∷ rest) first →
+        HaveCells sites inside.now own.now start (cells_of_operands cells.new.operands.items)
+        (cells_of_cuts cells.new.cuts.items) rest past) }
 {
     match part {
         Part::Operand {

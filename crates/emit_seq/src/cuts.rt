@@ -76,8 +76,10 @@ pub fn cut_steps<'a>(
     cover: &Cover,
     covered: Covered<'a>,
 ) -> Result<Items<Step>, NoMemory>
-    ensures { IfOk result (λ steps.
-        steps ≡ cut_steps_of (stock_of stock.entry) (plan_of cover.now) covered.entry.first (destination_at covered.entry.destination) (tree_term covered.entry.tree.now) covered.entry.whole) }
+    ensures { IfOk result (λ steps. steps
+        ≡ cut_steps_of (stock_of stock.entry) (plan_of cover.now) covered.entry.first
+        (destination_at covered.entry.destination) (tree_term covered.entry.tree.now)
+        covered.entry.whole) }
 {
     let mut root = root_of(alloc, stock, cover, covered)?;
     let inside = inside_operands(alloc, stock, &cover.operands, &mut root.operands)?;
@@ -99,8 +101,10 @@ pub fn all_steps<'a>(
     covered: Covered<'a>,
 ) -> Result<Items<Step>, NoMemory>
     ensures { IfOk result (λ steps.
-        steps ≡ cut_steps_of (stock_of stock.entry) (plan_of cover.now) covered.entry.first (destination_at covered.entry.destination) (tree_term covered.entry.tree.now) covered.entry.whole
-        ++ own_steps (stock_of stock.entry) (plan_of cover.now) covered.entry.first (destination_at covered.entry.destination) (tree_term covered.entry.tree.now) covered.entry.whole) }
+        steps ≡ cut_steps_of (stock_of stock.entry) (plan_of cover.now) covered.entry.first
+        (destination_at covered.entry.destination) (tree_term covered.entry.tree.now) covered.entry.whole
+        ++ own_steps (stock_of stock.entry) (plan_of cover.now) covered.entry.first
+        (destination_at covered.entry.destination) (tree_term covered.entry.tree.now) covered.entry.whole) }
 {
     let mut steps = cut_steps(alloc, stock, cover, covered)?;
     put_own_steps(alloc, stock, cover, covered, &mut steps)?;
@@ -116,8 +120,8 @@ fn inside_operands<'a>(
     operands: &CoverOperands,
     left: &mut Vec<OperandCells<'a>>,
 ) -> Result<Vec<Items<Step>>, NoMemory>
-    ensures { IfOk result (λ v.
-        v.items ≡ inside_operands_of (stock_of stock.entry) (operands_plan operands.now) (cells_of_operands left.old.items)) }
+    ensures { IfOk result (λ v. v.items
+        ≡ inside_operands_of (stock_of stock.entry) (operands_plan operands.now) (cells_of_operands left.old.items)) }
 {
     match operands {
         CoverOperands::Empty => Ok(Vec::new(alloc)),
@@ -140,7 +144,8 @@ fn into_cells<'a>(
     covers: &CoverCuts,
     cuts: &[CutCells<'a>],
 ) -> Result<Vec<Items<Step>>, NoMemory>
-    ensures { IfOk result (λ v. v.items ≡ into_cells_of (stock_of stock.entry) (cuts_plan covers.now) (cells_of_cuts cuts.now)) }
+    ensures { IfOk result (λ v. v.items
+        ≡ into_cells_of (stock_of stock.entry) (cuts_plan covers.now) (cells_of_cuts cuts.now)) }
 {
     match covers {
         CoverCuts::Empty => Ok(Vec::new(alloc)),

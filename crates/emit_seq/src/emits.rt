@@ -31,8 +31,11 @@ fn branch_of<'a>(
     cover: &Cover,
     covered: Covered<'a>,
 ) -> Result<Option<u64>, NoMemory>
-    ensures { IfOk result (λ branch. branch ≡ setting_of_test (destination_at covered.entry.destination)
-        (plan_setting (stock_of stock.entry) (plan_of cover.now) covered.entry.first (destination_at covered.entry.destination) (tree_term covered.entry.tree.now) covered.entry.whole)) }
+    ensures { IfOk result (λ branch. branch
+        ≡ setting_of_test (destination_at covered.entry.destination)
+        (plan_setting (stock_of stock.entry) (plan_of cover.now) covered.entry.first
+        (destination_at covered.entry.destination) (tree_term covered.entry.tree.now)
+        covered.entry.whole)) }
 {
     match covered.destination {
         Destination::Test => {
@@ -50,10 +53,12 @@ fn emit_at<'a>(
     destination: Destination<'a>,
     tree: &'a Tree,
 ) -> Result<Emitted, NoMemory>
-    ensures steps { IfOk result (λ e.
-        e.steps ≡ cover_steps (stock_of stock.entry) (destination_at destination.entry) (tree_term tree.now) (plan_of cover.now)) }
-    ensures branch { IfOk result (λ e.
-        e.branch ≡ branch_setting_of (stock_of stock.entry) (destination_at destination.entry) (tree_term tree.now) (plan_of cover.now)) }
+    ensures steps { IfOk result (λ e. e.steps
+        ≡ cover_steps (stock_of stock.entry) (destination_at destination.entry) (tree_term tree.now)
+        (plan_of cover.now)) }
+    ensures branch { IfOk result (λ e. e.branch
+        ≡ branch_setting_of (stock_of stock.entry) (destination_at destination.entry)
+        (tree_term tree.now) (plan_of cover.now)) }
 {
     let covered = Covered {
         tree,

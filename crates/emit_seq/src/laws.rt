@@ -19,29 +19,36 @@ ghost use Rattle.emit_seq.specs.Spares.{AreShared, ReadsCounter, AreSpare};
 /// after the other, leave its tree's value at the aim, and change no other cell from the temporary
 /// ones on. For a test, the branch's condition has the tree's value after them.
 pub fn law_of_values()
-    ensures { (stock : Stock) (patterns : List Pattern) (count : ℕ) → AreFormed patterns count stock.rules →
-        (destination : Destination) (tree : Term) (plan : Plan) (s : State) → IsOfJob destination → IsOrderly stock destination tree true plan →
-        cut_count plan ≤ stock.temps → IsCoverStart stock count destination tree s → LeaveValue stock patterns destination tree plan s }
+    ensures { (stock : Stock) (patterns : List Pattern) (count : ℕ) →
+        AreFormed patterns count stock.rules →
+        (destination : Destination) (tree : Term) (plan : Plan) (s : State) → IsOfJob destination →
+        IsOrderly stock destination tree true plan → cut_count plan ≤ stock.temps →
+        IsCoverStart stock count destination tree s →
+        LeaveValue stock patterns destination tree plan s }
 {}
 
 /// The steps spare what is still needed, read only what an earlier step put into a register, and
 /// leave the program counter alone.
 pub fn law_of_registers()
-    ensures { (stock : Stock) (patterns : List Pattern) (count pc : ℕ) → AreFormed patterns count stock.rules → AreShared stock.rules →
-        ReadsCounter stock.rules pc → (destination : Destination) (tree : Term) (plan : Plan) → IsOfJob destination →
-        IsOrderly stock destination tree true plan → AreSpare stock patterns pc destination tree plan }
+    ensures { (stock : Stock) (patterns : List Pattern) (count pc : ℕ) →
+        AreFormed patterns count stock.rules → AreShared stock.rules → ReadsCounter stock.rules pc →
+        (destination : Destination) (tree : Term) (plan : Plan) → IsOfJob destination →
+        IsOrderly stock destination tree true plan →
+        AreSpare stock patterns pc destination tree plan }
 {}
 
 /// There are as many steps as the cover costs.
 pub fn law_of_costs()
-    ensures { (stock : Stock) (destination : Destination) (tree : Term) (plan : Plan) → IsOfJob destination →
-        IsOrderly stock destination tree true plan → length (cover_steps stock destination tree plan) ≡ job_cost destination plan }
+    ensures { (stock : Stock) (destination : Destination) (tree : Term) (plan : Plan) →
+        IsOfJob destination → IsOrderly stock destination tree true plan →
+        length (cover_steps stock destination tree plan) ≡ job_cost destination plan }
 {}
 
 /// Each step is one of a form of the list, with values for the bits of its transfer, and 0 for all
 /// others. The setting of a test's branch has no bits but those of its condition.
 pub fn law_of_settings()
-    ensures steps { (stock : Stock) (destination : Destination) (tree : Term) (plan : Plan) → IsOrderly stock destination tree true plan →
+    ensures steps { (stock : Stock) (destination : Destination) (tree : Term) (plan : Plan) →
+        IsOrderly stock destination tree true plan →
         AreOfForms stock.rules (cover_steps stock destination tree plan) }
     ensures branch { (stock : Stock) (tree : Term) (plan : Plan) → IsOrderly stock tested tree true plan →
         bit_and (branch_setting stock tree plan) (fields (condition_of stock plan)) ≡ branch_setting stock tree plan }
@@ -50,6 +57,8 @@ pub fn law_of_settings()
 /// Where the forms read words of so many bits, a chosen cover has at most as many cuts, inner ones
 /// among them, as its tree has nodes that can be cut.
 pub fn law_of_cells()
-    ensures { (bits : ℕ) (stock : Stock) → AllReadWords bits stock.rules → (destination : Destination) (trees : List Term) (choice : Choice) →
-        (c : IsChosen stock destination trees choice) → cut_count choice.plan ≤ cuttable_count bits destination c.covers.tree true }
+    ensures { (bits : ℕ) (stock : Stock) → AllReadWords bits stock.rules →
+        (destination : Destination) (trees : List Term) (choice : Choice) →
+        (c : IsChosen stock destination trees choice) →
+        cut_count choice.plan ≤ cuttable_count bits destination c.covers.tree true }
 {}

@@ -40,7 +40,10 @@ pub fn put_own_steps<'a>(
     covered: Covered<'a>,
     out: &mut Items<Step>,
 ) -> Result<(), NoMemory>
-    ensures { OnOk result (out.new ≡ out.old ++ own_steps (stock_of stock.entry) (plan_of cover.now) covered.entry.first (destination_at covered.entry.destination) (tree_term covered.entry.tree.now) covered.entry.whole) }
+    ensures { OnOk result (out.new ≡ out.old
+        ++ own_steps (stock_of stock.entry) (plan_of cover.now) covered.entry.first
+        (destination_at covered.entry.destination) (tree_term covered.entry.tree.now)
+        covered.entry.whole) }
 {
     let mut root = root_of(alloc, stock, cover, covered)?;
     put_operands(alloc, stock, &cover.operands, &mut root.operands, out)?;
@@ -57,7 +60,8 @@ fn put_operands<'a>(
     left: &mut Vec<OperandCells<'a>>,
     out: &mut Items<Step>,
 ) -> Result<(), NoMemory>
-    ensures { OnOk result (out.new ≡ out.old ++ operand_steps (stock_of stock.entry) (operands_plan operands.now) (cells_of_operands left.old.items)) }
+    ensures { OnOk result (out.new ≡ out.old
+        ++ operand_steps (stock_of stock.entry) (operands_plan operands.now) (cells_of_operands left.old.items)) }
 {
     match operands {
         CoverOperands::Empty => Ok(()),

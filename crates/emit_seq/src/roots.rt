@@ -58,8 +58,10 @@ fn found_at<'a>(
     form: &'a Form,
     covered: Covered<'a>,
 ) -> Result<Match<'a>, NoMemory>
-    ensures { IfOk result (λ found.
-        taken stock.entry.temps (rule_of form.now) (destination_at covered.entry.destination) (tree_term covered.entry.tree.now) covered.entry.whole ≡ Some (found_of found)) }
+    ensures { IfOk result (λ found. taken stock.entry.temps (rule_of form.now)
+        (destination_at covered.entry.destination) (tree_term covered.entry.tree.now)
+        covered.entry.whole
+        ≡ Some (found_of found)) }
 {
     let found = match_at(
         alloc,
@@ -80,7 +82,9 @@ fn cells_from<'a>(
     cover: &Cover,
     first: u64,
 ) -> Result<MatchCells<'a>, NoMemory>
-    ensures { IfOk result (AreMatchCells (sites_of parts.now) (operand_counts_of (operands_plan cover.now.operands)) (cut_counts_of (cuts_plan cover.now.cuts)) first) }
+    ensures { IfOk result (AreMatchCells (sites_of parts.now)
+        (operand_counts_of (operands_plan cover.now.operands))
+        (cut_counts_of (cuts_plan cover.now.cuts)) first) }
 {
     let inside = operand_counts(alloc, &cover.operands)?;
     let own = cut_counts(alloc, &cover.cuts)?;
@@ -97,7 +101,9 @@ fn setting_with(
     cuts: &[CutCells],
 ) -> Result<u64, NoMemory>
     ensures { IfOk result (λ n.
-        n ≡ bit_or (bit_or settled (cells_setting_of (cells_of_cuts cuts.now))) (temp_setting_of (destination_at covered.entry.destination) (rule_of form.now).addr (covered.entry.first + cut_count_of (plan_of cover.now)))) }
+        n ≡ bit_or (bit_or settled (cells_setting_of (cells_of_cuts cuts.now)))
+        (temp_setting_of (destination_at covered.entry.destination) (rule_of form.now).addr
+        (covered.entry.first + cut_count_of (plan_of cover.now)))) }
 {
     let last = plus(covered.first, cut_count(cover)?)?;
     let read = cells_setting(cuts)?;
@@ -112,8 +118,9 @@ pub fn root_of<'a>(
     cover: &Cover,
     covered: Covered<'a>,
 ) -> Result<Root<'a>, NoMemory>
-    ensures { IfOk result (λ root.
-        IsRoot (stock_of stock.entry) (plan_of cover.now) covered.entry.first (destination_at covered.entry.destination) (tree_term covered.entry.tree.now) covered.entry.whole root) }
+    ensures { IfOk result (λ root. IsRoot (stock_of stock.entry) (plan_of cover.now)
+        covered.entry.first (destination_at covered.entry.destination)
+        (tree_term covered.entry.tree.now) covered.entry.whole root) }
 {
     let form = form_at(stock, cover.form)?;
     let found = found_at(alloc, stock, form, covered)?;
@@ -136,8 +143,8 @@ pub fn take_out<'a>(
     left: &mut Vec<OperandCells<'a>>,
     place: usize,
 ) -> Result<OperandCells<'a>, NoMemory>
-    ensures { IfOk result (λ cells.
-        IsTakenOut (cells_of_operands left.old.items) place (cells_of_operand cells) (cells_of_operands left.new.items)) }
+    ensures { IfOk result (λ cells. IsTakenOut (cells_of_operands left.old.items) place
+        (cells_of_operand cells) (cells_of_operands left.new.items)) }
 {
     if place >= left.len() {
         return Err(NoMemory);
@@ -147,7 +154,12 @@ pub fn take_out<'a>(
 
 /// What the cover of an operand is of.
 pub fn operand_covered<'a>(cells: OperandCells<'a>) -> Covered<'a>
-    ensures { result ≡ record { tree = cells.entry.tree; destination = Register cells.entry.id; whole = cells.entry.whole; first = cells.entry.first } }
+    ensures { result ≡ record {
+      tree = cells.entry.tree;
+      destination = Register cells.entry.id;
+      whole = cells.entry.whole;
+      first = cells.entry.first;
+    } }
 {
     Covered {
         tree: cells.tree,
@@ -159,7 +171,8 @@ pub fn operand_covered<'a>(cells: OperandCells<'a>) -> Covered<'a>
 
 /// What the cover of a cut is of.
 pub fn cut_covered<'a>(cells: CutCells<'a>) -> Covered<'a>
-    ensures { result ≡ record { tree = cells.entry.tree; destination = Temp; whole = false; first = cells.entry.first } }
+    ensures { result ≡
+        record { tree = cells.entry.tree; destination = Temp; whole = false; first = cells.entry.first } }
 {
     Covered {
         tree: cells.tree,

@@ -66,9 +66,13 @@ abbrev mutual
   pub AreCut : Stock → List Term → Cuts → Type 0
   AreCut stock cuts no_cuts = cuts ≡ []
   AreCut stock cuts (cut_then p cs) =
-      (tree : Term) × (later : List Term) × (cuts ≡ tree ∷ later) × IsOrderly stock temporary tree false p × AreCut stock later cs
+      (tree : Term) × (later : List Term) × (cuts ≡ tree ∷ later)
+      × IsOrderly stock temporary tree false p × AreCut stock later cs
 
--- ---- which of two covers comes first: by the form's place, then the order of the operands, then their covers in that order, then the cuts'
+-- ---- which of two covers comes first
+
+-- by the form's place, then the order of the operands, then their covers in that order, then the
+-- cuts'
 
 abbrev mutual
   pub IsBefore : Plan → Plan → Type 0
@@ -122,7 +126,8 @@ job_cost destination plan = cost plan
 pub record IsChosen (stock : Stock) (destination : Destination) (trees : List Term) (choice : Choice) : Type 0 where
   pub covers : Covers stock destination trees choice
   pub first : (other : Choice) → Covers stock destination trees other →
-      (cost choice.plan < cost other.plan) ⊎ ((cost choice.plan ≡ cost other.plan) × ((choice ≡ other) ⊎ ChoiceBefore choice other))
+      (cost choice.plan < cost other.plan)
+      ⊎ ((cost choice.plan ≡ cost other.plan) × ((choice ≡ other) ⊎ ChoiceBefore choice other))
 
 -- no tree of the job has an orderly cover
 pub record HasNoCover (stock : Stock) (destination : Destination) (trees : List Term) : Type 0 where

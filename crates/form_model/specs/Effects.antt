@@ -29,8 +29,10 @@ operation_of patterns step = operation_or_none (slice_get patterns step.pattern)
 -- the new state with the transfer done from the old state
 abbrev pub apply_move : ℕ → Move → ℕ → State → State → State
 apply_move storage keep setting old new = new
-apply_move storage (write e) setting old new = record { regs = slice_set new.regs storage (mean e old setting); cells = new.cells }
-apply_move storage (write_at a e) setting old new = record { regs = new.regs; cells = slice_set new.cells (mean a old setting) (mean e old setting) }
+apply_move storage (write e) setting old new =
+    record { regs = slice_set new.regs storage (mean e old setting); cells = new.cells }
+apply_move storage (write_at a e) setting old new =
+    record { regs = new.regs; cells = slice_set new.cells (mean a old setting) (mean e old setting) }
 
 abbrev pub apply_operation : Operation → State → State → State
 apply_operation d old new = apply_move d.storage d.move d.setting old new

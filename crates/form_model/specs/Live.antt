@@ -42,4 +42,6 @@ singles (x ∷ xs) = (x ∷ []) ∷ singles xs
 abbrev pub AllSpare : {A : Type 0} → (A → Operation) → (A → Regs) → List A → Regs → Type 0
 AllSpare m clobbers [] after = Unit {0}
 AllSpare m clobbers (x ∷ xs) after =
-    ((r : ℕ) → clobbers x r ≡ true → writes (m x) r ≡ false → live_before m (singles xs) after r ≡ false) × AllSpare m clobbers xs after
+    ((r : ℕ) → clobbers x r ≡ true → writes (m x) r ≡ false →
+    live_before m (singles xs) after r ≡ false)
+    × AllSpare m clobbers xs after

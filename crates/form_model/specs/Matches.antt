@@ -76,7 +76,8 @@ bin_match f g op (bin o a b) = if same_op2 o op then both (f a false) (g b false
 bin_match f g op _ = None
 
 abbrev pub slice_match : (Term → Bool → Option Found) → ℕ → ℕ → ℕ → Term → Option Found
-slice_match f width hi lo (slice a h l) = if (term_width a == width) && ((h == hi) && (l == lo)) then f a false else None
+slice_match f width hi lo (slice a h l) =
+    if (term_width a == width) && ((h == hi) && (l == lo)) then f a false else None
 slice_match f width hi lo _ = None
 
 abbrev pub zext_match : (Term → Bool → Option Found) → ℕ → ℕ → Term → Option Found
@@ -93,14 +94,20 @@ abbrev pub matched : ℕ → Term → Term → Bool → Option Found
 matched temps (word w) tree whole = shape_match (word w) tree
 matched temps (const w v) tree whole = shape_match (const w v) tree
 matched temps (reg r w) tree whole = open_if (w == term_width tree) (operand r tree whole)
-matched temps (read a w) tree whole = if is_shape a then cell_match temps a w tree whole else read_match (matched temps a) w tree
+matched temps (read a w) tree whole =
+    if is_shape a then cell_match temps a w tree whole else read_match (matched temps a) w tree
 matched temps (un o a) tree whole = un_match (matched temps a) o tree
 matched temps (bin o a b) tree whole = bin_match (matched temps a) (matched temps b) o tree
 matched temps (slice a hi lo) tree whole =
-    if is_shape (slice a hi lo) then shape_match (slice a hi lo) tree else slice_match (matched temps a) (term_width a) hi lo tree
+    if is_shape (slice a hi lo) then shape_match (slice a hi lo) tree
+    else slice_match (matched temps a) (term_width a) hi lo tree
 matched temps (cat a b) tree whole = None
-matched temps (zext a w) tree whole = if is_shape (zext a w) then shape_match (zext a w) tree else zext_match (matched temps a) (term_width a) w tree
-matched temps (sext a w) tree whole = if is_shape (sext a w) then shape_match (sext a w) tree else sext_match (matched temps a) (term_width a) w tree
+matched temps (zext a w) tree whole =
+    if is_shape (zext a w) then shape_match (zext a w) tree
+    else zext_match (matched temps a) (term_width a) w tree
+matched temps (sext a w) tree whole =
+    if is_shape (sext a w) then shape_match (sext a w) tree
+    else sext_match (matched temps a) (term_width a) w tree
 matched temps (select c a b) tree whole = None
 
 -- ---- whole forms

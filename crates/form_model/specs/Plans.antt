@@ -29,7 +29,8 @@ abbrev mutual
 
   pub cuts_plan : CoverCuts → Cuts
   cuts_plan EndOfCuts = no_cuts
-  cuts_plan (CutThen p form operands cuts q rest) = cut_then (use_form form (operands_plan operands) (cuts_plan cuts)) (cuts_plan rest)
+  cuts_plan (CutThen p form operands cuts q rest) =
+      cut_then (use_form form (operands_plan operands) (cuts_plan cuts)) (cuts_plan rest)
 
 abbrev pub plan_of : Cover → Plan
 plan_of cover = use_form cover.form (operands_plan cover.operands) (cuts_plan cover.cuts)

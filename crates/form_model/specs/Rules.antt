@@ -43,7 +43,14 @@ pub record Rule : Type 0 where
   pub clobbers : ℕ
 
 abbrev pub rule_of : Form → Rule
-rule_of f = record { pattern = f.pattern; goal = kind_of f.goal; addr = option_map term_of f.addr; value = term_of f.value; fields = f.fields; clobbers = f.clobbers }
+rule_of f = record {
+  pattern = f.pattern;
+  goal = kind_of f.goal;
+  addr = option_map term_of f.addr;
+  value = term_of f.value;
+  fields = f.fields;
+  clobbers = f.clobbers;
+}
 
 abbrev pub rules_of : List Form → List Rule
 rules_of forms = map rule_of forms

@@ -57,7 +57,10 @@ field_setting _ v = None
 abbrev pub shape_setting : Term → ℕ → Option ℕ
 shape_setting (const w c) v = then_some (v == c) 0
 shape_setting (zext a w) v = field_setting a v
-shape_setting (sext a w) v = if sext_of (v % 2 ^ term_width a) (term_width a) w == v then field_setting a (v % 2 ^ term_width a) else None
+shape_setting (sext a w) v =
+    if sext_of (v % 2 ^ term_width a) (term_width a) w == v
+    then field_setting a (v % 2 ^ term_width a)
+    else None
 shape_setting t v = field_setting t v
 
 -- whether there are such bits

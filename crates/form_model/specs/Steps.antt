@@ -9,7 +9,8 @@ use Rattle.form_model.specs.Matches.{Site, operand, cut, Found, taken}
 use Rattle.form_model.specs.Plans.{Plan, use_form, Operands, no_operands, operand_then, Cuts, no_cuts, cut_then}
 use Rattle.form_model.specs.Covers.{Stock, Operand}
 
--- ---- cuts are numbered in the order of the tree from left to right, a cut after those inside it, and their numbers are their cells
+-- ---- cuts are numbered in the order of the tree from left to right, a cut after those inside it,
+-- and their numbers are their cells
 
 -- how many cuts a cover has, inner ones among them
 abbrev mutual
@@ -53,7 +54,12 @@ pub record CutCells : Type 0 where
 abbrev pub operand_cells : List Site → List ℕ → List ℕ → ℕ → List OperandCells
 operand_cells [] ks ls n = []
 operand_cells (operand id tree whole ∷ sites) ks ls n =
-    record { operand = record { id = id; tree = tree; whole = whole }; first = n; past = n + slice_index ks 0 } ∷ operand_cells sites (drop 1 ks) ls (n + slice_index ks 0)
+    record {
+      operand = record { id = id; tree = tree; whole = whole };
+      first = n;
+      past = n + slice_index ks 0;
+    }
+    ∷ operand_cells sites (drop 1 ks) ls (n + slice_index ks 0)
 operand_cells (cut shape tree ∷ sites) ks ls n = operand_cells sites ks (drop 1 ls) (n + slice_index ls 0 + 1)
 
 -- and the form's own cuts
@@ -61,7 +67,8 @@ abbrev pub cut_cells : List Site → List ℕ → List ℕ → ℕ → List CutC
 cut_cells [] ks ls n = []
 cut_cells (operand id tree whole ∷ sites) ks ls n = cut_cells sites (drop 1 ks) ls (n + slice_index ks 0)
 cut_cells (cut shape tree ∷ sites) ks ls n =
-    record { shape = shape; tree = tree; first = n; cell = n + slice_index ls 0 } ∷ cut_cells sites ks (drop 1 ls) (n + slice_index ls 0 + 1)
+    record { shape = shape; tree = tree; first = n; cell = n + slice_index ls 0 }
+    ∷ cut_cells sites ks (drop 1 ls) (n + slice_index ls 0 + 1)
 
 abbrev pub plan_operand_cells : List Site → Operands → Cuts → ℕ → List OperandCells
 plan_operand_cells sites ps cs n = operand_cells sites (operand_counts ps) (cut_counts cs) n
@@ -80,7 +87,8 @@ found_or_none None = record { setting = 0; sites = [] }
 found_or_none (Some found) = found
 
 abbrev pub operand_cells_or_none : Option OperandCells → OperandCells
-operand_cells_or_none None = record { operand = record { id = 0; tree = const 0 0; whole = false }; first = 0; past = 0 }
+operand_cells_or_none None =
+    record { operand = record { id = 0; tree = const 0 0; whole = false }; first = 0; past = 0 }
 operand_cells_or_none (Some cells) = cells
 
 abbrev pub cut_cells_or_none : Option CutCells → CutCells
@@ -114,12 +122,14 @@ temp_setting destination addr own = 0
 
 -- the bits of the match, of the cells of its cuts, and of the temporary cell that is written
 abbrev pub whole_setting : Rule → Destination → Found → List CutCells → ℕ → ℕ
-whole_setting rule destination found cuts own = bit_or (bit_or found.setting (cells_setting cuts)) (temp_setting destination rule.addr own)
+whole_setting rule destination found cuts own =
+    bit_or (bit_or found.setting (cells_setting cuts)) (temp_setting destination rule.addr own)
 
 -- the setting of the form at the root of a cover whose cuts have the cells from n on
 abbrev pub plan_setting : Stock → Plan → ℕ → Destination → Term → Bool → ℕ
 plan_setting stock (use_form k ps cs) n destination tree whole =
-    whole_setting (rule_at stock k) destination (found_at stock k destination tree whole) (plan_cut_cells (found_at stock k destination tree whole).sites ps cs n)
+    whole_setting (rule_at stock k) destination (found_at stock k destination tree whole)
+    (plan_cut_cells (found_at stock k destination tree whole).sites ps cs n)
     (n + cut_count (use_form k ps cs))
 
 -- ---- steps
@@ -139,7 +149,8 @@ abbrev mutual
   pub operand_steps : Stock → Operands → List OperandCells → List Step
   operand_steps stock no_operands left = []
   operand_steps stock (operand_then i p ps) left =
-      own_steps stock p (operand_cells_or_none (slice_get left i)).first (into (operand_cells_or_none (slice_get left i)).operand.id)
+      own_steps stock p (operand_cells_or_none (slice_get left i)).first
+      (into (operand_cells_or_none (slice_get left i)).operand.id)
       (operand_cells_or_none (slice_get left i)).operand.tree (operand_cells_or_none (slice_get left i)).operand.whole
       ++ operand_steps stock ps (remove left i)
 
@@ -150,8 +161,10 @@ first_or_none (steps ∷ rest) = steps
 -- the steps for the operands and those for the form's own cuts, joined in the order of the sites
 abbrev pub woven : List Site → List (List Step) → List (List Step) → List Step
 woven [] for_operands for_cuts = []
-woven (operand id tree whole ∷ sites) for_operands for_cuts = first_or_none for_operands ++ woven sites (drop 1 for_operands) for_cuts
-woven (cut shape tree ∷ sites) for_operands for_cuts = first_or_none for_cuts ++ woven sites for_operands (drop 1 for_cuts)
+woven (operand id tree whole ∷ sites) for_operands for_cuts =
+    first_or_none for_operands ++ woven sites (drop 1 for_operands) for_cuts
+woven (cut shape tree ∷ sites) for_operands for_cuts =
+    first_or_none for_cuts ++ woven sites for_operands (drop 1 for_cuts)
 
 abbrev mutual
   -- the steps that put the cuts of a cover into the cells from n on
@@ -166,20 +179,25 @@ abbrev mutual
   inside_operands stock no_operands left = []
   inside_operands stock (operand_then i p ps) left =
       insert (inside_operands stock ps (remove left i)) i
-      (cut_steps stock p (operand_cells_or_none (slice_get left i)).first (into (operand_cells_or_none (slice_get left i)).operand.id)
-      (operand_cells_or_none (slice_get left i)).operand.tree (operand_cells_or_none (slice_get left i)).operand.whole)
+      (cut_steps stock p (operand_cells_or_none (slice_get left i)).first
+      (into (operand_cells_or_none (slice_get left i)).operand.id)
+      (operand_cells_or_none (slice_get left i)).operand.tree
+      (operand_cells_or_none (slice_get left i)).operand.whole)
 
   -- for each of the form's own cuts, the steps for those inside it, and then its own
   pub into_cells : Stock → Cuts → List CutCells → List (List Step)
   into_cells stock no_cuts cuts = []
   into_cells stock (cut_then p cs) cuts =
-      (cut_steps stock p (cut_cells_or_none (slice_get cuts 0)).first temporary (cut_cells_or_none (slice_get cuts 0)).tree false
-      ++ own_steps stock p (cut_cells_or_none (slice_get cuts 0)).first temporary (cut_cells_or_none (slice_get cuts 0)).tree false)
+      (cut_steps stock p (cut_cells_or_none (slice_get cuts 0)).first temporary
+      (cut_cells_or_none (slice_get cuts 0)).tree false
+      ++ own_steps stock p (cut_cells_or_none (slice_get cuts 0)).first temporary
+      (cut_cells_or_none (slice_get cuts 0)).tree false)
       ∷ into_cells stock cs (drop 1 cuts)
 
 -- the steps of an orderly cover of a tree that goes to a destination
 abbrev pub cover_steps : Stock → Destination → Term → Plan → List Step
-cover_steps stock destination tree plan = cut_steps stock plan 0 destination tree true ++ own_steps stock plan 0 destination tree true
+cover_steps stock destination tree plan =
+    cut_steps stock plan 0 destination tree true ++ own_steps stock plan 0 destination tree true
 
 -- the setting of the bits of a branch's condition
 abbrev pub branch_setting : Stock → Term → Plan → ℕ

@@ -94,7 +94,8 @@ swapped_takes : matched 1 swapped sum false ≡ found 1 (operand 1 (const 16 5) 
 swapped_takes = refl
 
 -- the form as extracted only with the number as a cut
-extracted_takes : matched 1 extracted sum false ≡ found 0 (operand 1 (read (const 8 1) 16) false ∷ cut low_byte (const 16 5) ∷ [])
+extracted_takes : matched 1 extracted sum false
+    ≡ found 0 (operand 1 (read (const 8 1) 16) false ∷ cut low_byte (const 16 5) ∷ [])
 extracted_takes = refl
 
 -- which it isn't where there are more temporary cells than the field shows

@@ -26,22 +26,28 @@ FormsAreOne =
 -- each form of the list is that of the pattern whose number it has, plain, a jump or a branch
 abbrev pub FormsAreOfPatterns : Type 0
 FormsAreOfPatterns =
-    (netlist : Netlist) (patterns : List Pattern) (rules : List Rule) (reach : ℕ) → AreForms netlist patterns rules reach →
+    (netlist : Netlist) (patterns : List Pattern) (rules : List Rule) (reach : ℕ) →
+    AreForms netlist patterns rules reach →
     (k : ℕ) (rule : Rule) → slice_get rules k ≡ Some rule → IsForm netlist reach 0 patterns rule
 
 -- for every setting of a plain pattern some word does its transfer, steps, and changes nothing that
 -- code sees but what it writes and the clobbers
 abbrev pub SettingsHaveWords : Type 0
-SettingsHaveWords = (netlist : Netlist) (pattern : Pattern) (clobbers : ℕ) → IsPlain netlist pattern → AreClobbers netlist pattern clobbers → HasWords netlist pattern clobbers
+SettingsHaveWords =
+    (netlist : Netlist) (pattern : Pattern) (clobbers : ℕ) → IsPlain netlist pattern →
+    AreClobbers netlist pattern clobbers → HasWords netlist pattern clobbers
 
 -- what a pattern writes is among its clobbers
 abbrev pub ClobbersHaveOwn : Type 0
-ClobbersHaveOwn = (netlist : Netlist) (pattern : Pattern) (clobbers : ℕ) → AreClobbers netlist pattern clobbers → bit_at clobbers pattern.storage ≡ 1
+ClobbersHaveOwn =
+    (netlist : Netlist) (pattern : Pattern) (clobbers : ℕ) → AreClobbers netlist pattern clobbers →
+    bit_at clobbers pattern.storage ≡ 1
 
 -- and so is the program counter
 abbrev pub ClobbersHaveCounter : Type 0
 ClobbersHaveCounter =
-    (netlist : Netlist) (pattern : Pattern) (clobbers : ℕ) → IsRegister (slice_get netlist.storages (counter_of netlist.codes)) →
+    (netlist : Netlist) (pattern : Pattern) (clobbers : ℕ) →
+    IsRegister (slice_get netlist.storages (counter_of netlist.codes)) →
     IsPlain netlist pattern → AreClobbers netlist pattern clobbers → bit_at clobbers (counter_of netlist.codes) ≡ 1
 
 -- no choice of swaps changes the width or the meaning of an address or a value
@@ -51,25 +57,31 @@ SwapsChangeNothing = (choice : ℕ) (sides : Sides) → AreAlike sides (swapped 
 -- a list has no form but jumps and branches exactly where no pattern is plain
 abbrev pub NoPlainForm : Type 0
 NoPlainForm =
-    (netlist : Netlist) (patterns : List Pattern) (rules : List Rule) (reach : ℕ) → AreForms netlist patterns rules reach →
-    (only_control rules ≡ true) ↔ ((k : ℕ) (pattern : Pattern) → slice_get patterns k ≡ Some pattern → IsPlain netlist pattern → ⊥)
+    (netlist : Netlist) (patterns : List Pattern) (rules : List Rule) (reach : ℕ) →
+    AreForms netlist patterns rules reach →
+    (only_control rules ≡ true)
+    ↔ ((k : ℕ) (pattern : Pattern) → slice_get patterns k ≡ Some pattern → IsPlain netlist pattern → ⊥)
 
 -- and no jump form exactly where no pattern is a jump
 abbrev pub NoJumpForm : Type 0
 NoJumpForm =
-    (netlist : Netlist) (patterns : List Pattern) (rules : List Rule) (reach : ℕ) → AreForms netlist patterns rules reach →
-    (no_jumps rules ≡ true) ↔ ((k : ℕ) (pattern : Pattern) → slice_get patterns k ≡ Some pattern → IsJump netlist pattern → ⊥)
+    (netlist : Netlist) (patterns : List Pattern) (rules : List Rule) (reach : ℕ) →
+    AreForms netlist patterns rules reach →
+    (no_jumps rules ≡ true)
+    ↔ ((k : ℕ) (pattern : Pattern) → slice_get patterns k ≡ Some pattern → IsJump netlist pattern → ⊥)
 
 -- the bits that give a shape a value are bits of the shape, and each word with these bits gives it
 -- the value
 abbrev pub SettingsAreOfShapes : Type 0
 SettingsAreOfShapes =
-    (bits : ℕ) (shape : Term) → is_shape shape ≡ true → ShapeFits bits shape → (value setting : ℕ) → shape_setting shape value ≡ Some setting →
+    (bits : ℕ) (shape : Term) → is_shape shape ≡ true → ShapeFits bits shape → (value setting : ℕ) →
+    shape_setting shape value ≡ Some setting →
     (bit_and setting (fields shape) ≡ setting)
     × ((s : State) (word : ℕ) → word < 2 ^ bits → bit_and word (fields shape) ≡ setting → mean shape s word ≡ value)
 
 -- the reach that is told of a jump is the least address that no word gives its target
 abbrev pub ReachIsExact : Type 0
 ReachIsExact =
-    (netlist : Netlist) (pattern : Pattern) (h : IsJump netlist pattern) → IsTermOf netlist h.target → TermFits h.target →
+    (netlist : Netlist) (pattern : Pattern) (h : IsJump netlist pattern) →
+    IsTermOf netlist h.target → TermFits h.target →
     IsReach (word_width netlist) h.target (reach_of h.target)

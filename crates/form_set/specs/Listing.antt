@@ -48,7 +48,8 @@ plain_rule netlist number pattern clobbers choice = record {
 
 -- one for each choice of swaps
 abbrev pub plain_rules : Netlist → ℕ → Pattern → ℕ → List Rule
-plain_rules netlist number pattern clobbers = map_below (plain_rule netlist number pattern clobbers) (2 ^ swap_count (sides_of pattern.move))
+plain_rules netlist number pattern clobbers =
+    map_below (plain_rule netlist number pattern clobbers) (2 ^ swap_count (sides_of pattern.move))
 
 -- ---- jump forms
 
@@ -98,24 +99,32 @@ branch_rule netlist number pattern branch choice = record {
 
 -- one for each choice of swaps in the condition
 abbrev pub branch_rules : Netlist → ℕ → Pattern → Branch → List Rule
-branch_rules netlist number pattern branch = map_below (branch_rule netlist number pattern branch) (2 ^ swap_count (test_sides branch))
+branch_rules netlist number pattern branch =
+    map_below (branch_rule netlist number pattern branch) (2 ^ swap_count (test_sides branch))
 
 -- ---- all forms
 
 -- the forms of the pattern of this number
 pub data AreRulesOf (netlist : Netlist) (reach number : ℕ) (pattern : Pattern) (rules : List Rule) : Type 0 where
-  plain : (clobbers : ℕ) → IsPlain netlist pattern → AreClobbers netlist pattern clobbers → rules ≡ plain_rules netlist number pattern clobbers
+  plain : (clobbers : ℕ) → IsPlain netlist pattern → AreClobbers netlist pattern clobbers
+      → rules ≡ plain_rules netlist number pattern clobbers
       → AreRulesOf netlist reach number pattern rules
-  jump : (h : IsJump netlist pattern) → rules ≡ jump_rule netlist number h.target (move_fields pattern.move) ∷ [] → AreRulesOf netlist reach number pattern rules
-  branch : (parts : Branch) → IsBranch netlist reach pattern parts → rules ≡ branch_rules netlist number pattern parts → AreRulesOf netlist reach number pattern rules
-  other : (IsPlain netlist pattern → ⊥) → (IsJump netlist pattern → ⊥) → ((parts : Branch) → IsBranch netlist reach pattern parts → ⊥) → rules ≡ []
+  jump : (h : IsJump netlist pattern) →
+      rules ≡ jump_rule netlist number h.target (move_fields pattern.move) ∷ [] →
+      AreRulesOf netlist reach number pattern rules
+  branch : (parts : Branch) → IsBranch netlist reach pattern parts →
+      rules ≡ branch_rules netlist number pattern parts →
+      AreRulesOf netlist reach number pattern rules
+  other : (IsPlain netlist pattern → ⊥) → (IsJump netlist pattern → ⊥)
+      → ((parts : Branch) → IsBranch netlist reach pattern parts → ⊥) → rules ≡ []
       → AreRulesOf netlist reach number pattern rules
 
 -- the forms of patterns that are numbered from a number on: by the number of the pattern
 abbrev pub AreRules : Netlist → ℕ → ℕ → List Pattern → List Rule → Type 0
 AreRules netlist reach number [] rules = rules ≡ []
 AreRules netlist reach number (pattern ∷ patterns) rules =
-    (first : List Rule) × (rest : List Rule) × AreRulesOf netlist reach number pattern first × AreRules netlist reach (number + 1) patterns rest × (rules ≡ first ++ rest)
+    (first : List Rule) × (rest : List Rule) × AreRulesOf netlist reach number pattern first
+    × AreRules netlist reach (number + 1) patterns rest × (rules ≡ first ++ rest)
 
 abbrev pub goal_reach : GoalKind → ℕ
 goal_reach (jumps reach) = reach

@@ -18,10 +18,14 @@ use Rattle.form_set.specs.Words.{AreClobbers, ForEachSetting}
 
 -- a form is of one of three kinds, each with its pattern and its choice of swaps
 pub data IsFormOf (netlist : Netlist) (reach number : ℕ) (pattern : Pattern) (rule : Rule) : Type 0 where
-  of_plain : (choice clobbers : ℕ) → IsPlain netlist pattern → AreClobbers netlist pattern clobbers → rule ≡ plain_rule netlist number pattern clobbers choice
+  of_plain : (choice clobbers : ℕ) → IsPlain netlist pattern → AreClobbers netlist pattern clobbers
+      → rule ≡ plain_rule netlist number pattern clobbers choice
       → IsFormOf netlist reach number pattern rule
-  of_jump : (h : IsJump netlist pattern) → rule ≡ jump_rule netlist number h.target (move_fields pattern.move) → IsFormOf netlist reach number pattern rule
-  of_branch : (choice : ℕ) (parts : Branch) → IsBranch netlist reach pattern parts → rule ≡ branch_rule netlist number pattern parts choice
+  of_jump : (h : IsJump netlist pattern) →
+      rule ≡ jump_rule netlist number h.target (move_fields pattern.move) →
+      IsFormOf netlist reach number pattern rule
+  of_branch : (choice : ℕ) (parts : Branch) → IsBranch netlist reach pattern parts
+      → rule ≡ branch_rule netlist number pattern parts choice
       → IsFormOf netlist reach number pattern rule
 
 -- the form of a pattern of the list, whose number is its place
@@ -37,7 +41,8 @@ pub record KeepsBut (netlist : Netlist) (pattern : Pattern) (clobbers : ℕ) (wo
   pub given : IsWordOf netlist pattern word
   pub steps : Steps netlist word
   pub memory : pattern.storage ≢ memory_id netlist.storages → memory_move netlist word ≡ keep
-  pub registers : (r : ℕ) → IsRegister (slice_get netlist.storages r) → bit_at clobbers r ≡ 0 → move_at netlist word r ≡ keep
+  pub registers : (r : ℕ) → IsRegister (slice_get netlist.storages r) → bit_at clobbers r ≡ 0 →
+      move_at netlist word r ≡ keep
 
 -- for every setting there is such a word
 abbrev pub HasWords : Netlist → Pattern → ℕ → Type 0

@@ -34,7 +34,8 @@ swaps_in level (slice a hi lo) = at_level level 0 (swaps_in (level - 1) a)
 swaps_in level (cat a b) = at_level level 0 (swaps_in (level - 1) a + swaps_in (level - 1) b)
 swaps_in level (zext a w) = at_level level 0 (swaps_in (level - 1) a)
 swaps_in level (sext a w) = at_level level 0 (swaps_in (level - 1) a)
-swaps_in level (select c a b) = at_level level 0 (swaps_in (level - 1) c + (swaps_in (level - 1) a + swaps_in (level - 1) b))
+swaps_in level (select c a b) =
+    at_level level 0 (swaps_in (level - 1) c + (swaps_in (level - 1) a + swaps_in (level - 1) b))
 swaps_in level _ = 0
 
 -- how many there are in all
@@ -68,7 +69,8 @@ swap_in level place (zext a w) = at_level level (zext a w) (zext (swap_in (level
 swap_in level place (sext a w) = at_level level (sext a w) (sext (swap_in (level - 1) place a) w)
 swap_in level place (select c a b) =
     at_level level (select c a b) (in_two place (swaps_in (level - 1) c) (select (swap_in (level - 1) place c) a b)
-    (in_two (place - swaps_in (level - 1) c) (swaps_in (level - 1) a) (select c (swap_in (level - 1) (place - swaps_in (level - 1) c) a) b)
+    (in_two (place - swaps_in (level - 1) c) (swaps_in (level - 1) a)
+    (select c (swap_in (level - 1) (place - swaps_in (level - 1) c) a) b)
     (select c a (swap_in (level - 1) (place - swaps_in (level - 1) c - swaps_in (level - 1) a) b))))
 swap_in level place t = t
 
@@ -77,7 +79,8 @@ swap_in level place t = t
 abbrev pub swap_from : ℕ → ℕ → ℕ → Term → Term
 swap_from zero level number t = t
 swap_from (suc levels) level number t =
-    if nat_lt number (swaps_in level t) then swap_in level number t else swap_from levels (level + 1) (number - swaps_in level t) t
+    if nat_lt number (swaps_in level t) then swap_in level number t
+    else swap_from levels (level + 1) (number - swaps_in level t) t
 
 -- how many levels an expression has
 abbrev pub levels : Term → ℕ
@@ -116,7 +119,8 @@ addr_swaps (Some a) = swaps_of a
 -- those of the address come before those of the value
 abbrev pub swap_side : ℕ → Sides → Sides
 swap_side number sides =
-    if nat_lt number (addr_swaps sides.addr) then (record { addr = option_map (swap_number number) sides.addr; value = sides.value })
+    if nat_lt number (addr_swaps sides.addr)
+    then (record { addr = option_map (swap_number number) sides.addr; value = sides.value })
     else (record { addr = sides.addr; value = swap_number (number - addr_swaps sides.addr) sides.value })
 
 -- how many are swapped: those of the numbers 0 to 7
@@ -127,7 +131,8 @@ swap_count sides = min 8 (addr_swaps sides.addr + swaps_of sides.value)
 -- last to the first, since a swap moves only operators of greater numbers
 abbrev pub swap_chosen : ℕ → ℕ → Sides → Sides
 swap_chosen zero choice sides = sides
-swap_chosen (suc number) choice sides = swap_chosen number choice (if bit_at choice number == 1 then swap_side number sides else sides)
+swap_chosen (suc number) choice sides =
+    swap_chosen number choice (if bit_at choice number == 1 then swap_side number sides else sides)
 
 -- the form of this number
 abbrev pub swapped : ℕ → Sides → Sides

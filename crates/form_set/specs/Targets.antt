@@ -56,7 +56,8 @@ branch_if b when_one test to = if b then branch_to when_one test to else None
 -- one of the two is the step, and the other an allowed target
 abbrev pub select_branch : Counter → ℕ → Term → Term → Term → Option Branch
 select_branch pc reach c a b =
-    first_of (branch_if (is_next pc b) true c (allowed_target pc reach a)) (branch_if (is_next pc a) false c (allowed_target pc reach b))
+    first_of (branch_if (is_next pc b) true c (allowed_target pc reach a))
+    (branch_if (is_next pc a) false c (allowed_target pc reach b))
 
 abbrev pub term_branch : Counter → ℕ → Term → Option Branch
 term_branch pc reach (select c a b) = select_branch pc reach c a b

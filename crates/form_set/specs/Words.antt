@@ -19,7 +19,8 @@ IsSetting fields setting = bit_and setting fields ≡ setting
 
 -- for every setting there is a word that has these bits and of which P holds
 abbrev pub ForEachSetting : ℕ → (ℕ → Type 0) → Type 0
-ForEachSetting fields P = (setting : ℕ) → IsSetting fields setting → (word : ℕ) × (bit_and word fields ≡ setting) × P word
+ForEachSetting fields P =
+    (setting : ℕ) → IsSetting fields setting → (word : ℕ) × (bit_and word fields ≡ setting) × P word
 
 -- ---- words that keep
 
@@ -59,7 +60,9 @@ with set r = bit_or set (2 ^ r)
 -- the registers below a number
 abbrev pub registers_below : List Storage → ℕ → ℕ
 registers_below storages zero = 0
-registers_below storages (suc n) = if is_register_storage (slice_get storages n) then with (registers_below storages n) n else registers_below storages n
+registers_below storages (suc n) =
+    if is_register_storage (slice_get storages n) then with (registers_below storages n) n
+    else registers_below storages n
 
 abbrev pub all_registers : List Storage → ℕ
 all_registers storages = registers_below storages (length storages)
@@ -67,14 +70,18 @@ all_registers storages = registers_below storages (length storages)
 -- a register joins those that must be kept where every setting still has a word that keeps them
 -- all; a memory doesn't
 pub data Joins (netlist : Netlist) (pattern : Pattern) (id before after : ℕ) : Type 0 where
-  joins : IsRegister (slice_get netlist.storages id) → CanKeep netlist pattern (with before id) → after ≡ with before id → Joins netlist pattern id before after
-  fails : IsRegister (slice_get netlist.storages id) → (CanKeep netlist pattern (with before id) → ⊥) → after ≡ before → Joins netlist pattern id before after
+  joins : IsRegister (slice_get netlist.storages id) → CanKeep netlist pattern (with before id) →
+      after ≡ with before id → Joins netlist pattern id before after
+  fails : IsRegister (slice_get netlist.storages id) →
+      (CanKeep netlist pattern (with before id) → ⊥) → after ≡ before →
+      Joins netlist pattern id before after
   none : (IsRegister (slice_get netlist.storages id) → ⊥) → after ≡ before → Joins netlist pattern id before after
 
 -- those that must be kept, once the storages below a number were taken in order of declaration
 abbrev pub AreKept : Netlist → Pattern → ℕ → ℕ → Type 0
 AreKept netlist pattern zero kept = kept ≡ 0
-AreKept netlist pattern (suc n) kept = (before : ℕ) × AreKept netlist pattern n before × Joins netlist pattern n before kept
+AreKept netlist pattern (suc n) kept =
+    (before : ℕ) × AreKept netlist pattern n before × Joins netlist pattern n before kept
 
 -- the pattern's storage, and the registers that didn't join
 pub record AreClobbers (netlist : Netlist) (pattern : Pattern) (clobbers : ℕ) : Type 0 where

@@ -53,7 +53,8 @@ a16_unshaped = refl
 a16_reach : greatest_reach (jump_rule a16 2 f 255 ∷ []) ≡ 256
 a16_reach = refl
 
-a16_test : term_branch (counter_at a16) 256 branch_value ≡ Some (record { when_one = true; test = bin Eq acc (const 16 0); to = absolute f })
+a16_test : term_branch (counter_at a16) 256 branch_value
+    ≡ Some (record { when_one = true; test = bin Eq acc (const 16 0); to = absolute f })
 a16_test = refl
 
 -- a target that reaches less
@@ -61,7 +62,8 @@ a16_near : term_branch (counter_at a16) 257 branch_value ≡ None
 a16_near = refl
 
 -- the other way round
-a16_other : term_branch (counter_at a16) 256 (select (bin Eq acc (const 16 0)) step f) ≡ Some (record { when_one = false; test = bin Eq acc (const 16 0); to = absolute f })
+a16_other : term_branch (counter_at a16) 256 (select (bin Eq acc (const 16 0)) step f)
+    ≡ Some (record { when_one = false; test = bin Eq acc (const 16 0); to = absolute f })
 a16_other = refl
 
 a16_registers : all_registers a16.storages ≡ 3
@@ -72,8 +74,23 @@ z16_registers = refl
 
 -- pattern 3 of A16 has two forms, in this order
 a16_sums : plain_rules a16 3 (record { storage = 1; move = write (bin Add acc (read f 16)) }) 3
-    ≡ record { pattern = 3; goal = into_reg 1; addr = None; value = bin Add acc (read f 16); fields = 255; clobbers = 3 }
-    ∷ record { pattern = 3; goal = into_reg 1; addr = None; value = bin Add (read f 16) acc; fields = 255; clobbers = 3 } ∷ []
+    ≡ record {
+      pattern = 3;
+      goal = into_reg 1;
+      addr = None;
+      value = bin Add acc (read f 16);
+      fields = 255;
+      clobbers = 3;
+    }
+    ∷ record {
+      pattern = 3;
+      goal = into_reg 1;
+      addr = None;
+      value = bin Add (read f 16) acc;
+      fields = 255;
+      clobbers = 3;
+    }
+    ∷ []
 a16_sums = refl
 
 a16_store : plain_rules a16 7 (record { storage = 2; move = write_at f acc }) 5
@@ -81,9 +98,25 @@ a16_store : plain_rules a16 7 (record { storage = 2; move = write_at f acc }) 5
 a16_store = refl
 
 -- pattern 1 of A16 has two forms, and its step stays as it is
-a16_branches : branch_rules a16 1 (record { storage = 0; move = write branch_value }) (record { when_one = true; test = bin Eq acc (const 16 0); to = absolute f })
-    ≡ record { pattern = 1; goal = branches true (absolute f); addr = None; value = bin Eq acc (const 16 0); fields = 255; clobbers = 3 }
-    ∷ record { pattern = 1; goal = branches true (absolute f); addr = None; value = bin Eq (const 16 0) acc; fields = 255; clobbers = 3 } ∷ []
+a16_branches : branch_rules a16 1 (record { storage = 0; move = write branch_value })
+    (record { when_one = true; test = bin Eq acc (const 16 0); to = absolute f })
+    ≡ record {
+      pattern = 1;
+      goal = branches true (absolute f);
+      addr = None;
+      value = bin Eq acc (const 16 0);
+      fields = 255;
+      clobbers = 3;
+    }
+    ∷ record {
+      pattern = 1;
+      goal = branches true (absolute f);
+      addr = None;
+      value = bin Eq (const 16 0) acc;
+      fields = 255;
+      clobbers = 3;
+    }
+    ∷ []
 a16_branches = refl
 
 -- ---- the numbers of operators
@@ -98,10 +131,16 @@ deep_count = refl
 
 -- a root that is swapped carries its operands along, and their numbers stay as they were
 deep_swapped : swapped 11 (record { addr = None; value = deep })
-    ≡ record { addr = None; value = bin Mul (bin Add (bin Mul (reg 4 4) (reg 3 4)) (reg 5 4)) (bin Add (reg 2 4) (reg 1 4)) }
+    ≡ record {
+      addr = None;
+      value = bin Mul (bin Add (bin Mul (reg 4 4) (reg 3 4)) (reg 5 4)) (bin Add (reg 2 4) (reg 1 4));
+    }
 deep_swapped = refl
 
 -- operators of the address come first, also those below the root of the value
-both_swapped : swapped 5 (record { addr = Some (bin Add (reg 1 4) (bin Mul (reg 2 4) (reg 3 4))); value = bin Add (reg 4 4) (reg 5 4) })
+both_swapped : swapped 5 (record {
+  addr = Some (bin Add (reg 1 4) (bin Mul (reg 2 4) (reg 3 4)));
+  value = bin Add (reg 4 4) (reg 5 4);
+})
     ≡ record { addr = Some (bin Add (bin Mul (reg 2 4) (reg 3 4)) (reg 1 4)); value = bin Add (reg 5 4) (reg 4 4) }
 both_swapped = refl

@@ -130,7 +130,8 @@ fn branch_to(
     requires narrow { term_width (term_at pool.now to) ≤ 16 }
     ensures known { IfSome result (AreBranchIds (length pool.now)) }
     ensures branch { option_map (ids_branch pool.now) result
-        ≡ branch_if (is_next counter (term_at pool.now step)) when_one (term_at pool.now test) (allowed_target counter reach (term_at pool.now to)) }
+        ≡ branch_if (is_next counter (term_at pool.now step)) when_one (term_at pool.now test)
+        (allowed_target counter reach (term_at pool.now to)) }
 {
     if !is_step(pool, step, counter) {
         return None;
@@ -178,7 +179,8 @@ pub(crate) fn branch_at(
     requires within { value < length pool.now }
     requires narrow { term_width (term_at pool.now value) ≤ 16 }
     ensures known { IfSome result (AreBranchIds (length pool.now)) }
-    ensures branch { option_map (ids_branch pool.now) result ≡ term_branch (counter_at checked.now.netlist) reach (term_at pool.now value) }
+    ensures branch { option_map (ids_branch pool.now) result
+        ≡ term_branch (counter_at checked.now.netlist) reach (term_at pool.now value) }
 {
     let counter = Counter::of(checked);
     match pool.node(value) {

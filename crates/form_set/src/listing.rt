@@ -33,7 +33,8 @@ fn number_reach(
     requires ready { IsReady checked.now.netlist book.old pool.now patterns.now }
     ensures grows { Extends book.old book.new }
     ensures reach { IfOk result (λ reach. (pattern : ThePattern) →
-        slice_get (row_patterns pool.now patterns.now.rows) number ≡ Some pattern → IsReachOf checked.now.netlist pattern reach) }
+        slice_get (row_patterns pool.now patterns.now.rows) number ≡ Some pattern →
+        IsReachOf checked.now.netlist pattern reach) }
 {
     match known_ids(checked, pool, patterns, book, number) {
         None => Ok(0),
@@ -86,7 +87,8 @@ fn add_pattern(
     requires ready { IsReady checked.now.netlist book.old pool.now patterns.now }
     requires ids { ArePatternIds checked.now.netlist book.old pool.now ids }
     ensures grows { Extends book.old book.new }
-    ensures added { OnOk result (HasAdded checked.now.netlist reach number (ids_pattern pool.now ids) (rules_of list.old.items) (rules_of list.new.items)) }
+    ensures added { OnOk result (HasAdded checked.now.netlist reach number
+        (ids_pattern pool.now ids) (rules_of list.old.items) (rules_of list.new.items)) }
 {
     let class = classify(alloc, checked, pool, patterns, book, ids, reach)?;
     add_class(alloc, checked, pool, book, list, reach, number, ids, class)?;
@@ -168,8 +170,8 @@ pub fn forms(
     requires ready { IsReady checked.now.netlist book.old pool.now patterns.now }
     ensures grows { Extends book.old book.new }
     ensures ready { IsReady checked.now.netlist book.new pool.now patterns.now }
-    ensures forms { IfOk result (λ forms.
-        AreForms checked.now.netlist (row_patterns pool.now patterns.now.rows) (rules_of forms.list.items) forms.reach) }
+    ensures forms { IfOk result (λ forms. AreForms checked.now.netlist
+        (row_patterns pool.now patterns.now.rows) (rules_of forms.list.items) forms.reach) }
 {
     let reach = reach_of(alloc, checked, pool, patterns, book)?;
     let list = list_of(alloc, checked, pool, patterns, book, reach)?;

@@ -49,7 +49,8 @@ fn plain_form(
     requires addr { IsAddrKnown (length pool.now) ids.addr }
     requires value { ids.value < length pool.now }
     requires fields { ids.fields ≡ move_fields (ids_move pool.now ids.addr ids.value) }
-    ensures { IfOk result (λ form. rule_of form ≡ plain_rule checked.now.netlist number (ids_pattern pool.now ids) clobbers choice) }
+    ensures { IfOk result (λ form. rule_of form
+        ≡ plain_rule checked.now.netlist number (ids_pattern pool.now ids) clobbers choice) }
 {
     let sides = swapped_at(alloc, pool, ids.addr, ids.value, choice)?;
     Ok(Form {
@@ -75,7 +76,8 @@ fn add_plain(
     requires addr { IsAddrKnown (length pool.now) ids.addr }
     requires value { ids.value < length pool.now }
     requires fields { ids.fields ≡ move_fields (ids_move pool.now ids.addr ids.value) }
-    ensures { OnOk result (rules_of list.new.items ≡ rules_of list.old.items ++ plain_rules checked.now.netlist number (ids_pattern pool.now ids) clobbers) }
+    ensures { OnOk result (rules_of list.new.items ≡ rules_of list.old.items
+        ++ plain_rules checked.now.netlist number (ids_pattern pool.now ids) clobbers) }
 {
     let count = count_at(alloc, pool, ids.addr, ids.value)?;
     let choices: u16 = 1 << count;
@@ -96,7 +98,8 @@ fn jump_form(
 ) -> Result<Form, NoMemory>
     requires value { ids.value < length pool.now }
     requires narrow { term_width (term_at pool.now ids.value) ≤ 16 }
-    ensures { IfOk result (λ form. rule_of form ≡ jump_rule checked.now.netlist number (term_at pool.now ids.value) ids.fields) }
+    ensures { IfOk result (λ form.
+        rule_of form ≡ jump_rule checked.now.netlist number (term_at pool.now ids.value) ids.fields) }
 {
     let value = expr_at(alloc, pool, ids.value)?;
     Ok(Form {
@@ -136,8 +139,8 @@ fn branch_form(
 ) -> Result<Form, NoMemory>
     requires parts { AreBranchIds (length pool.now) parts }
     requires fields { ids.fields ≡ move_fields (ids_move pool.now ids.addr ids.value) }
-    ensures { IfOk result (λ form.
-        rule_of form ≡ branch_rule checked.now.netlist number (ids_pattern pool.now ids) (ids_branch pool.now parts) choice) }
+    ensures { IfOk result (λ form. rule_of form
+        ≡ branch_rule checked.now.netlist number (ids_pattern pool.now ids) (ids_branch pool.now parts) choice) }
 {
     let target = target_of(alloc, pool, parts.target)?;
     let sides = swapped_at(alloc, pool, None, parts.test, choice)?;
@@ -166,7 +169,8 @@ fn add_branches(
 ) -> Result<(), NoMemory>
     requires parts { AreBranchIds (length pool.now) parts }
     requires fields { ids.fields ≡ move_fields (ids_move pool.now ids.addr ids.value) }
-    ensures { OnOk result (rules_of list.new.items ≡ rules_of list.old.items ++ branch_rules checked.now.netlist number (ids_pattern pool.now ids) (ids_branch pool.now parts)) }
+    ensures { OnOk result (rules_of list.new.items ≡ rules_of list.old.items
+        ++ branch_rules checked.now.netlist number (ids_pattern pool.now ids) (ids_branch pool.now parts)) }
 {
     let count = count_at(alloc, pool, None, parts.test)?;
     let choices: u16 = 1 << count;
@@ -191,7 +195,8 @@ pub(crate) fn add_class(
 ) -> Result<(), NoMemory>
     requires ids { ArePatternIds checked.now.netlist _book.now pool.now ids }
     requires class { IsClass checked.now.netlist pool.now _reach (ids_pattern pool.now ids) class }
-    ensures { OnOk result (HasAdded checked.now.netlist _reach number (ids_pattern pool.now ids) (rules_of list.old.items) (rules_of list.new.items)) }
+    ensures { OnOk result (HasAdded checked.now.netlist _reach number (ids_pattern pool.now ids)
+        (rules_of list.old.items) (rules_of list.new.items)) }
 {
     match class {
         Class::Plain(clobbers) => {

@@ -57,7 +57,8 @@ pub(crate) fn known_ids(
 ) -> Option<PatternIds>
     requires ready { IsReady checked.now.netlist _book.now _pool.now patterns.now }
     ensures ids { IfSome result (ArePatternIds checked.now.netlist _book.now _pool.now) }
-    ensures told { option_map (ids_pattern _pool.now) result ≡ slice_get (row_patterns _pool.now patterns.now.rows) number }
+    ensures pattern { option_map (ids_pattern _pool.now) result
+        ≡ slice_get (row_patterns _pool.now patterns.now.rows) number }
 {
     // the rules of the netlist say what its expressions name, and the pool's length how wide they
     // are

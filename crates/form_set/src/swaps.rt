@@ -251,7 +251,9 @@ fn swap_if(sides: &mut Sides, number: u8, choice: u16)
     requires number { number < 8 }
     requires levels { SidesWithin (2 ^ 64 - 1) (copied_sides sides.old) }
     ensures levels { SidesWithin (2 ^ 64 - 1) (copied_sides sides.new) }
-    ensures swapped { copied_sides sides.new ≡ (if bit_at choice number == 1 then swap_side_of number (copied_sides sides.old) else copied_sides sides.old) }
+    ensures swapped { copied_sides sides.new ≡ (if bit_at choice number == 1
+        then swap_side_of number (copied_sides sides.old)
+        else copied_sides sides.old) }
 {
     if (choice >> number) & 1 == 1 {
         swap_side(sides, number);

@@ -99,7 +99,8 @@ fn with_register(
     id: u32,
 ) -> Result<Kept, NoMemory>
     requires ready { IsReady checked.now.netlist book.old _pool.now patterns.now }
-    requires words { IsSetOf book.old (KeepsOthers checked.now.netlist (ids_pattern _pool.now _part) kept.registers) kept.words }
+    requires words { IsSetOf book.old
+        (KeepsOthers checked.now.netlist (ids_pattern _pool.now _part) kept.registers) kept.words }
     requires id { id < length checked.now.netlist.storages }
     ensures grows { Extends book.old book.new }
     ensures words { IfOk result (λ more.
@@ -127,9 +128,11 @@ pub(crate) fn can_keep(
 ) -> Result<bool, NoMemory>
     requires ready { IsReady _checked.now.netlist book.old _pool.now _patterns.now }
     requires ids { ArePatternIds _checked.now.netlist book.old _pool.now ids }
-    requires words { IsSetOf book.old (KeepsOthers _checked.now.netlist (ids_pattern _pool.now ids) kept.registers) kept.words }
+    requires words { IsSetOf book.old
+        (KeepsOthers _checked.now.netlist (ids_pattern _pool.now ids) kept.registers) kept.words }
     ensures grows { Extends book.old book.new }
-    ensures ok { IfOk result (λ ok. IsTrue ok ↔ CanKeep _checked.now.netlist (ids_pattern _pool.now ids) kept.registers) }
+    ensures ok { IfOk result (λ ok.
+        IsTrue ok ↔ CanKeep _checked.now.netlist (ids_pattern _pool.now ids) kept.registers) }
 {
     let ok = has_all(alloc, book, kept.words, ids.fields)?;
     Ok(ok)
@@ -167,12 +170,14 @@ fn joined(
 ) -> Result<Kept, NoMemory>
     requires ready { IsReady checked.now.netlist book.old pool.now patterns.now }
     requires ids { ArePatternIds checked.now.netlist book.old pool.now ids }
-    requires words { IsSetOf book.old (KeepsOthers checked.now.netlist (ids_pattern pool.now ids) kept.registers) kept.words }
+    requires words { IsSetOf book.old
+        (KeepsOthers checked.now.netlist (ids_pattern pool.now ids) kept.registers) kept.words }
     requires id { id < length checked.now.netlist.storages }
     ensures grows { Extends book.old book.new }
     ensures words { IfOk result (λ more.
         IsSetOf book.new (KeepsOthers checked.now.netlist (ids_pattern pool.now ids) more.registers) more.words) }
-    ensures joins { IfOk result (λ more. Joins checked.now.netlist (ids_pattern pool.now ids) id kept.registers more.registers) }
+    ensures joins { IfOk result (λ more.
+        Joins checked.now.netlist (ids_pattern pool.now ids) id kept.registers more.registers) }
 {
     if !is_register(checked, id) {
         return Ok(kept);
@@ -196,7 +201,8 @@ fn kept_registers(
     requires ids { ArePatternIds checked.now.netlist book.old pool.now ids }
     requires words { IsSetOf book.old (KeepsOthers checked.now.netlist (ids_pattern pool.now ids) 0) words }
     ensures grows { Extends book.old book.new }
-    ensures kept { IfOk result (AreKept checked.now.netlist (ids_pattern pool.now ids) (length checked.now.netlist.storages)) }
+    ensures kept { IfOk result (AreKept checked.now.netlist (ids_pattern pool.now ids)
+        (length checked.now.netlist.storages)) }
 {
     let count = checked.netlist().storages.len() as u32;
     let mut kept = Kept {

@@ -11,12 +11,14 @@ offset_of size [] = size
 offset_of size (t ∷ ts) = t.at
 
 -- the offset of the first token with which those before it begin no text any more
-pub record IsFaultAt {S K V : Type 0} (R : List (Lexed S K) → V → Type 0) (bytes : List ℕ) (ts : List (Lexed S K)) (offset : ℕ) : Type 0 where
+pub record IsFaultAt {S K V : Type 0} (R : List (Lexed S K) → V → Type 0) (bytes : List ℕ)
+    (ts : List (Lexed S K)) (offset : ℕ) : Type 0 where
   pub rest : List (Lexed S K)
   pub fault : IsFault R ts rest
   pub at : offset ≡ offset_of (length bytes) rest
 
 -- nothing is said where memory ran out
-abbrev pub IsParseFault : {S K V : Type 0} → (List (Lexed S K) → V → Type 0) → List ℕ → List (Lexed S K) → ParseFault → Type 0
+abbrev pub IsParseFault : {S K V : Type 0} → (List (Lexed S K) → V → Type 0) → List ℕ →
+    List (Lexed S K) → ParseFault → Type 0
 IsParseFault R bytes ts (Text offset) = IsFaultAt R bytes ts offset
 IsParseFault R bytes ts Memory = Unit {0}

@@ -17,7 +17,8 @@ pub record Token {T V : Type 0} (has : T → V → Type 0) (ts : List T) (v : V)
   pub is : has token v
 
 -- a text of A, and behind it a text of B, which may depend on the first text and its value
-pub record Bind {T V W : Type 0} (A : List T → V → Type 0) (B : List T → V → List T → W → Type 0) (ts : List T) (w : W) : Type 0 where
+pub record Bind {T V W : Type 0} (A : List T → V → Type 0) (B : List T → V → List T → W → Type 0)
+    (ts : List T) (w : W) : Type 0 where
   pub front : List T
   pub back : List T
   pub value : V
@@ -48,16 +49,19 @@ pub data Maybe {T V : Type 0} (X : List T → V → Type 0) (ts : List T) (v : O
 -- { X }, with what the values are added up to
 pub data Many {T V W : Type 0} (X : List T → V → Type 0) (last : W) (add : V → W → W) : List T → W → Type 0 where
   none : Many X last add [] last
-  some : {us : List T} {b : V} {zs : List T} {w : W} → X us b → Many X last add zs w → Many X last add (us ++ zs) (add b w)
+  some : {us : List T} {b : V} {zs : List T} {w : W} → X us b → Many X last add zs w →
+      Many X last add (us ++ zs) (add b w)
 
 -- { X }
 abbrev pub ListOf : {T V : Type 0} → (List T → V → Type 0) → List T → List V → Type 0
 ListOf X = Many X [] (λ v vs. v ∷ vs)
 
 -- { op X } behind a value, grouped to the left
-pub data Tail {T V O : Type 0} (X : List T → V → Type 0) (op : T → Option O) (join : V → O → V → V) : V → List T → V → Type 0 where
+pub data Tail {T V O : Type 0} (X : List T → V → Type 0) (op : T → Option O) (join : V → O → V → V)
+    : V → List T → V → Type 0 where
   done : {a : V} → Tail X op join a [] a
-  step : {a : V} {t : T} {o : O} {us : List T} {b : V} {zs : List T} {v : V} → op t ≡ Some o → X us b → Tail X op join (join a o b) zs v → Tail X op join a (t ∷ (us ++ zs)) v
+  step : {a : V} {t : T} {o : O} {us : List T} {b : V} {zs : List T} {v : V} → op t ≡ Some o →
+      X us b → Tail X op join (join a o b) zs v → Tail X op join a (t ∷ (us ++ zs)) v
 
 -- X { op X }
 abbrev pub Chain : {T V O : Type 0} → (List T → V → Type 0) → (T → Option O) → (V → O → V → V) → List T → V → Type 0
@@ -86,7 +90,8 @@ pub record Agrees {T : Type 0} (all front rest : List T) : Type 0 where
 -- v is read from the front of ts, and rest is left. No other text and no other value can be read
 -- there, whatever stands behind the first token of rest. The tokens that may go on behind a text of
 -- R are among more.
-pub record Reads {T V : Type 0} (R : List T → V → Type 0) (more : T → Bool) (ts : List T) (v : V) (rest : List T) : Type 0 where
+pub record Reads {T V : Type 0} (R : List T → V → Type 0) (more : T → Bool) (ts : List T) (v : V)
+    (rest : List T) : Type 0 where
   pub used : List T
   pub parts : ts ≡ used ++ rest
   pub is : R used v
@@ -108,13 +113,15 @@ pub record FailsAs {T V : Type 0} (R : List T → V → Type 0) (more : T → Bo
   pub fails : (left : ℕ) → stop ≡ At left → Fails R more ts left
 
 -- what a parser returned, seen by see as a value and what is left, is what is to be read in ts
-abbrev pub Gives : {T V X : Type 0} → (X → V × List T) → (List T → V → Type 0) → (T → Bool) → List T → Result X Stop → Type 0
+abbrev pub Gives : {T V X : Type 0} → (X → V × List T) → (List T → V → Type 0) → (T → Bool) →
+    List T → Result X Stop → Type 0
 Gives see R more ts (Ok x) = Reads R more ts (see x).0 (see x).1
 Gives see R more ts (Err stop) = FailsAs R more ts stop
 
 -- What R reads in ts tells what S reads in us, with what is made of the value; and where R fails
 -- there, S does here.
-pub record Leads {T V W : Type 0} (make : V → W) (R : List T → V → Type 0) (more : T → Bool) (ts : List T) (S : List T → W → Type 0) (more_s : T → Bool) (us : List T) : Type 0 where
+pub record Leads {T V W : Type 0} (make : V → W) (R : List T → V → Type 0) (more : T → Bool)
+    (ts : List T) (S : List T → W → Type 0) (more_s : T → Bool) (us : List T) : Type 0 where
   pub reads : (v : V) (rest : List T) → Reads R more ts v rest → Reads S more_s us (make v) rest
   pub fails : (left : ℕ) → Fails R more ts left → Fails S more_s us left
 

@@ -28,7 +28,10 @@ unfoldable pub label_of : List ℕ → Option (Option ℕ)
 label_of text = if bytes_eq text (codes "end") then Some None else (small text >>= λ n. Some (Some n))
 
 abbrev pub of_digits : ℕ → List ℕ → Result (List ℕ) FromHexError → Option ℕ
-of_digits bytes text (Ok word) = if bytes_eq (encode_lower word) text then Some (from_be_bytes w64 (take (8 - bytes) (0 ∷ 0 ∷ 0 ∷ 0 ∷ 0 ∷ 0 ∷ 0 ∷ 0 ∷ []) ++ word)) else None
+of_digits bytes text (Ok word) =
+    if bytes_eq (encode_lower word) text
+    then Some (from_be_bytes w64 (take (8 - bytes) (0 ∷ 0 ∷ 0 ∷ 0 ∷ 0 ∷ 0 ∷ 0 ∷ 0 ∷ []) ++ word))
+    else None
 of_digits bytes text (Err e) = None
 
 unfoldable pub word_in : ℕ → List ℕ → Option ℕ
@@ -50,10 +53,14 @@ unfoldable pub list_of : List ℕ → Option (List ℕ)
 list_of text = if bytes_eq text (codes "-") then Some [] else numbers_from 0 (fields_of 44 text)
 
 unfoldable pub place_parts : List ℕ → Option (List ℕ × (ℕ × ℕ))
-place_parts text = parts_at 32 text >>= λ name. pair_of name.1 >>= λ numbers. if is_name name.0 then Some (name.0, numbers) else None
+place_parts text =
+    parts_at 32 text >>= λ name. pair_of name.1 >>= λ numbers.
+    if is_name name.0 then Some (name.0, numbers) else None
 
 unfoldable pub place_item : List ℕ → Option Item
-place_item text = place_parts text >>= λ parts. Some (Variable (record { name = parts.0; address = parts.1.0; len = parts.1.1 }))
+place_item text =
+    place_parts text >>= λ parts.
+    Some (Variable (record { name = parts.0; address = parts.1.0; len = parts.1.1 }))
 
 unfoldable pub size_item : List ℕ → Option Item
 size_item text = pair_of text >>= λ pair. Some (Size pair.0 pair.1)
@@ -65,13 +72,19 @@ unfoldable pub tree_item : List ℕ → Option Item
 tree_item text = pair_of text >>= λ pair. Some (Tree pair)
 
 unfoldable pub mark_item : List ℕ → Option Item
-mark_item text = number_before 32 text >>= λ address. line_end address.1 >>= λ end. label_of end >>= λ label. Some (Label (record { address = address.0; label = label }))
+mark_item text =
+    number_before 32 text >>= λ address. line_end address.1 >>= λ end. label_of end >>= λ label.
+    Some (Label (record { address = address.0; label = label }))
 
 unfoldable pub word_parts : ℕ → List ℕ → Option (ℕ × ℕ × List ℕ)
-word_parts bytes text = number_before 32 text >>= λ address. parts_at 32 address.1 >>= λ digits. word_in bytes digits.0 >>= λ word. line_end digits.1 >>= λ list. Some (address.0, word, list)
+word_parts bytes text =
+    number_before 32 text >>= λ address. parts_at 32 address.1 >>= λ digits.
+    word_in bytes digits.0 >>= λ word. line_end digits.1 >>= λ list. Some (address.0, word, list)
 
 unfoldable pub word_item : ℕ → List ℕ → Option Item
-word_item bytes text = word_parts bytes text >>= λ parts. list_of parts.2 >>= λ patterns. Some (Code parts.0 (record { word = parts.1; patterns = patterns }))
+word_item bytes text =
+    word_parts bytes text >>= λ parts. list_of parts.2 >>= λ patterns.
+    Some (Code parts.0 (record { word = parts.1; patterns = patterns }))
 
 unfoldable pub said_by : ℕ → List ℕ → List ℕ → Option Item
 said_by bytes keyword text =

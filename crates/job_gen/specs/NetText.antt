@@ -27,7 +27,9 @@ register_rows k = concat (
 
 -- under which it takes something
 unfoldable pub register_numbers : ℕ → List ℕ
-register_numbers k = concat (operation k 1 ∷ codes ", " ∷ operation k 2 ∷ codes ", " ∷ operation k 3 ∷ codes ", " ∷ operation k 5 ∷ [])
+register_numbers k =
+    concat (operation k 1 ∷ codes ", " ∷ operation k 2 ∷ codes ", " ∷ operation k 3 ∷ codes ", "
+    ∷ operation k 5 ∷ [])
 
 -- the line of accumulator k
 unfoldable pub register_line : ℕ → List ℕ

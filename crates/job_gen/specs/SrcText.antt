@@ -17,7 +17,8 @@ sign x = if x / 8192 % 2 == 1 then codes "-" else codes "+"
 
 unfoldable pub statement_line : ℕ → List ℕ
 statement_line x = concat (
-    codes "v" ∷ decimal (x / 16 % 8) ∷ codes " = v" ∷ decimal (x / 128 % 8) ∷ codes " " ∷ sign x ∷ codes " v" ∷ decimal (x / 1024 % 8) ∷ codes ";\n" ∷ [])
+    codes "v" ∷ decimal (x / 16 % 8) ∷ codes " = v" ∷ decimal (x / 128 % 8) ∷ codes " " ∷ sign x
+    ∷ codes " v" ∷ decimal (x / 1024 % 8) ∷ codes ";\n" ∷ [])
 
 -- the statements 1 to n
 abbrev pub statements : ℕ → ℕ → List ℕ

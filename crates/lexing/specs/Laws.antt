@@ -73,7 +73,8 @@ pub record IsTokenOf (table : Lexicon) (bytes : List ℕ) (token : Token) : Type
 pub data IsSpacing : ℕ → List ℕ → Type 0 where
   nothing : (bytes : List ℕ) → IsSpacing 0 bytes
   blank : (n b : ℕ) (bs : List ℕ) → is_blank b ≡ true → IsSpacing n bs → IsSpacing (1 + n) (b ∷ bs)
-  comment : (m n : ℕ) (bytes : List ℕ) → starts_with nat_eq bytes (codes "//") ≡ true → IsRun is_comment_byte m bytes → IsSpacing n (drop m bytes) → IsSpacing (m + n) bytes
+  comment : (m n : ℕ) (bytes : List ℕ) → starts_with nat_eq bytes (codes "//") ≡ true →
+      IsRun is_comment_byte m bytes → IsSpacing n (drop m bytes) → IsSpacing (m + n) bytes
 
 -- from the place `from` on, each token behind the one before
 abbrev pub AreInOrder : ℕ → List Token → Type 0
@@ -84,7 +85,9 @@ AreInOrder from (token ∷ rest) = (from ≤ token.at) × AreInOrder (token.at +
 -- nothing is said of what stands behind a bad one.
 abbrev pub AreSpaced : List ℕ → ℕ → List Token → Type 0
 AreSpaced bytes from [] = IsSpacing (length bytes - from) (drop from bytes)
-AreSpaced bytes from (token ∷ rest) = IsSpacing (token.at - from) (drop from bytes) × (token.kind ≢ Bad → AreSpaced bytes (token.at + token.len) rest)
+AreSpaced bytes from (token ∷ rest) =
+    IsSpacing (token.at - from) (drop from bytes)
+    × (token.kind ≢ Bad → AreSpaced bytes (token.at + token.len) rest)
 
 -- none but the last is bad
 abbrev pub IsBadLast : List Token → Type 0

@@ -19,7 +19,9 @@ is_hexadecimal bytes = starts_with nat_eq bytes (codes "0x") && begins_with is_h
 -- The length of the number with which bytes begin: `0x` and the longest run of hexadecimal digits,
 -- or else the longest run of decimal digits. Of `0x` without a digit, that is 1.
 abbrev pub number_length : List ℕ → ℕ
-number_length bytes = if is_hexadecimal bytes then 2 + length (take_while is_hex_digit (drop 2 bytes)) else length (take_while is_digit bytes)
+number_length bytes =
+    if is_hexadecimal bytes then 2 + length (take_while is_hex_digit (drop 2 bytes))
+    else length (take_while is_digit bytes)
 
 -- the value of a number as it is written
 abbrev pub number_value : List ℕ → ℕ

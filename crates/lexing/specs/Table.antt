@@ -12,4 +12,6 @@ is_reserved table name = list_any (λ word. bytes_eq word name) table.reserved
 
 -- the greatest length of a sign with which bytes begin, 0 if they begin with none
 abbrev pub sign_length : Lexicon → List ℕ → ℕ
-sign_length table bytes = fold (λ longest sign. if starts_with nat_eq bytes sign then max longest (length sign) else longest) 0 table.signs
+sign_length table bytes =
+    fold (λ longest sign. if starts_with nat_eq bytes sign then max longest (length sign) else longest)
+    0 table.signs

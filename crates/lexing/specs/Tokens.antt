@@ -15,13 +15,17 @@ use Rattle.lexing.specs.Table.{Lexicon, is_reserved, sign_length}
 -- a run of letters and digits that begins with a letter: at most 32 bytes
 abbrev pub name_piece : Lexicon → List ℕ → Piece
 name_piece table name =
-    if nat_le (length name) 32 then (if is_reserved table name then Whole Reserved (length name) else Whole Name (length name)) else Wrong
+    if nat_le (length name) 32
+    then (if is_reserved table name then Whole Reserved (length name) else Whole Name (length name))
+    else Wrong
 
 -- bytes that begin with a digit: a number below 2^64 that no letter follows
 abbrev pub number_piece : List ℕ → Piece
 number_piece bytes =
     if begins_with is_letter (drop (number_length bytes) bytes) then Wrong else (
-    if nat_lt (number_value (take (number_length bytes) bytes)) (2 ^ 64) then Whole Number (number_length bytes) else Wrong)
+    if nat_lt (number_value (take (number_length bytes) bytes)) (2 ^ 64)
+    then Whole Number (number_length bytes)
+    else Wrong)
 
 -- the longest sign
 abbrev pub sign_piece : Lexicon → List ℕ → Piece

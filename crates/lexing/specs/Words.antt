@@ -25,8 +25,10 @@ word_of reserved sign Bad text = Other
 
 -- a token of a text, with the word that it is
 abbrev pub lexed_of : {S K : Type 0} → (List ℕ → Word S K) → (List ℕ → Word S K) → List ℕ → Token → Lexed S K
-lexed_of reserved sign bytes token = record { word = word_of reserved sign token.kind (token_bytes bytes token); at = token.at }
+lexed_of reserved sign bytes token =
+    record { word = word_of reserved sign token.kind (token_bytes bytes token); at = token.at }
 
 -- all tokens of a text
-abbrev pub lexed_all : {S K : Type 0} → (List ℕ → Word S K) → (List ℕ → Word S K) → List ℕ → List Token → List (Lexed S K)
+abbrev pub lexed_all : {S K : Type 0} → (List ℕ → Word S K) → (List ℕ → Word S K) → List ℕ →
+    List Token → List (Lexed S K)
 lexed_all reserved sign bytes tokens = map (lexed_of reserved sign bytes) tokens

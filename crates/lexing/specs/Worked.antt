@@ -29,7 +29,8 @@ longest_sign = refl
 no_sign : sign_length shifts (codes "=>") ≡ 0
 no_sign = refl
 
-worked_tokens : tokens_of shifts (codes "if iff>=12 // 9_") ≡ a_token Reserved 0 2 ∷ a_token Name 3 3 ∷ a_token Sign 6 2 ∷ a_token Number 8 2 ∷ []
+worked_tokens : tokens_of shifts (codes "if iff>=12 // 9_")
+    ≡ a_token Reserved 0 2 ∷ a_token Name 3 3 ∷ a_token Sign 6 2 ∷ a_token Number 8 2 ∷ []
 unfolding tokens_from piece
 worked_tokens = refl
 

@@ -22,4 +22,6 @@ pub record IsListed (netlist : Netlist) (pool : List Node) (table : Table) : Typ
 
 -- so it is for a table over any book
 abbrev pub TablesAreListed : Type 0
-TablesAreListed = (netlist : Netlist) (book : Diagrams) (pool : List Node) (table : Table) → IsReady netlist book pool table → IsListed netlist pool table
+TablesAreListed =
+    (netlist : Netlist) (book : Diagrams) (pool : List Node) (table : Table) →
+    IsReady netlist book pool table → IsListed netlist pool table

@@ -11,11 +11,15 @@ use Rattle.live_sets.specs.declared.locations.Location.TheVariants.{Register, Ce
 -- for each of the first ids of a pool the registers below 16 that its expression reads, under any
 -- setting
 abbrev pub AreReads : List Node → List ℕ → Type 0
-AreReads pool sets = (id setting r : ℕ) → id < length sets → r < 16 → regs_of (slice_index sets id) r ≡ term_reads setting (term_at pool id) (register r)
+AreReads pool sets =
+    (id setting r : ℕ) → id < length sets → r < 16 →
+    regs_of (slice_index sets id) r ≡ term_reads setting (term_at pool id) (register r)
 
 -- for each of the first ids of a pool whether its expression may see a write at a location
 abbrev pub AreSeen : List Node → ℕ → Location → List Bool → Type 0
-AreSeen pool setting location flags = (id : ℕ) → id < length flags → slice_index_or flags id false ≡ term_reads setting (term_at pool id) location
+AreSeen pool setting location flags =
+    (id : ℕ) → id < length flags →
+    slice_index_or flags id false ≡ term_reads setting (term_at pool id) location
 
 -- a location as the code tells it
 abbrev pub read_location : CodeLocation → Location

@@ -65,7 +65,8 @@ pub fn live_with(
     requires listed { IsListed checked.now.netlist pool.now patterns.now }
     requires long { length sets.now ≡ length pool.now }
     requires reads { AreReads pool.now sets.now }
-    ensures { IfOk result (λ lives. map regs_of lives ≡ lives_of (step_operation pool.now patterns.now) groups.now (regs_of after)) }
+    ensures { IfOk result (λ lives. map regs_of lives
+        ≡ lives_of (step_operation pool.now patterns.now) groups.now (regs_of after)) }
 {
     let mut lives = blank(alloc, groups)?;
     let mut live = after;
@@ -99,7 +100,8 @@ pub fn live(
     after: RegSet,
 ) -> Result<Items<RegSet>, NoMemory>
     requires { IsListed checked.now.netlist pool.now patterns.now }
-    ensures { IfOk result (λ lives. map regs_of lives ≡ lives_of (step_operation pool.now patterns.now) groups.now (regs_of after)) }
+    ensures { IfOk result (λ lives. map regs_of lives
+        ≡ lives_of (step_operation pool.now patterns.now) groups.now (regs_of after)) }
 {
     let sets = reads_table(alloc, pool)?;
     live_with(

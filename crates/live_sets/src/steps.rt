@@ -35,7 +35,8 @@ fn step_reads(patterns: &Patterns, _pool: &Pool, sets: &[RegSet], step: Step) ->
 
 // The register that a step writes.
 fn step_writes(patterns: &Patterns, step: Step) -> RegSet
-    ensures { (pool : List Node) (r : ℕ) → r < 16 → regs_of result r ≡ writes (step_operation pool patterns.now step) r }
+    ensures { (pool : List Node) (r : ℕ) → r < 16 →
+        regs_of result r ≡ writes (step_operation pool patterns.now step) r }
 {
     match written_by(patterns, step) {
         Written::Register(register) => one(register),
@@ -61,7 +62,8 @@ pub(crate) fn reads_of(patterns: &Patterns, pool: &Pool, sets: &[RegSet], group:
 
 // The registers that a group writes.
 pub(crate) fn writes_of(patterns: &Patterns, group: &[Step]) -> RegSet
-    ensures { (pool : List Node) (r : ℕ) → r < 16 → regs_of result r ≡ group_writes (step_operation pool patterns.now) group.now r }
+    ensures { (pool : List Node) (r : ℕ) → r < 16 →
+        regs_of result r ≡ group_writes (step_operation pool patterns.now) group.now r }
 {
     match group {
         [] => none(),
@@ -93,7 +95,8 @@ fn sees(
     location: Location,
 ) -> Result<bool, NoMemory>
     requires { All (HasRowIds pool.now) patterns.now.rows }
-    ensures { IfOk result (λ seen. seen ≡ reads (step_operation pool.now patterns.now reader) (read_location location)) }
+    ensures { IfOk result (λ seen.
+        seen ≡ reads (step_operation pool.now patterns.now reader) (read_location location)) }
 {
     let flags = seen_table(alloc, pool, reader.setting, location)?;
     match patterns.expr_of(reader.pattern) {
@@ -120,8 +123,9 @@ pub fn touches(
     requires listed { IsListed checked.now.netlist pool.now patterns.now }
     requires long { length sets.now ≡ length pool.now }
     requires reads { AreReads pool.now sets.now }
-    ensures { IfOk result (λ read.
-        read ≡ reads (step_operation pool.now patterns.now reader) (location_of (step_operation pool.now patterns.now writer))) }
+    ensures { IfOk result (λ read. read
+        ≡ reads (step_operation pool.now patterns.now reader)
+        (location_of (step_operation pool.now patterns.now writer))) }
 {
     let _netlist = checked.netlist();
     match location_of_step(patterns, pool, writer) {

@@ -104,7 +104,8 @@ fn complete(graph: &[Items<u32>], search: &mut Search, index: usize, told: bool)
 // component is complete.
 fn leave(graph: &[Items<u32>], search: &mut Search, top: u32, index: usize) -> Result<(), NoMemory>
     requires kept { IsSearch graph.now search.old.marks search.old.met search.old.starts (search.old.path ++ top ∷ []) }
-    requires here { (place : ℕ) × (mark_at search.old.marks top ≡ Mark.Met index place) × (length (named_in graph.now top) ≤ place) }
+    requires here { (place : ℕ) × (mark_at search.old.marks top ≡ Mark.Met index place)
+        × (length (named_in graph.now top) ≤ place) }
     ensures { OnOk result (GoesOn graph.now (search.old.path ++ top ∷ []) search.old search.new) }
 {
     match search.starts.pop() {

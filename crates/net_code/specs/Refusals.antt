@@ -76,7 +76,8 @@ IsFormless netlist _ = ⊥
 abbrev pub IsKindsFault : List Form → CodeFault → Type 0
 IsKindsFault list NoStep = list_all (λ (form : Form). is_control_goal (kind_of form.goal)) list ≡ true
 IsKindsFault list NoJump =
-    (list_all (λ (form : Form). is_control_goal (kind_of form.goal)) list ≡ false) × (list_all (λ (form : Form). is_no_jump (kind_of form.goal)) list ≡ true)
+    (list_all (λ (form : Form). is_control_goal (kind_of form.goal)) list ≡ false)
+    × (list_all (λ (form : Form). is_no_jump (kind_of form.goal)) list ≡ true)
 IsKindsFault list _ = ⊥
 
 -- ---- when each refusal comes; nothing is said where memory ran out

@@ -56,10 +56,12 @@ fn packed(
     after: RegSet,
 ) -> Result<PackedBlock, NoMemory>
     requires ready { IsReady (machine_netlist machine.now) book.old machine.now.pool.now machine.now.patterns.now }
-    requires words { HaveWords (machine_netlist machine.now) machine.now.pool.now machine.now.patterns.now (singles steps.now) (regs_of after) }
+    requires words { HaveWords (machine_netlist machine.now) machine.now.pool.now
+        machine.now.patterns.now (singles steps.now) (regs_of after) }
     ensures grows { Extends book.old book.new }
     ensures ready { IsReady (machine_netlist machine.now) book.new machine.now.pool.now machine.now.patterns.now }
-    ensures packed { IfOk result (IsPackedBlock (machine_netlist machine.now) (machine_patterns machine.now) steps.now (regs_of after)) }
+    ensures packed { IfOk result (IsPackedBlock (machine_netlist machine.now)
+        (machine_patterns machine.now) steps.now (regs_of after)) }
     ensures once { IfOk result IsOnce }
 {
     let groups = pack(
@@ -98,8 +100,11 @@ fn run_block(
     requires within { at + count ≤ length program.now.flow.now }
     ensures grows { Extends book.old book.new }
     ensures ready { IsReady (machine_netlist machine.now) book.new machine.now.pool.now machine.now.patterns.now }
-    ensures packed { IfOk result (IsPackedBlock (machine_netlist machine.now) (machine_patterns machine.now)
-        (jobs_steps (stock_of program.now) (jobs_at program.now.flow.now (works_in program.now) at count) (choices_at program.now.flow.now (choices_in program.now) at count)) no_regs) }
+    ensures packed { IfOk result (IsPackedBlock (machine_netlist machine.now)
+        (machine_patterns machine.now)
+        (jobs_steps (stock_of program.now)
+        (jobs_at program.now.flow.now (works_in program.now) at count)
+        (choices_at program.now.flow.now (choices_in program.now) at count)) no_regs) }
     ensures once { IfOk result IsOnce }
 {
     let steps = block_steps(alloc, program, at, count)?;
@@ -131,8 +136,9 @@ fn test_block(
     requires job { IsTestJob program.now (work_of job.now) (choice_of chosen.now) }
     ensures grows { Extends book.old book.new }
     ensures ready { IsReady (machine_netlist machine.now) book.new machine.now.pool.now machine.now.patterns.now }
-    ensures code { IfOk result (λ made.
-        IsTestCode (machine_netlist machine.now) (machine_patterns machine.now) (stock_of program.now) (work_of job.now) (choice_of chosen.now) made.0 (chosen.now.cover.form, made.1)) }
+    ensures code { IfOk result (λ made. IsTestCode (machine_netlist machine.now)
+        (machine_patterns machine.now) (stock_of program.now) (work_of job.now)
+        (choice_of chosen.now) made.0 (chosen.now.cover.form, made.1)) }
     ensures once { IfOk result (λ made. IsOnce made.0) }
 {
     let emitted = emit(
@@ -165,11 +171,16 @@ fn push_run(
     requires assigns { is_assign (slice_get program.now.flow.now at) ≡ true }
     requires entered { entered.now ≡ marked program.now.flow.now (replicate (length program.now.flow.now) false) }
     requires once { AllByRecursion IsOnce code.old.blocks.items }
-    requires code { IsBlockCode (machine_netlist machine.now) (machine_patterns machine.now) (stock_of program.now) program.now.flow.now (works_in program.now) (choices_in program.now) at code.old.blocks.items code.old.branches.items }
+    requires code { IsBlockCode (machine_netlist machine.now) (machine_patterns machine.now)
+        (stock_of program.now) program.now.flow.now (works_in program.now) (choices_in program.now)
+        at code.old.blocks.items code.old.branches.items }
     ensures grows { Extends book.old book.new }
     ensures ready { IsReady (machine_netlist machine.now) book.new machine.now.pool.now machine.now.patterns.now }
     ensures once { OnOk result (AllByRecursion IsOnce code.new.blocks.items) }
-    ensures code { OnOk result (IsBlockCode (machine_netlist machine.now) (machine_patterns machine.now) (stock_of program.now) program.now.flow.now (works_in program.now) (choices_in program.now) (at + 1) code.new.blocks.items code.new.branches.items) }
+    ensures code { OnOk result (IsBlockCode (machine_netlist machine.now)
+        (machine_patterns machine.now) (stock_of program.now) program.now.flow.now
+        (works_in program.now) (choices_in program.now) (at + 1) code.new.blocks.items
+        code.new.branches.items) }
 {
     let count = block_length(program.flow, entered, at);
     let block = run_block(alloc, machine, book, program, at, count)?;
@@ -190,12 +201,17 @@ fn push_test(
     requires ready { IsReady (machine_netlist machine.now) book.old machine.now.pool.now machine.now.patterns.now }
     requires covering { IsCovered machine.now program.now }
     requires once { AllByRecursion IsOnce code.old.blocks.items }
-    requires code { IsBlockCode (machine_netlist machine.now) (machine_patterns machine.now) (stock_of program.now) program.now.flow.now (works_in program.now) (choices_in program.now) at code.old.blocks.items code.old.branches.items }
+    requires code { IsBlockCode (machine_netlist machine.now) (machine_patterns machine.now)
+        (stock_of program.now) program.now.flow.now (works_in program.now) (choices_in program.now)
+        at code.old.blocks.items code.old.branches.items }
     requires place { IsTestAt program.now at tree }
     ensures grows { Extends book.old book.new }
     ensures ready { IsReady (machine_netlist machine.now) book.new machine.now.pool.now machine.now.patterns.now }
     ensures once { OnOk result (AllByRecursion IsOnce code.new.blocks.items) }
-    ensures code { OnOk result (IsBlockCode (machine_netlist machine.now) (machine_patterns machine.now) (stock_of program.now) program.now.flow.now (works_in program.now) (choices_in program.now) (at + 1) code.new.blocks.items code.new.branches.items) }
+    ensures code { OnOk result (IsBlockCode (machine_netlist machine.now)
+        (machine_patterns machine.now) (stock_of program.now) program.now.flow.now
+        (works_in program.now) (choices_in program.now) (at + 1) code.new.blocks.items
+        code.new.branches.items) }
 {
     let job = &program.jobs[tree as usize];
     let chosen = &program.covers[tree as usize];
@@ -220,11 +236,16 @@ fn push_code(
     requires within { at < length program.now.flow.now }
     requires entered { entered.now ≡ marked program.now.flow.now (replicate (length program.now.flow.now) false) }
     requires once { AllByRecursion IsOnce code.old.blocks.items }
-    requires code { IsBlockCode (machine_netlist machine.now) (machine_patterns machine.now) (stock_of program.now) program.now.flow.now (works_in program.now) (choices_in program.now) at code.old.blocks.items code.old.branches.items }
+    requires code { IsBlockCode (machine_netlist machine.now) (machine_patterns machine.now)
+        (stock_of program.now) program.now.flow.now (works_in program.now) (choices_in program.now)
+        at code.old.blocks.items code.old.branches.items }
     ensures grows { Extends book.old book.new }
     ensures ready { IsReady (machine_netlist machine.now) book.new machine.now.pool.now machine.now.patterns.now }
     ensures once { OnOk result (AllByRecursion IsOnce code.new.blocks.items) }
-    ensures code { OnOk result (IsBlockCode (machine_netlist machine.now) (machine_patterns machine.now) (stock_of program.now) program.now.flow.now (works_in program.now) (choices_in program.now) (at + 1) code.new.blocks.items code.new.branches.items) }
+    ensures code { OnOk result (IsBlockCode (machine_netlist machine.now)
+        (machine_patterns machine.now) (stock_of program.now) program.now.flow.now
+        (works_in program.now) (choices_in program.now) (at + 1) code.new.blocks.items
+        code.new.branches.items) }
 {
     match program.flow[at] {
         Flow::Assign(_) => {
@@ -254,8 +275,10 @@ pub(crate) fn block_code(
     ensures grows { Extends book.old book.new }
     ensures ready { IsReady (machine_netlist machine.now) book.new machine.now.pool.now machine.now.patterns.now }
     ensures once { IfOk result (λ code. AllByRecursion IsOnce code.blocks.items) }
-    ensures code { IfOk result (λ code.
-        IsBlockCode (machine_netlist machine.now) (machine_patterns machine.now) (stock_of program.now) program.now.flow.now (works_in program.now) (choices_in program.now) (length program.now.flow.now) code.blocks.items code.branches.items) }
+    ensures code { IfOk result (λ code. IsBlockCode (machine_netlist machine.now)
+        (machine_patterns machine.now) (stock_of program.now) program.now.flow.now
+        (works_in program.now) (choices_in program.now) (length program.now.flow.now)
+        code.blocks.items code.branches.items) }
 {
     let entered = entered(alloc, program.flow)?;
     let mut code = BlockCode {

@@ -24,8 +24,8 @@ fn cover_one(
     temps: u32,
     number: u32,
 ) -> Result<JobCover, CodeFault>
-    ensures chosen { IfOk result (λ c.
-        IsChosen (stock_with forms.now.list.items temps) (work_of job.now).destination (work_of job.now).trees (choice_of c)) }
+    ensures chosen { IfOk result (λ c. IsChosen (stock_with forms.now.list.items temps)
+        (work_of job.now).destination (work_of job.now).trees (choice_of c)) }
     ensures cost { IfOk result (λ c. c.cost ≡ job_cost (work_of job.now).destination (choice_of c).plan) }
     ensures refused { IfErr result (IsOneBare (stock_with forms.now.list.items temps) (work_of job.now) number) }
 {

@@ -47,7 +47,8 @@ fn no_jumps(list: &[Form]) -> bool
 
 // Whether there is a form that is no jump and no branch, and a jump.
 fn check_kinds(list: &[Form]) -> Result<(), CodeFault>
-    ensures steps { IfOk result (λ _. list_all (λ (form : TheForm). is_control_goal (kind_of form.goal)) list.now ≡ false) }
+    ensures steps { IfOk result (λ _.
+        list_all (λ (form : TheForm). is_control_goal (kind_of form.goal)) list.now ≡ false) }
     ensures jumps { IfOk result (λ _. list_all (λ (form : TheForm). is_no_jump (kind_of form.goal)) list.now ≡ false) }
     ensures refused { IfErr result (IsKindsFault list.now) }
 {
@@ -72,8 +73,8 @@ pub(crate) fn usable_forms(
     requires patterns { ArePatterns checked.now.netlist (row_patterns pool.now patterns.now.rows) }
     ensures grows { Extends book.old book.new }
     ensures ready { IsReady checked.now.netlist book.new pool.now patterns.now }
-    ensures forms { IfOk result (λ forms.
-        AreForms checked.now.netlist (row_patterns pool.now patterns.now.rows) (rules_of forms.list.items) forms.reach) }
+    ensures forms { IfOk result (λ forms. AreForms checked.now.netlist
+        (row_patterns pool.now patterns.now.rows) (rules_of forms.list.items) forms.reach) }
     ensures steps { IfOk result (λ _. ¬ IsStepless checked.now.netlist) }
     ensures jumps { IfOk result (λ _. ¬ IsJumpless checked.now.netlist) }
     ensures refused { IfErr result (IsFormless checked.now.netlist) }

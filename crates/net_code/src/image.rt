@@ -62,7 +62,8 @@ fn laid(
 ) -> Result<Laid, NoMemory>
     requires within { sum_of sizes.now + control_words program.now.flow.now ≤ bound }
     requires reach { bound ≤ program.now.forms.now.reach }
-    ensures { IfOk result (IsLaid (outline program.now.flow.now sizes.now branches.now program.now.forms.now 18446744073709551615 bound)) }
+    ensures { IfOk result (IsLaid (outline program.now.flow.now sizes.now branches.now
+        program.now.forms.now 18446744073709551615 bound)) }
 {
     // How long the code may be is asked of the image, so there is room here for every length.
     match lay_out(

@@ -33,7 +33,8 @@ fn push_job(
     steps: &mut Items<Step>,
 ) -> Result<(), NoMemory>
     ensures { OnOk result (steps.new ≡ steps.old
-        ++ jobs_steps (stock_of program.now) (job_list (slice_get (works_in program.now) tree)) (choices_of (slice_get (choices_in program.now) tree))) }
+        ++ jobs_steps (stock_of program.now) (job_list (slice_get (works_in program.now) tree))
+        (choices_of (slice_get (choices_in program.now) tree))) }
 {
     let Some(job) = program.jobs.get(tree as usize) else {
         return Ok(());
@@ -62,7 +63,9 @@ fn push_place(
     steps: &mut Items<Step>,
 ) -> Result<(), NoMemory>
     ensures { OnOk result (steps.new ≡ steps.old
-        ++ jobs_steps (stock_of program.now) (job_at (works_in program.now) (slice_get program.now.flow.now at)) (choice_at (choices_in program.now) (slice_get program.now.flow.now at))) }
+        ++ jobs_steps (stock_of program.now)
+        (job_at (works_in program.now) (slice_get program.now.flow.now at))
+        (choice_at (choices_in program.now) (slice_get program.now.flow.now at))) }
 {
     let Some(place) = program.flow.get(at) else {
         return Ok(());
@@ -83,7 +86,9 @@ pub(crate) fn block_steps(
     requires within { at + count ≤ length program.now.flow.now }
     requires even { length (choices_in program.now) ≡ length (works_in program.now) }
     ensures { IfOk result (λ steps. steps
-        ≡ jobs_steps (stock_of program.now) (jobs_at program.now.flow.now (works_in program.now) at count) (choices_at program.now.flow.now (choices_in program.now) at count)) }
+        ≡ jobs_steps (stock_of program.now)
+        (jobs_at program.now.flow.now (works_in program.now) at count)
+        (choices_at program.now.flow.now (choices_in program.now) at count)) }
 {
     let mut steps = Items::new(alloc);
     for k in 0..count {

@@ -28,7 +28,8 @@ fn word_of_jump(
     step: Step,
 ) -> Result<u64, NoMemory>
     requires ready { IsReady (machine_netlist machine.now) book.old machine.now.pool.now machine.now.patterns.now }
-    requires word { (w : ℕ) × FitsJump (machine_netlist machine.now) w (operation_of (machine_patterns machine.now) step) }
+    requires word { (w : ℕ)
+        × FitsJump (machine_netlist machine.now) w (operation_of (machine_patterns machine.now) step) }
     ensures grows { Extends book.old book.new }
     ensures ready { IsReady (machine_netlist machine.now) book.new machine.now.pool.now machine.now.patterns.now }
     ensures least { IfOk result (IsLeastFit (λ word.
@@ -116,7 +117,8 @@ pub(crate) fn words_of_items(
     requires once { AllByRecursion IsOnce blocks.now }
     ensures grows { Extends book.old book.new }
     ensures ready { IsReady (machine_netlist machine.now) book.new machine.now.pool.now machine.now.patterns.now }
-    ensures words { IfOk result (AreItemWords (machine_netlist machine.now) (machine_patterns machine.now) blocks.now items.now) }
+    ensures words { IfOk result (AreItemWords (machine_netlist machine.now)
+        (machine_patterns machine.now) blocks.now items.now) }
 {
     let mut words = Items::new(alloc);
     for item in items {

@@ -39,7 +39,8 @@ fn netlist(alloc: Global, net: &[u8]) -> Result<(Checked, Extracted), CompileFau
     requires { length net.now < 2 ^ 32 }
     ensures found { IfOk result (λ both. IsRoutedNet net.now both.0) }
     ensures extracted { IfOk result (λ both. IsExtractedFrom both.0.netlist both.1) }
-    ensures patterns { IfOk result (λ both. ArePatterns both.0.netlist (row_patterns both.1.pool both.1.patterns.rows)) }
+    ensures patterns { IfOk result (λ both.
+        ArePatterns both.0.netlist (row_patterns both.1.pool both.1.patterns.rows)) }
     ensures refused { IfErr result (IsNetFault net.now) }
 {
     let both = read_extracted(alloc, net)?;

@@ -132,9 +132,14 @@ fn emit_case(
     rows: &[(Vec<u64>, NetExpr)],
     other: &Option<Box<NetExpr>>,
 ) -> Result<Spot, NoMemory>
-    requires widths { IsSome (wide (scope_at (site_of site.now)) (case (phrase_of selector.now) (rows_of (map row_of rows.now)) (rest_of (other_of other.now)))) }
-    requires room { length nets.old + count (case (phrase_of selector.now) (rows_of (map row_of rows.now)) (rest_of (other_of other.now))) < 2 ^ 32 }
-    ensures { IfOk result (Emitted (site_of site.now) at (case (phrase_of selector.now) (rows_of (map row_of rows.now)) (rest_of (other_of other.now))) nets.old nets.new) }
+    requires widths { IsSome (wide (scope_at (site_of site.now)) (case (phrase_of selector.now)
+        (rows_of (map row_of rows.now)) (rest_of (other_of other.now)))) }
+    requires room { length nets.old
+        + count (case (phrase_of selector.now) (rows_of (map row_of rows.now)) (rest_of (other_of other.now)))
+        < 2 ^ 32 }
+    ensures { IfOk result (Emitted (site_of site.now) at
+        (case (phrase_of selector.now) (rows_of (map row_of rows.now)) (rest_of (other_of other.now)))
+        nets.old nets.new) }
 {
     let selector = emit(alloc, site, nets, at, selector)?;
     let pairs = emit_rows(alloc, site, nets, at, rows)?;
@@ -230,7 +235,8 @@ pub fn emit_if(
 ) -> Result<Option<u32>, NoMemory>
     requires widths { IsWideIf (scope_at (site_of site.now)) (option_map phrase_of (option_copied e)) }
     requires room { length nets.old + count_if (option_map phrase_of (option_copied e)) < 2 ^ 32 }
-    ensures { IfOk result (EmittedIf (site_of site.now) at (option_map phrase_of (option_copied e.entry)) nets.old nets.new) }
+    ensures { IfOk result (EmittedIf (site_of site.now) at
+        (option_map phrase_of (option_copied e.entry)) nets.old nets.new) }
 {
     match e {
         None => Ok(None),

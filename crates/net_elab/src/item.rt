@@ -33,7 +33,8 @@ fn emit_code(
 ) -> Result<(), NoMemory>
     requires keeps { ItemKeeps (map entry_of text.now) (code name.now bits size counter.now) }
     requires room { HasRoom (map entry_of text.now) (code name.now bits size counter.now) netlist.old }
-    ensures { OnOk result (ItemDone (map entry_of text.now) (code name.now bits size counter.now) netlist.old netlist.new) }
+    ensures { OnOk result (ItemDone (map entry_of text.now) (code name.now bits size counter.now)
+        netlist.old netlist.new) }
 {
     let gate = Gate::Word(netlist.codes.len() as u32);
     push_net(&mut netlist.nets, name.at, bits as u8, gate)?;
@@ -55,9 +56,12 @@ fn emit_register(
     input: &NetExpr,
     when: &Option<NetExpr>,
 ) -> Result<(), NoMemory>
-    requires keeps { ItemKeeps (map entry_of text.now) (register name.now width (phrase_of input.now) (when_of when.now)) }
-    requires room { HasRoom (map entry_of text.now) (register name.now width (phrase_of input.now) (when_of when.now)) netlist.old }
-    ensures { OnOk result (ItemDone (map entry_of text.now) (register name.now width (phrase_of input.now) (when_of when.now)) netlist.old netlist.new) }
+    requires keeps { ItemKeeps (map entry_of text.now)
+        (register name.now width (phrase_of input.now) (when_of when.now)) }
+    requires room { HasRoom (map entry_of text.now)
+        (register name.now width (phrase_of input.now) (when_of when.now)) netlist.old }
+    ensures { OnOk result (ItemDone (map entry_of text.now)
+        (register name.now width (phrase_of input.now) (when_of when.now)) netlist.old netlist.new) }
 {
     let site = Site::Top(text);
     let input = emit(alloc, &site, &mut netlist.nets, name.at, input)?;
@@ -97,12 +101,15 @@ fn emit_memory(
     shape: Shape,
     write: &Write,
 ) -> Result<(), NoMemory>
-    requires keeps { ItemKeeps (map entry_of text.now)
-        (memory name.now shape.width shape.size shape.addr_width (phrase_of write.now.value.now) (phrase_of write.now.addr.now) (when_of write.now.when.now)) }
+    requires keeps { ItemKeeps (map entry_of text.now) (memory name.now shape.width shape.size
+        shape.addr_width (phrase_of write.now.value.now) (phrase_of write.now.addr.now)
+        (when_of write.now.when.now)) }
     requires room { HasRoom (map entry_of text.now)
-        (memory name.now shape.width shape.size shape.addr_width (phrase_of write.now.value.now) (phrase_of write.now.addr.now) (when_of write.now.when.now)) netlist.old }
+        (memory name.now shape.width shape.size shape.addr_width (phrase_of write.now.value.now)
+        (phrase_of write.now.addr.now) (when_of write.now.when.now)) netlist.old }
     ensures { OnOk result (ItemDone (map entry_of text.now)
-        (memory name.now shape.width shape.size shape.addr_width (phrase_of write.now.value.now) (phrase_of write.now.addr.now) (when_of write.now.when.now)) netlist.old netlist.new) }
+        (memory name.now shape.width shape.size shape.addr_width (phrase_of write.now.value.now)
+        (phrase_of write.now.addr.now) (when_of write.now.when.now)) netlist.old netlist.new) }
 {
     let site = Site::Top(text);
     let nets = &mut netlist.nets;
@@ -131,7 +138,8 @@ fn emit_net(
 ) -> Result<(), NoMemory>
     requires keeps { ItemKeeps (map entry_of text.now) (net name.now width (phrase_of value.now)) }
     requires room { HasRoom (map entry_of text.now) (net name.now width (phrase_of value.now)) netlist.old }
-    ensures { OnOk result (ItemDone (map entry_of text.now) (net name.now width (phrase_of value.now)) netlist.old netlist.new) }
+    ensures { OnOk result (ItemDone (map entry_of text.now)
+        (net name.now width (phrase_of value.now)) netlist.old netlist.new) }
 {
     let nets = &mut netlist.nets;
     let value = emit(alloc, &Site::Top(text), nets, name.at, value)?;
@@ -171,7 +179,8 @@ fn emit_bus(
 ) -> Result<(), NoMemory>
     requires keeps { ItemKeeps (map entry_of text.now) (bus name.now width (map driver_of drivers.now)) }
     requires room { HasRoom (map entry_of text.now) (bus name.now width (map driver_of drivers.now)) netlist.old }
-    ensures { OnOk result (ItemDone (map entry_of text.now) (bus name.now width (map driver_of drivers.now)) netlist.old netlist.new) }
+    ensures { OnOk result (ItemDone (map entry_of text.now)
+        (bus name.now width (map driver_of drivers.now)) netlist.old netlist.new) }
 {
     let site = Site::Top(text);
     let pairs = emit_drivers(alloc, &site, &mut netlist.nets, name.at, drivers)?;
@@ -190,7 +199,8 @@ fn emit_instance(
 ) -> Result<(), NoMemory>
     requires keeps { ItemKeeps (map entry_of text.now) (part name.now of.now (map binding_of links.now)) }
     requires room { HasRoom (map entry_of text.now) (part name.now of.now (map binding_of links.now)) netlist.old }
-    ensures { OnOk result (ItemDone (map entry_of text.now) (part name.now of.now (map binding_of links.now)) netlist.old netlist.new) }
+    ensures { OnOk result (ItemDone (map entry_of text.now)
+        (part name.now of.now (map binding_of links.now)) netlist.old netlist.new) }
 {
     let ports = text.declared().ports(&of.name);
     let equations = text.declared().equations(&of.name);

@@ -31,7 +31,8 @@ fn emit_input(
     requires narrow { PortKeeps port.now }
     requires fed { PortFed false (scope_at (site_of site.now)) (map binding_of links.now) port.now }
     requires room { length nets.old + count_input (map binding_of links.now) port.now < 2 ^ 32 }
-    ensures { OnOk result (Grown (input_nets (site_of site.now) at (length nets.old) (map binding_of links.now) port.now)
+    ensures { OnOk result (Grown
+        (input_nets (site_of site.now) at (length nets.old) (map binding_of links.now) port.now)
         (count_input (map binding_of links.now) port.now) nets.old nets.new) }
 {
     if port.output {
@@ -55,7 +56,8 @@ fn emit_inputs(
     requires narrow { AllByRecursion PortKeeps ports.now }
     requires fed { AllByRecursion (PortFed false (scope_at (site_of site.now)) (map binding_of links.now)) ports.now }
     requires room { length nets.old + count_inputs (map binding_of links.now) ports.now < 2 ^ 32 }
-    ensures { OnOk result (Grown (inputs_nets (site_of site.now) at (length nets.old) (map binding_of links.now) ports.now)
+    ensures { OnOk result (Grown
+        (inputs_nets (site_of site.now) at (length nets.old) (map binding_of links.now) ports.now)
         (count_inputs (map binding_of links.now) ports.now) nets.old nets.new) }
 {
     for port in ports {
@@ -139,7 +141,8 @@ fn emit_outputs(
     ports: &[Port],
 ) -> Result<(), NoMemory>
     requires narrow { AllByRecursion PortKeeps ports.now }
-    requires fed { AllByRecursion (PortFed true (scope_at (site_of site.now)) (map binding_of equations.now)) ports.now }
+    requires fed { AllByRecursion
+        (PortFed true (scope_at (site_of site.now)) (map binding_of equations.now)) ports.now }
     requires room { length nets.old + count_outputs ports.now < 2 ^ 32 }
     requires behind { start + count_equations (map binding_of equations.now) ports.now < 2 ^ 32 }
     ensures { OnOk result (Grown (output_wires (site_of site.now) at start (map binding_of equations.now) ports.now)
@@ -164,7 +167,8 @@ fn emit_equation(
 ) -> Result<(), NoMemory>
     requires fed { PortFed true (scope_at (site_of site.now)) (map binding_of equations.now) port.now }
     requires room { length nets.old + count_equation (map binding_of equations.now) port.now < 2 ^ 32 }
-    ensures { OnOk result (Grown (equation_nets (site_of site.now) at (length nets.old) (map binding_of equations.now) port.now)
+    ensures { OnOk result (Grown
+        (equation_nets (site_of site.now) at (length nets.old) (map binding_of equations.now) port.now)
         (count_equation (map binding_of equations.now) port.now) nets.old nets.new) }
 {
     if port.output {
@@ -182,9 +186,11 @@ fn emit_equations(
     equations: &[(Ident, NetExpr)],
     ports: &[Port],
 ) -> Result<(), NoMemory>
-    requires fed { AllByRecursion (PortFed true (scope_at (site_of site.now)) (map binding_of equations.now)) ports.now }
+    requires fed { AllByRecursion
+        (PortFed true (scope_at (site_of site.now)) (map binding_of equations.now)) ports.now }
     requires room { length nets.old + count_equations (map binding_of equations.now) ports.now < 2 ^ 32 }
-    ensures { OnOk result (Grown (equations_nets (site_of site.now) at (length nets.old) (map binding_of equations.now) ports.now)
+    ensures { OnOk result (Grown
+        (equations_nets (site_of site.now) at (length nets.old) (map binding_of equations.now) ports.now)
         (count_equations (map binding_of equations.now) ports.now) nets.old nets.new) }
 {
     for port in ports {
@@ -204,10 +210,13 @@ pub fn emit_part(
     equations: &[(Ident, NetExpr)],
 ) -> Result<(), NoMemory>
     requires narrow { AllByRecursion PortKeeps ports.now }
-    requires links { AllByRecursion (PortFed false (in_text (map entry_of text.now)) (map binding_of links.now)) ports.now }
+    requires links { AllByRecursion
+        (PortFed false (in_text (map entry_of text.now)) (map binding_of links.now)) ports.now }
     requires equations { AllByRecursion (PortFed true (in_module ports.now) (map binding_of equations.now)) ports.now }
-    requires room { length nets.old + count_part (map binding_of links.now) ports.now (map binding_of equations.now) < 2 ^ 32 }
-    ensures { OnOk result (Grown (part_nets (map entry_of text.now) at (length nets.old) (map binding_of links.now) ports.now (map binding_of equations.now))
+    requires room { length nets.old + count_part (map binding_of links.now) ports.now (map binding_of equations.now)
+        < 2 ^ 32 }
+    ensures { OnOk result (Grown (part_nets (map entry_of text.now) at (length nets.old)
+        (map binding_of links.now) ports.now (map binding_of equations.now))
         (count_part (map binding_of links.now) ports.now (map binding_of equations.now)) nets.old nets.new) }
 {
     let start = nets.len() as u32;

@@ -52,7 +52,8 @@ impl<'a> Model for Text<'a> {
 
     ghost view = { λ text. text.declared };
 
-    ghost invariant = { λ text. IsNumbered (map entry_of text.declared) text.numbers.nets text.numbers.storages text.numbers.wires };
+    ghost invariant = { λ text. IsNumbered (map entry_of text.declared) text.numbers.nets
+        text.numbers.storages text.numbers.wires };
 }
 
 impl<'a> Text<'a> {
@@ -80,8 +81,10 @@ impl<'a> Text<'a> {
 
     /// The memory of a name.
     fn cells(&self, name: &Name) -> Option<Cells>
-        ensures { MatchOption result (cell_width (item_named (map entry_of self.now) name.now) ≡ None)
-            (λ cells. IsCells (cell_width (item_named (map entry_of self.now) name.now)) (storage_named (map entry_of self.now) name.now) cells) }
+        ensures { MatchOption result
+            (cell_width (item_named (map entry_of self.now) name.now) ≡ None)
+            (λ cells. IsCells (cell_width (item_named (map entry_of self.now) name.now))
+            (storage_named (map entry_of self.now) name.now) cells) }
     {
         let width = self.declared.cell_width(name)?;
         Some(Cells {
@@ -92,8 +95,10 @@ impl<'a> Text<'a> {
 
     /// The output of the item of a name.
     fn output(&self, name: &Name) -> Option<Spot>
-        ensures { MatchOption result (value_width (item_named (map entry_of self.now) name.now) ≡ None)
-            (λ spot. IsSpot (value_width (item_named (map entry_of self.now) name.now)) (item_net (map entry_of self.now) name.now None) spot) }
+        ensures { MatchOption result
+            (value_width (item_named (map entry_of self.now) name.now) ≡ None)
+            (λ spot. IsSpot (value_width (item_named (map entry_of self.now) name.now))
+            (item_net (map entry_of self.now) name.now None) spot) }
     {
         let width = self.declared.value_width(name)?;
         let net = number_at(self.numbers.nets.as_slice(), self.declared.place(name));
@@ -105,8 +110,10 @@ impl<'a> Text<'a> {
 
     /// The wire of an output of the part of a name.
     fn port(&self, name: &Name, field: &Ident) -> Option<Spot>
-        ensures { MatchOption result (field_width (map entry_of self.now) name.now (field_of field.now) ≡ None)
-            (λ spot. IsSpot (field_width (map entry_of self.now) name.now (field_of field.now)) (item_net (map entry_of self.now) name.now (field_of field.now)) spot) }
+        ensures { MatchOption result
+            (field_width (map entry_of self.now) name.now (field_of field.now) ≡ None)
+            (λ spot. IsSpot (field_width (map entry_of self.now) name.now (field_of field.now))
+            (item_net (map entry_of self.now) name.now (field_of field.now)) spot) }
     {
         let ports = self.declared.part_ports(name);
         let wires = list_at(self.numbers.wires.as_slice(), self.declared.place(name));
@@ -116,7 +123,8 @@ impl<'a> Text<'a> {
     /// What a name stands for among the items.
     fn net(&self, name: &Name, field: &Option<Ident>) -> Option<Spot>
         ensures { MatchOption result (field_width (map entry_of self.now) name.now field.now ≡ None)
-            (λ spot. IsSpot (field_width (map entry_of self.now) name.now field.now) (item_net (map entry_of self.now) name.now field.now) spot) }
+            (λ spot. IsSpot (field_width (map entry_of self.now) name.now field.now)
+            (item_net (map entry_of self.now) name.now field.now) spot) }
     {
         match field {
             None => self.output(name),
@@ -154,7 +162,8 @@ fn port_named<'a>(output: bool, ports: &'a [Port], name: &Name) -> Option<&'a Po
 fn wire_of(output: bool, ports: &[Port], wires: &[u32], name: &Name) -> Option<Spot>
     requires { AllByRecursion PortKeeps ports.now }
     ensures { MatchOption result (port_width (port_named output ports.now name.now) ≡ None)
-        (λ spot. IsSpot (port_width (port_named output ports.now name.now)) (slice_index wires.now (port_place output ports.now name.now)) spot) }
+        (λ spot. IsSpot (port_width (port_named output ports.now name.now))
+        (slice_index wires.now (port_place output ports.now name.now)) spot) }
 {
     let port = port_named(output, ports, name)?;
     Some(Spot {
@@ -195,7 +204,8 @@ impl<'a> Inside<'a> {
     /// The wire of the input of a name.
     fn input(&self, name: &Name) -> Option<Spot>
         ensures { MatchOption result (port_width (port_named false self.now.0 name.now) ≡ None)
-            (λ spot. IsSpot (port_width (port_named false self.now.0 name.now)) (slice_index self.now.1 (port_place false self.now.0 name.now)) spot) }
+            (λ spot. IsSpot (port_width (port_named false self.now.0 name.now))
+            (slice_index self.now.1 (port_place false self.now.0 name.now)) spot) }
     {
         wire_of(false, self.ports, self.wires, name)
     }
@@ -211,8 +221,10 @@ pub enum Site<'a> {
 impl<'a> Site<'a> {
     /// What a name stands for.
     pub fn net(&self, name: &Name, field: &Option<Ident>) -> Option<Spot>
-        ensures { MatchOption result (named_width (scope_at (site_of self.now)) name.now field.now ≡ None)
-            (λ spot. IsSpot (named_width (scope_at (site_of self.now)) name.now field.now) (net_named (site_of self.now) name.now field.now) spot) }
+        ensures { MatchOption result
+            (named_width (scope_at (site_of self.now)) name.now field.now ≡ None)
+            (λ spot. IsSpot (named_width (scope_at (site_of self.now)) name.now field.now)
+            (net_named (site_of self.now) name.now field.now) spot) }
     {
         match (self, field) {
             (Site::Top(text), field) => text.net(name, field),
@@ -224,7 +236,8 @@ impl<'a> Site<'a> {
     /// The memory of a name.
     pub fn cells(&self, name: &Name) -> Option<Cells>
         ensures { MatchOption result (memory_widths (scope_at (site_of self.now)) name.now ≡ None)
-            (λ cells. IsCells (option_map cell_width_of (memory_widths (scope_at (site_of self.now)) name.now)) (memory_at (site_of self.now) name.now) cells) }
+            (λ cells. IsCells (option_map cell_width_of (memory_widths (scope_at (site_of self.now)) name.now))
+            (memory_at (site_of self.now) name.now) cells) }
     {
         match self {
             Site::Top(text) => text.cells(name),

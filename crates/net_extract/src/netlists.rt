@@ -52,7 +52,8 @@ pub fn read_extracted(alloc: Global, bytes: &[u8]) -> Result<(Checked, Extracted
     requires { length bytes.now < 2 ^ 32 }
     ensures netlist { IfOk result (λ both. IsRoutedNet bytes.now both.0) }
     ensures extracted { IfOk result (λ both. IsExtractedFrom both.0.netlist both.1) }
-    ensures patterns { IfOk result (λ both. ArePatterns both.0.netlist (row_patterns both.1.pool both.1.patterns.rows)) }
+    ensures patterns { IfOk result (λ both.
+        ArePatterns both.0.netlist (row_patterns both.1.pool both.1.patterns.rows)) }
     ensures refused { IfErr result (IsRoutedRefusal bytes.now) }
 {
     let (_, checked) = read_net(alloc, bytes)?;

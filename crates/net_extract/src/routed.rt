@@ -45,7 +45,8 @@ fn routes_of(
     requires word { book.old.bits ≡ word_width checked.now.netlist }
     ensures book { Extends book.old book.new }
     ensures pool { Grows pool.old pool.new }
-    ensures routes { IfOk result (λ routes. AreRoutes checked.now.netlist book.new pool.new controls.now.legal routes.of) }
+    ensures routes { IfOk result (λ routes.
+        AreRoutes checked.now.netlist book.new pool.new controls.now.legal routes.of) }
     ensures kept { IfOk result (λ _. IsRouted checked.now.netlist) }
     ensures refused { IfErr result (IsRouteRefusal checked.now.netlist) }
 {

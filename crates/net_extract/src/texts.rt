@@ -30,7 +30,8 @@ fn patterns_text(
     extracted: Extracted,
 ) -> Result<Vec<u8>, NoMemory>
     requires { IsExtractedFrom checked.now.netlist extracted }
-    ensures { IfOk result (λ text. IsPatternsText checked.now.netlist (row_patterns extracted.pool extracted.patterns.rows) text.items) }
+    ensures { IfOk result (λ text. IsPatternsText checked.now.netlist
+        (row_patterns extracted.pool extracted.patterns.rows) text.items) }
 {
     let Extracted {
         book,

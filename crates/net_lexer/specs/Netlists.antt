@@ -7,7 +7,11 @@ use Rattle.lexing.specs.Tokens.{tokens_of}
 -- the reserved words and the signs of netlists
 unfoldable pub netlists : Lexicon
 netlists = record {
-  reserved = map codes ("code" ∷ "register" ∷ "memory" ∷ "net" ∷ "bus" ∷ "module" ∷ "part" ∷ "size" ∷ "at" ∷ "in" ∷ "out" ∷ "when" ∷ "addr" ∷ "write" ∷ "case" ∷ "else" ∷ "read" ∷ "slice" ∷ "zext" ∷ "sext" ∷ "cat" ∷ "add" ∷ "sub" ∷ "mul" ∷ "and" ∷ "or" ∷ "xor" ∷ "not" ∷ "neg" ∷ "shl" ∷ "shr" ∷ "sar" ∷ "eq" ∷ "ltu" ∷ "lts" ∷ []);
+  reserved =
+      map codes ("code" ∷ "register" ∷ "memory" ∷ "net" ∷ "bus" ∷ "module" ∷ "part" ∷ "size" ∷ "at"
+      ∷ "in" ∷ "out" ∷ "when" ∷ "addr" ∷ "write" ∷ "case" ∷ "else" ∷ "read" ∷ "slice" ∷ "zext"
+      ∷ "sext" ∷ "cat" ∷ "add" ∷ "sub" ∷ "mul" ∷ "and" ∷ "or" ∷ "xor" ∷ "not" ∷ "neg" ∷ "shl"
+      ∷ "shr" ∷ "sar" ∷ "eq" ∷ "ltu" ∷ "lts" ∷ []);
   signs = map codes (":" ∷ ";" ∷ "," ∷ "=" ∷ "." ∷ "#" ∷ "(" ∷ ")" ∷ "{" ∷ "}" ∷ "[" ∷ "]" ∷ []);
 }
 

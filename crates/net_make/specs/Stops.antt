@@ -9,7 +9,8 @@ use Rattle.code_model.specs.Machine.{label_in}
 
 -- after so many clocks, none of which clashes, the netlist is in such a state for the first time;
 -- where it is in none within `most` clocks, these are all of them
-pub record StopsAt (netlist : Netlist) (words : List ℕ) (Is : State → Type 0) (start : State) (most clocks : ℕ) (last : State) : Type 0 where
+pub record StopsAt (netlist : Netlist) (words : List ℕ) (Is : State → Type 0) (start : State)
+    (most clocks : ℕ) (last : State) : Type 0 where
   pub within : clocks ≤ most
   pub reached : run netlist words start clocks ≡ Reached last
   pub before : (k : ℕ) (s : State) → k < clocks → run netlist words start k ≡ Reached s → Is s → ⊥
@@ -18,7 +19,8 @@ pub record StopsAt (netlist : Netlist) (words : List ℕ) (Is : State → Type 0
 -- of so many clocks, none before such a state clashes
 unfoldable pub RunsOn : Netlist → List ℕ → (State → Type 0) → ℕ → State → Type 0
 RunsOn netlist words Is zero s = Unit {0}
-RunsOn netlist words Is (suc n) s = Is s ⊎ ((t : State) × (clock netlist words s ≡ Next t) × RunsOn netlist words Is n t)
+RunsOn netlist words Is (suc n) s =
+    Is s ⊎ ((t : State) × (clock netlist words s ≡ Next t) × RunsOn netlist words Is n t)
 
 -- the program counter stands at the end mark of an image
 abbrev pub IsAtEnd : Netlist → Image → State → Type 0

@@ -12,7 +12,8 @@ summary_head number words cycles checkpoints = concat (
 
 -- NAME=VALUE, as the memory holds it
 unfoldable pub variable_line : List ℕ → Place → List ℕ
-variable_line cells place = concat (place.name ∷ codes "=" ∷ decimal (slice_index cells place.address) ∷ codes "\n" ∷ [])
+variable_line cells place =
+    concat (place.name ∷ codes "=" ∷ decimal (slice_index cells place.address) ∷ codes "\n" ∷ [])
 
 -- the head, a line for each variable, and done
 abbrev pub summary_text : ℕ → ℕ → ℕ → ℕ → List Place → List ℕ → List ℕ

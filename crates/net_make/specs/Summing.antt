@@ -17,5 +17,8 @@ use Rattle.src_model.specs.Meaning.{zeros}
 pub record ShowsSummary (number : ℕ) (task : Task) (image : Image) (text : List ℕ) : Type 0 where
   pub cycles : ℕ
   pub last : State
-  pub stops : StopsAt task.netlist (words_of image) (IsAtEnd task.netlist image) (blank task.netlist.storages) 1000000 cycles last
-  pub text_is : text ≡ summary_text number (length image.words) cycles (length (strace task.width task.listing (zeros task.listing.vars) 1000000)) image.places last.cells
+  pub stops : StopsAt task.netlist (words_of image) (IsAtEnd task.netlist image)
+      (blank task.netlist.storages) 1000000 cycles last
+  pub text_is : text
+      ≡ summary_text number (length image.words) cycles
+      (length (strace task.width task.listing (zeros task.listing.vars) 1000000)) image.places last.cells

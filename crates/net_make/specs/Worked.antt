@@ -20,7 +20,8 @@ place name address = record { name = name; address = address; len = 1 }
 
 abbrev places : List Place
 places =
-    place (codes "v0") 3 ∷ place (codes "v1") 4 ∷ place (codes "v2") 5 ∷ place (codes "v3") 6 ∷ place (codes "v4") 7 ∷ place (codes "v5") 8
+    place (codes "v0") 3 ∷ place (codes "v1") 4 ∷ place (codes "v2") 5 ∷ place (codes "v3") 6
+    ∷ place (codes "v4") 7 ∷ place (codes "v5") 8
     ∷ place (codes "v6") 9 ∷ place (codes "v7") 10 ∷ place (codes "i") 11 ∷ []
 
 abbrev cells : List ℕ

@@ -22,7 +22,8 @@ use std::alloc::Global;
 fn clock_to(sim: &mut Sim<'_>, address: Option<u64>, most: u32) -> u32
     requires { RunsOn sim.old.netlist sim.old.words (StandsAt sim.old.netlist address) most sim.old.state }
     ensures netlist { sim.new.netlist ≡ sim.old.netlist }
-    ensures stops { StopsAt sim.old.netlist sim.old.words (StandsAt sim.old.netlist address) sim.old.state most result sim.new.state }
+    ensures stops { StopsAt sim.old.netlist sim.old.words (StandsAt sim.old.netlist address)
+        sim.old.state most result sim.new.state }
 {
     for clocks in 0..most {
         if address == Some(sim.pc()) {
@@ -71,9 +72,10 @@ pub(crate) fn run_image<'a>(
     requires words { AllByRecursion (WordFits checked.now.netlist) (words_of image.now) }
     requires marks { AreMarksAfter None image.now.marks }
     requires start { IsState checked.now.netlist start }
-    requires clean { RunsOn checked.now.netlist (words_of image.now) (IsAtEnd checked.now.netlist image.now) most start }
-    ensures { IfOk result (λ ended.
-        StopsAt checked.now.netlist (words_of image.now) (IsAtEnd checked.now.netlist image.now) start most ended.0 ended.1.state) }
+    requires clean { RunsOn checked.now.netlist (words_of image.now)
+        (IsAtEnd checked.now.netlist image.now) most start }
+    ensures { IfOk result (λ ended. StopsAt checked.now.netlist (words_of image.now)
+        (IsAtEnd checked.now.netlist image.now) start most ended.0 ended.1.state) }
 {
     let words = words_of(alloc, image)?;
     let mut sim = Sim::new(alloc, checked, words, start)?;

@@ -44,7 +44,8 @@ NamesDiffer netlist = IsDistinct (pointwise nat_eq) (storage_names netlist)
 abbrev pub ReadKeeps : Netlist → ℕ → ℕ → Option Storage → Type 0
 ReadKeeps netlist width addr None = ⊥
 ReadKeeps netlist width addr (Some (Register name own input when)) = ⊥
-ReadKeeps netlist width addr (Some (Memory name own size addr_width value at when)) = (own ≡ width) × HasWidth netlist addr addr_width
+ReadKeeps netlist width addr (Some (Memory name own size addr_width value at when)) =
+    (own ≡ width) × HasWidth netlist addr addr_width
 
 -- the numbers of a case's rows
 abbrev pub row_numbers : List (ℕ × ℕ) → List ℕ
@@ -62,7 +63,8 @@ GateKeeps netlist width (Word code) = (code < length netlist.codes) × GateFits 
 GateKeeps netlist width (Reg id) = IsRegister (slice_get netlist.storages id) × GateFits netlist width (Reg id)
 GateKeeps netlist width (Read memory addr) = ReadKeeps netlist width addr (slice_get netlist.storages memory)
 GateKeeps netlist width (Case sel rows rest) =
-    GateFits netlist width (Case sel rows rest) × IsDistinct nat_eq (row_numbers rows) × IsWhole (width_at netlist sel) rows rest
+    GateFits netlist width (Case sel rows rest) × IsDistinct nat_eq (row_numbers rows)
+    × IsWhole (width_at netlist sel) rows rest
 GateKeeps netlist width gate = GateFits netlist width gate
 
 abbrev pub NetKeeps : Netlist → Option Net → Type 0
@@ -71,7 +73,8 @@ NetKeeps netlist (Some net) = IsWidth net.width × GateKeeps netlist net.width n
 
 -- what feeds a storage are nets of its widths
 abbrev pub StorageKeeps : Netlist → Storage → Type 0
-StorageKeeps netlist (Register name width input when) = IsWidth width × StorageFits netlist (Register name width input when)
+StorageKeeps netlist (Register name width input when) =
+    IsWidth width × StorageFits netlist (Register name width input when)
 StorageKeeps netlist (Memory name width size addr_width value addr when) =
     IsWidth width × IsWidth addr_width × StorageFits netlist (Memory name width size addr_width value addr when)
 

@@ -97,7 +97,8 @@ then_run cycle later (Clash bus) = Clashed cycle bus
 -- so many clocks, the first of this cycle
 abbrev pub run_from : ℕ → Netlist → List ℕ → State → ℕ → Run
 run_from cycle netlist words s zero = Reached s
-run_from cycle netlist words s (suc n) = then_run cycle (λ t. run_from (cycle + 1) netlist words t n) (clock netlist words s)
+run_from cycle netlist words s (suc n) =
+    then_run cycle (λ t. run_from (cycle + 1) netlist words t n) (clock netlist words s)
 
 abbrev pub run : Netlist → List ℕ → State → ℕ → Run
 run netlist words s n = run_from 0 netlist words s n

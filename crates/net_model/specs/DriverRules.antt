@@ -34,7 +34,8 @@ is_rest (rest a) = true
 
 -- no number twice, and an `else` or every number
 abbrev pub is_covered : Option ℕ → Rows → Rest → Bool
-is_covered selector rows other = are_new [] (case_numbers rows) && (is_rest other || are_all selector (case_numbers rows))
+is_covered selector rows other =
+    are_new [] (case_numbers rows) && (is_rest other || are_all selector (case_numbers rows))
 
 -- each case in an expression
 abbrev mutual
@@ -76,7 +77,8 @@ is_driven false bindings port = port.output || is_some (bound bindings port.name
 
 -- each port of this direction has an expression, and none has two
 abbrev pub drives_once : Bool → List Port → List (Ident × Phrase) → Bool
-drives_once output ports bindings = list_all (is_driven output bindings) ports && names_new [] (map binding_name bindings)
+drives_once output ports bindings =
+    list_all (is_driven output bindings) ports && names_new [] (map binding_name bindings)
 
 -- ---- items
 

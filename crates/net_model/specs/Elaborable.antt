@@ -46,13 +46,16 @@ ItemKeeps text (code name bits size counter) =
 ItemKeeps text (register name width input when) =
     IsTrue (is_width width) × Feeds (in_text text) width input × FeedsIf (in_text text) 1 when
 ItemKeeps text (memory name width size addr_width value addr when) =
-    IsTrue (is_width width) × IsTrue (is_width addr_width) × IsTrue (nat_le size 65536) × Feeds (in_text text) width value
+    IsTrue (is_width width) × IsTrue (is_width addr_width) × IsTrue (nat_le size 65536)
+    × Feeds (in_text text) width value
     × Feeds (in_text text) addr_width addr × FeedsIf (in_text text) 1 when
 ItemKeeps text (net name width value) = IsTrue (is_width width) × Feeds (in_text text) width value
-ItemKeeps text (bus name width drivers) = IsTrue (is_width width) × AllByRecursion (DriverFeeds (in_text text) width) drivers
+ItemKeeps text (bus name width drivers) =
+    IsTrue (is_width width) × AllByRecursion (DriverFeeds (in_text text) width) drivers
 ItemKeeps text (module_item name ports equations) =
     AllByRecursion PortKeeps ports × AllByRecursion (PortFed true (in_module ports) equations) ports
-ItemKeeps text (part name of links) = AllByRecursion (PortFed false (in_text text) links) (ports_of (item_named text of.name))
+ItemKeeps text (part name of links) =
+    AllByRecursion (PortFed false (in_text text) links) (ports_of (item_named text of.name))
 
 abbrev pub item_names : List Entry → List (List ℕ)
 item_names text = map (λ (e : Entry). (own_name e).name) text

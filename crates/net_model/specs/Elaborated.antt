@@ -61,7 +61,8 @@ abbrev mutual
   elaborated site at start (sext a width) =
       elaborated site at start a ++ net_of site at (sext a width) (Sext (out_of site start a)) ∷ []
   elaborated site at start (read name a) =
-      elaborated site at start a ++ net_of site at (read name a) (Read (memory_at site name.name) (out_of site start a)) ∷ []
+      elaborated site at start a
+      ++ net_of site at (read name a) (Read (memory_at site name.name) (out_of site start a)) ∷ []
   elaborated site at start (case selector rows other) =
       elaborated site at start selector ++ nets_of_rows site at (start + count selector) rows
       ++ nets_of_rest site at (start + count selector + count_rows rows) other
@@ -72,7 +73,8 @@ abbrev mutual
 
   pub nets_of_rows : NetSite → ℕ → ℕ → Rows → List Net
   nets_of_rows site at start no_rows = []
-  nets_of_rows site at start (row numbers a rows) = elaborated site at start a ++ nets_of_rows site at (start + count a) rows
+  nets_of_rows site at start (row numbers a rows) =
+      elaborated site at start a ++ nets_of_rows site at (start + count a) rows
 
   pub nets_of_rest : NetSite → ℕ → ℕ → Rest → List Net
   nets_of_rest site at start no_rest = []
@@ -115,7 +117,8 @@ bound_out site start (Some a) = out_of site start a
 abbrev pub input_nets : NetSite → ℕ → ℕ → List (Ident × Phrase) → Port → List Net
 input_nets site at start links port =
     if port.output then []
-    else nets_if site at start (bound links port.name.name) ++ plain_net at port.width (Wire (bound_out site start (bound links port.name.name))) ∷ []
+    else nets_if site at start (bound links port.name.name)
+    ++ plain_net at port.width (Wire (bound_out site start (bound links port.name.name))) ∷ []
 
 abbrev pub inputs_nets : NetSite → ℕ → ℕ → List (Ident × Phrase) → List Port → List Net
 inputs_nets site at start links [] = []
@@ -125,21 +128,26 @@ inputs_nets site at start links (port ∷ ports) =
 -- the wire of an output, whose equation's nets begin at a number
 abbrev pub output_wire : NetSite → ℕ → ℕ → List (Ident × Phrase) → Port → List Net
 output_wire site at start equations port =
-    if port.output then plain_net at port.width (Wire (bound_out site start (bound equations port.name.name))) ∷ [] else []
+    if port.output
+    then plain_net at port.width (Wire (bound_out site start (bound equations port.name.name))) ∷ []
+    else []
 
 abbrev pub output_wires : NetSite → ℕ → ℕ → List (Ident × Phrase) → List Port → List Net
 output_wires site at start equations [] = []
 output_wires site at start equations (port ∷ ports) =
-    output_wire site at start equations port ++ output_wires site at (start + count_equation equations port) equations ports
+    output_wire site at start equations port
+    ++ output_wires site at (start + count_equation equations port) equations ports
 
 -- the nets of an output's equation
 abbrev pub equation_nets : NetSite → ℕ → ℕ → List (Ident × Phrase) → Port → List Net
-equation_nets site at start equations port = if port.output then nets_if site at start (bound equations port.name.name) else []
+equation_nets site at start equations port =
+    if port.output then nets_if site at start (bound equations port.name.name) else []
 
 abbrev pub equations_nets : NetSite → ℕ → ℕ → List (Ident × Phrase) → List Port → List Net
 equations_nets site at start equations [] = []
 equations_nets site at start equations (port ∷ ports) =
-    equation_nets site at start equations port ++ equations_nets site at (start + count_equation equations port) equations ports
+    equation_nets site at start equations port
+    ++ equations_nets site at (start + count_equation equations port) equations ports
 
 -- inside a part the names of the module's inputs stand for their wires
 abbrev pub inside : ℕ → List (Ident × Phrase) → List Port → NetSite
@@ -149,8 +157,10 @@ inside start links ports = of_part ports (port_wires start (start + count_inputs
 abbrev pub part_nets : List Entry → ℕ → ℕ → List (Ident × Phrase) → List Port → List (Ident × Phrase) → List Net
 part_nets text at start links ports equations =
     inputs_nets (of_text text) at start links ports
-    ++ output_wires (inside start links ports) at (start + count_inputs links ports + count_outputs ports) equations ports
-    ++ equations_nets (inside start links ports) at (start + count_inputs links ports + count_outputs ports) equations ports
+    ++ output_wires (inside start links ports) at
+    (start + count_inputs links ports + count_outputs ports) equations ports
+    ++ equations_nets (inside start links ports) at
+    (start + count_inputs links ports + count_outputs ports) equations ports
 
 -- ---- items
 
@@ -164,9 +174,11 @@ item_nets text start storage number (memory name width size addr_width value add
     elaborated (of_text text) name.at start value ++ elaborated (of_text text) name.at (start + count value) addr
     ++ nets_if (of_text text) name.at (start + count value + count addr) when
 item_nets text start storage number (net name width value) =
-    elaborated (of_text text) name.at start value ++ plain_net name.at width (Wire (out_of (of_text text) start value)) ∷ []
+    elaborated (of_text text) name.at start value
+    ++ plain_net name.at width (Wire (out_of (of_text text) start value)) ∷ []
 item_nets text start storage number (bus name width drivers) =
-    elaborated_drivers (of_text text) name.at start drivers ++ plain_net name.at width (Bus (driver_pairs (of_text text) start drivers)) ∷ []
+    elaborated_drivers (of_text text) name.at start drivers
+    ++ plain_net name.at width (Bus (driver_pairs (of_text text) start drivers)) ∷ []
 item_nets text start storage number (module_item name ports equations) = []
 item_nets text start storage number (part name of links) =
     part_nets text name.at start links (ports_of (item_named text of.name)) (equations_of (item_named text of.name))
@@ -175,7 +187,8 @@ abbrev pub item_storages : List Entry → ℕ → Entry → List Storage
 item_storages text start (register name width input when) =
     Register name.name width (out_of (of_text text) start input) (out_if (of_text text) (start + count input) when) ∷ []
 item_storages text start (memory name width size addr_width value addr when) =
-    Memory name.name width size addr_width (out_of (of_text text) start value) (out_of (of_text text) (start + count value) addr)
+    Memory name.name width size addr_width (out_of (of_text text) start value)
+    (out_of (of_text text) (start + count value) addr)
     (out_if (of_text text) (start + count value + count addr) when)
     ∷ []
 item_storages text start _ = []
@@ -199,7 +212,8 @@ nets_from text start storage number (e ∷ entries) =
 
 abbrev pub storages_from : List Entry → ℕ → List Entry → List Storage
 storages_from text start [] = []
-storages_from text start (e ∷ entries) = item_storages text start e ++ storages_from text (start + count_item text e) entries
+storages_from text start (e ∷ entries) =
+    item_storages text start e ++ storages_from text (start + count_item text e) entries
 
 abbrev pub codes_from : List Entry → List Entry → List Code
 codes_from text [] = []
@@ -207,4 +221,8 @@ codes_from text (e ∷ entries) = item_codes text e ++ codes_from text entries
 
 -- the netlist of a text
 abbrev pub netlist_of : List Entry → Netlist
-netlist_of text = record { nets = nets_from text 0 0 0 text; storages = storages_from text 0 text; codes = codes_from text text }
+netlist_of text = record {
+  nets = nets_from text 0 0 0 text;
+  storages = storages_from text 0 text;
+  codes = codes_from text text;
+}

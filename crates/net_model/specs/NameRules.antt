@@ -124,12 +124,14 @@ unknown_binding output ports s binding =
 -- links are to inputs
 abbrev pub unknown_in_item : List Entry → Entry → List ℕ
 unknown_in_item text (code name bits size counter) = unknown (is_register (item_named text counter.name)) counter
-unknown_in_item text (register name width input when) = unknown_in (in_text text) input ++ unknown_if (in_text text) when
+unknown_in_item text (register name width input when) =
+    unknown_in (in_text text) input ++ unknown_if (in_text text) when
 unknown_in_item text (memory name width size addr_width value addr when) =
     unknown_in (in_text text) value ++ unknown_in (in_text text) addr ++ unknown_if (in_text text) when
 unknown_in_item text (net name width value) = unknown_in (in_text text) value
 unknown_in_item text (bus name width drivers) = gather (unknown_driver (in_text text)) drivers
-unknown_in_item text (module_item name ports equations) = gather (unknown_binding true ports (in_module ports)) equations
+unknown_in_item text (module_item name ports equations) =
+    gather (unknown_binding true ports (in_module ports)) equations
 unknown_in_item text (part name of links) =
     unknown (is_module (item_named text of.name)) of
     ++ gather (unknown_binding false (ports_of (item_named text of.name)) (in_text text)) links

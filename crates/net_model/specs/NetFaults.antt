@@ -39,7 +39,9 @@ LacksRole netlist NotOneCode = ¬ HasOneCode netlist
 LacksRole netlist NotOneMemory = HasOneCode netlist × (¬ HasOneMemory netlist)
 LacksRole netlist Pc = HasOneCode netlist × HasOneMemory netlist × (¬ HasCounter netlist)
 LacksRole netlist Size = HasOneCode netlist × HasOneMemory netlist × HasCounter netlist × (¬ HasSizes netlist)
-LacksRole netlist Addr = HasOneCode netlist × HasOneMemory netlist × HasCounter netlist × HasSizes netlist × (¬ HasAddress netlist)
+LacksRole netlist Addr =
+    HasOneCode netlist × HasOneMemory netlist × HasCounter netlist × HasSizes netlist
+    × (¬ HasAddress netlist)
 
 -- ---- N7 to N9: where they are broken
 

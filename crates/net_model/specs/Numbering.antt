@@ -113,12 +113,14 @@ count_items text (e ∷ entries) = count_item text e + count_items text entries
 -- the last net of each item, which is its output, where the first item's nets begin at a number
 abbrev pub last_nets : List Entry → ℕ → List Entry → List ℕ
 last_nets text start [] = []
-last_nets text start (e ∷ entries) = (start + count_item text e - 1) ∷ last_nets text (start + count_item text e) entries
+last_nets text start (e ∷ entries) =
+    (start + count_item text e - 1) ∷ last_nets text (start + count_item text e) entries
 
 -- the wires of the ports of each item that is a part
 abbrev pub item_wires : List Entry → ℕ → Entry → List ℕ
 item_wires text start (part name of links) =
-    port_wires start (start + count_inputs links (ports_of (item_named text of.name))) links (ports_of (item_named text of.name))
+    port_wires start (start + count_inputs links (ports_of (item_named text of.name))) links
+    (ports_of (item_named text of.name))
 item_wires text start _ = []
 
 abbrev pub wires_from : List Entry → ℕ → List Entry → List (List ℕ)

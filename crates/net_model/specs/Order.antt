@@ -14,4 +14,5 @@ pub record IsOrder (netlist : Netlist) (order : List ℕ) : Type 0 where
   pub long : length order ≡ length netlist.nets
   pub nets : (i : ℕ) → i < length order → slice_index order i < length netlist.nets
   pub places : (n : ℕ) → n < length netlist.nets → position_of order n < length order
-  pub falls : (n : ℕ) → AllByRecursion (λ m. position_of order m < position_of order n) (nets_of (slice_get netlist.nets n))
+  pub falls : (n : ℕ) →
+      AllByRecursion (λ m. position_of order m < position_of order n) (nets_of (slice_get netlist.nets n))

@@ -16,4 +16,5 @@ abbrev pub first_fault : List Entry → Option NetFault
 first_fault text =
     or_else (fault_at Duplicate (least (duplicates text)))
     (or_else (fault_at Unknown (least (unknowns text)))
-    (or_else (fault_at Width (least (misfits text))) (or_else (fault_at Driver (least (undrivens text))) (limit_fault text))))
+    (or_else (fault_at Width (least (misfits text)))
+    (or_else (fault_at Driver (least (undrivens text))) (limit_fault text))))

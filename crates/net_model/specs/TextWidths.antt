@@ -42,7 +42,8 @@ part_ports entries _ = []
 
 abbrev pub field_width : List Entry → List ℕ → Option Ident → Option ℕ
 field_width entries name None = value_width (item_named entries name)
-field_width entries name (Some field) = port_width (port_named true (part_ports entries (item_named entries name)) field.name)
+field_width entries name (Some field) =
+    port_width (port_named true (part_ports entries (item_named entries name)) field.name)
 
 abbrev pub input_width : List Port → List ℕ → Option Ident → Option ℕ
 input_width ports name None = port_width (port_named false ports name)
@@ -59,7 +60,8 @@ pub record MemoryWidths : Type 0 where
   pub address : ℕ
 
 abbrev pub memory_of : Option Entry → Option MemoryWidths
-memory_of (Some (memory name width size addr_width value addr when)) = Some (record { cell = width; address = addr_width })
+memory_of (Some (memory name width size addr_width value addr when)) =
+    Some (record { cell = width; address = addr_width })
 memory_of _ = None
 
 -- a module reads no memory
@@ -117,7 +119,8 @@ seen_first (Some width) = nothing_yet
 
 abbrev pub row_seen : Option ℕ → Seen → List ℕ → Option ℕ → Seen
 row_seen None before numbers width = broken_already
-row_seen (Some selector) before numbers width = if numbers_fit selector numbers then seen_more before width else broken_already
+row_seen (Some selector) before numbers width =
+    if numbers_fit selector numbers then seen_more before width else broken_already
 
 abbrev pub seen_width : Seen → Option ℕ
 seen_width (seen width) = Some width
@@ -140,7 +143,8 @@ abbrev mutual
 
   pub seen_rows : Scope → Option ℕ → Seen → Rows → Seen
   seen_rows s selector before no_rows = before
-  seen_rows s selector before (row numbers a rows) = seen_rows s selector (row_seen selector before numbers (wide s a)) rows
+  seen_rows s selector before (row numbers a rows) =
+      seen_rows s selector (row_seen selector before numbers (wide s a)) rows
 
   pub seen_rest : Scope → Seen → Rest → Seen
   seen_rest s before no_rest = before

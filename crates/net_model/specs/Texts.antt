@@ -52,17 +52,20 @@ abbrev pub term_text : Netlist → Term → List ℕ
 term_text netlist (word w) = first_name netlist.codes
 term_text netlist (reg r w) = name_of netlist r
 term_text netlist (const w v) = concat (decimal v ∷ codes "#" ∷ decimal w ∷ [])
-term_text netlist (read a w) = concat (codes "read(" ∷ memory_name netlist ∷ codes "," ∷ term_text netlist a ∷ codes ")" ∷ [])
+term_text netlist (read a w) =
+    concat (codes "read(" ∷ memory_name netlist ∷ codes "," ∷ term_text netlist a ∷ codes ")" ∷ [])
 term_text netlist (un op a) = concat (op1_text op ∷ codes "(" ∷ term_text netlist a ∷ codes ")" ∷ [])
 term_text netlist (bin op a b) =
     concat (op2_text op ∷ codes "(" ∷ term_text netlist a ∷ codes "," ∷ term_text netlist b ∷ codes ")" ∷ [])
 term_text netlist (slice a hi lo) =
     concat (codes "slice(" ∷ term_text netlist a ∷ codes "," ∷ decimal hi ∷ codes "," ∷ decimal lo ∷ codes ")" ∷ [])
-term_text netlist (cat a b) = concat (codes "cat(" ∷ term_text netlist a ∷ codes "," ∷ term_text netlist b ∷ codes ")" ∷ [])
+term_text netlist (cat a b) =
+    concat (codes "cat(" ∷ term_text netlist a ∷ codes "," ∷ term_text netlist b ∷ codes ")" ∷ [])
 term_text netlist (zext a w) = concat (codes "zext(" ∷ term_text netlist a ∷ codes "," ∷ decimal w ∷ codes ")" ∷ [])
 term_text netlist (sext a w) = concat (codes "sext(" ∷ term_text netlist a ∷ codes "," ∷ decimal w ∷ codes ")" ∷ [])
 term_text netlist (select c a b) =
-    concat (codes "select(" ∷ term_text netlist c ∷ codes "," ∷ term_text netlist a ∷ codes "," ∷ term_text netlist b ∷ codes ")" ∷ [])
+    concat (codes "select(" ∷ term_text netlist c ∷ codes "," ∷ term_text netlist a ∷ codes ","
+    ∷ term_text netlist b ∷ codes ")" ∷ [])
 
 -- a transfer of the storage of this number
 abbrev pub move_text : Netlist → ℕ → Move → List ℕ

@@ -91,5 +91,6 @@ pub record Moved (netlist : Netlist) (words : List ℕ) (i : ℕ) (s : State) : 
   pub next : State
   pub clocked : clock netlist words s ≡ Next next
   pub state : IsState netlist next
-  pub regs : (id : ℕ) → IsRegister (slice_get netlist.storages id) → slice_index next.regs id ≡ reg_moved (move_at netlist i id) s i id
+  pub regs : (id : ℕ) → IsRegister (slice_get netlist.storages id) →
+      slice_index next.regs id ≡ reg_moved (move_at netlist i id) s i id
   pub cells : next.cells ≡ cells_moved (memory_move netlist i) s i

@@ -44,7 +44,8 @@ net_value v netlist s word (Some net) = gate_value v netlist s word net.width ne
 -- themselves, it ends with 0
 abbrev pub value_within : ℕ → Netlist → State → ℕ → ℕ → ℕ
 value_within zero netlist s word n = 0
-value_within (suc k) netlist s word n = net_value (value_within k netlist s word) netlist s word (slice_get netlist.nets n)
+value_within (suc k) netlist s word n =
+    net_value (value_within k netlist s word) netlist s word (slice_get netlist.nets n)
 
 -- the value of a net: where none depends on itself, as many gates as there are nets are enough
 abbrev pub value_of : Netlist → State → ℕ → ℕ → ℕ

@@ -80,7 +80,8 @@ pub record StateFits (netlist : Netlist) (s : State) : Type 0 where
 
 -- an instruction word fits
 pub record WordFits (netlist : Netlist) (word : ℕ) : Type 0 where
-  pub fits : (code : ℕ) → 0 < code_bits (slice_get netlist.codes code) → word < 2 ^ code_bits (slice_get netlist.codes code)
+  pub fits : (code : ℕ) → 0 < code_bits (slice_get netlist.codes code) →
+      word < 2 ^ code_bits (slice_get netlist.codes code)
 
 -- these values fit their nets
 pub record ValuesFit (netlist : Netlist) (v : ℕ → ℕ) : Type 0 where

@@ -25,7 +25,8 @@ abbrev pub s8 : Netlist
 s8 = record {
   nets =
       net 8 (Word 0)
-      ∷ net 1 (Slice 0 7 7) ∷ net 4 (Const 1) ∷ net 4 (Bin Add 6 2) ∷ net 4 (Slice 0 3 0) ∷ net 4 (Case 1 ((0, 3) ∷ (1, 4) ∷ []) None) ∷ net 4 (Reg 0)
+      ∷ net 1 (Slice 0 7 7) ∷ net 4 (Const 1) ∷ net 4 (Bin Add 6 2) ∷ net 4 (Slice 0 3 0)
+      ∷ net 4 (Case 1 ((0, 3) ∷ (1, 4) ∷ []) None) ∷ net 4 (Reg 0)
       ∷ net 5 (Slice 0 4 0) ∷ net 2 (Slice 0 6 5) ∷ net 1 (Slice 0 7 7) ∷ net 1 (Un Not 9) ∷ [];
   storages = Register (codes "PC") 4 5 None ∷ Memory (codes "M") 5 4 2 7 8 (Some 10) ∷ [];
   codes = record { name = codes "I"; bits = 8; words = 16; counter = 0 } ∷ [];
@@ -41,13 +42,17 @@ a16 = record {
   nets =
       net 12 (Word 0) ∷ net 4 (Slice 0 11 8) ∷ net 4 (Wire 1) ∷ net 8 (Slice 0 7 0) ∷ net 8 (Wire 3)
       ∷ net 2 (Slice 2 1 0) ∷ net 2 (Wire 5) ∷ net 16 (Wire 29) ∷ net 16 (Read 2 4) ∷ net 16 (Wire 8) ∷ net 16 (Wire 14)
-      ∷ net 16 (Bin Add 7 9) ∷ net 16 (Bin Sub 7 9) ∷ net 16 (Const 0) ∷ net 16 (Case 6 ((1, 9) ∷ (2, 11) ∷ (3, 12) ∷ []) (Some 13))
-      ∷ net 16 (Const 0) ∷ net 1 (Bin Eq 29 15) ∷ net 8 (Const 1) ∷ net 8 (Bin Add 23 17) ∷ net 8 (Case 16 ((1, 4) ∷ (0, 18) ∷ []) None)
+      ∷ net 16 (Bin Add 7 9) ∷ net 16 (Bin Sub 7 9) ∷ net 16 (Const 0)
+      ∷ net 16 (Case 6 ((1, 9) ∷ (2, 11) ∷ (3, 12) ∷ []) (Some 13))
+      ∷ net 16 (Const 0) ∷ net 1 (Bin Eq 29 15) ∷ net 8 (Const 1) ∷ net 8 (Bin Add 23 17)
+      ∷ net 8 (Case 16 ((1, 4) ∷ (0, 18) ∷ []) None)
       ∷ net 8 (Const 1) ∷ net 8 (Bin Add 23 20) ∷ net 8 (Case 2 ((6, 4) ∷ (7, 19) ∷ []) (Some 21)) ∷ net 8 (Reg 0)
       ∷ net 16 (Zext 4) ∷ net 16 (Case 2 ((5, 24) ∷ []) (Some 10)) ∷ net 1 (Const 1) ∷ net 1 (Const 0)
       ∷ net 1 (Case 2 ((1, 26) ∷ (2, 26) ∷ (3, 26) ∷ (5, 26) ∷ []) (Some 27)) ∷ net 16 (Reg 1)
       ∷ net 4 (Const 4) ∷ net 1 (Bin Eq 2 30) ∷ [];
-  storages = Register (codes "PC") 8 22 None ∷ Register (codes "ACC") 16 25 (Some 28) ∷ Memory (codes "M") 16 256 8 29 4 (Some 31) ∷ [];
+  storages =
+      Register (codes "PC") 8 22 None ∷ Register (codes "ACC") 16 25 (Some 28)
+      ∷ Memory (codes "M") 16 256 8 29 4 (Some 31) ∷ [];
   codes = record { name = codes "I"; bits = 12; words = 256; counter = 0 } ∷ [];
 }
 
@@ -57,12 +62,14 @@ z16 = record {
   nets =
       net 12 (Word 0) ∷ net 4 (Slice 0 11 8) ∷ net 4 (Wire 1) ∷ net 8 (Slice 0 7 0) ∷ net 8 (Wire 3)
       ∷ net 2 (Slice 2 1 0) ∷ net 2 (Wire 5) ∷ net 16 (Wire 27) ∷ net 16 (Read 3 4) ∷ net 16 (Wire 8) ∷ net 16 (Wire 14)
-      ∷ net 16 (Bin Add 7 9) ∷ net 16 (Bin Sub 7 9) ∷ net 16 (Const 0) ∷ net 16 (Case 6 ((1, 9) ∷ (2, 11) ∷ (3, 12) ∷ []) (Some 13))
+      ∷ net 16 (Bin Add 7 9) ∷ net 16 (Bin Sub 7 9) ∷ net 16 (Const 0)
+      ∷ net 16 (Case 6 ((1, 9) ∷ (2, 11) ∷ (3, 12) ∷ []) (Some 13))
       ∷ net 8 (Const 1) ∷ net 8 (Bin Add 21 15) ∷ net 8 (Case 33 ((1, 4) ∷ (0, 16) ∷ []) None)
       ∷ net 8 (Const 1) ∷ net 8 (Bin Add 21 18) ∷ net 8 (Case 2 ((6, 4) ∷ (7, 17) ∷ []) (Some 19)) ∷ net 8 (Reg 0)
       ∷ net 16 (Zext 4) ∷ net 16 (Case 2 ((5, 22) ∷ []) (Some 10)) ∷ net 1 (Const 1) ∷ net 1 (Const 0)
       ∷ net 1 (Case 2 ((1, 24) ∷ (2, 24) ∷ (3, 24) ∷ (5, 24) ∷ []) (Some 25)) ∷ net 16 (Reg 1)
-      ∷ net 16 (Const 0) ∷ net 1 (Bin Eq 10 28) ∷ net 1 (Const 1) ∷ net 1 (Const 0) ∷ net 1 (Case 2 ((2, 30) ∷ (3, 30) ∷ []) (Some 31)) ∷ net 1 (Reg 2)
+      ∷ net 16 (Const 0) ∷ net 1 (Bin Eq 10 28) ∷ net 1 (Const 1) ∷ net 1 (Const 0)
+      ∷ net 1 (Case 2 ((2, 30) ∷ (3, 30) ∷ []) (Some 31)) ∷ net 1 (Reg 2)
       ∷ net 4 (Const 4) ∷ net 1 (Bin Eq 2 34) ∷ [];
   storages =
       Register (codes "PC") 8 20 None ∷ Register (codes "ACC") 16 23 (Some 26) ∷ Register (codes "Z") 1 29 (Some 32)
@@ -79,9 +86,12 @@ abbrev pub b2 : Netlist
 b2 = record {
   nets =
       net 4 (Word 0) ∷ net 2 (Const 1) ∷ net 2 (Bin Add 3 1) ∷ net 2 (Reg 0) ∷ net 2 (Reg 1)
-      ∷ net 2 (Slice 0 3 2) ∷ net 1 (Slice 0 0 0) ∷ net 2 (Un Not 4) ∷ net 1 (Slice 0 1 1) ∷ net 2 (Bus ((5, 6) ∷ (7, 8) ∷ []))
+      ∷ net 2 (Slice 0 3 2) ∷ net 1 (Slice 0 0 0) ∷ net 2 (Un Not 4) ∷ net 1 (Slice 0 1 1)
+      ∷ net 2 (Bus ((5, 6) ∷ (7, 8) ∷ []))
       ∷ net 1 (Const 0) ∷ net 1 (Const 0) ∷ [];
-  storages = Register (codes "PC") 2 2 None ∷ Register (codes "X") 2 9 None ∷ Memory (codes "M") 2 1 1 4 10 (Some 11) ∷ [];
+  storages =
+      Register (codes "PC") 2 2 None ∷ Register (codes "X") 2 9 None
+      ∷ Memory (codes "M") 2 1 1 4 10 (Some 11) ∷ [];
   codes = record { name = codes "I"; bits = 4; words = 4; counter = 0 } ∷ [];
 }
 
@@ -91,10 +101,12 @@ state regs cells = record { regs = regs; cells = cells }
 -- ---- clocks
 
 -- the word 3f puts 31 into cell 1, and the word 82 jumps to 2 and keeps the memory
-pub s8_stores : clock s8 (63 ∷ []) (state (0 ∷ 0 ∷ []) (7 ∷ 8 ∷ 9 ∷ 10 ∷ [])) ≡ Next (state (1 ∷ 0 ∷ []) (7 ∷ 31 ∷ 9 ∷ 10 ∷ []))
+pub s8_stores : clock s8 (63 ∷ []) (state (0 ∷ 0 ∷ []) (7 ∷ 8 ∷ 9 ∷ 10 ∷ []))
+    ≡ Next (state (1 ∷ 0 ∷ []) (7 ∷ 31 ∷ 9 ∷ 10 ∷ []))
 s8_stores = refl
 
-pub s8_jumps : clock s8 (130 ∷ []) (state (0 ∷ 0 ∷ []) (7 ∷ 8 ∷ 9 ∷ 10 ∷ [])) ≡ Next (state (2 ∷ 0 ∷ []) (7 ∷ 8 ∷ 9 ∷ 10 ∷ []))
+pub s8_jumps : clock s8 (130 ∷ []) (state (0 ∷ 0 ∷ []) (7 ∷ 8 ∷ 9 ∷ 10 ∷ []))
+    ≡ Next (state (2 ∷ 0 ∷ []) (7 ∷ 8 ∷ 9 ∷ 10 ∷ []))
 s8_jumps = refl
 
 -- past the words stands 0, which puts 0 into cell 0
@@ -102,7 +114,8 @@ pub s8_past : clock s8 [] (state (15 ∷ 0 ∷ []) (7 ∷ 8 ∷ 9 ∷ 10 ∷ [])
 s8_past = refl
 
 -- the word 201 adds cell 1 to the accumulator; 701 branches where it is 0, and steps where it isn't
-pub a16_adds : clock a16 (513 ∷ []) (state (0 ∷ 2 ∷ 0 ∷ []) (0 ∷ 65535 ∷ [])) ≡ Next (state (1 ∷ 1 ∷ 0 ∷ []) (0 ∷ 65535 ∷ []))
+pub a16_adds : clock a16 (513 ∷ []) (state (0 ∷ 2 ∷ 0 ∷ []) (0 ∷ 65535 ∷ []))
+    ≡ Next (state (1 ∷ 1 ∷ 0 ∷ []) (0 ∷ 65535 ∷ []))
 a16_adds = refl
 
 pub a16_branches : step a16 (state (9 ∷ 0 ∷ 0 ∷ []) []) 1793 ≡ Next (state (1 ∷ 0 ∷ 0 ∷ []) [])
@@ -129,7 +142,8 @@ b2_undriven = refl
 pub b2_clashes : step b2 (state (0 ∷ 3 ∷ 0 ∷ []) (0 ∷ [])) 3 ≡ Clash 9
 b2_clashes = refl
 
-pub b2_runs : run b2 (0 ∷ 1 ∷ 2 ∷ 3 ∷ []) (state (0 ∷ 0 ∷ 0 ∷ []) (0 ∷ [])) 3 ≡ Reached (state (3 ∷ 3 ∷ 0 ∷ []) (0 ∷ []))
+pub b2_runs : run b2 (0 ∷ 1 ∷ 2 ∷ 3 ∷ []) (state (0 ∷ 0 ∷ 0 ∷ []) (0 ∷ [])) 3
+    ≡ Reached (state (3 ∷ 3 ∷ 0 ∷ []) (0 ∷ []))
 b2_runs = refl
 
 pub b2_runs_on : run b2 (0 ∷ 1 ∷ 2 ∷ 3 ∷ []) (state (0 ∷ 0 ∷ 0 ∷ []) (0 ∷ [])) 5 ≡ Clashed 3 9
@@ -161,7 +175,8 @@ pub z16_keeps : memory_move z16 771 ≡ keep
 z16_keeps = refl
 
 -- a selector of one bit that isn't static becomes a choice
-pub z16_branches : counter_move z16 1795 ≡ write (select (reg 2 1) (slice (word 12) 7 0) (bin Add (reg 0 8) (const 8 1)))
+pub z16_branches : counter_move z16 1795
+    ≡ write (select (reg 2 1) (slice (word 12) 7 0) (bin Add (reg 0 8) (const 8 1)))
 z16_branches = refl
 
 -- ---- symbolic values and their meaning
@@ -170,7 +185,8 @@ z16_branches = refl
 pub a16_symbol : sym_of a16 773 14 ≡ bin Sub (reg 1 16) (read (slice (word 12) 7 0) 16)
 a16_symbol = refl
 
-pub a16_means : mean (sym_of a16 771 14) (state (0 ∷ 2 ∷ 0 ∷ []) (0 ∷ 0 ∷ 0 ∷ 5 ∷ [])) 771 ≡ value_of a16 (state (0 ∷ 2 ∷ 0 ∷ []) (0 ∷ 0 ∷ 0 ∷ 5 ∷ [])) 771 14
+pub a16_means : mean (sym_of a16 771 14) (state (0 ∷ 2 ∷ 0 ∷ []) (0 ∷ 0 ∷ 0 ∷ 5 ∷ [])) 771
+    ≡ value_of a16 (state (0 ∷ 2 ∷ 0 ∷ []) (0 ∷ 0 ∷ 0 ∷ 5 ∷ [])) 771 14
 a16_means = refl
 
 -- 2 - 5 of 16 bits

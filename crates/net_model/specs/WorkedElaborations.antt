@@ -83,7 +83,8 @@ a16_items =
     ∷ register (ident (codes "ACC")) 16
     (case (of (codes "op")) (row (5 ∷ []) (zext (of (codes "f")) 16) no_rows) (rest (output (codes "alu") (codes "y"))))
     (Some (case (of (codes "op")) (row (1 ∷ 2 ∷ 3 ∷ 5 ∷ []) (const 1 1) no_rows) (rest (const 0 1))))
-    ∷ memory (ident (codes "M")) 16 256 8 (of (codes "ACC")) (of (codes "f")) (Some (bin Eq (of (codes "op")) (const 4 4)))
+    ∷ memory (ident (codes "M")) 16 256 8 (of (codes "ACC")) (of (codes "f"))
+    (Some (bin Eq (of (codes "op")) (const 4 4)))
     ∷ []
 
 pub a16_elaborated : netlist_of a16_items ≡ a16
@@ -94,7 +95,8 @@ b2_items =
     code (ident (codes "I")) 4 4 (ident (codes "PC"))
     ∷ register (ident (codes "PC")) 2 (bin Add (of (codes "PC")) (const 1 2)) None
     ∷ register (ident (codes "X")) 2 (of (codes "B")) None
-    ∷ bus (ident (codes "B")) 2 ((bits (codes "I") 3 2, bit (codes "I") 0) ∷ (un Not (of (codes "X")), bit (codes "I") 1) ∷ [])
+    ∷ bus (ident (codes "B")) 2
+    ((bits (codes "I") 3 2, bit (codes "I") 0) ∷ (un Not (of (codes "X")), bit (codes "I") 1) ∷ [])
     ∷ memory (ident (codes "M")) 2 1 1 (of (codes "X")) (const 0 1) (Some (const 0 1))
     ∷ []
 
@@ -112,9 +114,11 @@ abbrev pub part_items : List Entry
 part_items =
     code (at (codes "I") 5) 4 2 (at (codes "R") 21)
     ∷ module_item (at (codes "M") 31)
-    (record { output = false; name = at (codes "a") 37; width = 4 } ∷ record { output = true; name = at (codes "y") 48; width = 1 } ∷ [])
+    (record { output = false; name = at (codes "a") 37; width = 4 }
+    ∷ record { output = true; name = at (codes "y") 48; width = 1 } ∷ [])
     ((at (codes "y") 57, bin Eq (named (at (codes "a") 64) None None) (const 3 4)) ∷ [])
-    ∷ part (at (codes "p") 80) (at (codes "M") 84) ((at (codes "a") 87, un Not (named (at (codes "I") 95) None None)) ∷ [])
+    ∷ part (at (codes "p") 80) (at (codes "M") 84)
+    ((at (codes "a") 87, un Not (named (at (codes "I") 95) None None)) ∷ [])
     ∷ register (at (codes "R") 109) 1 (named (at (codes "p") 118) (Some (at (codes "y") 120)) None) None
     ∷ []
 
@@ -139,7 +143,8 @@ part_elaborated = refl
 abbrev pub outputs_items : List Entry
 outputs_items =
     code (ident (codes "I")) 4 2 (ident (codes "R"))
-    ∷ module_item (ident (codes "M")) (input_port (codes "a") 4 ∷ output_port (codes "y") 1 ∷ output_port (codes "z") 4 ∷ [])
+    ∷ module_item (ident (codes "M"))
+    (input_port (codes "a") 4 ∷ output_port (codes "y") 1 ∷ output_port (codes "z") 4 ∷ [])
     ((ident (codes "z"), un Not (of (codes "a"))) ∷ (ident (codes "y"), bin Eq (of (codes "a")) (const 3 4)) ∷ [])
     ∷ part (ident (codes "p")) (ident (codes "M")) ((ident (codes "a"), of (codes "I")) ∷ [])
     ∷ register (ident (codes "R")) 1 (output (codes "p") (codes "y")) None

@@ -29,7 +29,8 @@ abbrev pub k8 : Netlist
 k8 = record {
   nets =
       net 8 (Word 0) ∷ net 2 (Const 1) ∷ net 2 (Reg 0) ∷ net 2 (Bin Add 1 2) ∷ net 4 (Reg 1)
-      ∷ net 4 (Slice 0 5 2) ∷ net 2 (Slice 5 2 1) ∷ net 4 (Sext 6) ∷ net 8 (Cat 4 7) ∷ net 8 (Slice 0 7 0) ∷ net 4 (Slice 8 3 0) ∷ [];
+      ∷ net 4 (Slice 0 5 2) ∷ net 2 (Slice 5 2 1) ∷ net 4 (Sext 6) ∷ net 8 (Cat 4 7)
+      ∷ net 8 (Slice 0 7 0) ∷ net 4 (Slice 8 3 0) ∷ [];
   storages = Register (codes "PC") 2 3 None ∷ Register (codes "X") 4 4 None ∷ Register (codes "Y") 8 8 None ∷ [];
   codes = record { name = codes "I"; bits = 8; words = 4; counter = 0 } ∷ [];
 }

@@ -94,7 +94,8 @@ binding_of b = (b.0, phrase_of b.1)
 abbrev pub entry_of : Item → Entry
 entry_of (Code name bits size counter) = code name bits size counter
 entry_of (Register name width input when) = register name width (phrase_of input) (when_of when)
-entry_of (Memory name width size addr_width value addr when) = memory name width size addr_width (phrase_of value) (phrase_of addr) (when_of when)
+entry_of (Memory name width size addr_width value addr when) =
+    memory name width size addr_width (phrase_of value) (phrase_of addr) (when_of when)
 entry_of (Net name width value) = net name width (phrase_of value)
 entry_of (Bus name width drivers) = bus name width (map driver_of drivers)
 entry_of (Module name ports equations) = module_item name ports (map binding_of equations)

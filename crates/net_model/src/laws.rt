@@ -13,8 +13,9 @@ ghost use Rattle.net_model.specs.Value.{value_of};
 
 /// The value of a net is what its symbolic value means, in every state and under every word.
 pub fn law_of_values()
-    ensures { (netlist : Netlist) (s : State) (word : ℕ) → IsTyped netlist → IsControlled netlist → StateFits netlist s →
-        WordFits netlist word → (n : ℕ) → mean (sym_of netlist word n) s word ≡ value_of netlist s word n }
+    ensures { (netlist : Netlist) (s : State) (word : ℕ) → IsTyped netlist → IsControlled netlist →
+        StateFits netlist s → WordFits netlist word →
+        (n : ℕ) → mean (sym_of netlist word n) s word ≡ value_of netlist s word n }
 {}
 
 /// Under a word without clash, the next state is what the word's transfers say of each register and

@@ -19,7 +19,9 @@ entered None true place = Some place
 entered None false place = None
 
 abbrev pub Enters : List (List ℕ × ℕ) → List (List ℕ × ℕ) → List ℕ → ℕ → Type 0
-Enters old new own place = (name : List ℕ) → lookup (same_name name) new ≡ entered (lookup (same_name name) old) (same_name own name) place
+Enters old new own place =
+    (name : List ℕ) →
+    lookup (same_name name) new ≡ entered (lookup (same_name name) old) (same_name own name) place
 
 -- the place in a table, or one so far behind those before
 abbrev pub place_or : Option ℕ → ℕ → ℕ → ℕ

@@ -32,7 +32,8 @@ impl<'a> Model for Bindings<'a> {
 
     ghost view = { λ b. b.bindings.now };
 
-    ghost invariant = { λ b. HasPlaces b.table (length b.bindings.now) (bound_place []) (bound_place (map binding_of b.bindings.now)) };
+    ghost invariant = { λ b. HasPlaces b.table (length b.bindings.now) (bound_place [])
+        (bound_place (map binding_of b.bindings.now)) };
 }
 
 impl<'a> Bindings<'a> {

@@ -32,7 +32,8 @@ impl<'a> Model for Names<'a> {
 
     ghost view = { λ names. names.units.now.items };
 
-    ghost invariant = { λ names. HasPlaces names.table (length names.units.now.items) (place_named []) (place_named (map entry_of names.units.now.items)) };
+    ghost invariant = { λ names. HasPlaces names.table (length names.units.now.items)
+        (place_named []) (place_named (map entry_of names.units.now.items)) };
 }
 
 impl<'a> Names<'a> {

@@ -28,8 +28,8 @@ impl<'a> Model for Ports<'a> {
 
     ghost view = { λ table. table.ports.now };
 
-    ghost invariant = { λ table.
-        HasPortPlaces table.inputs table.outputs table.ports.now (length table.ports.now) × (map lent table.input_ports ≡ inputs_of table.ports.now) };
+    ghost invariant = { λ table. HasPortPlaces table.inputs table.outputs table.ports.now (length table.ports.now)
+        × (map lent table.input_ports ≡ inputs_of table.ports.now) };
 }
 
 /// Gives the names of ports their first places, each in the table of its direction. The tables are

@@ -146,7 +146,8 @@ fn pair(
     depth: u8,
     ts: &[Lexed],
 ) -> Result<((Box<NetExpr>, Box<NetExpr>), &[Lexed]), Stop>
-    ensures { Gives (λ x. ((phrase_of x.0.0.value, phrase_of x.0.1.value), x.1.now)) (IsPair (IsExpr depth)) never ts.now result }
+    ensures { Gives (λ x. ((phrase_of x.0.0.value, phrase_of x.0.1.value), x.1.now))
+        (IsPair (IsExpr depth)) never ts.now result }
 {
     let (a, rest) = expr_behind(alloc, Symbol::LeftParen, depth, ts)?;
     let a = Box::new(alloc, a)?;
@@ -210,7 +211,8 @@ fn choice(alloc: Global, depth: u8, ts: &[Lexed]) -> Result<(NetExpr, &[Lexed]),
 /// The rows and the rest of a case, in braces.
 #[cycle(expr)]
 fn braced(alloc: Global, depth: u8, ts: &[Lexed]) -> Result<(Arms, &[Lexed]), Stop>
-    ensures { Gives (λ x. ((map row_of x.0.0.items, other_of x.0.1), x.1.now)) (IsArms (IsExpr depth)) never ts.now result }
+    ensures { Gives (λ x. ((map row_of x.0.0.items, other_of x.0.1), x.1.now))
+        (IsArms (IsExpr depth)) never ts.now result }
 {
     let rest = expect(Symbol::LeftBrace, ts)?;
     let (arms, rest) = arms(alloc, depth, rest)?;
@@ -223,8 +225,8 @@ type Arms = (Vec<(Vec<u64>, NetExpr)>, Option<Box<NetExpr>>);
 /// Rows and a rest, of which at least one stands there.
 #[cycle(expr)]
 fn arms(alloc: Global, depth: u8, ts: &[Lexed]) -> Result<(Arms, &[Lexed]), Stop>
-    ensures { Gives (λ x.
-        ((map row_of x.0.0.items, other_of x.0.1), x.1.now)) (ByWord (ArmsBehind (IsExpr depth))) after_arms ts.now result }
+    ensures { Gives (λ x. ((map row_of x.0.0.items, other_of x.0.1), x.1.now))
+        (ByWord (ArmsBehind (IsExpr depth))) after_arms ts.now result }
 {
     if let Some((number, rest)) = number_at(ts) {
         return rows_behind(alloc, number, depth, rest);
@@ -243,8 +245,8 @@ fn rows_behind(
     depth: u8,
     ts: &[Lexed],
 ) -> Result<(Arms, &[Lexed]), Stop>
-    ensures { Gives (λ x.
-        ((map row_of x.0.0.items, other_of x.0.1), x.1.now)) (ArmsBehind (IsExpr depth) (Number number) 0) after_arms ts.now result }
+    ensures { Gives (λ x. ((map row_of x.0.0.items, other_of x.0.1), x.1.now))
+        (ArmsBehind (IsExpr depth) (Number number) 0) after_arms ts.now result }
 {
     let (first, rest) = row(alloc, number, depth, ts)?;
     let (rows, rest) = rows(alloc, first, depth, rest)?;
@@ -275,7 +277,8 @@ fn rows(
     depth: u8,
     ts: &[Lexed],
 ) -> Result<(Vec<(Vec<u64>, NetExpr)>, &[Lexed]), Stop>
-    ensures { Gives (λ x. (map row_of x.0.items, x.1.now)) (RowsBehind (IsExpr depth) (row_of first)) after_rows ts.now result }
+    ensures { Gives (λ x. (map row_of x.0.items, x.1.now))
+        (RowsBehind (IsExpr depth) (row_of first)) after_rows ts.now result }
 {
     let mut rows = Vec::new(alloc);
     rows.push(first)?;

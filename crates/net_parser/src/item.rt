@@ -84,7 +84,8 @@ fn register(alloc: Global, ts: &[Lexed]) -> Result<(Unit, &[Lexed]), Stop>
 
 /// What is written to a memory, where and when, and the end of the item.
 fn written(alloc: Global, ts: &[Lexed]) -> Result<((NetExpr, Fed), &[Lexed]), Stop>
-    ensures { Gives (λ x. ((phrase_of x.0.0, (phrase_of x.0.1.0, when_of x.0.1.1)), x.1.now)) IsWrite never ts.now result }
+    ensures { Gives (λ x. ((phrase_of x.0.0, (phrase_of x.0.1.0, when_of x.0.1.1)), x.1.now))
+        IsWrite never ts.now result }
 {
     let (value, rest) = expr_behind(alloc, Symbol::Write, LEVELS, ts)?;
     let (value, (fed, rest)) = keeping(value, fed(alloc, Symbol::At, rest))?;

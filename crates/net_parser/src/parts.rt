@@ -102,7 +102,8 @@ pub fn braced_drivers(
     alloc: Global,
     ts: &[Lexed],
 ) -> Result<(Items<(NetExpr, NetExpr)>, &[Lexed]), Stop>
-    ensures { Gives (λ x. (map driver_of x.0, x.1.now)) (Behind LeftBrace (Before IsDrivers RightBrace)) never ts.now result }
+    ensures { Gives (λ x. (map driver_of x.0, x.1.now))
+        (Behind LeftBrace (Before IsDrivers RightBrace)) never ts.now result }
 {
     let rest = expect(Symbol::LeftBrace, ts)?;
     let (drivers, rest) = drivers(alloc, rest)?;
@@ -145,7 +146,8 @@ pub fn braced_equations(
     alloc: Global,
     ts: &[Lexed],
 ) -> Result<(Items<(Ident, NetExpr)>, &[Lexed]), Stop>
-    ensures { Gives (λ x. (map binding_of x.0, x.1.now)) (Behind LeftBrace (Before (ListOf IsEquation) RightBrace)) never ts.now result }
+    ensures { Gives (λ x. (map binding_of x.0, x.1.now))
+        (Behind LeftBrace (Before (ListOf IsEquation) RightBrace)) never ts.now result }
 {
     let rest = expect(Symbol::LeftBrace, ts)?;
     let (equations, rest) = equations(alloc, rest)?;
@@ -186,7 +188,8 @@ pub fn enclosed_links(
     alloc: Global,
     ts: &[Lexed],
 ) -> Result<(Items<(Ident, NetExpr)>, &[Lexed]), Stop>
-    ensures { Gives (λ x. (map binding_of x.0, x.1.now)) (Behind LeftParen (Before IsLinks RightParen)) never ts.now result }
+    ensures { Gives (λ x. (map binding_of x.0, x.1.now))
+        (Behind LeftParen (Before IsLinks RightParen)) never ts.now result }
 {
     let rest = expect(Symbol::LeftParen, ts)?;
     let (links, rest) = links(alloc, rest)?;

@@ -170,7 +170,8 @@ fn count_part(
     links: &[(Ident, NetExpr)],
 ) -> Result<u64, NoMemory>
     requires { modules.now ≡ map capped_module text.now }
-    ensures { IfOk result (λ n. n ≡ capped (count_part_of (map entry_of text.now) owner.now (map binding_of links.now))) }
+    ensures { IfOk result (λ n.
+        n ≡ capped (count_part_of (map entry_of text.now) owner.now (map binding_of links.now))) }
 {
     let links = Bindings::new(alloc, links)?;
     let inputs = count_inputs(text, &owner.name, &links);

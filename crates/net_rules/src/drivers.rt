@@ -57,8 +57,9 @@ fn are_bound(links: &Bindings, inputs: &[&Port]) -> bool
 // Whether the inputs of a module are driven. Its outputs, which may be many for each of many parts,
 // aren't looked at.
 fn are_inputs_driven(text: &Text, owner: &Name, links: &Bindings) -> bool
-    ensures { result ≡
-        list_all (is_driven false (map binding_of links.now)) (ports_of (item_named (map entry_of text.now) owner.now)) }
+    ensures { result
+        ≡ list_all (is_driven false (map binding_of links.now))
+        (ports_of (item_named (map entry_of text.now) owner.now)) }
 {
     match text.ports(owner) {
         Some(ports) => are_bound(links, ports.inputs()),

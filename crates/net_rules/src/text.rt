@@ -84,7 +84,8 @@ impl<'a> Text<'a> {
 
     /// The first input of a name that the module of a name has.
     pub(crate) fn input(&self, owner: &Name, name: &Name) -> Option<&'a Port>
-        ensures { option_copied result ≡ port_named false (ports_of (item_named (map entry_of self.now) owner.now)) name.now }
+        ensures { option_copied result
+            ≡ port_named false (ports_of (item_named (map entry_of self.now) owner.now)) name.now }
     {
         match self.ports(owner) {
             Some(ports) => ports.input(name),
@@ -94,7 +95,8 @@ impl<'a> Text<'a> {
 
     /// The first output of a name that the module of a name has.
     pub(crate) fn output(&self, owner: &Name, name: &Name) -> Option<&'a Port>
-        ensures { option_copied result ≡ port_named true (ports_of (item_named (map entry_of self.now) owner.now)) name.now }
+        ensures { option_copied result
+            ≡ port_named true (ports_of (item_named (map entry_of self.now) owner.now)) name.now }
     {
         match self.ports(owner) {
             Some(ports) => ports.output(name),

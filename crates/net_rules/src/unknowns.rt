@@ -186,8 +186,9 @@ fn unknown_equation(ports: &Ports, equation: &(Ident, NetExpr)) -> Option<u64>
 
 // The links of a part are to the inputs of its module.
 fn unknown_in_links(text: &Text, owner: &Ident, links: &[(Ident, NetExpr)]) -> Option<u64>
-    ensures { result ≡
-        least (gather (unknown_binding false (ports_of (item_named (map entry_of text.now) owner.now.name)) (in_text (map entry_of text.now)))
+    ensures { result ≡ least (gather (unknown_binding false
+        (ports_of (item_named (map entry_of text.now) owner.now.name))
+        (in_text (map entry_of text.now)))
         (map binding_of links.now)) }
 {
     let mut found = None;
@@ -199,9 +200,9 @@ fn unknown_in_links(text: &Text, owner: &Ident, links: &[(Ident, NetExpr)]) -> O
 
 #[tactic(auto, using(rec_bits::proofs::Faults::least_rules))]
 fn unknown_link(text: &Text, owner: &Ident, link: &(Ident, NetExpr)) -> Option<u64>
-    ensures { result ≡
-        least (unknown_binding false (ports_of (item_named (map entry_of text.now) owner.now.name)) (in_text (map entry_of text.now))
-        (binding_of link.now)) }
+    ensures { result ≡ least (unknown_binding false
+        (ports_of (item_named (map entry_of text.now) owner.now.name))
+        (in_text (map entry_of text.now)) (binding_of link.now)) }
 {
     let found = unknown(text.input(&owner.name, &link.0.name).is_some(), &link.0);
     sooner(found, unknown_in(&Place::Items(text), &link.1))

@@ -370,8 +370,10 @@ fn link_feeds(text: &Text, owner: &Name, link: &(Ident, NetExpr)) -> bool
 }
 
 fn links_feed(text: &Text, owner: &Name, links: &[(Ident, NetExpr)]) -> bool
-    ensures { result ≡
-        list_all (binding_feeds false (ports_of (item_named (map entry_of text.now) owner.now)) (in_text (map entry_of text.now)))
+    ensures { result
+        ≡ list_all
+        (binding_feeds false (ports_of (item_named (map entry_of text.now) owner.now))
+        (in_text (map entry_of text.now)))
         (map binding_of links.now) }
 {
     for link in links {

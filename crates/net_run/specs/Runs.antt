@@ -98,5 +98,6 @@ IsRunFault net image memory clocks (NetText at) = IsNoNetText net at
 IsRunFault net image memory clocks (Net fault) = BreaksRule net fault
 IsRunFault net image memory clocks (ImageText at) = IsNoImageFile net image at
 IsRunFault net image memory clocks (MemText at) = IsImageFile net image × IsNoMemoryFile net memory at
-IsRunFault net image memory clocks (Clash cycle bus at) = Clashes net image memory clocks (record { cycle = cycle; bus = bus; at = at })
+IsRunFault net image memory clocks (Clash cycle bus at) =
+    Clashes net image memory clocks (record { cycle = cycle; bus = bus; at = at })
 IsRunFault net image memory clocks Memory = Unit {0}

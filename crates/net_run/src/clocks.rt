@@ -15,7 +15,8 @@ pub struct Clash {
 /// So many clocks, or fewer where a bus clashes.
 pub fn clock_all(sim: &mut Sim<'_>, clocks: u32) -> Result<(), Clash>
     ensures netlist { sim.new.netlist ≡ sim.old.netlist }
-    ensures ended { MatchResult result (λ _. run sim.old.netlist sim.old.words sim.old.state clocks ≡ Reached sim.new.state)
+    ensures ended { MatchResult result
+        (λ _. run sim.old.netlist sim.old.words sim.old.state clocks ≡ Reached sim.new.state)
         (λ clash. run sim.old.netlist sim.old.words sim.old.state clocks ≡ Clashed clash.cycle clash.bus) }
 {
     for cycle in 0..clocks {

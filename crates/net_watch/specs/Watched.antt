@@ -12,7 +12,8 @@ use Rattle.checkpoint_text.specs.Texts.{checkpoint_text}
 -- this is the text of the checkpoints that the netlist shows on the image's words over so many
 -- clocks, from this state; without their cycles these are the source's first, of which so many are
 -- given from a store, and no clock before the end mark clashes
-pub record IsTraceText (netlist : Netlist) (image : Image) (vars : List Declared) (trace : List ℕ → ℕ → List Passed) (start : State) (clocks : ℕ) (text : List ℕ) : Type 0 where
+pub record IsTraceText (netlist : Netlist) (image : Image) (vars : List Declared)
+    (trace : List ℕ → ℕ → List Passed) (start : State) (clocks : ℕ) (text : List ℕ) : Type 0 where
   pub entries : List TraceEntry
   pub traced : mtrace netlist image start 0 clocks ≡ Shows entries
   pub passed : passed_of entries ≡ trace (store_in image start) (length entries)

@@ -13,6 +13,7 @@ ghost use Rattle.net_watch.specs.Ends.{PassesEnd, ReachesEnd};
 /// A netlist on an image that traces a program comes to the end mark exactly when the program ends,
 /// from every state to start from.
 pub fn law_of_ends()
-    ensures { (netlist : Netlist) (image : Image) (width : ℕ) (listing : Listing) (s : State) → TracesRight netlist image (strace width listing) → IsAt netlist 0 s →
+    ensures { (netlist : Netlist) (image : Image) (width : ℕ) (listing : Listing) (s : State) →
+        TracesRight netlist image (strace width listing) → IsAt netlist 0 s →
         (PassesEnd (strace width listing) (store_in image s) ↔ ReachesEnd netlist image s) }
 {}

@@ -43,9 +43,11 @@ impl<'a> Model for Watch<'a> {
 
     ghost Value = { List ℕ };
 
-    ghost view = { λ watch. trace_text watch.writer.vars.now (mtrace watch.sim.netlist watch.image.now watch.sim.state 0 watch.clocks) };
+    ghost view = { λ watch. trace_text watch.writer.vars.now
+        (mtrace watch.sim.netlist watch.image.now watch.sim.state 0 watch.clocks) };
 
-    ghost invariant = { λ watch. IsWatchable watch.sim watch.image.now watch.writer.vars.now watch.writer.address watch.writer.last_cells watch.clocks };
+    ghost invariant = { λ watch. IsWatchable watch.sim watch.image.now watch.writer.vars.now
+        watch.writer.address watch.writer.last_cells watch.clocks };
 }
 
 // The words of an image.
@@ -77,12 +79,15 @@ impl<'a> Watch<'a> {
         start: State,
         clocks: u32,
     ) -> Result<Watch<'a>, NoMemory>
-        requires layout { IsLaidOut checked.now.netlist (temp_count typed.now.width (listing_of typed.now.program)) (variables_of typed.now.program.vars) image.now }
-        requires traces { TracesRight checked.now.netlist image.now (strace typed.now.width (listing_of typed.now.program)) }
+        requires layout { IsLaidOut checked.now.netlist
+            (temp_count typed.now.width (listing_of typed.now.program))
+            (variables_of typed.now.program.vars) image.now }
+        requires traces { TracesRight checked.now.netlist image.now
+            (strace typed.now.width (listing_of typed.now.program)) }
         requires fits { IsFitting (limits_of checked.now.netlist) image.now }
         requires start { IsAt checked.now.netlist 0 start }
-        ensures { IfOk result (λ watch.
-            IsTraceText checked.now.netlist image.now typed.now.program.vars (strace typed.now.width (listing_of typed.now.program)) start clocks watch) }
+        ensures { IfOk result (λ watch. IsTraceText checked.now.netlist image.now
+            typed.now.program.vars (strace typed.now.width (listing_of typed.now.program)) start clocks watch) }
     {
         // the rules that a checked netlist keeps, for the sizes of its memory
         let _netlist = checked.netlist();

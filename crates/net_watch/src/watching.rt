@@ -42,8 +42,12 @@ fn look<S: Sink>(
 ) -> Result<bool, WriteFault>
     requires scene { IsScene sim.now.netlist image.now writer.old.vars.now writer.old.address }
     requires state { IsState sim.now.netlist sim.now.state }
-    ensures puts { Puts (S.state sink.old) (S.state sink.new) (line_at writer.old.vars.now writer.old.last_cells (label_in sim.now.netlist image.now sim.now.state) cycle (store_in image.now sim.now.state)) result }
-    ensures last_cells { OnOk result (writer.new.last_cells ≡ store_after_line (label_in sim.now.netlist image.now sim.now.state) writer.old.last_cells (store_in image.now sim.now.state)) }
+    ensures puts { Puts (S.state sink.old) (S.state sink.new)
+        (line_at writer.old.vars.now writer.old.last_cells
+        (label_in sim.now.netlist image.now sim.now.state) cycle (store_in image.now sim.now.state)) result }
+    ensures last_cells { OnOk result (writer.new.last_cells
+        ≡ store_after_line (label_in sim.now.netlist image.now sim.now.state) writer.old.last_cells
+        (store_in image.now sim.now.state)) }
     ensures ended { IfOk result (λ ended. ended ≡ ends_at (label_in sim.now.netlist image.now sim.now.state)) }
     ensures vars { writer.new.vars.now ≡ writer.old.vars.now }
     ensures address { writer.new.address ≡ writer.old.address }
@@ -70,8 +74,11 @@ pub(crate) fn write_lines<S: Sink>(
     requires state { IsState sim.old.netlist sim.old.state }
     requires words { sim.old.words ≡ words_of image.now }
     requires shown { IsShown (mtrace sim.old.netlist image.now sim.old.state 0 clocks) }
-    ensures puts { Puts (S.state sink.old) (S.state sink.new) (trace_lines writer.old.vars.now writer.old.last_cells (mtrace sim.old.netlist image.now sim.old.state 0 clocks)) result }
-    ensures ended { IfOk result (λ ended. ended ≡ trace_ends (mtrace sim.old.netlist image.now sim.old.state 0 clocks)) }
+    ensures puts { Puts (S.state sink.old) (S.state sink.new)
+        (trace_lines writer.old.vars.now writer.old.last_cells
+        (mtrace sim.old.netlist image.now sim.old.state 0 clocks)) result }
+    ensures ended { IfOk result (λ ended.
+        ended ≡ trace_ends (mtrace sim.old.netlist image.now sim.old.state 0 clocks)) }
 {
     for cycle in 0..clocks {
         if look(image, sim, writer, cycle, sink)? {

@@ -75,7 +75,9 @@ impl<'a> LineWriter<'a> {
         requires few { length sim.now.state.cells < 2 ^ 32 }
         requires values { (cell : ℕ) → slice_index sim.now.state.cells cell < 2 ^ 64 }
         requires label { CheckpointFits label }
-        ensures line { self.new.line.items ≡ checkpoint_line self.old.vars.now self.old.last_cells (trace_entry cycle label (store_from self.old.vars.now self.old.address sim.now.state.cells)) }
+        ensures line { self.new.line.items
+            ≡ checkpoint_line self.old.vars.now self.old.last_cells
+            (trace_entry cycle label (store_from self.old.vars.now self.old.address sim.now.state.cells)) }
         ensures vars { self.new.vars.now ≡ self.old.vars.now }
         ensures address { self.new.address ≡ self.old.address }
         ensures last_cells { self.new.last_cells ≡ self.old.last_cells }
@@ -108,8 +110,11 @@ impl<'a> LineWriter<'a> {
         requires few { length sim.now.state.cells < 2 ^ 32 }
         requires values { (cell : ℕ) → slice_index sim.now.state.cells cell < 2 ^ 64 }
         requires label { CheckpointFits label }
-        ensures puts { Puts (S.state sink.old) (S.state sink.new) (checkpoint_line self.old.vars.now self.old.last_cells (trace_entry cycle label (store_from self.old.vars.now self.old.address sim.now.state.cells))) result }
-        ensures last_cells { OnOk result (self.new.last_cells ≡ store_from self.old.vars.now self.old.address sim.now.state.cells) }
+        ensures puts { Puts (S.state sink.old) (S.state sink.new)
+            (checkpoint_line self.old.vars.now self.old.last_cells
+            (trace_entry cycle label (store_from self.old.vars.now self.old.address sim.now.state.cells))) result }
+        ensures last_cells { OnOk result (self.new.last_cells
+            ≡ store_from self.old.vars.now self.old.address sim.now.state.cells) }
         ensures vars { self.new.vars.now ≡ self.old.vars.now }
         ensures address { self.new.address ≡ self.old.address }
     {

@@ -45,8 +45,8 @@ fn with_bit(
     requires few { bit < 64 }
     ensures grows { Extends book.old book.new }
     ensures within { IfOk result (λ id. id < length book.new.nodes) }
-    ensures words { IfOk result (λ id.
-        (word : ℕ) → has_word book.new id word ≡ (has_word book.old set word && (bit_at word bit == bit_at value bit))) }
+    ensures words { IfOk result (λ id. (word : ℕ) →
+        has_word book.new id word ≡ (has_word book.old set word && (bit_at word bit == bit_at value bit))) }
 {
     let right = like(alloc, book, bit, value)?;
     let both = book.and(alloc, set, right)?;
@@ -168,7 +168,8 @@ pub(crate) fn meet(
     ensures grows { Extends book.old book.new }
     ensures within { IfOk result (λ id. id < length book.new.nodes) }
     ensures words { IfOk result (λ id. (word : ℕ) → word < 2 ^ width →
-        has_word book.new id word ≡ (has_word book.old set word && (all_hold book.old sets.now word && has_fields fields.now word))) }
+        has_word book.new id word
+        ≡ (has_word book.old set word && (all_hold book.old sets.now word && has_fields fields.now word))) }
 {
     let held = all_in(alloc, book, set, sets)?;
     let fitting = with_fields(alloc, book, width, held, fields)?;

@@ -87,7 +87,9 @@ fn add_memory(patterns: &Patterns, sets: &mut Items<SetId>, stored: bool) -> Res
 // Whether a register is to be kept.
 fn is_kept(patterns: &Patterns, _pool: &Pool, group: &[Step], live: RegSet, register: u32) -> bool
     requires { register < 16 }
-    ensures { result ≡ is_wanted patterns.now (regs_of live) (group_writes (step_operation _pool.now patterns.now) group.now) register }
+    ensures { result
+        ≡ is_wanted patterns.now (regs_of live)
+        (group_writes (step_operation _pool.now patterns.now) group.now) register }
 {
     (live >> register) & 1 == 1
         && register != patterns.memory()
@@ -101,7 +103,8 @@ fn add_register(
     register: u32,
     kept: bool,
 ) -> Result<(), NoMemory>
-    ensures { OnOk result (sets.new ≡ sets.old ++ (if kept then option_list (slice_get patterns.now.keeps register) else [])) }
+    ensures { OnOk result (sets.new
+        ≡ sets.old ++ (if kept then option_list (slice_get patterns.now.keeps register) else [])) }
 {
     if !kept {
         return Ok(());
@@ -120,7 +123,9 @@ fn add_registers(
     group: &[Step],
     live: RegSet,
 ) -> Result<(), NoMemory>
-    ensures { OnOk result (sets.new ≡ sets.old ++ register_sets patterns.now (regs_of live) (group_writes (step_operation pool.now patterns.now) group.now) 16) }
+    ensures { OnOk result (sets.new ≡ sets.old
+        ++ register_sets patterns.now (regs_of live)
+        (group_writes (step_operation pool.now patterns.now) group.now) 16) }
 {
     for register in 0..16u32 {
         let kept = is_kept(patterns, pool, group, live, register);
@@ -137,8 +142,10 @@ pub(crate) fn wanted_sets(
     group: &[Step],
     live: RegSet,
 ) -> Result<Items<SetId>, NoMemory>
-    ensures { IfOk result (λ sets. sets ≡ group_sets patterns.now group.now (regs_of live)
-        (group_stores (step_operation pool.now patterns.now) group.now) (group_writes (step_operation pool.now patterns.now) group.now)) }
+    ensures { IfOk result (λ sets. sets
+        ≡ group_sets patterns.now group.now (regs_of live)
+        (group_stores (step_operation pool.now patterns.now) group.now)
+        (group_writes (step_operation pool.now patterns.now) group.now)) }
 {
     let mut sets = step_sets(alloc, patterns, group)?;
     add_memory(patterns, &mut sets, stores(patterns, group))?;

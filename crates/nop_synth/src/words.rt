@@ -38,8 +38,10 @@ pub fn word_for(
     ensures grows { Extends book.old book.new }
     ensures ready { IsReady checked.now.netlist book.new pool.now patterns.now }
     ensures word { IfOk result (λ found. MatchOption found
-        ((word : ℕ) → FitsGroup checked.now.netlist (step_operation pool.now patterns.now) word group.now (regs_of live) → ⊥)
-        (IsLeastFit (λ word. FitsGroup checked.now.netlist (step_operation pool.now patterns.now) word group.now (regs_of live)))) }
+        ((word : ℕ) →
+        FitsGroup checked.now.netlist (step_operation pool.now patterns.now) word group.now (regs_of live) → ⊥)
+        (IsLeastFit (λ word. FitsGroup checked.now.netlist (step_operation pool.now patterns.now)
+        word group.now (regs_of live)))) }
 {
     let width = checked.netlist().word_width();
     // the size tells that the first id is the empty set

@@ -38,4 +38,6 @@ first_state files = record { files = Some files; faults = 0; taken = 0; last = [
 
 -- the next fetch of this name is to fail: its number is listed, or no pair has the name
 abbrev pub IsFetchDue : MemShelf → List ℕ → Type 0
-IsFetchDue shelf name = Contains (fails_of shelf) (count_after (fetches_of shelf)) ⊎ (file_of (files_of shelf) name ≡ None)
+IsFetchDue shelf name =
+    Contains (fails_of shelf) (count_after (fetches_of shelf))
+    ⊎ (file_of (files_of shelf) name ≡ None)

@@ -38,7 +38,9 @@ pub record IsFresh (step room : ℕ) (fails : List ℕ) (sink : MemSink) : Type 
 
 -- the next put of this piece is to fail: its number is listed, or no room is free
 abbrev pub IsPutDue : MemSink → List ℕ → Type 0
-IsPutDue sink piece = (length piece ≢ 0) × (Contains (fails_of sink) (count_after (puts_of sink)) ⊎ (room_of sink ≤ length (bytes_of sink)))
+IsPutDue sink piece =
+    (length piece ≢ 0)
+    × (Contains (fails_of sink) (count_after (puts_of sink)) ⊎ (room_of sink ≤ length (bytes_of sink)))
 
 -- how much of a piece a put takes that isn't to fail: as much as the step and the free room allow
 abbrev pub portion_of : MemSink → List ℕ → ℕ

@@ -77,7 +77,8 @@ impl Shelf for MemShelf {
         ensures same { files_of self.new ≡ files_of self.old }
         ensures later { (shelf_state self.old).faults ≤ (shelf_state self.new).faults }
         ensures calm { OnOk result ((shelf_state self.new).faults ≡ (shelf_state self.old).faults) }
-        ensures got { IfOk result (λ bytes. IsGot (shelf_state self.old) (shelf_state self.new) name.now limit bytes.items) }
+        ensures got { IfOk result (λ bytes.
+            IsGot (shelf_state self.old) (shelf_state self.new) name.now limit bytes.items) }
         ensures refused { IfErr result (IsRefused (shelf_state self.old) (shelf_state self.new) name.now limit) }
 
         // Of this one alone.

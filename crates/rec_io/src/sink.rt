@@ -29,7 +29,8 @@ pub trait Sink {
         ensures calm { OnOk result ((state self.new).faults ≡ (state self.old).faults) }
         ensures empty { length bytes.now ≡ 0 → result ≡ Ok 0 }
         ensures count { IfOk result (λ count. (count ≤ length bytes.now) × (0 < length bytes.now → 0 < count)) }
-        ensures took { IfOk result (λ count. Takes (state self.old).written (state self.new).written (take count bytes.now)) }
+        ensures took { IfOk result (λ count.
+            Takes (state self.old).written (state self.new).written (take count bytes.now)) }
         ensures nothing { OnErr result ((state self.new).written ≡ (state self.old).written) };
 }
 

@@ -107,7 +107,8 @@ ExtractAnswers line net =
 -- how the clocks of `run` end: a bus clashes, and its name is told, or the state is reached
 abbrev pub RunEnds : (Option ℕ → Status → List ℕ) → List ℕ → List ℕ → List ℕ → ℕ → Status → List ℕ → Type 0
 RunEnds line net image memory clocks status text =
-    ((c : ClashedAt) × Clashes net image memory clocks c × (status ≡ Clash c.cycle c.bus) × (text ≡ line (Some c.at) (Clash c.cycle c.bus)))
+    ((c : ClashedAt) × Clashes net image memory clocks c × (status ≡ Clash c.cycle c.bus)
+    × (text ≡ line (Some c.at) (Clash c.cycle c.bus)))
     ⊎ ((status ≡ Done) × ShowsState net image memory clocks text)
 
 -- what `run` answers for these three texts and this number of clocks
@@ -124,7 +125,8 @@ RunAnswers line net image memory clocks =
 abbrev pub WatchAnswers : (Status → List ℕ) → List ℕ → List ℕ → List ℕ → ℕ → Status → List ℕ → Type 0
 WatchAnswers line net src memory clocks status text =
     TaskHolds net src HasRightImage
-    × Then line (By MemText (λ (at : ℕ). TaskHolds net src (LacksMemory memory at))) (λ status text. (status ≡ Done) × TaskHolds net src (IsWatched memory clocks text)) status text
+    × Then line (By MemText (λ (at : ℕ). TaskHolds net src (LacksMemory memory at)))
+    (λ status text. (status ≡ Done) × TaskHolds net src (IsWatched memory clocks text)) status text
 
 -- what `go` answers for these three texts and this number of clocks
 abbrev pub GoAnswers : (Status → List ℕ) → List ℕ → List ℕ → List ℕ → ℕ → Status → List ℕ → Type 0
@@ -132,7 +134,9 @@ GoAnswers line net src memory clocks = CodeAnswers line net src (WatchAnswers li
 
 -- what `make` answers for this number, which says two texts
 abbrev pub MakeAnswers : (Status → List ℕ) → ℕ → Status → List ℕ → Type 0
-MakeAnswers line number = CodeAnswers line (job_netlist number) (job_program number) (λ status text. (status ≡ Done) × IsSummary number text)
+MakeAnswers line number =
+    CodeAnswers line (job_netlist number) (job_program number)
+    (λ status text. (status ≡ Done) × IsSummary number text)
 
 -- the bytes of the file at this place
 abbrev pub file_at : List (List ℕ) → ℕ → List ℕ
@@ -152,16 +156,19 @@ netlist_in (Make number) files = job_netlist number
 netlist_in command files = file_at files 0
 
 -- what it answers once its files are there; a line is of the netlist's text too
-abbrev pub CommandAnswers : (List ℕ → Option ℕ → Status → List ℕ) → Option Files → Command → List (List ℕ) → Status → List ℕ → Type 0
+abbrev pub CommandAnswers : (List ℕ → Option ℕ → Status → List ℕ) → Option Files → Command →
+    List (List ℕ) → Status → List ℕ → Type 0
 CommandAnswers line known command names status text =
-    (files : List (List ℕ)) × AreFiles known names files × TextAnswers (line (netlist_in command files)) command files status text
+    (files : List (List ℕ)) × AreFiles known names files
+    × TextAnswers (line (netlist_in command files)) command files status text
 
 -- what the words answer by their command
 abbrev pub FilesAnswer : List (List ℕ) → Option Command → ShelfState → ShelfState → Status → List ℕ → Type 0
 FilesAnswer words None before now status text = (status ≡ Usage) × (text ≡ due_line words [] None Usage)
 FilesAnswer words (Some command) before now status text =
     Then (due_line words [] None) (By ReadFault (IsFileReadFault (names_of command words) before now)) (
-    Then (due_line words [] None) (By (λ (p : ℕ × ℕ). TooLong p.0 p.1) (IsFileTooLong (names_of command words) before now)) (
+    Then (due_line words [] None)
+    (By (λ (p : ℕ × ℕ). TooLong p.0 p.1) (IsFileTooLong (names_of command words) before now)) (
     CommandAnswers (due_line words) before.files command (names_of command words))) status text
 
 -- what the call answers: the first refusal that applies and its line, or `Done` and the text; all
@@ -171,7 +178,9 @@ Answers words before now status text = FilesAnswer words (command_of words) befo
 
 -- that, or want of memory
 abbrev pub MayAnswer : List (List ℕ) → ShelfState → ShelfState → Status → List ℕ → Type 0
-MayAnswer words before now status text = ((status ≡ Memory) × (text ≡ due_line words [] None Memory)) ⊎ Answers words before now status text
+MayAnswer words before now status text =
+    ((status ≡ Memory) × (text ≡ due_line words [] None Memory))
+    ⊎ Answers words before now status text
 
 -- the sink took the whole text of the status, or it failed within the text and took a prefix
 abbrev pub PutsText : SinkState → SinkState → List ℕ → Status → Status → Type 0
@@ -180,7 +189,8 @@ PutsText before now text status result =
     ⊎ ((result ≡ WriteFault) × Rose before.faults now.faults × TakesPrefix before.written now.written text)
 
 -- the answer that is due, what the sink took of its text, and the status that is returned
-pub record IsAnswer (words : List (List ℕ)) (before now : ShelfState) (old new : SinkState) (result : Status) : Type 0 where
+pub record IsAnswer (words : List (List ℕ)) (before now : ShelfState) (old new : SinkState)
+    (result : Status) : Type 0 where
   pub due : Status
   pub text : List ℕ
   pub answer : MayAnswer words before now due text
@@ -243,4 +253,5 @@ pub record HasText (command : Command) (names : List (List ℕ)) (known : Files)
 
 -- the same, where files and bytes are told
 abbrev pub Wrote : Command → List (List ℕ) → Option Files → Option (List ℕ) → Option (List ℕ) → Type 0
-Wrote command names files old new = IfSome files (λ all. IfSome old (λ before. IfSome new (HasText command names all before)))
+Wrote command names files old new =
+    IfSome files (λ all. IfSome old (λ before. IfSome new (HasText command names all before)))

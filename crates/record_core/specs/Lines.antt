@@ -17,7 +17,8 @@ abbrev pub status_line : List (List ℕ) → List ℕ → Status → List ℕ
 status_line words name Done = []
 status_line words name Usage = codes "error usage\n"
 status_line words name (ReadFault file) = concat (codes "error read " ∷ name_of_file words file ∷ codes "\n" ∷ [])
-status_line words name (TooLong file limit) = concat (codes "error too long " ∷ name_of_file words file ∷ codes " " ∷ decimal limit ∷ codes "\n" ∷ [])
+status_line words name (TooLong file limit) =
+    concat (codes "error too long " ∷ name_of_file words file ∷ codes " " ∷ decimal limit ∷ codes "\n" ∷ [])
 status_line words name WriteFault = []
 status_line words name (NetText at) = concat (codes "error net text " ∷ decimal at ∷ codes "\n" ∷ [])
 status_line words name (Net fault) = net_line name fault
@@ -26,14 +27,18 @@ status_line words name (Src fault) = src_line fault
 status_line words name NoStep = codes "error no step\n"
 status_line words name NoJump = codes "error no jump\n"
 status_line words name (NoCover tree) = concat (codes "error no cover " ∷ decimal tree ∷ codes "\n" ∷ [])
-status_line words name (DataFull need have) = concat (codes "error data full " ∷ decimal need ∷ codes " " ∷ decimal have ∷ codes "\n" ∷ [])
-status_line words name (NoReach bound reach) = concat (codes "error no reach " ∷ decimal bound ∷ codes " " ∷ decimal reach ∷ codes "\n" ∷ [])
+status_line words name (DataFull need have) =
+    concat (codes "error data full " ∷ decimal need ∷ codes " " ∷ decimal have ∷ codes "\n" ∷ [])
+status_line words name (NoReach bound reach) =
+    concat (codes "error no reach " ∷ decimal bound ∷ codes " " ∷ decimal reach ∷ codes "\n" ∷ [])
 status_line words name (ImageFull len size bound) =
-    concat (codes "error image full " ∷ decimal len ∷ codes " " ∷ decimal size ∷ codes " " ∷ decimal bound ∷ codes "\n" ∷ [])
+    concat (codes "error image full " ∷ decimal len ∷ codes " " ∷ decimal size ∷ codes " "
+    ∷ decimal bound ∷ codes "\n" ∷ [])
 status_line words name Memory = codes "error memory\n"
 status_line words name (ImageText at) = concat (codes "error image text " ∷ decimal at ∷ codes "\n" ∷ [])
 status_line words name (MemText at) = concat (codes "error memory text " ∷ decimal at ∷ codes "\n" ∷ [])
-status_line words name (Clash cycle bus) = concat (codes "error clash " ∷ decimal cycle ∷ codes " " ∷ name ∷ codes "\n" ∷ [])
+status_line words name (Clash cycle bus) =
+    concat (codes "error clash " ∷ decimal cycle ∷ codes " " ∷ name ∷ codes "\n" ∷ [])
 
 -- where the name stands that a line tells: the item's of a broken rule, or that of the bus which
 -- clashes
@@ -49,4 +54,5 @@ due_line words net bus status = status_line words (name_from net (name_offset bu
 
 -- of a refusal with its line: of this status, with the line that is due, or of want of memory
 abbrev pub IsRefusal : List (List ℕ) → List ℕ → Option ℕ → Status → Status → List ℕ → Type 0
-IsRefusal words net bus status refused line = (refused ≡ Memory) ⊎ ((refused ≡ status) × (line ≡ due_line words net bus status))
+IsRefusal words net bus status refused line =
+    (refused ≡ Memory) ⊎ ((refused ≡ status) × (line ≡ due_line words net bus status))

@@ -65,5 +65,6 @@ abbrev pub net_line : List ℕ → NetFault → List ℕ
 net_line name (NoRole role) = concat (codes "error net N6 Role " ∷ role_text role ∷ codes "\n" ∷ [])
 net_line name AlwaysClash = codes "error net N10 AlwaysClash\n"
 net_line name (Limit kind count bound) =
-    concat (codes "error net N11 Limit " ∷ net_kind_text kind ∷ codes " " ∷ decimal count ∷ codes " " ∷ decimal bound ∷ codes "\n" ∷ [])
+    concat (codes "error net N11 Limit " ∷ net_kind_text kind ∷ codes " " ∷ decimal count
+    ∷ codes " " ∷ decimal bound ∷ codes "\n" ∷ [])
 net_line name fault = concat (codes "error net " ∷ net_rule_text fault ∷ codes " " ∷ name ∷ codes "\n" ∷ [])

@@ -20,4 +20,5 @@ src_line (Width at) = concat (codes "error source S3 Width " ∷ decimal at ∷ 
 src_line (Index at) = concat (codes "error source S4 Index " ∷ decimal at ∷ codes "\n" ∷ [])
 src_line (Counter at) = concat (codes "error source S5 Counter " ∷ decimal at ∷ codes "\n" ∷ [])
 src_line (Limit kind count bound) =
-    concat (codes "error source S6 Limit " ∷ src_kind_text kind ∷ codes " " ∷ decimal count ∷ codes " " ∷ decimal bound ∷ codes "\n" ∷ [])
+    concat (codes "error source S6 Limit " ∷ src_kind_text kind ∷ codes " " ∷ decimal count
+    ∷ codes " " ∷ decimal bound ∷ codes "\n" ∷ [])

@@ -12,4 +12,6 @@ Just one Reason status = Reason × (status ≡ one)
 
 -- refused by this stage, or no reason of it holds and the later stages answer
 abbrev pub Then : (Status → List ℕ) → (Status → Type 0) → (Status → List ℕ → Type 0) → Status → List ℕ → Type 0
-Then line Refuses Later status text = (Refuses status × (text ≡ line status)) ⊎ (((other : Status) → Refuses other → ⊥) × Later status text)
+Then line Refuses Later status text =
+    (Refuses status × (text ≡ line status))
+    ⊎ (((other : Status) → Refuses other → ⊥) × Later status text)

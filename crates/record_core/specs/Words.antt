@@ -38,7 +38,8 @@ job_number word = within_jobs (number_of word)
 -- the command that the words ask for, if they have the form of one
 abbrev pub command_of : List (List ℕ) → Option Command
 command_of (word ∷ other ∷ []) =
-    if bytes_eq word (codes "extract") then Some Extract else (if bytes_eq word (codes "make") then option_map Make (job_number other) else None)
+    if bytes_eq word (codes "extract") then Some Extract
+    else (if bytes_eq word (codes "make") then option_map Make (job_number other) else None)
 command_of (word ∷ net ∷ src ∷ []) = if bytes_eq word (codes "compile") then Some Compile else None
 command_of (word ∷ net ∷ other ∷ memory ∷ clocks ∷ []) =
     if bytes_eq word (codes "run") then option_map Run (clocks_of clocks)

@@ -60,7 +60,8 @@ fn command_refused(
     files: &[Vec<u8>],
     stop: Stop,
 ) -> Refusal
-    ensures { IsRefusal (texts_of words.now) (netlist_in command (contents files.now)) stop.bus stop.status result.status (string_bytes result.line) }
+    ensures { IsRefusal (texts_of words.now) (netlist_in command (contents files.now)) stop.bus
+        stop.status result.status (string_bytes result.line) }
 {
     match command {
         Command::Make(number) => match job_gen::netlist(alloc, u64::from(number)) {
@@ -82,9 +83,12 @@ fn put_for<S: Sink>(
 ) -> Result<Result<(), WriteFault>, Refusal>
     requires short { AreShort (contents files.now) }
     requires fits { CommandFits command }
-    ensures done { IfOk result (PutsDone (due_line (texts_of words.now) (netlist_in command (contents files.now))) command (contents files.now) (S.state out.old) (S.state out.new)) }
+    ensures done { IfOk result (PutsDone
+        (due_line (texts_of words.now) (netlist_in command (contents files.now))) command
+        (contents files.now) (S.state out.old) (S.state out.new)) }
     ensures refused { IfErr result (λ refusal. (refusal.status ≡ Status.Memory)
-        ⊎ TextAnswers (due_line (texts_of words.now) (netlist_in command (contents files.now))) command (contents files.now) refusal.status (string_bytes refusal.line)) }
+        ⊎ TextAnswers (due_line (texts_of words.now) (netlist_in command (contents files.now)))
+        command (contents files.now) refusal.status (string_bytes refusal.line)) }
     ensures other { IfErr result (λ refusal. refusal.status ≢ Status.Done) }
     ensures still { IfErr result (λ _. S.state out.new ≡ S.state out.old) }
 {
@@ -105,9 +109,11 @@ fn decide<F: Shelf, S: Sink>(
     ensures later { (F.state shelf.old).faults ≤ (F.state shelf.new).faults }
     ensures same { (F.state shelf.new).files ≡ (F.state shelf.old).files }
     ensures calm { OnOk result ((F.state shelf.new).faults ≡ (F.state shelf.old).faults) }
-    ensures done { IfOk result (PutsAnswer (texts_of words.now) (F.state shelf.old) (F.state shelf.new) (S.state out.old) (S.state out.new)) }
+    ensures done { IfOk result (PutsAnswer (texts_of words.now) (F.state shelf.old)
+        (F.state shelf.new) (S.state out.old) (S.state out.new)) }
     ensures refused { IfErr result (λ refusal. (refusal.status ≡ Status.Memory)
-        ⊎ Answers (texts_of words.now) (F.state shelf.old) (F.state shelf.new) refusal.status (string_bytes refusal.line)) }
+        ⊎ Answers (texts_of words.now) (F.state shelf.old) (F.state shelf.new) refusal.status
+        (string_bytes refusal.line)) }
     ensures other { IfErr result (λ refusal. refusal.status ≢ Status.Done) }
     ensures still { IfErr result (λ _. S.state out.new ≡ S.state out.old) }
 {
@@ -139,7 +145,8 @@ fn answer<F: Shelf, S: Sink>(alloc: Global, words: &[String], shelf: &mut F, out
     ensures sink_later { (S.state out.old).faults ≤ (S.state out.new).faults }
     ensures shelf_calm { result ≡ Status.Done → (F.state shelf.new).faults ≡ (F.state shelf.old).faults }
     ensures sink_calm { result ≢ Status.WriteFault → (S.state out.new).faults ≡ (S.state out.old).faults }
-    ensures gives { IsAnswer (texts_of words.now) (F.state shelf.old) (F.state shelf.new) (S.state out.old) (S.state out.new) result }
+    ensures gives { IsAnswer (texts_of words.now) (F.state shelf.old) (F.state shelf.new)
+        (S.state out.old) (S.state out.new) result }
 {
     match decide(alloc, words, shelf, out) {
         Ok(Ok(())) => Status::Done,
@@ -176,11 +183,13 @@ pub fn record_call<F: Shelf, S: Sink>(
 
     // What is due is the first refusal that applies, with its line, or `Done` and the text, or want
     // of memory.
-    ensures gives { IsAnswer (texts_of words.now.items) (F.state shelf.old) (F.state shelf.new) (S.state out.old) (S.state out.new) result }
+    ensures gives { IsAnswer (texts_of words.now.items) (F.state shelf.old) (F.state shelf.new)
+        (S.state out.old) (S.state out.new) result }
 
     // Where the files are told, nothing else is answered than what applies; where code is made more
     // than one answer may, since images made for one task may differ in length.
-    ensures exactly { IsSome (F.state shelf.old).files → IsExact (texts_of words.now.items) (F.state shelf.old) (F.state shelf.new) result }
+    ensures exactly { IsSome (F.state shelf.old).files →
+        IsExact (texts_of words.now.items) (F.state shelf.old) (F.state shelf.new) result }
 
     // Where no refusal applies and the output did not fail, the call succeeds.
     ensures complete { IsAccepted (texts_of words.now.items) (F.state shelf.old) (F.state shelf.new) →
@@ -190,13 +199,16 @@ pub fn record_call<F: Shelf, S: Sink>(
     // which nothing is refused, whatever image is made for them, and neither the shelf nor the
     // output failed.
     ensures compiles { CanCompile (texts_of words.now.items) (F.state shelf.old).files →
-        ¬ Rose (F.state shelf.old).faults (F.state shelf.new).faults → ¬ Rose (S.state out.old).faults (S.state out.new).faults →
+        ¬ Rose (F.state shelf.old).faults (F.state shelf.new).faults →
+        ¬ Rose (S.state out.old).faults (S.state out.new).faults →
         (result ≡ Status.Done) ⊎ (result ≡ Status.Memory) }
 
     // The main promise: what was written is the text of the command for its files, as of `compile`
     // an image that is right code for the program on the netlist.
-    ensures wrote { (command : Command) → command_of (texts_of words.now.items) ≡ Some command → result ≡ Status.Done →
-        Wrote command (names_of command (texts_of words.now.items)) (F.state shelf.old).files (S.state out.old).written (S.state out.new).written }
+    ensures wrote { (command : Command) → command_of (texts_of words.now.items) ≡ Some command →
+        result ≡ Status.Done →
+        Wrote command (names_of command (texts_of words.now.items)) (F.state shelf.old).files
+        (S.state out.old).written (S.state out.new).written }
 {
     answer(alloc, words, shelf, out)
 }

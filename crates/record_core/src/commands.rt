@@ -48,8 +48,9 @@ pub fn put_command<S: Sink>(
     // Whatever the lines of the refusals are.
     ensures done { (line : Option ℕ → Status → List ℕ) →
         IfOk result (PutsDone line command (contents files.now) (S.state out.old) (S.state out.new)) }
-    ensures refused { (line : Option ℕ → Status → List ℕ) → IfErr result (λ stop.
-        (stop.status ≡ Status.Memory) ⊎ TextAnswers line command (contents files.now) stop.status (line stop.bus stop.status)) }
+    ensures refused { (line : Option ℕ → Status → List ℕ) →
+        IfErr result (λ stop. (stop.status ≡ Status.Memory)
+        ⊎ TextAnswers line command (contents files.now) stop.status (line stop.bus stop.status)) }
     ensures other { IfErr result (λ stop. stop.status ≢ Status.Done) }
     ensures still { IfErr result (λ _. S.state out.new ≡ S.state out.old) }
 {

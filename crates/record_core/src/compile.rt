@@ -13,7 +13,8 @@ pub fn compile_text(alloc: Global, net: &[u8], src: &[u8]) -> Result<Vec<u8>, St
     requires src_short { length src.now ≤ file_limit }
 
     // Whatever the lines of the refusals are.
-    ensures ok { (line : Status → List ℕ) → IfOk result (λ text. CompileAnswers line net.now src.now Status.Done text.items) }
+    ensures ok { (line : Status → List ℕ) →
+        IfOk result (λ text. CompileAnswers line net.now src.now Status.Done text.items) }
     ensures refused { (line : Status → List ℕ) → IfErr result (λ status.
         (status ≡ Status.Memory) ⊎ CompileAnswers line net.now src.now status (line status)) }
     ensures other { IfErr result (λ status. status ≢ Status.Done) }

@@ -35,7 +35,8 @@ fn watch<S: Sink>(
 ) -> Result<Result<(), WriteFault>, Status>
     requires short { length memory.now ≤ file_limit }
     requires image { IsRightFor program.now.image (read_task program.now.checked program.now.typed) }
-    ensures done { IfOk result (PutsWatched (read_task program.now.checked program.now.typed) memory.now clocks (S.state out.old) (S.state out.new)) }
+    ensures done { IfOk result (PutsWatched (read_task program.now.checked program.now.typed)
+        memory.now clocks (S.state out.old) (S.state out.new)) }
     ensures refused { IfErr result (IsMemoryStatus (read_task program.now.checked program.now.typed) memory.now) }
     ensures still { IfErr result (λ _. S.state out.new ≡ S.state out.old) }
 {

@@ -23,8 +23,9 @@ pub fn run_text(
     // Whatever the lines of the refusals are.
     ensures ok { (line : Option ℕ → Status → List ℕ) → IfOk result (λ text.
         RunAnswers line net.now image.now memory.now clocks Status.Done text.items) }
-    ensures refused { (line : Option ℕ → Status → List ℕ) → IfErr result (λ stop.
-        (stop.status ≡ Status.Memory) ⊎ RunAnswers line net.now image.now memory.now clocks stop.status (line stop.bus stop.status)) }
+    ensures refused { (line : Option ℕ → Status → List ℕ) →
+        IfErr result (λ stop. (stop.status ≡ Status.Memory)
+        ⊎ RunAnswers line net.now image.now memory.now clocks stop.status (line stop.bus stop.status)) }
     ensures other { IfErr result (λ stop. stop.status ≢ Status.Done) }
 {
     let text = run(alloc, net, image, memory, clocks)?;

@@ -11,7 +11,8 @@ use Rattle.right_code.specs.Tasks.{Task, task_stock, task_works}
 -- each job has its chosen cover
 abbrev pub AllChosen : Stock → List Work → List Choice → Type 0
 AllChosen stock [] [] = Unit {0}
-AllChosen stock (job ∷ jobs) (choice ∷ choices) = IsChosen stock job.destination job.trees choice × AllChosen stock jobs choices
+AllChosen stock (job ∷ jobs) (choice ∷ choices) =
+    IsChosen stock job.destination job.trees choice × AllChosen stock jobs choices
 AllChosen stock _ _ = ⊥
 
 -- the costs of the jobs' covers

@@ -53,7 +53,9 @@ choices_at flow choices at (suc n) = choices_at flow choices at n ++ choice_at c
 
 -- so many words are those of groups that the steps of a block's jobs, one job after the other, are
 -- packed into; no register is live behind a block
-pub record AreBlockWords (netlist : Netlist) (patterns : List Pattern) (stock : Stock) (jobs : List Work) (choices : List Choice) (groups : List (List Step)) (words : List ℕ) (size : ℕ) : Type 0 where
+pub record AreBlockWords (netlist : Netlist) (patterns : List Pattern) (stock : Stock)
+    (jobs : List Work) (choices : List Choice) (groups : List (List Step)) (words : List ℕ)
+    (size : ℕ) : Type 0 where
   pub packing : IsPackingOf netlist patterns (jobs_steps stock jobs choices) no_regs groups
   pub least : AreGroupWords netlist patterns groups no_regs words
   pub long : size ≡ length words
@@ -66,8 +68,10 @@ pub record IsBranchOf (stock : Stock) (job : Work) (choice : Choice) (f : Fork) 
 
 -- so many words are those of groups that the steps of a test's cover are packed into, behind which
 -- exactly the registers are live that the branch's condition reads under its setting
-pub record AreTestWords (netlist : Netlist) (patterns : List Pattern) (stock : Stock) (job : Work) (choice : Choice) (groups : List (List Step)) (words : List ℕ) (f : Fork) : Type 0 where
-  pub packing : IsPackingOf netlist patterns (job_steps stock job choice) (wanted stock tested (tree_used job choice) choice.plan) groups
+pub record AreTestWords (netlist : Netlist) (patterns : List Pattern) (stock : Stock) (job : Work)
+    (choice : Choice) (groups : List (List Step)) (words : List ℕ) (f : Fork) : Type 0 where
+  pub packing : IsPackingOf netlist patterns (job_steps stock job choice)
+      (wanted stock tested (tree_used job choice) choice.plan) groups
   pub least : AreGroupWords netlist patterns groups (wanted stock tested (tree_used job choice) choice.plan) words
   pub long : f.words ≡ length words
   pub branch : IsBranchOf stock job choice f
@@ -99,14 +103,19 @@ pub record IsMadeFor (task : Task) (image : Image) : Type 0 where
   -- the groups and the words of each block and of each test's operands, by the block's number
   pub groups : ℕ → List (List Step)
   pub words : ℕ → List ℕ
-  pub blocks : (at n block size : ℕ) → IsAssignBlock (program_flow task.listing) at n → slice_get parts at ≡ Some (Block block size)
-      → AreBlockWords task.netlist patterns (task_stock rules task) (jobs_at (program_flow task.listing) (task_works task) at n)
+  pub blocks : (at n block size : ℕ) → IsAssignBlock (program_flow task.listing) at n
+      → slice_get parts at ≡ Some (Block block size)
+      → AreBlockWords task.netlist patterns (task_stock rules task)
+      (jobs_at (program_flow task.listing) (task_works task) at n)
       (choices_at (program_flow task.listing) choices at n) (groups block) (words block) size
-  pub tests : (at : ℕ) (f : Fork) → slice_get parts at ≡ Some (Test f) → (job : Work) → slice_get (task_works task) f.tree ≡ Some job
-      → (choice : Choice) → slice_get choices f.tree ≡ Some choice → AreTestWords task.netlist patterns (task_stock rules task) job choice (groups f.block) (words f.block) f
+  pub tests : (at : ℕ) (f : Fork) → slice_get parts at ≡ Some (Test f)
+      → (job : Work) → slice_get (task_works task) f.tree ≡ Some job
+      → (choice : Choice) → slice_get choices f.tree ≡ Some choice
+      → AreTestWords task.netlist patterns (task_stock rules task) job choice (groups f.block) (words f.block) f
   -- these words, and the jump and branch words between them, are all words of the image, in the
   -- order of the flow
-  pub stand : StandItems task.netlist patterns words (words_of image) 0 (items_from rules (jump_form rules reach) (starts 0 parts) 0 parts)
+  pub stand : StandItems task.netlist patterns words (words_of image) 0
+      (items_from rules (jump_form rules reach) (starts 0 parts) 0 parts)
   pub long : length (words_of image) ≡ total parts
   -- each test has one mark with its tree's number, at the first word of its code, and the last word
   -- has that of the end

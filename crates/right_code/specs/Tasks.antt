@@ -38,7 +38,9 @@ read_task checked typed = record { netlist = checked.netlist; width = typed.widt
 
 -- the data memory with the program's variables, which stand behind the temporary cells
 abbrev pub task_memory : Task → MemoryMap
-task_memory task = memory_map task.width (memory_addr_width task.netlist.storages) (temp_count task.width task.listing) task.listing.vars
+task_memory task =
+    memory_map task.width (memory_addr_width task.netlist.storages)
+    (temp_count task.width task.listing) task.listing.vars
 
 -- the jobs of the program
 abbrev pub task_works : Task → List Work

@@ -22,14 +22,16 @@ use Rattle.branch_fix.specs.declared.laid.Item.TheVariants.{Group, Jump}
 -- block: they hold the steps, each as often; any words that fit the groups leave what the steps
 -- leave one after the other; no two neighbours may be merged, and no step may move to the group
 -- before
-pub record IsPackingOf (netlist : Netlist) (patterns : List Pattern) (steps : List Step) (after : Regs) (groups : List (List Step)) : Type 0 where
+pub record IsPackingOf (netlist : Netlist) (patterns : List Pattern) (steps : List Step)
+    (after : Regs) (groups : List (List Step)) : Type 0 where
   pub holds : IsPermutation steps (all_steps groups)
   pub means : MeansSteps netlist (operation_of patterns) after steps groups
   pub packed : IsPacked (operation_of patterns) (fits_over netlist (operation_of patterns)) after groups
 
 -- each group has one word, the least that fits it with the registers that are live behind it
 abbrev pub AreGroupWords : Netlist → List Pattern → List (List Step) → Regs → List ℕ → Type 0
-AreGroupWords netlist patterns groups after words = AreLeast (operation_of patterns) (fits_over netlist (operation_of patterns)) words groups after
+AreGroupWords netlist patterns groups after words =
+    AreLeast (operation_of patterns) (fits_over netlist (operation_of patterns)) words groups after
 
 -- ---- the words of a layout
 
@@ -37,7 +39,8 @@ AreGroupWords netlist patterns groups after words = AreLeast (operation_of patte
 -- the item's setting that keeps the data memory
 abbrev pub IsItemWord : Netlist → List Pattern → (ℕ → List ℕ) → ℕ → Item → Type 0
 IsItemWord netlist patterns words i (Group block at) = i ≡ slice_index (words block) at
-IsItemWord netlist patterns words i (Jump step) = IsLeastFit (λ word. FitsJump netlist word (operation_of patterns step)) i
+IsItemWord netlist patterns words i (Jump step) =
+    IsLeastFit (λ word. FitsJump netlist word (operation_of patterns step)) i
 
 -- the words of items stand in the code one after the other, from an address on
 abbrev pub StandItems : Netlist → List Pattern → (ℕ → List ℕ) → List ℕ → ℕ → List Item → Type 0
@@ -54,5 +57,6 @@ item_steps groups (Jump step) = step ∷ []
 -- the words of items list the patterns of their steps
 abbrev pub ListItems : (ℕ → List (List Step)) → List Item → List Word → Type 0
 ListItems groups [] [] = Unit {0}
-ListItems groups (item ∷ items) (word ∷ words) = IsPatternList (item_steps groups item) word.patterns × ListItems groups items words
+ListItems groups (item ∷ items) (word ∷ words) =
+    IsPatternList (item_steps groups item) word.patterns × ListItems groups items words
 ListItems groups _ _ = ⊥

@@ -27,7 +27,8 @@ pub fn law_of_lists()
 pub fn law_of_costs()
     ensures jobs { (stock : Stock) (jobs : List Work) (choices others : List Choice) →
         AllChosen stock jobs choices → AllChosen stock jobs others → job_costs jobs choices ≡ job_costs jobs others }
-    ensures task { (task : Task) (costs others : List (ℕ × ℕ)) → AreCosts task costs → AreCosts task others → costs ≡ others }
+    ensures task { (task : Task) (costs others : List (ℕ × ℕ)) → AreCosts task costs →
+        AreCosts task others → costs ≡ others }
     ensures bound { (task : Task) (bound other reach more : ℕ) → HasBound task bound reach → HasBound task other more →
         (bound ≡ other) × (reach ≡ more) }
 {}
@@ -40,16 +41,22 @@ pub fn law_of_bare()
 
 /// The chosen cover of a job of a checked task has no more cuts than the task has temporary cells.
 pub fn law_of_chosen()
-    ensures { (order : List ℕ) (task : Task) → IsChecked order task → (rules : List Rule) (reach : ℕ) → AreFormsOf task.netlist rules reach →
+    ensures { (order : List ℕ) (task : Task) → IsChecked order task →
+        (rules : List Rule) (reach : ℕ) → AreFormsOf task.netlist rules reach →
         (number : ℕ) (job : Work) → slice_get (task_works task) number ≡ Some job →
-        (choice : Choice) → IsChosen (task_stock rules task) job.destination job.trees choice → IsCovered (task_stock rules task) job choice }
+        (choice : Choice) → IsChosen (task_stock rules task) job.destination job.trees choice →
+        IsCovered (task_stock rules task) job choice }
 {}
 
 /// An image that is made for a checked task is right code, which traces the program, where the code
 /// has room for its words and jumps reach them all; they do where they reach as far as the bound.
 pub fn law_of_programs()
-    ensures reach { (order : List ℕ) (task : Task) → IsChecked order task → (image : Image) (made : IsMadeFor task image) →
-        length (words_of image) ≤ code_size task.netlist.codes → length (words_of image) ≤ made.reach → IsRightImage task image }
-    ensures bound { (order : List ℕ) (task : Task) → IsChecked order task → (image : Image) → IsMadeFor task image →
-        (bound reach : ℕ) → HasBound task bound reach → bound ≤ reach → length (words_of image) ≤ code_size task.netlist.codes → IsRightImage task image }
+    ensures reach { (order : List ℕ) (task : Task) → IsChecked order task →
+        (image : Image) (made : IsMadeFor task image) →
+        length (words_of image) ≤ code_size task.netlist.codes →
+        length (words_of image) ≤ made.reach → IsRightImage task image }
+    ensures bound { (order : List ℕ) (task : Task) → IsChecked order task →
+        (image : Image) → IsMadeFor task image → (bound reach : ℕ) → HasBound task bound reach →
+        bound ≤ reach → length (words_of image) ≤ code_size task.netlist.codes →
+        IsRightImage task image }
 {}

@@ -5,17 +5,17 @@ use Rattle.sym_expr.specs.declared.pool.Node.{Node}
 use Rattle.sym_expr.specs.Pools.{AllBelow, Grows, term_at}
 use Rattle.sym_expr.proofs.CallerLemmas.{same_term}
 use Rattle.transfer_set.specs.declared.route.Route.{Route}
-use Rattle.route_trace.specs.declared.heads.Two.{Two}
-use Rattle.route_trace.specs.declared.heads.Two.TheVariants.{Select}
-use Rattle.route_trace.specs.Inner.Heads.{two_parts}
+use Rattle.route_trace.specs.declared.heads.Binary.{Binary}
+use Rattle.route_trace.specs.declared.heads.Binary.TheVariants.{Select}
+use Rattle.route_trace.specs.Inner.Heads.{binary_parts}
 use Rattle.transfer_set.specs.Routes.{AllExprs}
 use Rattle.route_trace.specs.Inner.Routing.{AllBinaryFit, each, pairs}
 use Rattle.route_trace.specs.Inner.Selects.{AllSelectFit, under}
-use Rattle.route_trace.proofs.Loops.{two_below, all_fit_later}
+use Rattle.route_trace.proofs.Loops.{binary_below, all_fit_later}
 
-pub two_fit_later : (old new : List Node) → Grows old new → (two : Two) → AllBelow (length old) (two_parts two) → (xs ys : List Route) → AllExprs (length old) xs → AllExprs (length old) ys → AllBinaryFit two old xs ys → AllBinaryFit two new xs ys
-two_fit_later old new g two p [] ys e k f = tt
-two_fit_later old new g two p (x ∷ xs) ys e k f = (all_fit_later old new g _ (two_below (length old) two x.expr e.0 p) ys k f.0, two_fit_later old new g two p xs ys e.1 k f.1)
+pub binary_fit_later : (old new : List Node) → Grows old new → (binary : Binary) → AllBelow (length old) (binary_parts binary) → (xs ys : List Route) → AllExprs (length old) xs → AllExprs (length old) ys → AllBinaryFit binary old xs ys → AllBinaryFit binary new xs ys
+binary_fit_later old new g binary p [] ys e k f = tt
+binary_fit_later old new g binary p (x ∷ xs) ys e k f = (all_fit_later old new g _ (binary_below (length old) binary x.expr e.0 p) ys k f.0, binary_fit_later old new g binary p xs ys e.1 k f.1)
 
 pub select_fit_at : (pool : List Node) (xs ys zs : List Route) (i : ℕ) (c : Route) → slice_get xs i ≡ Some c → AllSelectFit pool xs ys zs → AllBinaryFit (Select c.expr) pool ys zs
 select_fit_at pool [] ys zs i c at f = absurd (cc)

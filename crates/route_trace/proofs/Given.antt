@@ -8,8 +8,8 @@ use Rattle.sym_expr.specs.declared.pool.Node.{Node}
 use Rattle.sym_expr.specs.Pools.{term_at}
 use Rattle.transfer_set.specs.declared.route.Route.{Route}
 use Rattle.route_trace.specs.declared.heads.Head.{Head}
-use Rattle.route_trace.specs.declared.heads.Two.{Two}
-use Rattle.route_trace.specs.Inner.Heads.{LastFits, two_head}
+use Rattle.route_trace.specs.declared.heads.Binary.{Binary}
+use Rattle.route_trace.specs.Inner.Heads.{LastFits, binary_head}
 use Rattle.transfer_set.specs.Routes.{terms_under, routes_at, only}
 use Rattle.route_trace.specs.Inner.Routing.{passes, first_terms, AllFit, AllBinaryFit}
 use Rattle.route_trace.specs.Inner.Gates.{rest_terms, AllGive, AllWide, RowTests, DriverTests}
@@ -19,9 +19,9 @@ pub fit_wide : (head : Head) (pool : List Node) (width : ℕ) → LastFits head 
 fit_wide head pool width f [] w = tt
 fit_wide head pool width f (r ∷ routes) w = (subst (λ n. LastFits head (term_at pool) n) (sym w.0) f, fit_wide head pool width f routes w.1)
 
-pub two_fit_wide : (two : Two) (pool : List Node) (first second : ℕ) → ((a : ℕ) → term_width (term_at pool a) ≡ first → LastFits (two_head two a) (term_at pool) second) → (xs ys : List Route) → AllWide pool first xs → AllWide pool second ys → AllBinaryFit two pool xs ys
-two_fit_wide two pool first second f [] ys v w = tt
-two_fit_wide two pool first second f (x ∷ xs) ys v w = (fit_wide (two_head two x.expr) pool second (f x.expr v.0) ys w, two_fit_wide two pool first second f xs ys v.1 w)
+pub binary_fit_wide : (binary : Binary) (pool : List Node) (first second : ℕ) → ((a : ℕ) → term_width (term_at pool a) ≡ first → LastFits (binary_head binary a) (term_at pool) second) → (xs ys : List Route) → AllWide pool first xs → AllWide pool second ys → AllBinaryFit binary pool xs ys
+binary_fit_wide binary pool first second f [] ys v w = tt
+binary_fit_wide binary pool first second f (x ∷ xs) ys v w = (fit_wide (binary_head binary x.expr) pool second (f x.expr v.0) ys w, binary_fit_wide binary pool first second f xs ys v.1 w)
 
 -- the first test that holds
 module _ (book : Diagrams) (pool : List Node) (nets : List (List Route)) (legal : ℕ) (t : ℕ → Term) (word width : ℕ) (is : has_word book legal word ≡ true) where

@@ -9,9 +9,9 @@ use Rattle.sym_expr.specs.Pools.{AllBelow, Grows, term_at}
 use Rattle.sym_expr.proofs.CallerLemmas.{grows_refl, same_term}
 use Rattle.transfer_set.specs.declared.route.Route.{Route}
 use Rattle.route_trace.specs.declared.heads.Head.{Head}
-use Rattle.route_trace.specs.declared.heads.Two.{Two}
-use Rattle.route_trace.specs.declared.heads.Two.TheVariants.{Bin, Cat, Select}
-use Rattle.route_trace.specs.Inner.Heads.{head_parts, head_term, two_head, two_parts, two_term}
+use Rattle.route_trace.specs.declared.heads.Binary.{Binary}
+use Rattle.route_trace.specs.declared.heads.Binary.TheVariants.{Bin, Cat, Select}
+use Rattle.route_trace.specs.Inner.Heads.{binary_head, binary_parts, binary_term, head_parts, head_term}
 use Rattle.transfer_set.specs.Routes.{row, exprs_under, terms_under, AllExprs, IsRouteTable}
 use Rattle.route_trace.specs.Inner.Routing.{each, AllFit, AllBinaryFit}
 use Rattle.route_trace.proofs.Products.{both_later, held_more, none_before, fits-later}
@@ -64,26 +64,26 @@ module _ (f : Term → List Term) (book : Diagrams) (pool : List Node) (routes :
 
 -- ---- two operands
 
-pub two_below : (n : ℕ) (two : Two) (a : ℕ) → a < n → AllBelow n (two_parts two) → AllBelow n (head_parts (two_head two a))
-two_below n (Bin o) a h p = (h, tt)
-two_below n Cat a h p = (h, tt)
-two_below n (Select c) a h p = (p.0, (h, tt))
+pub binary_below : (n : ℕ) (binary : Binary) (a : ℕ) → a < n → AllBelow n (binary_parts binary) → AllBelow n (head_parts (binary_head binary a))
+binary_below n (Bin o) a h p = (h, tt)
+binary_below n Cat a h p = (h, tt)
+binary_below n (Select c) a h p = (p.0, (h, tt))
 
 -- under a pool that grew
-pub two-same : (old new : List Node) → Grows old new → (two : Two) → AllBelow (length old) (two_parts two) → (a : ℕ) → a < length old → (b : Term) → head_term (two_head two a) (term_at new) b ≡ two_term two (term_at old) (term_at old a) b
-two-same old new g (Bin o) p a h b = let e = same_term old new g a h in (λ j. bin o (e j) b)
-two-same old new g Cat p a h b = let e = same_term old new g a h in (λ j. cat (e j) b)
-two-same old new g (Select c) p a h b = let d = same_term old new g c p.0 in let e = same_term old new g a h in (λ j. select (d j) (e j) b)
+pub binary-same : (old new : List Node) → Grows old new → (binary : Binary) → AllBelow (length old) (binary_parts binary) → (a : ℕ) → a < length old → (b : Term) → head_term (binary_head binary a) (term_at new) b ≡ binary_term binary (term_at old) (term_at old a) b
+binary-same old new g (Bin o) p a h b = let e = same_term old new g a h in (λ j. bin o (e j) b)
+binary-same old new g Cat p a h b = let e = same_term old new g a h in (λ j. cat (e j) b)
+binary-same old new g (Select c) p a h b = let d = same_term old new g c p.0 in let e = same_term old new g a h in (λ j. select (d j) (e j) b)
 
 pub all_fit_later : (old new : List Node) → Grows old new → (head : Head) → AllBelow (length old) (head_parts head) → (routes : List Route) → AllExprs (length old) routes → AllFit head old routes → AllFit head new routes
 all_fit_later old new g head p [] e f = tt
 all_fit_later old new g head p (r ∷ routes) e f =
     (fits-later old new g head p _ _ (sym (ap term_width (same_term old new g r.expr e.0))) f.0, all_fit_later old new g head p routes e.1 f.1)
 
-pub two_fit_at : (two : Two) (pool : List Node) (xs bs : List Route) (i : ℕ) (a : Route) → slice_get xs i ≡ Some a → AllBinaryFit two pool xs bs → AllFit (two_head two a.expr) pool bs
-two_fit_at two pool [] bs i a at f = absurd (cc)
-two_fit_at two pool (x ∷ xs) bs zero a at f = (let e : x ≡ a = cc in subst (λ (r : Route). AllFit (two_head two r.expr) pool bs) e f.0)
-two_fit_at two pool (x ∷ xs) bs (suc i) a at f = two_fit_at two pool xs bs i a at f.1
+pub binary_fit_at : (binary : Binary) (pool : List Node) (xs bs : List Route) (i : ℕ) (a : Route) → slice_get xs i ≡ Some a → AllBinaryFit binary pool xs bs → AllFit (binary_head binary a.expr) pool bs
+binary_fit_at binary pool [] bs i a at f = absurd (cc)
+binary_fit_at binary pool (x ∷ xs) bs zero a at f = (let e : x ≡ a = cc in subst (λ (r : Route). AllFit (binary_head binary r.expr) pool bs) e f.0)
+binary_fit_at binary pool (x ∷ xs) bs (suc i) a at f = binary_fit_at binary pool xs bs i a at f.1
 
 pub map-same : (f g : Term → Term) → ((t : Term) → f t ≡ g t) → (ts us : List Term) → ts ≡ us → map f ts ≡ map g us
 map-same f g h ts us e = ap (map f) e ∙ by us

@@ -12,13 +12,13 @@ use Rattle.sym_expr.proofs.CallerLemmas.{same_term}
 use Rattle.ctl_bdd.specs.Bits.{number_at}
 use Rattle.transfer_set.specs.declared.route.Route.{Route}
 use Rattle.transfer_set.specs.Routes.{routes_at, only, AllExprs}
-use Rattle.route_trace.specs.declared.heads.Two.TheVariants.{Select}
+use Rattle.route_trace.specs.declared.heads.Binary.TheVariants.{Select}
 use Rattle.route_trace.specs.Inner.Routing.{AreTables}
 use Rattle.route_trace.specs.Inner.Gates.{AllGive, AllWide, DriverTests}
 use Rattle.route_trace.specs.Inner.Selects.{AllSelectFit, selects}
 use Rattle.route_trace.specs.Inner.Tests.{AreEnabledAt, AreRowsWide, IsTargetWide, sets_in, target, target_terms}
 use Rattle.route_trace.proofs.Products.{both_later}
-use Rattle.route_trace.proofs.Given.{two_fit_wide}
+use Rattle.route_trace.proofs.Given.{binary_fit_wide}
 
 pub wide_later : (old new : List Node) → Grows old new → (width : ℕ) (routes : List Route) → AllExprs (length old) routes → AllWide old width routes → AllWide new width routes
 wide_later old new g width [] e w = tt
@@ -66,7 +66,7 @@ selects_given false x y z xs ys zs new e f g h = h
 pub select_fit_wide : (pool : List Node) (width : ℕ) (choices firsts seconds : List Route) → AllWide pool 1 choices → AllWide pool width firsts → AllWide pool width seconds → AllSelectFit pool choices firsts seconds
 select_fit_wide pool width [] firsts seconds c f s = tt
 select_fit_wide pool width (choice ∷ choices) firsts seconds c f s =
-    (two_fit_wide (Select choice.expr) pool width width (λ a e. (c.0, sym e)) firsts seconds f s, select_fit_wide pool width choices firsts seconds c.1 f s)
+    (binary_fit_wide (Select choice.expr) pool width width (λ a e. (c.0, sym e)) firsts seconds f s, select_fit_wide pool width choices firsts seconds c.1 f s)
 
 -- tests of drivers by the values of their enables
 pub drivers_valued : (book : Diagrams) (bits : List (ℕ × List ℕ)) (word : ℕ) (u : ℕ → ℕ) (tests drivers : List (ℕ × ℕ)) → AreEnabledAt book bits word u drivers

@@ -15,27 +15,35 @@ use Rattle.transfer_set.specs.Routes.{AreRoutes, IsSet, RouteIs, exprs_under, ro
 
 -- the set of each route of a net is all words of `legal` with its expression
 abbrev pub AreExact : Type 0
-AreExact = (netlist : Netlist) (book : Diagrams) (pool : List Node) (legal : ℕ) (nets : List (List Route)) → IsOneEach pool → AreRoutes netlist book pool legal nets
-    → (n : ℕ) → n < length netlist.nets → (place : ℕ) (route : Route) → slice_get (routes_at nets n) place ≡ Some route
+AreExact =
+    (netlist : Netlist) (book : Diagrams) (pool : List Node) (legal : ℕ) (nets : List (List Route))
+    → IsOneEach pool → AreRoutes netlist book pool legal nets → (n : ℕ) → n < length netlist.nets
+    → (place : ℕ) (route : Route) → slice_get (routes_at nets n) place ≡ Some route
     → RouteIs book pool legal (λ word. sym_of netlist word n) route
 
 -- the one expression that a net's routes give a word
-pub record HasOne (book : Diagrams) (pool : List Node) (netlist : Netlist) (n word : ℕ) (routes : List Route) : Type 0 where
+pub record HasOne (book : Diagrams) (pool : List Node) (netlist : Netlist) (n word : ℕ)
+    (routes : List Route) : Type 0 where
   pub expr : ℕ
   pub only : exprs_under book routes word ≡ expr ∷ []
   pub term : term_at pool expr ≡ sym_of netlist word n
 
 -- each word of `legal` is in one route's set alone, and each set holds a word
 abbrev pub AreWhole : Type 0
-AreWhole = (netlist : Netlist) (book : Diagrams) (pool : List Node) (legal : ℕ) (nets : List (List Route)) → AreRoutes netlist book pool legal nets
-    → (n : ℕ) → n < length netlist.nets
-    → ((word : ℕ) → word < 2 ^ book.bits → has_word book legal word ≡ true → HasOne book pool netlist n word (routes_at nets n))
+AreWhole =
+    (netlist : Netlist) (book : Diagrams) (pool : List Node) (legal : ℕ) (nets : List (List Route))
+    → AreRoutes netlist book pool legal nets → (n : ℕ) → n < length netlist.nets
+    → ((word : ℕ) → word < 2 ^ book.bits → has_word book legal word ≡ true
+    → HasOne book pool netlist n word (routes_at nets n))
     × ((place : ℕ) (route : Route) → slice_get (routes_at nets n) place ≡ Some route → IsSet book route.set)
 
 -- what a route's expression means is the net's value, in each state, under each word of its set
 abbrev pub RoutesMean : Type 0
-RoutesMean = (netlist : Netlist) (s : State) (book : Diagrams) (pool : List Node) (legal : ℕ) (nets : List (List Route)) → IsTyped netlist → IsControlled netlist → StateFits netlist s
-    → IsOneEach pool → AreRoutes netlist book pool legal nets
-    → (n : ℕ) → n < length netlist.nets → (place : ℕ) (route : Route) → slice_get (routes_at nets n) place ≡ Some route
-    → (word : ℕ) → word < 2 ^ book.bits → WordFits netlist word → has_word book route.set word ≡ true
+RoutesMean =
+    (netlist : Netlist) (s : State) (book : Diagrams) (pool : List Node) (legal : ℕ) (nets : List (List Route))
+    → IsTyped netlist → IsControlled netlist → StateFits netlist s → IsOneEach pool
+    → AreRoutes netlist book pool legal nets → (n : ℕ) → n < length netlist.nets
+    → (place : ℕ) (route : Route) → slice_get (routes_at nets n) place ≡ Some route
+    → (word : ℕ) → word < 2 ^ book.bits → WordFits netlist word
+    → has_word book route.set word ≡ true
     → mean (term_at pool route.expr) s word ≡ value_of netlist s word n

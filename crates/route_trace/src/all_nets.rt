@@ -51,8 +51,10 @@ fn collect(
     ensures tables { IfOk result (λ both. (n : ℕ) → IsRouteTable book.new pool.new (routes_at both.0 n)) }
     ensures found { IfOk result (λ both. (n : ℕ) → n < length checked.now.netlist.nets →
         IsFound checked.now.netlist n (verdict_at both.1 n)) }
-    ensures gives { IfOk result (λ both. (n : ℕ) → n < length checked.now.netlist.nets → kept_at both.1 n ≡ true →
-        GivesTerm book.new pool.new controls.now.legal (λ word. sym_of checked.now.netlist word n) (routes_at both.0 n)) }
+    ensures gives { IfOk result (λ both. (n : ℕ) → n < length checked.now.netlist.nets →
+        kept_at both.1 n ≡ true →
+        GivesTerm book.new pool.new controls.now.legal (λ word. sym_of checked.now.netlist word n)
+        (routes_at both.0 n)) }
 {
     let netlist = checked.netlist();
     let nets = netlist.nets.as_slice();
@@ -98,7 +100,8 @@ pub fn trace(
     requires word { book.old.bits ≡ word_width checked.now.netlist }
     ensures book { Extends book.old book.new }
     ensures pool { Grows pool.old pool.new }
-    ensures routes { IfOk result (λ routes. AreRoutes checked.now.netlist book.new pool.new controls.now.legal routes.of) }
+    ensures routes { IfOk result (λ routes.
+        AreRoutes checked.now.netlist book.new pool.new controls.now.legal routes.of) }
     ensures limits { IfOk result (λ _. KeepsLimits checked.now.netlist) }
     ensures refusal { IfErr result (IsRouteFault checked.now.netlist) }
 {

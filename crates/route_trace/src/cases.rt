@@ -57,7 +57,8 @@ fn row_routes(
     ensures book { Extends book.old book.new }
     ensures pool { Grows pool.old pool.new }
     ensures table { IfOk result (λ out. IsRouteTable book.new pool.new out) }
-    ensures one { IfOk result (λ out. (word : ℕ) → word < 2 ^ book.old.bits → length (exprs_under book.new out word) ≤ 1) }
+    ensures one { IfOk result (λ out.
+        (word : ℕ) → word < 2 ^ book.old.bits → length (exprs_under book.new out word) ≤ 1) }
     ensures wide { IfOk result (λ out. AllWide pool.new width out) }
     ensures terms { IfOk result (λ out. (word : ℕ) → word < 2 ^ book.old.bits →
         terms_under book.new pool.new out word ≡ target_terms book.old pool.old nets.now legal width net word) }
@@ -97,13 +98,17 @@ fn select_routes(
     ensures pool { Grows pool.old pool.new }
     ensures table { IfOk result (λ out. IsRouteTable book.new pool.new out) }
     ensures terms { IfOk result (λ out. (word : ℕ) → word < 2 ^ book.old.bits →
-        terms_under book.new pool.new out word ≡
-        (if has_word book.old legal word
-        then selects (terms_under book.old pool.old (routes_at nets.now sel) word) (target_terms book.old pool.old nets.now legal width one word) (target_terms book.old pool.old nets.now legal width zero word)
+        terms_under book.new pool.new out word
+        ≡ (if has_word book.old legal word
+        then selects (terms_under book.old pool.old (routes_at nets.now sel) word)
+        (target_terms book.old pool.old nets.now legal width one word)
+        (target_terms book.old pool.old nets.now legal width zero word)
         else [])) }
-    ensures many { IfErr result (λ stop. IfMany stop (IsOver book.new pool.new (λ word terms. terms ≡
-        (if has_word book.old legal word
-        then selects (terms_under book.old pool.old (routes_at nets.now sel) word) (target_terms book.old pool.old nets.now legal width one word) (target_terms book.old pool.old nets.now legal width zero word)
+    ensures many { IfErr result (λ stop. IfMany stop (IsOver book.new pool.new
+        (λ word terms. terms ≡ (if has_word book.old legal word
+        then selects (terms_under book.old pool.old (routes_at nets.now sel) word)
+        (target_terms book.old pool.old nets.now legal width one word)
+        (target_terms book.old pool.old nets.now legal width zero word)
         else [])))) }
 {
     let ones = row_routes(alloc, book, pool, legal, nets, one, width)?;
@@ -149,19 +154,20 @@ pub(crate) fn case_routes(
     ensures book { Extends book.old book.new }
     ensures pool { Grows pool.old pool.new }
     ensures table { IfOk result (λ out. IsRouteTable book.new pool.new out) }
-    ensures terms { IfOk result (λ out. (t : ℕ → Term) → (u : ℕ → ℕ) → (f : ℕ → Bool) → (word : ℕ) → word < 2 ^ book.old.bits →
+    ensures terms { IfOk result (λ out. (t : ℕ → Term) → (u : ℕ → ℕ) → (f : ℕ → Bool) →
+        (word : ℕ) → word < 2 ^ book.old.bits →
         AllGive book.old pool.old nets.now controls.now.legal t word (sel ∷ row_nets rows.now rest) →
         IsSelectedAt book.old (sets_in controls.now.bits sel) word u f sel →
-        terms_under book.new pool.new out word ≡
-        only book.old controls.now.legal word
-        (if f sel then case_term t width (u sel) rows.now rest
+        terms_under book.new pool.new out word
+        ≡ only book.old controls.now.legal word (if f sel
+        then case_term t width (u sel) rows.now rest
         else select (t sel) (case_term t width 1 rows.now rest) (case_term t width 0 rows.now rest))) }
-    ensures many { IfErr result (λ stop. IfMany stop (IsOver book.new pool.new (λ word terms. (t : ℕ → Term) → (u : ℕ → ℕ) → (f : ℕ → Bool) →
+    ensures many { IfErr result (λ stop. IfMany stop (IsOver book.new pool.new
+        (λ word terms. (t : ℕ → Term) → (u : ℕ → ℕ) → (f : ℕ → Bool) →
         AllGive book.old pool.old nets.now controls.now.legal t word (sel ∷ row_nets rows.now rest) →
         IsSelectedAt book.old (sets_in controls.now.bits sel) word u f sel →
-        terms ≡
-        only book.old controls.now.legal word
-        (if f sel then case_term t width (u sel) rows.now rest
+        terms ≡ only book.old controls.now.legal word (if f sel
+        then case_term t width (u sel) rows.now rest
         else select (t sel) (case_term t width 1 rows.now rest) (case_term t width 0 rows.now rest))))) }
 {
     let legal = controls.legal;
@@ -203,11 +209,14 @@ pub(crate) fn bus_routes(
     ensures book { Extends book.old book.new }
     ensures pool { Grows pool.old pool.new }
     ensures table { IfOk result (λ out. IsRouteTable book.new pool.new out) }
-    ensures terms { IfOk result (λ out. (t : ℕ → Term) → (u : ℕ → ℕ) → (word : ℕ) → word < 2 ^ book.old.bits →
+    ensures terms { IfOk result (λ out. (t : ℕ → Term) → (u : ℕ → ℕ) → (word : ℕ) →
+        word < 2 ^ book.old.bits →
         AllGive book.old pool.old nets.now controls.now.legal t word (driver_nets drivers.now) →
         AreEnabledAt book.old controls.now.bits word u drivers.now →
-        terms_under book.new pool.new out word ≡ only book.old controls.now.legal word (bus_term t u width drivers.now)) }
-    ensures many { IfErr result (λ stop. IfMany stop (IsOver book.new pool.new (λ word terms. (t : ℕ → Term) → (u : ℕ → ℕ) →
+        terms_under book.new pool.new out word
+        ≡ only book.old controls.now.legal word (bus_term t u width drivers.now)) }
+    ensures many { IfErr result (λ stop. IfMany stop (IsOver book.new pool.new
+        (λ word terms. (t : ℕ → Term) → (u : ℕ → ℕ) →
         AllGive book.old pool.old nets.now controls.now.legal t word (driver_nets drivers.now) →
         AreEnabledAt book.old controls.now.bits word u drivers.now →
         terms ≡ only book.old controls.now.legal word (bus_term t u width drivers.now)))) }

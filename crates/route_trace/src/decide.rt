@@ -38,7 +38,8 @@ pub(crate) fn row_tests(
     requires keys { AllByRecursion (λ row. row.0 < 2 ^ length bits.now) rows.now }
     ensures book { Extends book.old book.new }
     ensures sets { IfOk result (AllTests book.new) }
-    ensures tests { IfOk result (λ tests. (word : ℕ) → RowTests book.new word (number_at book.old bits.now word) tests rows.now) }
+    ensures tests { IfOk result (λ tests.
+        (word : ℕ) → RowTests book.new word (number_at book.old bits.now word) tests rows.now) }
 {
     let mut tests = Items::new(alloc);
     for row in rows {

@@ -59,17 +59,22 @@ pub(crate) fn add_first(
     requires tests { AllTests book.old tests.now }
     requires nets { AreTables book.old pool.old nets.now }
     requires table { IsRouteTable book.old pool.old out.old }
-    requires apart { (word : ℕ) → word < 2 ^ book.old.bits → has_word book.old set word ≡ true → exprs_under book.old out.old word ≡ [] }
+    requires apart { (word : ℕ) → word < 2 ^ book.old.bits → has_word book.old set word ≡ true →
+        exprs_under book.old out.old word ≡ [] }
     ensures book { Extends book.old book.new }
     ensures pool { Grows pool.old pool.new }
     ensures table { OnOk result (IsRouteTable book.new pool.new out.new) }
     ensures terms { OnOk result ((word : ℕ) → word < 2 ^ book.old.bits →
-        terms_under book.new pool.new out.new word ≡ (if has_word book.old set word then first_terms book.old pool.old nets.now word tests.now else terms_under book.old pool.old out.old word)) }
+        terms_under book.new pool.new out.new word
+        ≡ (if has_word book.old set word then first_terms book.old pool.old nets.now word tests.now
+        else terms_under book.old pool.old out.old word)) }
     ensures left_within { IfOk result (λ left. left < length book.new.nodes) }
     ensures left { IfOk result (λ left. (word : ℕ) → word < 2 ^ book.old.bits →
         has_word book.new left word ≡ (has_word book.old set word && not (passes book.old word tests.now))) }
-    ensures many { IfErr result (λ stop. IfMany stop (IsOver book.new pool.new (λ word terms.
-        terms ≡ (if has_word book.old set word then first_terms book.old pool.old nets.now word tests.now else terms_under book.old pool.old out.old word)))) }
+    ensures many { IfErr result (λ stop. IfMany stop (IsOver book.new pool.new
+        (λ word terms. terms ≡ (if has_word book.old set word
+        then first_terms book.old pool.old nets.now word tests.now
+        else terms_under book.old pool.old out.old word)))) }
 {
     let mut left = set;
     for test in tests {

@@ -3,14 +3,14 @@
 ghost use Rattle.std.specs.Prelude.{◌≡◌, ℕ, ◌+◌, ◌^◌, ◌<◌, ◌≤◌, ◌&&◌, not, [], ◌∷◌, map, length, IfErr, IfOk, OnOk, true, if◌then◌else◌};
 ghost use Rattle.bit_bdd.specs.Diagrams.{Extends, has_word};
 ghost use Rattle.sym_expr.specs.Pools.{AllBelow, Grows, HeadFits, node_term, children_of, term_at};
-ghost use Rattle.route_trace.specs.Inner.Heads.{head_parts, head_term, two_parts};
+ghost use Rattle.route_trace.specs.Inner.Heads.{binary_parts, head_parts, head_term};
 ghost use Rattle.route_trace.specs.Inner.Routing.{AllFit, AllTests, AllBinaryFit, AreTables, first_terms, passes, pairs};
 ghost use Rattle.route_trace.specs.Inner.Stops.{IfMany, IsOver};
 ghost use Rattle.transfer_set.specs.Routes.{IsRouteTable, exprs_under, terms_under, routes_at};
 ghost use Rattle.route_trace.specs.Inner.Gates.{rest_terms};
 
 use crate::first::{add_first, routes_of};
-use crate::heads::{Head, Two};
+use crate::heads::{Binary, Head};
 use crate::merge::add_route;
 use crate::pairs::add_pairs;
 use crate::product::add_all;
@@ -34,12 +34,15 @@ fn add_leaf(
     requires leaf { children_of node ≡ [] }
     requires fits { HeadFits (node_term node (term_at pool.old)) }
     requires table { IsRouteTable book.old pool.old out.old }
-    requires apart { (word : ℕ) → word < 2 ^ book.old.bits → has_word book.old set word ≡ true → exprs_under book.old out.old word ≡ [] }
+    requires apart { (word : ℕ) → word < 2 ^ book.old.bits → has_word book.old set word ≡ true →
+        exprs_under book.old out.old word ≡ [] }
     ensures book { Extends book.old book.new }
     ensures pool { Grows pool.old pool.new }
     ensures table { OnOk result (IsRouteTable book.new pool.new out.new) }
     ensures terms { OnOk result ((word : ℕ) → word < 2 ^ book.old.bits →
-        terms_under book.new pool.new out.new word ≡ (if has_word book.old set word then node_term node (term_at pool.old) ∷ [] else terms_under book.old pool.old out.old word)) }
+        terms_under book.new pool.new out.new word
+        ≡ (if has_word book.old set word then node_term node (term_at pool.old) ∷ []
+        else terms_under book.old pool.old out.old word)) }
 {
     match book.least(set) {
         None => Ok(()),
@@ -66,7 +69,8 @@ pub(crate) fn leaf_routes(
     ensures pool { Grows pool.old pool.new }
     ensures table { IfOk result (λ out. IsRouteTable book.new pool.new out) }
     ensures terms { IfOk result (λ out. (word : ℕ) → word < 2 ^ book.old.bits →
-        terms_under book.new pool.new out word ≡ (if has_word book.old legal word then node_term node (term_at pool.old) ∷ [] else [])) }
+        terms_under book.new pool.new out word
+        ≡ (if has_word book.old legal word then node_term node (term_at pool.old) ∷ [] else [])) }
 {
     let mut out = Items::new(alloc);
     add_leaf(alloc, book, pool, &mut out, legal, node)?;
@@ -91,9 +95,14 @@ pub(crate) fn routes_under(
     ensures pool { Grows pool.old pool.new }
     ensures table { IfOk result (λ out. IsRouteTable book.new pool.new out) }
     ensures terms { IfOk result (λ out. (word : ℕ) → word < 2 ^ book.old.bits →
-        terms_under book.new pool.new out word ≡ (if has_word book.old legal word then map (head_term head (term_at pool.old)) (terms_under book.old pool.old (routes_at nets.now a) word) else [])) }
-    ensures many { IfErr result (λ stop. IfMany stop (IsOver book.new pool.new (λ word terms.
-        terms ≡ (if has_word book.old legal word then map (head_term head (term_at pool.old)) (terms_under book.old pool.old (routes_at nets.now a) word) else [])))) }
+        terms_under book.new pool.new out word
+        ≡ (if has_word book.old legal word
+        then map (head_term head (term_at pool.old)) (terms_under book.old pool.old (routes_at nets.now a) word)
+        else [])) }
+    ensures many { IfErr result (λ stop. IfMany stop (IsOver book.new pool.new
+        (λ word terms. terms ≡ (if has_word book.old legal word
+        then map (head_term head (term_at pool.old)) (terms_under book.old pool.old (routes_at nets.now a) word)
+        else [])))) }
 {
     let mut out = Items::new(alloc);
     let routes = routes_of(nets, a);
@@ -107,27 +116,38 @@ pub(crate) fn routes_over(
     book: &mut Book,
     pool: &mut Pool,
     legal: SetId,
-    two: Two,
+    binary: Binary,
     nets: &[Items<Route>],
     a: u32,
     b: u32,
 ) -> Result<Items<Route>, Stop>
     requires legal { legal < length book.old.nodes }
-    requires parts { AllBelow (length pool.old) (two_parts two) }
+    requires parts { AllBelow (length pool.old) (binary_parts binary) }
     requires nets { AreTables book.old pool.old nets.now }
-    requires fits { AllBinaryFit two pool.old (routes_at nets.now a) (routes_at nets.now b) }
+    requires fits { AllBinaryFit binary pool.old (routes_at nets.now a) (routes_at nets.now b) }
     ensures book { Extends book.old book.new }
     ensures pool { Grows pool.old pool.new }
     ensures table { IfOk result (λ out. IsRouteTable book.new pool.new out) }
     ensures terms { IfOk result (λ out. (word : ℕ) → word < 2 ^ book.old.bits →
-        terms_under book.new pool.new out word ≡ (if has_word book.old legal word then pairs two (term_at pool.old) (terms_under book.old pool.old (routes_at nets.now a) word) (terms_under book.old pool.old (routes_at nets.now b) word) else [])) }
-    ensures many { IfErr result (λ stop. IfMany stop (IsOver book.new pool.new (λ word terms.
-        terms ≡ (if has_word book.old legal word then pairs two (term_at pool.old) (terms_under book.old pool.old (routes_at nets.now a) word) (terms_under book.old pool.old (routes_at nets.now b) word) else [])))) }
+        terms_under book.new pool.new out word
+        ≡ (if has_word book.old legal word
+        then pairs binary (term_at pool.old)
+        (terms_under book.old pool.old (routes_at nets.now a) word)
+        (terms_under book.old pool.old (routes_at nets.now b) word)
+        else [])) }
+    ensures many { IfErr result (λ stop. IfMany stop (IsOver book.new pool.new
+        (λ word terms. terms ≡ (if has_word book.old legal word
+        then pairs binary (term_at pool.old)
+        (terms_under book.old pool.old (routes_at nets.now a) word)
+        (terms_under book.old pool.old (routes_at nets.now b) word)
+        else [])))) }
 {
     let mut out = Items::new(alloc);
     let firsts = routes_of(nets, a);
     let seconds = routes_of(nets, b);
-    add_pairs(alloc, book, pool, &mut out, two, legal, firsts, seconds, 0)?;
+    add_pairs(
+        alloc, book, pool, &mut out, binary, legal, firsts, seconds, 0,
+    )?;
     Ok(out)
 }
 
@@ -151,9 +171,18 @@ pub(crate) fn routes_of_first(
     ensures pool { Grows pool.old pool.new }
     ensures table { IfOk result (λ out. IsRouteTable book.new pool.new out) }
     ensures terms { IfOk result (λ out. (word : ℕ) → word < 2 ^ book.old.bits →
-        terms_under book.new pool.new out word ≡ (if has_word book.old legal word then (if passes book.old word tests.now then first_terms book.old pool.old nets.now word tests.now else rest_terms book.old pool.old nets.now width rest word) else [])) }
-    ensures many { IfErr result (λ stop. IfMany stop (IsOver book.new pool.new (λ word terms.
-        terms ≡ (if has_word book.old legal word then (if passes book.old word tests.now then first_terms book.old pool.old nets.now word tests.now else rest_terms book.old pool.old nets.now width rest word) else [])))) }
+        terms_under book.new pool.new out word
+        ≡ (if has_word book.old legal word
+        then (if passes book.old word tests.now
+        then first_terms book.old pool.old nets.now word tests.now
+        else rest_terms book.old pool.old nets.now width rest word)
+        else [])) }
+    ensures many { IfErr result (λ stop. IfMany stop (IsOver book.new pool.new
+        (λ word terms. terms ≡ (if has_word book.old legal word
+        then (if passes book.old word tests.now
+        then first_terms book.old pool.old nets.now word tests.now
+        else rest_terms book.old pool.old nets.now width rest word)
+        else [])))) }
 {
     let mut out = Items::new(alloc);
     let left = add_first(alloc, book, pool, &mut out, legal, tests, nets)?;

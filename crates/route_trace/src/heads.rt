@@ -4,7 +4,7 @@ ghost use Rattle.std.specs.Prelude.{◌≡◌, ℕ, ◌<◌, ◌≤◌, length, 
 ghost use Rattle.net_model.specs.Symbolic.{sliced};
 ghost use Rattle.net_model.specs.Terms.{term_width};
 ghost use Rattle.sym_expr.specs.Pools.{AllBelow, Grows, term_at};
-ghost use Rattle.route_trace.specs.Inner.Heads.{LastFits, head_parts, head_term, slice_parts, two_head};
+ghost use Rattle.route_trace.specs.Inner.Heads.{LastFits, binary_head, head_parts, head_term, slice_parts};
 
 use rec_bits::{NoMemory, Op1, Op2};
 use std::alloc::Global;
@@ -99,19 +99,19 @@ pub(crate) fn close(
 
 // An operator that lacks its last two operands.
 #[derive(Clone, Copy)]
-pub(crate) enum Two {
+pub(crate) enum Binary {
     Bin(Op2),
     Cat,
     Select(ExprId),
 }
 
 // The operator with the first of the two.
-pub(crate) fn with_first(two: Two, a: ExprId) -> Head
-    ensures { result ≡ two_head two a }
+pub(crate) fn with_first(binary: Binary, a: ExprId) -> Head
+    ensures { result ≡ binary_head binary a }
 {
-    match two {
-        Two::Bin(op) => Head::Bin(op, a),
-        Two::Cat => Head::Cat(a),
-        Two::Select(c) => Head::Select(c, a),
+    match binary {
+        Binary::Bin(op) => Head::Bin(op, a),
+        Binary::Cat => Head::Cat(a),
+        Binary::Select(c) => Head::Select(c, a),
     }
 }

@@ -68,7 +68,8 @@ pub(crate) fn held_words(
     ensures book { Extends book.old book.new }
     ensures within { IfOk result (λ id. id < length book.new.nodes) }
     ensures words { IfOk result (λ id. (word : ℕ) →
-        has_word book.new id word ≡ (has_word book.old set word && not (is_free (exprs_under book.old routes.now word)))) }
+        has_word book.new id word
+        ≡ (has_word book.old set word && not (is_free (exprs_under book.old routes.now word)))) }
 {
     let free = not_held(alloc, book, set, routes)?;
     without(alloc, book, set, free)

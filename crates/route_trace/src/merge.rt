@@ -27,12 +27,14 @@ pub(crate) fn add_route(
 ) -> Result<(), NoMemory>
     requires set { IsSet book.old set }
     requires routes { IsRoutes book.old out.old }
-    requires apart { (word : ℕ) → word < 2 ^ book.old.bits → has_word book.old set word ≡ true → exprs_under book.old out.old word ≡ [] }
+    requires apart { (word : ℕ) → word < 2 ^ book.old.bits → has_word book.old set word ≡ true →
+        exprs_under book.old out.old word ≡ [] }
     ensures grows { Extends book.old book.new }
     ensures routes { OnOk result (IsRoutes book.new out.new) }
     ensures exprs { OnOk result ((size : ℕ) → expr < size → AllExprs size out.old → AllExprs size out.new) }
-    ensures held { OnOk result ((word : ℕ) → word < 2 ^ book.old.bits →
-        exprs_under book.new out.new word ≡ (if has_word book.old set word then expr ∷ [] else exprs_under book.old out.old word)) }
+    ensures by_word { OnOk result ((word : ℕ) → word < 2 ^ book.old.bits →
+        exprs_under book.new out.new word
+        ≡ (if has_word book.old set word then expr ∷ [] else exprs_under book.old out.old word)) }
 {
     match find(out.as_slice(), expr) {
         Some(place) => {

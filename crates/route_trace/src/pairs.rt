@@ -3,13 +3,13 @@
 ghost use Rattle.std.specs.Prelude.{◌≡◌, ℕ, ◌+◌, ◌^◌, ◌<◌, ◌≤◌, ◌&&◌, not, [], map, length, IfErr, IfOk, OnOk, true, if◌then◌else◌};
 ghost use Rattle.bit_bdd.specs.Diagrams.{Extends, has_word};
 ghost use Rattle.sym_expr.specs.Pools.{AllBelow, Grows, term_at};
-ghost use Rattle.route_trace.specs.Inner.Heads.{head_parts, head_term, two_head, two_parts};
+ghost use Rattle.route_trace.specs.Inner.Heads.{binary_head, binary_parts, head_parts, head_term};
 ghost use Rattle.route_trace.specs.Inner.Routing.{AllFit, AllBinaryFit, pairs};
 ghost use Rattle.route_trace.specs.Inner.Stops.{IfMany, IsOver};
 ghost use Rattle.transfer_set.specs.Routes.{IsRouteTable, exprs_under, terms_under};
 
 use crate::first::without;
-use crate::heads::{Head, Two, with_first};
+use crate::heads::{Binary, Head, with_first};
 use crate::lookup::{held_words, place_of};
 use crate::product::add_all;
 use crate::stop::Stop;
@@ -39,18 +39,24 @@ fn add_part(
     requires one { (word : ℕ) → word < 2 ^ book.old.bits → length (exprs_under book.old routes.now word) ≤ 1 }
     requires fits { AllFit head pool.old routes.now }
     requires table { IsRouteTable book.old pool.old out.old }
-    requires apart { (word : ℕ) → word < 2 ^ book.old.bits → (has_word book.old set word && has_word book.old part word) ≡ true →
+    requires apart { (word : ℕ) → word < 2 ^ book.old.bits →
+        (has_word book.old set word && has_word book.old part word) ≡ true →
         exprs_under book.old out.old word ≡ [] }
     ensures book { Extends book.old book.new }
     ensures pool { Grows pool.old pool.new }
     ensures table { OnOk result (IsRouteTable book.new pool.new out.new) }
     ensures terms { OnOk result ((word : ℕ) → word < 2 ^ book.old.bits →
-        terms_under book.new pool.new out.new word ≡ (if has_word book.old set word && has_word book.old part word then map (head_term head (term_at pool.old)) (terms_under book.old pool.old routes.now word) else terms_under book.old pool.old out.old word)) }
+        terms_under book.new pool.new out.new word
+        ≡ (if has_word book.old set word && has_word book.old part word
+        then map (head_term head (term_at pool.old)) (terms_under book.old pool.old routes.now word)
+        else terms_under book.old pool.old out.old word)) }
     ensures left_within { IfOk result (λ left. left < length book.new.nodes) }
     ensures left { IfOk result (λ left.
         (word : ℕ) → has_word book.new left word ≡ (has_word book.old set word && not (has_word book.old part word))) }
-    ensures many { IfErr result (λ stop. IfMany stop (IsOver book.new pool.new (λ word terms.
-        terms ≡ (if has_word book.old set word && has_word book.old part word then map (head_term head (term_at pool.old)) (terms_under book.old pool.old routes.now word) else terms_under book.old pool.old out.old word)))) }
+    ensures many { IfErr result (λ stop. IfMany stop (IsOver book.new pool.new
+        (λ word terms. terms ≡ (if has_word book.old set word && has_word book.old part word
+        then map (head_term head (term_at pool.old)) (terms_under book.old pool.old routes.now word)
+        else terms_under book.old pool.old out.old word)))) }
 {
     let left = without(alloc, book, set, part)?;
     let both = book.and(alloc, set, part)?;
@@ -66,28 +72,36 @@ pub(crate) fn add_pairs(
     book: &mut Book,
     pool: &mut Pool,
     out: &mut Items<Route>,
-    two: Two,
+    binary: Binary,
     set: SetId,
     firsts: &[Route],
     seconds: &[Route],
     start: usize,
 ) -> Result<(), Stop>
     requires set { set < length book.old.nodes }
-    requires parts { AllBelow (length pool.old) (two_parts two) }
+    requires parts { AllBelow (length pool.old) (binary_parts binary) }
     requires first { IsRouteTable book.old pool.old firsts.now }
     requires first_one { (word : ℕ) → word < 2 ^ book.old.bits → length (exprs_under book.old firsts.now word) ≤ 1 }
     requires second { IsRouteTable book.old pool.old seconds.now }
     requires second_one { (word : ℕ) → word < 2 ^ book.old.bits → length (exprs_under book.old seconds.now word) ≤ 1 }
-    requires fits { AllBinaryFit two pool.old firsts.now seconds.now }
+    requires fits { AllBinaryFit binary pool.old firsts.now seconds.now }
     requires table { IsRouteTable book.old pool.old out.old }
-    requires apart { (word : ℕ) → word < 2 ^ book.old.bits → has_word book.old set word ≡ true → exprs_under book.old out.old word ≡ [] }
+    requires apart { (word : ℕ) → word < 2 ^ book.old.bits → has_word book.old set word ≡ true →
+        exprs_under book.old out.old word ≡ [] }
     ensures book { Extends book.old book.new }
     ensures pool { Grows pool.old pool.new }
     ensures table { OnOk result (IsRouteTable book.new pool.new out.new) }
     ensures terms { OnOk result ((word : ℕ) → word < 2 ^ book.old.bits →
-        terms_under book.new pool.new out.new word ≡ (if has_word book.old set word then pairs two (term_at pool.old) (terms_under book.old pool.old firsts.now word) (terms_under book.old pool.old seconds.now word) else terms_under book.old pool.old out.old word)) }
-    ensures many { IfErr result (λ stop. IfMany stop (IsOver book.new pool.new (λ word terms.
-        terms ≡ (if has_word book.old set word then pairs two (term_at pool.old) (terms_under book.old pool.old firsts.now word) (terms_under book.old pool.old seconds.now word) else terms_under book.old pool.old out.old word)))) }
+        terms_under book.new pool.new out.new word
+        ≡ (if has_word book.old set word
+        then pairs binary (term_at pool.old) (terms_under book.old pool.old firsts.now word)
+        (terms_under book.old pool.old seconds.now word)
+        else terms_under book.old pool.old out.old word)) }
+    ensures many { IfErr result (λ stop. IfMany stop (IsOver book.new pool.new
+        (λ word terms. terms ≡ (if has_word book.old set word
+        then pairs binary (term_at pool.old) (terms_under book.old pool.old firsts.now word)
+        (terms_under book.old pool.old seconds.now word)
+        else terms_under book.old pool.old out.old word)))) }
 {
     let mut left = set;
     let mut start = start;
@@ -97,7 +111,7 @@ pub(crate) fn add_pairs(
             continue;
         };
         let route = firsts[place];
-        let head = with_first(two, route.expr);
+        let head = with_first(binary, route.expr);
         left = add_part(
             alloc, book, pool, out, head, left, route.set, seconds, place,
         )?;

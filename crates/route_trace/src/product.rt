@@ -41,15 +41,19 @@ fn add_one(
     requires fits { LastFits head (term_at pool.old) (term_width (term_at pool.old route.expr)) }
     requires table { IsRouteTable book.old pool.old out.old }
     requires apart { (word : ℕ) → word < 2 ^ book.old.bits →
-        (has_word book.old set word && has_word book.old route.set word) ≡ true → exprs_under book.old out.old word ≡ [] }
+        (has_word book.old set word && has_word book.old route.set word) ≡ true →
+        exprs_under book.old out.old word ≡ [] }
     ensures book { Extends book.old book.new }
     ensures pool { Grows pool.old pool.new }
     ensures table { OnOk result (IsRouteTable book.new pool.new out.new) }
     ensures terms { OnOk result ((word : ℕ) → word < 2 ^ book.old.bits →
-        terms_under book.new pool.new out.new word ≡ (if has_word book.old set word && has_word book.old route.set word then head_term head (term_at pool.old) (term_at pool.old route.expr) ∷ [] else terms_under book.old pool.old out.old word)) }
+        terms_under book.new pool.new out.new word
+        ≡ (if has_word book.old set word && has_word book.old route.set word
+        then head_term head (term_at pool.old) (term_at pool.old route.expr) ∷ []
+        else terms_under book.old pool.old out.old word)) }
     ensures left_within { IfOk result (λ left. left < length book.new.nodes) }
-    ensures left { IfOk result (λ left.
-        (word : ℕ) → has_word book.new left word ≡ (has_word book.old set word && not (has_word book.old route.set word))) }
+    ensures left { IfOk result (λ left. (word : ℕ) →
+        has_word book.new left word ≡ (has_word book.old set word && not (has_word book.old route.set word))) }
 {
     let left = without(alloc, book, set, route.set)?;
     let both = book.and(alloc, set, route.set)?;
@@ -77,14 +81,20 @@ pub(crate) fn add_all(
     requires one { (word : ℕ) → word < 2 ^ book.old.bits → length (exprs_under book.old routes.now word) ≤ 1 }
     requires fits { AllFit head pool.old routes.now }
     requires table { IsRouteTable book.old pool.old out.old }
-    requires apart { (word : ℕ) → word < 2 ^ book.old.bits → has_word book.old set word ≡ true → exprs_under book.old out.old word ≡ [] }
+    requires apart { (word : ℕ) → word < 2 ^ book.old.bits → has_word book.old set word ≡ true →
+        exprs_under book.old out.old word ≡ [] }
     ensures book { Extends book.old book.new }
     ensures pool { Grows pool.old pool.new }
     ensures table { OnOk result (IsRouteTable book.new pool.new out.new) }
     ensures terms { OnOk result ((word : ℕ) → word < 2 ^ book.old.bits →
-        terms_under book.new pool.new out.new word ≡ (if has_word book.old set word then map (head_term head (term_at pool.old)) (terms_under book.old pool.old routes.now word) else terms_under book.old pool.old out.old word)) }
-    ensures many { IfErr result (λ stop. IfMany stop (IsOver book.new pool.new (λ word terms.
-        terms ≡ (if has_word book.old set word then map (head_term head (term_at pool.old)) (terms_under book.old pool.old routes.now word) else terms_under book.old pool.old out.old word)))) }
+        terms_under book.new pool.new out.new word
+        ≡ (if has_word book.old set word
+        then map (head_term head (term_at pool.old)) (terms_under book.old pool.old routes.now word)
+        else terms_under book.old pool.old out.old word)) }
+    ensures many { IfErr result (λ stop. IfMany stop (IsOver book.new pool.new
+        (λ word terms. terms ≡ (if has_word book.old set word
+        then map (head_term head (term_at pool.old)) (terms_under book.old pool.old routes.now word)
+        else terms_under book.old pool.old out.old word)))) }
 {
     let mut left = set;
     let mut start = start;

@@ -7,7 +7,7 @@ ghost use Rattle.transfer_set.specs.Routes.{IsRouteTable, exprs_under, terms_und
 ghost use Rattle.route_trace.specs.Inner.Selects.{AllSelectFit, selects};
 ghost use Rattle.route_trace.specs.Inner.Stops.{IfMany, IsOver};
 
-use crate::heads::Two;
+use crate::heads::Binary;
 use crate::pairs::add_pairs;
 use crate::stop::Stop;
 use bit_bdd::{Book, SetId};
@@ -37,14 +37,24 @@ pub(crate) fn add_selects(
     requires second_one { (word : ℕ) → word < 2 ^ book.old.bits → length (exprs_under book.old seconds.now word) ≤ 1 }
     requires fits { AllSelectFit pool.old choices.now firsts.now seconds.now }
     requires table { IsRouteTable book.old pool.old out.old }
-    requires apart { (word : ℕ) → word < 2 ^ book.old.bits → has_word book.old set word ≡ true → exprs_under book.old out.old word ≡ [] }
+    requires apart { (word : ℕ) → word < 2 ^ book.old.bits → has_word book.old set word ≡ true →
+        exprs_under book.old out.old word ≡ [] }
     ensures book { Extends book.old book.new }
     ensures pool { Grows pool.old pool.new }
     ensures table { OnOk result (IsRouteTable book.new pool.new out.new) }
     ensures terms { OnOk result ((word : ℕ) → word < 2 ^ book.old.bits →
-        terms_under book.new pool.new out.new word ≡ (if has_word book.old set word then selects (terms_under book.old pool.old choices.now word) (terms_under book.old pool.old firsts.now word) (terms_under book.old pool.old seconds.now word) else terms_under book.old pool.old out.old word)) }
-    ensures many { IfErr result (λ stop. IfMany stop (IsOver book.new pool.new (λ word terms.
-        terms ≡ (if has_word book.old set word then selects (terms_under book.old pool.old choices.now word) (terms_under book.old pool.old firsts.now word) (terms_under book.old pool.old seconds.now word) else terms_under book.old pool.old out.old word)))) }
+        terms_under book.new pool.new out.new word
+        ≡ (if has_word book.old set word
+        then selects (terms_under book.old pool.old choices.now word)
+        (terms_under book.old pool.old firsts.now word)
+        (terms_under book.old pool.old seconds.now word)
+        else terms_under book.old pool.old out.old word)) }
+    ensures many { IfErr result (λ stop. IfMany stop (IsOver book.new pool.new
+        (λ word terms. terms ≡ (if has_word book.old set word
+        then selects (terms_under book.old pool.old choices.now word)
+        (terms_under book.old pool.old firsts.now word)
+        (terms_under book.old pool.old seconds.now word)
+        else terms_under book.old pool.old out.old word)))) }
 {
     for route in choices {
         let both = book.and(alloc, set, route.set)?;
@@ -53,7 +63,7 @@ pub(crate) fn add_selects(
             book,
             pool,
             out,
-            Two::Select(route.expr),
+            Binary::Select(route.expr),
             both,
             firsts,
             seconds,

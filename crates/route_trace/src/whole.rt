@@ -17,7 +17,7 @@ ghost use Rattle.route_trace.specs.Inner.Tests.{IsDecided};
 
 use crate::cases::{bus_routes, case_routes};
 use crate::gates::{leaf_routes, routes_over, routes_under};
-use crate::heads::{Head, Two};
+use crate::heads::{Binary, Head};
 use crate::stop::Stop;
 use bit_bdd::{Book, SetId};
 use ctl_bdd::ControlBits;
@@ -42,7 +42,8 @@ fn routes_of_leaf(
     ensures pool { Grows pool.old pool.new }
     ensures table { IfOk result (λ out. IsRouteTable book.new pool.new out) }
     ensures terms { IfOk result (λ out. (word : ℕ) → word < 2 ^ book.old.bits →
-        terms_under book.new pool.new out word ≡ (if has_word book.old legal word then node_term node (term_at pool.old) ∷ [] else [])) }
+        terms_under book.new pool.new out word
+        ≡ (if has_word book.old legal word then node_term node (term_at pool.old) ∷ [] else [])) }
     ensures few { IfErr result (λ stop. stop ≡ Memory) }
 {
     let routes = leaf_routes(alloc, book, pool, legal, node)?;
@@ -70,12 +71,14 @@ pub(crate) fn net_routes(
     ensures table { IfOk result (λ out. IsRouteTable book.new pool.new out) }
     ensures terms { IfOk result (λ out. (t : ℕ → Term) → (word : ℕ) → word < 2 ^ book.old.bits →
         AllGive book.old pool.old nets.now controls.now.legal t word (gate_nets net.now.gate) →
-        terms_under book.new pool.new out word ≡
-        only book.old controls.now.legal word (gate_term t (value_of netlist.now no_state word) (is_static netlist.now) net.now.width net.now.gate)) }
-    ensures many { IfErr result (λ stop. IfMany stop (IsOver book.new pool.new (λ word terms. (t : ℕ → Term) →
+        terms_under book.new pool.new out word
+        ≡ only book.old controls.now.legal word (gate_term t (value_of netlist.now no_state word)
+        (is_static netlist.now) net.now.width net.now.gate)) }
+    ensures many { IfErr result (λ stop. IfMany stop (IsOver book.new pool.new
+        (λ word terms. (t : ℕ → Term) →
         AllGive book.old pool.old nets.now controls.now.legal t word (gate_nets net.now.gate) →
-        terms ≡
-        only book.old controls.now.legal word (gate_term t (value_of netlist.now no_state word) (is_static netlist.now) net.now.width net.now.gate)))) }
+        terms ≡ only book.old controls.now.legal word (gate_term t (value_of netlist.now no_state word)
+        (is_static netlist.now) net.now.width net.now.gate)))) }
 {
     let legal = controls.legal;
     let width = net.width;
@@ -97,9 +100,9 @@ pub(crate) fn net_routes(
         Gate::Zext(a) => routes_under(alloc, book, pool, legal, Head::Zext(width), nets, *a),
         Gate::Sext(a) => routes_under(alloc, book, pool, legal, Head::Sext(width), nets, *a),
         Gate::Bin(op, a, b) => {
-            routes_over(alloc, book, pool, legal, Two::Bin(*op), nets, *a, *b)
+            routes_over(alloc, book, pool, legal, Binary::Bin(*op), nets, *a, *b)
         }
-        Gate::Cat(a, b) => routes_over(alloc, book, pool, legal, Two::Cat, nets, *a, *b),
+        Gate::Cat(a, b) => routes_over(alloc, book, pool, legal, Binary::Cat, nets, *a, *b),
         Gate::Case { sel, rows, rest } => {
             let rows = rows.as_slice();
             case_routes(alloc, controls, book, pool, nets, *sel, rows, *rest, width)

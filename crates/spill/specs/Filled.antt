@@ -15,8 +15,10 @@ first_cells (cells ∷ rest) = cells
 -- the cells inside the operands and those of the form's own cuts, joined in the order of the sites
 abbrev pub woven_cells : List Site → List (List ℕ) → List (List ℕ) → List ℕ
 woven_cells [] of_operands of_cuts = []
-woven_cells (operand id tree whole ∷ sites) of_operands of_cuts = first_cells of_operands ++ woven_cells sites (drop 1 of_operands) of_cuts
-woven_cells (cut shape tree ∷ sites) of_operands of_cuts = first_cells of_cuts ++ woven_cells sites of_operands (drop 1 of_cuts)
+woven_cells (operand id tree whole ∷ sites) of_operands of_cuts =
+    first_cells of_operands ++ woven_cells sites (drop 1 of_operands) of_cuts
+woven_cells (cut shape tree ∷ sites) of_operands of_cuts =
+    first_cells of_cuts ++ woven_cells sites of_operands (drop 1 of_cuts)
 
 abbrev mutual
   -- those of a cover of a tree that goes to a destination, where n is the first cell
@@ -31,13 +33,16 @@ abbrev mutual
   filled_in_operands stock no_operands left = []
   filled_in_operands stock (operand_then i p ps) left =
       insert (filled_in_operands stock ps (remove left i)) i
-      (filled_cells stock p (operand_cells_or_none (slice_get left i)).first (into (operand_cells_or_none (slice_get left i)).operand.id)
-      (operand_cells_or_none (slice_get left i)).operand.tree (operand_cells_or_none (slice_get left i)).operand.whole)
+      (filled_cells stock p (operand_cells_or_none (slice_get left i)).first
+      (into (operand_cells_or_none (slice_get left i)).operand.id)
+      (operand_cells_or_none (slice_get left i)).operand.tree
+      (operand_cells_or_none (slice_get left i)).operand.whole)
 
   -- for each of the form's own cuts, those inside it, and then its own
   pub filled_by_cuts : Stock → Cuts → List CutCells → List (List ℕ)
   filled_by_cuts stock no_cuts cuts = []
   filled_by_cuts stock (cut_then p cs) cuts =
-      (filled_cells stock p (cut_cells_or_none (slice_get cuts 0)).first temporary (cut_cells_or_none (slice_get cuts 0)).tree false
+      (filled_cells stock p (cut_cells_or_none (slice_get cuts 0)).first temporary
+      (cut_cells_or_none (slice_get cuts 0)).tree false
       ++ ((cut_cells_or_none (slice_get cuts 0)).cell ∷ []))
       ∷ filled_by_cuts stock cs (drop 1 cuts)

@@ -12,10 +12,16 @@ ghost use Rattle.spill.specs.Filled.{filled_cells};
 /// and none of them twice.
 pub fn law_of_cells()
     ensures many { (stock : Stock) (plan : Plan) (destination : Destination) (tree : Term) (whole : Bool) →
-        IsOrderly stock destination tree whole plan → length (filled_cells stock plan 0 destination tree whole) ≡ cut_count plan }
-    ensures below { (stock : Stock) (plan : Plan) (destination : Destination) (tree : Term) (whole : Bool) (i cell : ℕ) →
-        IsOrderly stock destination tree whole plan → slice_get (filled_cells stock plan 0 destination tree whole) i ≡ Some cell → cell < cut_count plan }
-    ensures once { (stock : Stock) (plan : Plan) (destination : Destination) (tree : Term) (whole : Bool) (i j cell : ℕ) →
-        IsOrderly stock destination tree whole plan → slice_get (filled_cells stock plan 0 destination tree whole) i ≡ Some cell →
+        IsOrderly stock destination tree whole plan →
+        length (filled_cells stock plan 0 destination tree whole) ≡ cut_count plan }
+    ensures below { (stock : Stock) (plan : Plan) (destination : Destination) (tree : Term)
+        (whole : Bool) (i cell : ℕ) →
+        IsOrderly stock destination tree whole plan →
+        slice_get (filled_cells stock plan 0 destination tree whole) i ≡ Some cell →
+        cell < cut_count plan }
+    ensures once { (stock : Stock) (plan : Plan) (destination : Destination) (tree : Term)
+        (whole : Bool) (i j cell : ℕ) →
+        IsOrderly stock destination tree whole plan →
+        slice_get (filled_cells stock plan 0 destination tree whole) i ≡ Some cell →
         slice_get (filled_cells stock plan 0 destination tree whole) j ≡ Some cell → i ≡ j }
 {}

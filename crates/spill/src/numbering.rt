@@ -61,7 +61,8 @@ fn count_in(cover: &Cover) -> Result<u32, NoMemory>
 pub fn cells(alloc: Global, cover: &Cover) -> Result<Cells, NoMemory>
     ensures numbered { IfOk result (λ cells. cells.list.items ≡ range_with_len 0 (cut_count (plan_of cover.now))) }
     ensures filled { IfOk result (λ cells. (stock : Stock) (destination : Destination) (tree : Term) (whole : Bool) →
-        IsOrderly stock destination tree whole (plan_of cover.now) → filled_cells stock (plan_of cover.now) 0 destination tree whole ≡ cells.list.items) }
+        IsOrderly stock destination tree whole (plan_of cover.now) →
+        filled_cells stock (plan_of cover.now) 0 destination tree whole ≡ cells.list.items) }
 {
     let mut list = Vec::new(alloc);
     for cell in 0..count_in(cover)? {

@@ -61,7 +61,8 @@ fn assigned(
     place: &Spot,
     value: &SrcExpr,
 ) -> Option<u64>
-    ensures { result ≡ least ((rule_of question.now).assigned (rounds_of rounds.now) (place_of place.now) (phrase_of value.now)) }
+    ensures { result ≡ least ((rule_of question.now).assigned (rounds_of rounds.now)
+        (place_of place.now) (phrase_of value.now)) }
 {
     match question {
         Question::Names(table) => sooner(unknown_spot(table, place), unknown(table, value)),
@@ -105,7 +106,8 @@ fn counted(
     to: u64,
     body: &[Stmt],
 ) -> Option<u64>
-    ensures { result ≡ least ((rule_of question.now).counted (round counter.now from to) at (acts_of (map act_of body.now))) }
+    ensures { result ≡ least ((rule_of question.now).counted (round counter.now from to) at
+        (acts_of (map act_of body.now))) }
 {
     match question {
         Question::Names(table) => broken(!is_plain(table, counter), at),
@@ -165,7 +167,8 @@ fn of_statement(question: &Question<'_>, rounds: &Rounds<'_>, statement: &Stmt) 
 #[cycle(walk)]
 #[tactic(auto, using(rec_bits::proofs::Faults::least_rules))]
 pub fn of_block(question: &Question<'_>, rounds: &Rounds<'_>, block: &[Stmt]) -> Option<u64>
-    ensures { result ≡ least (breaks_in (rule_of question.now) (rounds_of rounds.now) (acts_of (map act_of block.now))) }
+    ensures { result ≡ least
+        (breaks_in (rule_of question.now) (rounds_of rounds.now) (acts_of (map act_of block.now))) }
 {
     let mut found = None;
     for statement in block {

@@ -30,8 +30,11 @@ Sound cells (Number n) = Unit {0}
 Sound cells (Cell at) = Unit {0}
 Sound cells (Element' first p x) = Sound cells x
 Sound cells (Un' op width p x) = IsWidth width × (formula_value cells x < 2 ^ width) × Sound cells x
-Sound cells (Bin' op width p x q y) = IsWidth width × (formula_value cells x < 2 ^ width) × (formula_value cells y < 2 ^ width) × Sound cells x × Sound cells y
-Sound cells (Sext' from to p x) = (1 ≤ from) × (from ≤ to) × (to ≤ 64) × (formula_value cells x < 2 ^ from) × Sound cells x
+Sound cells (Bin' op width p x q y) =
+    IsWidth width × (formula_value cells x < 2 ^ width) × (formula_value cells y < 2 ^ width)
+    × Sound cells x × Sound cells y
+Sound cells (Sext' from to p x) =
+    (1 ≤ from) × (from ≤ to) × (to ≤ 64) × (formula_value cells x < 2 ^ from) × Sound cells x
 Sound cells (Low' width p x) = IsWidth width × Sound cells x
 
 pub record SoundSides (cells : List ℕ) (test : Comparison) : Type 0 where
@@ -48,8 +51,11 @@ FormulaFits word width (Number n) = n < 2 ^ width
 FormulaFits word width (Cell at) = word ≤ width
 FormulaFits word width (Element' first p x) = (word ≤ width) × FormulaFits word word x
 FormulaFits word width (Un' op inner p x) = IsWidth inner × (inner ≤ width) × FormulaFits word inner x
-FormulaFits word width (Bin' op inner p x q y) = IsWidth inner × (result_width op inner ≤ width) × FormulaFits word inner x × FormulaFits word inner y
-FormulaFits word width (Sext' from to p x) = (1 ≤ from) × (from ≤ to) × (to ≤ 64) × (to ≤ width) × FormulaFits word from x
+FormulaFits word width (Bin' op inner p x q y) =
+    IsWidth inner × (result_width op inner ≤ width) × FormulaFits word inner x
+    × FormulaFits word inner y
+FormulaFits word width (Sext' from to p x) =
+    (1 ≤ from) × (from ≤ to) × (to ≤ 64) × (to ≤ width) × FormulaFits word from x
 FormulaFits word width (Low' inner p x) = IsWidth inner × (inner ≤ width) × FormulaFits word 64 x
 
 pub record FitsComparison (word : ℕ) (test : Comparison) : Type 0 where

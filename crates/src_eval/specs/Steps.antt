@@ -13,7 +13,8 @@ use Rattle.src_eval.specs.Formulas.{stored, met}
 abbrev pub act_at : Option Step → ℕ → (ℕ → Onward) → (ℕ → Onward) → Onward
 act_at None at go later more cells = finish more cells
 act_at (Some (Assign first index value next)) at go later more cells = go next more (stored first index value cells)
-act_at (Some (Test test on_true on_false)) at go later more cells = pass (At at) (choose (met test) (later on_true) (later on_false)) more cells
+act_at (Some (Test test on_true on_false)) at go later more cells =
+    pass (At at) (choose (met test) (later on_true) (later on_false)) more cells
 
 -- the way on from a step, of which so many are enough to come to a checkpoint
 abbrev pub go : List Step → (ℕ → Onward) → ℕ → ℕ → Onward
@@ -24,7 +25,8 @@ go steps later (suc n) at more cells = act_at (slice_get steps at) at (go steps 
 -- twice before a checkpoint
 unfoldable pub ahead : List Step → ℕ → ℕ → List ℕ → List Passed
 ahead steps zero at cells = []
-ahead steps (suc more) at cells = go steps (λ next asked after. ahead steps more next after) (suc (length steps)) at (suc more) cells
+ahead steps (suc more) at cells =
+    go steps (λ next asked after. ahead steps more next after) (suc (length steps)) at (suc more) cells
 
 abbrev pub ahead_of : Machine → ℕ → List Passed
 ahead_of m more = ahead m.steps more m.at m.store.cells

@@ -68,7 +68,8 @@ fn push_assign(
     requires word { IsWidth word }
     requires place { Fitting word word (place_shape (place_of place.now)) }
     requires value { FitsWord word (shape_of e.now.node) }
-    ensures { OnOk result (Pushed word steps.old steps.new (IsDoing (assigned word table.now (place_of place.now) (phrase_of e.now)) next)) }
+    ensures { OnOk result (Pushed word steps.old steps.new
+        (IsDoing (assigned word table.now (place_of place.now) (phrase_of e.now)) next)) }
 {
     let first = table.first_cell(&place.name);
     let index = resolve_index(alloc, word, table, place)?;
@@ -139,7 +140,8 @@ fn push_test(
 ) -> Result<(), NoMemory>
     requires word { IsWidth word }
     requires fitting { FitsSides word (shape_of test.now.left.node) (shape_of test.now.right.node) }
-    ensures { OnOk result (Pushed word steps.old steps.new (IsAsking (holds word table.now (test_of test.now)) on_true on_false)) }
+    ensures { OnOk result (Pushed word steps.old steps.new
+        (IsAsking (holds word table.now (test_of test.now)) on_true on_false)) }
 {
     let test = resolve_test(alloc, word, table, test)?;
     steps.push(Step::Test {
@@ -162,7 +164,8 @@ fn push_counting(
 ) -> Result<(), NoMemory>
     requires word { IsWidth word }
     requires last { to + 1 < 2 ^ word }
-    ensures { OnOk result (Pushed word steps.old steps.new (IsAsking (counting table.now counter.now to) on_true on_false)) }
+    ensures { OnOk result (Pushed word steps.old steps.new
+        (IsAsking (counting table.now counter.now to) on_true on_false)) }
 {
     let test = Comparison {
         cmp: Cmp::Ne,

@@ -7,8 +7,12 @@ use Rattle.lexing.specs.Tokens.{tokens_of}
 -- the reserved words and the signs of programs
 unfoldable pub programs : Lexicon
 programs = record {
-  reserved = map codes ("var" ∷ "if" ∷ "else" ∷ "while" ∷ "for" ∷ "to" ∷ "zext" ∷ "sext" ∷ "low" ∷ "slt" ∷ "sle" ∷ "sgt" ∷ "sge" ∷ []);
-  signs = map codes ("=" ∷ ";" ∷ "," ∷ "[" ∷ "]" ∷ "{" ∷ "}" ∷ "(" ∷ ")" ∷ "==" ∷ "!=" ∷ "<" ∷ "<=" ∷ ">" ∷ ">=" ∷ "|" ∷ "^" ∷ "&" ∷ "<<" ∷ ">>" ∷ ">>>" ∷ "+" ∷ "-" ∷ "*" ∷ "~" ∷ []);
+  reserved =
+      map codes ("var" ∷ "if" ∷ "else" ∷ "while" ∷ "for" ∷ "to" ∷ "zext" ∷ "sext" ∷ "low" ∷ "slt"
+      ∷ "sle" ∷ "sgt" ∷ "sge" ∷ []);
+  signs =
+      map codes ("=" ∷ ";" ∷ "," ∷ "[" ∷ "]" ∷ "{" ∷ "}" ∷ "(" ∷ ")" ∷ "==" ∷ "!=" ∷ "<" ∷ "<="
+      ∷ ">" ∷ ">=" ∷ "|" ∷ "^" ∷ "&" ∷ "<<" ∷ ">>" ∷ ">>>" ∷ "+" ∷ "-" ∷ "*" ∷ "~" ∷ []);
 }
 
 -- the tokens of a program's text

@@ -10,8 +10,10 @@ Fitting word asked (num n) = n < 2 ^ asked
 Fitting word asked (plain name at) = Unit {0}
 Fitting word asked (element name at to x) = Fitting word word x × (shape_width word word x ≡ word)
 Fitting word asked (un op at x) = Fitting word asked x
-Fitting word asked (bin op at x to y) = Fitting word (operand_width word x y) x × Fitting word (operand_width word x y) y
-    × (shape_width word (operand_width word x y) x ≡ operand_width word x y) × (shape_width word (operand_width word x y) y ≡ operand_width word x y)
+Fitting word asked (bin op at x to y) =
+    Fitting word (operand_width word x y) x × Fitting word (operand_width word x y) y
+    × (shape_width word (operand_width word x y) x ≡ operand_width word x y)
+    × (shape_width word (operand_width word x y) y ≡ operand_width word x y)
 Fitting word asked (zext at x width) = Fitting word word x × (shape_width word word x < width) × (width ≤ 64)
 Fitting word asked (sext at x width) = Fitting word word x × (shape_width word word x < width) × (width ≤ 64)
 Fitting word asked (low at x width) = Fitting word word x × (1 ≤ width) × (width < shape_width word word x)

@@ -98,7 +98,8 @@ Called E call at = do
   Return (record { at = at; shape = called call a n })
 
 -- Unary and Primary, by the first word
-abbrev pub UnaryBehind : (List Lexed → Phrase → Type 0) → (List Lexed → Phrase → Type 0) → Word → ℕ → List Lexed → Phrase → Type 0
+abbrev pub UnaryBehind : (List Lexed → Phrase → Type 0) → (List Lexed → Phrase → Type 0) → Word →
+    ℕ → List Lexed → Phrase → Type 0
 UnaryBehind U E (Number n) at = Return (record { at = at; shape = num n })
 UnaryBehind U E (Name name) at = do
   place ← PlaceBehind E name at

@@ -23,7 +23,9 @@ between from to = record { lo = pos from; hi = pos to }
 -- the numbers that a variable takes in the innermost of the loops that count with it
 abbrev pub counted_range : List Round → List ℕ → Option Range
 counted_range [] name = None
-counted_range (round ∷ outer) name = if same_name name round.counter then Some (between round.from (max round.from round.to)) else counted_range outer name
+counted_range (round ∷ outer) name =
+    if same_name name round.counter then Some (between round.from (max round.from round.to))
+    else counted_range outer name
 
 -- what is found of two ranges that are known
 abbrev pub of_both : (Range → Range → Option Range) → Option Range → Option Range → Option Range
@@ -59,7 +61,8 @@ range_by op n m left right = None
 abbrev pub index_range : List Round → Shape → Option Range
 index_range rounds (num n) = Some (between n n)
 index_range rounds (plain name at) = counted_range rounds name
-index_range rounds (bin op at x to y) = range_by op (number_of x) (number_of y) (index_range rounds x) (index_range rounds y)
+index_range rounds (bin op at x to y) =
+    range_by op (number_of x) (number_of y) (index_range rounds x) (index_range rounds y)
 index_range rounds _ = None
 
 -- the number of cells of an array
@@ -76,7 +79,9 @@ is_within len (Some range) = int_le (pos 0) range.lo && int_lt range.hi (pos len
 abbrev pub loose : List Declared → List Round → Shape → List ℕ
 loose vars rounds (num n) = []
 loose vars rounds (plain name at) = []
-loose vars rounds (element name at to x) = broken (not (is_within (length_of (declared vars name)) (index_range rounds x))) to ++ loose vars rounds x
+loose vars rounds (element name at to x) =
+    broken (not (is_within (length_of (declared vars name)) (index_range rounds x))) to
+    ++ loose vars rounds x
 loose vars rounds (un op at x) = loose vars rounds x
 loose vars rounds (bin op at x to y) = loose vars rounds x ++ loose vars rounds y
 loose vars rounds (zext at x width) = loose vars rounds x

@@ -28,7 +28,9 @@ Known vars (low at x width) = Known vars x
 abbrev pub is_inside : ℕ → List Declared → List ℕ → Shape → Bool
 is_inside word vars cells (num n) = true
 is_inside word vars cells (plain name at) = true
-is_inside word vars cells (element name at to x) = is_inside word vars cells x && nat_lt (shape_value word vars cells word x) (length_of (declared vars name))
+is_inside word vars cells (element name at to x) =
+    is_inside word vars cells x
+    && nat_lt (shape_value word vars cells word x) (length_of (declared vars name))
 is_inside word vars cells (un op at x) = is_inside word vars cells x
 is_inside word vars cells (bin op at x to y) = is_inside word vars cells x && is_inside word vars cells y
 is_inside word vars cells (zext at x width) = is_inside word vars cells x
@@ -37,10 +39,12 @@ is_inside word vars cells (low at x width) = is_inside word vars cells x
 
 -- the same of an assignment and of a test
 abbrev pub assign_inside : ℕ → List Declared → Place → Phrase → List ℕ → Bool
-assign_inside word vars place e cells = is_inside word vars cells (place_shape place) && is_inside word vars cells e.shape
+assign_inside word vars place e cells =
+    is_inside word vars cells (place_shape place) && is_inside word vars cells e.shape
 
 abbrev pub test_inside : ℕ → List Declared → Test → List ℕ → Bool
-test_inside word vars test cells = is_inside word vars cells test.left.shape && is_inside word vars cells test.right.shape
+test_inside word vars test cells =
+    is_inside word vars cells test.left.shape && is_inside word vars cells test.right.shape
 
 -- ---- runs
 
@@ -51,17 +55,23 @@ if_holds test next more cells = if test cells then next more cells else []
 -- the way on through a statement that stops where an index is used that doesn't lie in its array
 unfoldable mutual
   pub run_inside : ℕ → List Declared → Act → ℕ → Onward → Onward
-  run_inside word vars (assign place e) tree next = if_holds (assign_inside word vars place e) (after_change (assigned word vars place e) next)
-  run_inside word vars (choice test taken other) tree next = pass (At tree) (if_holds (test_inside word vars test) (choose (holds word vars test)
-      (all_inside word vars taken (tree + 1) next) (else_inside word vars other (tree + 1 + statements_in taken) next)))
+  run_inside word vars (assign place e) tree next =
+      if_holds (assign_inside word vars place e) (after_change (assigned word vars place e) next)
+  run_inside word vars (choice test taken other) tree next =
+      pass (At tree) (if_holds (test_inside word vars test) (choose (holds word vars test)
+      (all_inside word vars taken (tree + 1) next)
+      (else_inside word vars other (tree + 1 + statements_in taken) next)))
   run_inside word vars (while test body) tree next = loop (At tree) (holds word vars test)
-      (λ again. if_holds (test_inside word vars test) (all_inside word vars body (tree + 1) again)) (if_holds (test_inside word vars test) next)
+      (λ again. if_holds (test_inside word vars test) (all_inside word vars body (tree + 1) again))
+      (if_holds (test_inside word vars test) next)
   run_inside word vars (count counter at from to body) tree next = after_change (started vars counter from)
-      (loop (At (tree + 1)) (counting vars counter to) (λ again. all_inside word vars body (tree + 2) (after_change (stepped word vars counter) again)) next)
+      (loop (At (tree + 1)) (counting vars counter to)
+      (λ again. all_inside word vars body (tree + 2) (after_change (stepped word vars counter) again)) next)
 
   pub all_inside : ℕ → List Declared → Acts → ℕ → Onward → Onward
   all_inside word vars no_acts tree next = next
-  all_inside word vars (act a rest) tree next = run_inside word vars a tree (all_inside word vars rest (tree + statements a) next)
+  all_inside word vars (act a rest) tree next =
+      run_inside word vars a tree (all_inside word vars rest (tree + statements a) next)
 
   pub else_inside : ℕ → List Declared → Otherwise → ℕ → Onward → Onward
   else_inside word vars without tree next = next

@@ -25,9 +25,11 @@ abbrev mutual
   -- where a rule is broken in a statement, in the order of the text
   pub breaks : LoopRule → List Round → Act → List ℕ
   breaks rule rounds (assign place value) = rule.assigned rounds place value
-  breaks rule rounds (choice test taken other) = rule.tested rounds test ++ breaks_in rule rounds taken ++ breaks_else rule rounds other
+  breaks rule rounds (choice test taken other) =
+      rule.tested rounds test ++ breaks_in rule rounds taken ++ breaks_else rule rounds other
   breaks rule rounds (while test body) = rule.tested rounds test ++ breaks_in rule rounds body
-  breaks rule rounds (count counter at from to body) = rule.counted (record { counter = counter; from = from; to = to }) at body
+  breaks rule rounds (count counter at from to body) =
+      rule.counted (record { counter = counter; from = from; to = to }) at body
       ++ breaks_in rule (record { counter = counter; from = from; to = to } ∷ rounds) body
 
   pub breaks_in : LoopRule → List Round → Acts → List ℕ
@@ -50,7 +52,8 @@ changes_rule name = record {
 -- last is no word
 abbrev pub miscounted : ℕ → Round → Acts → Bool
 miscounted word round body =
-    is_some (least (breaks_in (changes_rule round.counter) [] body)) || nat_lt (round.to + 1) round.from || nat_le (2 ^ word) (round.to + 1)
+    is_some (least (breaks_in (changes_rule round.counter) [] body))
+    || nat_lt (round.to + 1) round.from || nat_le (2 ^ word) (round.to + 1)
 
 abbrev pub counters : ℕ → LoopRule
 counters word = record {

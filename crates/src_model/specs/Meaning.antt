@@ -39,7 +39,8 @@ shape_width word asked (num n) = asked
 shape_width word asked (plain name at) = word
 shape_width word asked (element name at to x) = word
 shape_width word asked (un op at x) = shape_width word asked x
-shape_width word asked (bin op at x to y) = result_width op (if is_literal x then shape_width word word y else shape_width word word x)
+shape_width word asked (bin op at x to y) =
+    result_width op (if is_literal x then shape_width word word y else shape_width word word x)
 shape_width word asked (zext at x width) = width
 shape_width word asked (sext at x width) = width
 shape_width word asked (low at x width) = width
@@ -54,12 +55,15 @@ operand_width word x y = if is_literal x then shape_width word word y else shape
 abbrev pub shape_value : ℕ → List Declared → List ℕ → ℕ → Shape → ℕ
 shape_value word vars cells asked (num n) = n
 shape_value word vars cells asked (plain name at) = slice_index cells (first_cell vars name)
-shape_value word vars cells asked (element name at to x) = slice_index cells (first_cell vars name + shape_value word vars cells word x)
-shape_value word vars cells asked (un op at x) = apply1_of op (shape_width word asked x) (shape_value word vars cells asked x)
+shape_value word vars cells asked (element name at to x) =
+    slice_index cells (first_cell vars name + shape_value word vars cells word x)
+shape_value word vars cells asked (un op at x) =
+    apply1_of op (shape_width word asked x) (shape_value word vars cells asked x)
 shape_value word vars cells asked (bin op at x to y) = apply2_of op (operand_width word x y)
     (shape_value word vars cells (operand_width word x y) x) (shape_value word vars cells (operand_width word x y) y)
 shape_value word vars cells asked (zext at x width) = shape_value word vars cells word x
-shape_value word vars cells asked (sext at x width) = sext_of (shape_value word vars cells word x) (shape_width word word x) width
+shape_value word vars cells asked (sext at x width) =
+    sext_of (shape_value word vars cells word x) (shape_width word word x) width
 shape_value word vars cells asked (low at x width) = shape_value word vars cells word x % 2 ^ width
 
 -- ---- statements
@@ -76,7 +80,8 @@ cell_of word vars cells place = first_cell vars place.name + index_value word va
 -- the store after an assignment: the value goes into the place's cell, and both are found in the
 -- store before it
 abbrev pub assigned : ℕ → List Declared → Place → Phrase → List ℕ → List ℕ
-assigned word vars place e cells = slice_set cells (cell_of word vars cells place) (shape_value word vars cells word e.shape)
+assigned word vars place e cells =
+    slice_set cells (cell_of word vars cells place) (shape_value word vars cells word e.shape)
 
 -- two values compared, as numbers or in two's complement
 abbrev pub compares : Cmp → ℕ → ℕ → ℕ → Bool

@@ -29,7 +29,9 @@ names vars = record {
 -- S3: a value is as wide as a word
 abbrev pub widths : ℕ → LoopRule
 widths word = record {
-  assigned = λ rounds place e. misfit (wide word word place.at (place_shape place)) ++ misfit (whole word e.at (wide word word e.at e.shape));
+  assigned =
+      λ rounds place e. misfit (wide word word place.at (place_shape place))
+      ++ misfit (whole word e.at (wide word word e.at e.shape));
   tested = λ rounds test. misfit (sides word test.left test.right);
   counted = λ round at body. [];
 }
@@ -73,7 +75,8 @@ above kind count bound = if nat_lt bound count then Some (Limit kind count bound
 
 -- the limits, in their order
 abbrev pub beyond : ℕ → ℕ → ℕ → Option SrcFault
-beyond lengths statements nodes = or_else (above Length lengths 65536) (or_else (above Statements statements 65536) (above Nodes nodes 255))
+beyond lengths statements nodes =
+    or_else (above Length lengths 65536) (or_else (above Statements statements 65536) (above Nodes nodes 255))
 
 abbrev pub limits : Listing → Option SrcFault
 limits l = beyond (longest l.vars) (capped (statement_count l)) (capped (node_count l))

@@ -130,14 +130,18 @@ part word asked (plain name at) = record { width = word; own = 0; below = 0 }
 part word asked (element name at to x) = read_part word (number_of x) (part word word x)
 part word asked (un op at x) = node word (part word asked x).width (all_of (part word asked x))
 part word asked (bin op at x to y) = node word
-    (result_width op (sided (is_literal x) (part word word x) (part word word y) (λ width. part word width x) (λ width. part word width y)).width)
-    (sided (is_literal x) (part word word x) (part word word y) (λ width. part word width x) (λ width. part word width y)).below
+    (result_width op (sided (is_literal x) (part word word x) (part word word y)
+    (λ width. part word width x) (λ width. part word width y)).width)
+    (sided (is_literal x) (part word word x) (part word word y) (λ width. part word width x)
+    (λ width. part word width y)).below
 part word asked (zext at x width) = node word width (all_of (part word word x))
 part word asked (sext at x width) = node word width (all_of (part word word x))
 part word asked (low at x width) = node word width (all_of (part word word x))
 
 abbrev pub side_parts : ℕ → Shape → Shape → Subtree
-side_parts word x y = sided (is_literal x) (part word word x) (part word word y) (λ width. part word width x) (λ width. part word width y)
+side_parts word x y =
+    sided (is_literal x) (part word word x) (part word word y) (λ width. part word width x)
+    (λ width. part word width y)
 
 -- the nodes of a word's width below the root
 abbrev pub temps_of : ℕ → Root → ℕ
@@ -176,8 +180,16 @@ capped_part p = record { width = p.width; own = p.own; below = capped p.below }
 
 -- the sizes of so many statements with these trees
 abbrev pub measured : ℕ → List Root → ℕ → Sizes
-measured word trees n = record { statements = capped n; nodes = capped (greatest nodes_of trees); temps = capped (greatest (temps_of word) trees) }
+measured word trees n = record {
+  statements = capped n;
+  nodes = capped (greatest nodes_of trees);
+  temps = capped (greatest (temps_of word) trees);
+}
 
 -- the sizes of some statements and some more
 abbrev pub together : Sizes → Sizes → Sizes
-together a b = record { statements = capped (a.statements + b.statements); nodes = max a.nodes b.nodes; temps = max a.temps b.temps }
+together a b = record {
+  statements = capped (a.statements + b.statements);
+  nodes = max a.nodes b.nodes;
+  temps = max a.temps b.temps;
+}

@@ -22,7 +22,8 @@ started vars counter from cells = slice_set cells (first_cell vars counter) from
 
 -- 1 is added to the counter
 abbrev pub stepped : ℕ → List Declared → List ℕ → List ℕ → List ℕ
-stepped word vars counter cells = slice_set cells (first_cell vars counter) (apply2_of Add word (counter_value vars counter cells) 1)
+stepped word vars counter cells =
+    slice_set cells (first_cell vars counter) (apply2_of Add word (counter_value vars counter cells) 1)
 
 -- the test: the counter isn't one past the last number
 abbrev pub counting : List Declared → List ℕ → ℕ → List ℕ → Bool
@@ -40,9 +41,11 @@ unfoldable mutual
   run_act word vars (assign place e) tree next = after_change (assigned word vars place e) next
   run_act word vars (choice test taken other) tree next = pass (At tree) (choose (holds word vars test)
       (run_in word vars taken (tree + 1) next) (run_else word vars other (tree + 1 + statements_in taken) next))
-  run_act word vars (while test body) tree next = loop (At tree) (holds word vars test) (run_in word vars body (tree + 1)) next
+  run_act word vars (while test body) tree next =
+      loop (At tree) (holds word vars test) (run_in word vars body (tree + 1)) next
   run_act word vars (count counter at from to body) tree next = after_change (started vars counter from)
-      (loop (At (tree + 1)) (counting vars counter to) (λ again. run_in word vars body (tree + 2) (after_change (stepped word vars counter) again)) next)
+      (loop (At (tree + 1)) (counting vars counter to)
+      (λ again. run_in word vars body (tree + 2) (after_change (stepped word vars counter) again)) next)
 
   pub run_in : ℕ → List Declared → Acts → ℕ → Onward → Onward
   run_in word vars no_acts tree next = next

@@ -21,8 +21,12 @@ x = 120 ∷ []
 -- var s, i, x[2]; for i = 0 to .. { s = s + x[i]; }
 abbrev summed : ℕ → Listing
 summed to = record {
-  vars = record { name = s; at = 4; len = None } ∷ record { name = i; at = 7; len = None } ∷ record { name = x; at = 10; len = Some 2 } ∷ [];
-  body = count i 0 0 to (acts_of (assign (record { name = s; at = 0; index = None }) (phrase (bin Add 0 (plain s 0) 0 (element x 0 0 (plain i 0)))) ∷ [])) ∷ [];
+  vars =
+      record { name = s; at = 4; len = None } ∷ record { name = i; at = 7; len = None }
+      ∷ record { name = x; at = 10; len = Some 2 } ∷ [];
+  body =
+      count i 0 0 to (acts_of (assign (record { name = s; at = 0; index = None })
+      (phrase (bin Add 0 (plain s 0) 0 (element x 0 0 (plain i 0)))) ∷ [])) ∷ [];
 }
 
 -- four checkpoints: the test three times, and the end

@@ -23,7 +23,8 @@ abbrev into : List ℕ → ℕ → ℕ → Shape → Act
 into name at to e = assign (record { name = name; at = at; index = None }) (phrase to e)
 
 abbrev stored : List ℕ → ℕ → ℕ → Shape → ℕ → Shape → Act
-stored name at inner index to e = assign (record { name = name; at = at; index = Some (phrase inner index) }) (phrase to e)
+stored name at inner index to e =
+    assign (record { name = name; at = at; index = Some (phrase inner index) }) (phrase to e)
 
 abbrev listing : List Declared → List Act → Listing
 listing vars body = record { vars = vars; body = body }
@@ -77,7 +78,9 @@ of_two_widths = refl
 
 -- var a; a = low(a, 8) + 255; and with 256
 beside_eight_bits : ℕ → Option SrcFault
-beside_eight_bits n = first_fault 16 (listing (variable a 4 ∷ []) (into a 7 11 (sext 11 (bin Add 16 (low 20 (plain a 20) 8) 30 (num n)) 16) ∷ []))
+beside_eight_bits n =
+    first_fault 16 (listing (variable a 4 ∷ [])
+    (into a 7 11 (sext 11 (bin Add 16 (low 20 (plain a 20) 8) 30 (num n)) 16) ∷ []))
 
 -- a literal has the width of the other operand
 eight_bits : beside_eight_bits 255 ≡ None
@@ -89,7 +92,8 @@ unfolding beside_eight_bits
 nine_bits = refl
 
 -- var a; a = 256 + 1;  two literals have the word's width
-two_literals : first_fault 8 (listing (variable a 4 ∷ []) (into a 7 11 (bin Add 11 (num 256) 17 (num 1)) ∷ [])) ≡ Some (Width 11)
+two_literals : first_fault 8 (listing (variable a 4 ∷ []) (into a 7 11 (bin Add 11 (num 256) 17 (num 1)) ∷ []))
+    ≡ Some (Width 11)
 two_literals = refl
 
 -- var a; a = -256;  at the number behind the sign
@@ -97,19 +101,26 @@ signed_literal : first_fault 8 (listing (variable a 4 ∷ []) (into a 7 11 (un N
 signed_literal = refl
 
 -- var a; a = low(a, 16) + low(a, 0);  what has a broken part breaks nothing itself
-inner_fault : first_fault 16 (listing (variable a 4 ∷ []) (into a 7 11 (bin Add 11 (low 15 (plain a 15) 16) 25 (low 29 (plain a 29) 0)) ∷ [])) ≡ Some (Width 11)
+inner_fault : first_fault 16 (listing (variable a 4 ∷ [])
+    (into a 7 11 (bin Add 11 (low 15 (plain a 15) 16) 25 (low 29 (plain a 29) 0)) ∷ []))
+    ≡ Some (Width 11)
 inner_fault = refl
 
 -- var a; a = a + zext(a, 16);
-not_wider : first_fault 16 (listing (variable a 4 ∷ []) (into a 7 11 (bin Add 11 (plain a 11) 15 (zext 20 (plain a 20) 16)) ∷ [])) ≡ Some (Width 15)
+not_wider : first_fault 16 (listing (variable a 4 ∷ [])
+    (into a 7 11 (bin Add 11 (plain a 11) 15 (zext 20 (plain a 20) 16)) ∷ []))
+    ≡ Some (Width 15)
 not_wider = refl
 
 -- var a; a = low(zext(a, 65), 16);
-too_wide : first_fault 16 (listing (variable a 4 ∷ []) (into a 7 11 (low 15 (zext 20 (plain a 20) 65) 16) ∷ [])) ≡ Some (Width 15)
+too_wide : first_fault 16 (listing (variable a 4 ∷ []) (into a 7 11 (low 15 (zext 20 (plain a 20) 65) 16) ∷ []))
+    ≡ Some (Width 15)
 too_wide = refl
 
 -- var x[4], a; x[low(a, 8)] = 1;
-narrow_index : first_fault 16 (listing (array x 4 4 ∷ variable a 10 ∷ []) (stored x 13 15 (low 19 (plain a 19) 8) 29 (num 1) ∷ [])) ≡ Some (Width 15)
+narrow_index : first_fault 16 (listing (array x 4 4 ∷ variable a 10 ∷ [])
+    (stored x 13 15 (low 19 (plain a 19) 8) 29 (num 1) ∷ []))
+    ≡ Some (Width 15)
 narrow_index = refl
 
 -- var x[0];
@@ -168,12 +179,17 @@ within_the_array : first_fault 16 (summed 3) ≡ None
 within_the_array = refl
 
 -- var i; for i = 0 to 3 { i = 1; }
-counter_assigned : first_fault 16 (listing (variable i 4 ∷ []) (count i 11 0 3 (acts_of (into i 24 28 (num 1) ∷ [])) ∷ [])) ≡ Some (Counter 11)
+counter_assigned : first_fault 16
+    (listing (variable i 4 ∷ []) (count i 11 0 3 (acts_of (into i 24 28 (num 1) ∷ [])) ∷ []))
+    ≡ Some (Counter 11)
 counter_assigned = refl
 
 -- the same in a block within the loop: var i; for i = 0 to 3 { while i != 2 { i = 1; } }
-counter_assigned_within : first_fault 16 (listing (variable i 4 ∷ []) (count i 11 0 3 (acts_of (while (record { cmp = Ne; left = phrase 30 (plain i 30); right = phrase 35 (num 2) })
-    (acts_of (into i 39 43 (num 1) ∷ [])) ∷ [])) ∷ [])) ≡ Some (Counter 11)
+counter_assigned_within : first_fault 16 (listing (variable i 4 ∷ [])
+    (count i 11 0 3 (acts_of (while
+    (record { cmp = Ne; left = phrase 30 (plain i 30); right = phrase 35 (num 2) })
+    (acts_of (into i 39 43 (num 1) ∷ [])) ∷ [])) ∷ []))
+    ≡ Some (Counter 11)
 counter_assigned_within = refl
 
 -- var i; for i = .. to .. { }
@@ -199,7 +215,9 @@ unfolding turned
 past_the_last_word = refl
 
 -- var i, x[4]; for i = 0 to 3 { } x[i] = 0;  behind the loop its counter has no range
-after_the_loop : first_fault 16 (listing (variable i 4 ∷ array x 7 4 ∷ []) (count i 17 0 3 (acts_of []) ∷ stored x 32 34 (plain i 34) 39 (num 0) ∷ [])) ≡ Some (Index 34)
+after_the_loop : first_fault 16 (listing (variable i 4 ∷ array x 7 4 ∷ [])
+    (count i 17 0 3 (acts_of []) ∷ stored x 32 34 (plain i 34) 39 (num 0) ∷ []))
+    ≡ Some (Index 34)
 after_the_loop = refl
 
 greatest_array : first_fault 16 (listing (array x 4 65536 ∷ []) []) ≡ None
@@ -216,26 +234,35 @@ sums (suc n) = bin Add 0 (sums n) 0 (num 1)
 most_nodes : first_fault 16 (listing (variable a 4 ∷ []) (into a 7 11 (sums 127) ∷ [])) ≡ None
 most_nodes = refl
 
-too_many_nodes : first_fault 16 (listing (variable a 4 ∷ []) (into a 7 11 (un Neg 11 (sums 127)) ∷ [])) ≡ Some (Limit Nodes 256 255)
+too_many_nodes : first_fault 16 (listing (variable a 4 ∷ []) (into a 7 11 (un Neg 11 (sums 127)) ∷ []))
+    ≡ Some (Limit Nodes 256 255)
 too_many_nodes = refl
 
 -- var x[250]; x[0] = x[1] + 1 + 2 + 3 + 4; and x[0] = 1 + 2 + 3 + 4;
 abbrev plus : Shape → ℕ → Shape
 plus e n = bin Add 0 e 0 (num n)
 
-with_a_read : temp_count 16 (listing (array x 4 250 ∷ []) (stored x 12 14 (num 0) 19 (plus (plus (plus (plus (element x 19 21 (num 1)) 1) 2) 3) 4) ∷ [])) ≡ 7
+with_a_read : temp_count 16 (listing (array x 4 250 ∷ [])
+    (stored x 12 14 (num 0) 19 (plus (plus (plus (plus (element x 19 21 (num 1)) 1) 2) 3) 4) ∷ []))
+    ≡ 7
 with_a_read = refl
 
-with_literals : temp_count 16 (listing (array x 4 250 ∷ []) (stored x 12 14 (num 0) 19 (plus (plus (plus (num 1) 2) 3) 4) ∷ [])) ≡ 6
+with_literals : temp_count 16 (listing (array x 4 250 ∷ [])
+    (stored x 12 14 (num 0) 19 (plus (plus (plus (num 1) 2) 3) 4) ∷ []))
+    ≡ 6
 with_literals = refl
 
 -- a store through an index: the sum and the array's address, the index, and the value
-stored_temps : temp_count 16 (listing (array x 4 4 ∷ variable a 10 ∷ []) (stored x 13 15 (bin And 15 (plain a 15) 19 (num 3)) 25 (num 1) ∷ [])) ≡ 5
+stored_temps : temp_count 16 (listing (array x 4 4 ∷ variable a 10 ∷ [])
+    (stored x 13 15 (bin And 15 (plain a 15) 19 (num 3)) 25 (num 1) ∷ []))
+    ≡ 5
 stored_temps = refl
 
 -- var a; while a != 0 { a = a - 1; }
-counted_down : temp_count 16 (listing (variable a 4 ∷ []) (while (record { cmp = Ne; left = phrase 13 (plain a 13); right = phrase 18 (num 0) })
-    (acts_of (into a 22 26 (bin Sub 26 (plain a 26) 30 (num 1)) ∷ [])) ∷ [])) ≡ 3
+counted_down : temp_count 16 (listing (variable a 4 ∷ []) (while
+    (record { cmp = Ne; left = phrase 13 (plain a 13); right = phrase 18 (num 0) })
+    (acts_of (into a 22 26 (bin Sub 26 (plain a 26) 30 (num 1)) ∷ [])) ∷ []))
+    ≡ 3
 counted_down = refl
 
 -- a filter of eight taps: s = s + low(sext(x[i], 32) * sext(h[i], 32) >>> 15, 16), in a loop
@@ -244,7 +271,8 @@ tap name = sext 0 (element name 0 0 (plain i 0)) 32
 
 abbrev filter : Listing
 filter = listing (variable s 4 ∷ variable i 7 ∷ array x 10 8 ∷ array h 16 8 ∷ []) (into s 22 26 (num 0) ∷ count i 33 0 7
-    (acts_of (into s 46 50 (bin Add 50 (plain s 50) 54 (low 58 (bin Sar 58 (bin Mul 58 (tap x) 0 (tap h)) 0 (num 15)) 16)) ∷ [])) ∷ [])
+    (acts_of (into s 46 50
+    (bin Add 50 (plain s 50) 54 (low 58 (bin Sar 58 (bin Mul 58 (tap x) 0 (tap h)) 0 (num 15)) 16)) ∷ [])) ∷ [])
 
 filter_kept : first_fault 16 filter ≡ None
 filter_kept = refl

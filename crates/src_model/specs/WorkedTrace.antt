@@ -37,11 +37,16 @@ read name = plain name 0
 
 -- var s, i, x[4];
 abbrev vars : List Declared
-vars = record { name = s; at = 4; len = None } ∷ record { name = i; at = 7; len = None } ∷ record { name = x; at = 10; len = Some 4 } ∷ []
+vars =
+    record { name = s; at = 4; len = None } ∷ record { name = i; at = 7; len = None }
+    ∷ record { name = x; at = 10; len = Some 4 } ∷ []
 
 -- for i = 1 to 2 { s = s + x[i]; }
 abbrev summed : Listing
-summed = record { vars = vars; body = count i 0 1 2 (acts_of (into s (bin Add 0 (read s) 0 (element x 0 0 (read i))) ∷ [])) ∷ [] }
+summed = record {
+  vars = vars;
+  body = count i 0 1 2 (acts_of (into s (bin Add 0 (read s) 0 (element x 0 0 (read i))) ∷ [])) ∷ [];
+}
 
 -- the start has tree 0, the test tree 1; the counter stands at 3 at the end
 summed_trace : strace 8 summed (9 ∷ 9 ∷ 0 ∷ 100 ∷ 200 ∷ 0 ∷ []) 10 ≡
@@ -51,7 +56,8 @@ unfolding run_act run_in run_else
 summed_trace = refl
 
 -- as many as are asked for
-summed_front : strace 8 summed (9 ∷ 9 ∷ 0 ∷ 100 ∷ 200 ∷ 0 ∷ []) 1 ≡ at_label (At 1) (9 ∷ 1 ∷ 0 ∷ 100 ∷ 200 ∷ 0 ∷ []) ∷ []
+summed_front : strace 8 summed (9 ∷ 9 ∷ 0 ∷ 100 ∷ 200 ∷ 0 ∷ []) 1
+    ≡ at_label (At 1) (9 ∷ 1 ∷ 0 ∷ 100 ∷ 200 ∷ 0 ∷ []) ∷ []
 unfolding run_act run_in run_else
 summed_front = refl
 
@@ -76,7 +82,9 @@ no_turns = refl
 
 -- of -128 and 127: which is less
 abbrev ends : Cmp → Bool
-ends cmp = holds 8 vars (record { cmp = cmp; left = phrase (read s); right = phrase (read i) }) (128 ∷ 127 ∷ 0 ∷ 0 ∷ 0 ∷ 0 ∷ [])
+ends cmp =
+    holds 8 vars (record { cmp = cmp; left = phrase (read s); right = phrase (read i) })
+    (128 ∷ 127 ∷ 0 ∷ 0 ∷ 0 ∷ 0 ∷ [])
 
 less_signed : ends Slt ≡ true
 less_signed = refl
@@ -92,5 +100,6 @@ shifted_out : shape_value 8 vars (128 ∷ 9 ∷ 0 ∷ 0 ∷ 0 ∷ 0 ∷ []) 8 (b
 shifted_out = refl
 
 -- low(sext(s, 16) - 1, 8): the literal is 16 bits wide
-narrowed : shape_value 8 vars (128 ∷ 0 ∷ 0 ∷ 0 ∷ 0 ∷ 0 ∷ []) 8 (low 0 (bin Sub 0 (sext 0 (read s) 16) 0 (num 1)) 8) ≡ 127
+narrowed : shape_value 8 vars (128 ∷ 0 ∷ 0 ∷ 0 ∷ 0 ∷ 0 ∷ []) 8 (low 0 (bin Sub 0 (sext 0 (read s) 16) 0 (num 1)) 8)
+    ≡ 127
 narrowed = refl

@@ -265,7 +265,8 @@ fn statement_sizes(word: u64, statement: &Stmt) -> Sizes
 /// The sizes of a block's statements, for words of so many bits.
 #[cycle(sizes)]
 pub fn block_sizes(word: u64, block: &[Stmt]) -> Sizes
-    ensures { result ≡ measured word (roots_in (acts_of (map act_of block.now))) (statements_in (acts_of (map act_of block.now))) }
+    ensures { result
+        ≡ measured word (roots_in (acts_of (map act_of block.now))) (statements_in (acts_of (map act_of block.now))) }
 {
     let mut sizes = NOTHING;
     for statement in block {

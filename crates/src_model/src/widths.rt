@@ -43,8 +43,10 @@ pub fn width_of(word: u8, asked: u8, e: &SrcExpr) -> u8
 /// literals have the word's.
 pub fn operand_width(word: u8, x: &SrcExpr, y: &SrcExpr) -> u8
     requires word { IsWidth word }
-    requires left { Fitting word (operand_width word (shape_of x.now.node) (shape_of y.now.node)) (shape_of x.now.node) }
-    requires right { Fitting word (operand_width word (shape_of x.now.node) (shape_of y.now.node)) (shape_of y.now.node) }
+    requires left { Fitting word (operand_width word (shape_of x.now.node) (shape_of y.now.node))
+        (shape_of x.now.node) }
+    requires right { Fitting word (operand_width word (shape_of x.now.node) (shape_of y.now.node))
+        (shape_of y.now.node) }
     ensures value { result ≡ operand_width word (shape_of x.now.node) (shape_of y.now.node) }
     ensures wide { IsWidth result }
     ensures left { Fitting word result (shape_of x.now.node) }

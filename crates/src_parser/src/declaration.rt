@@ -20,7 +20,8 @@ fn bracketed(ts: &[Lexed]) -> Result<(u64, &[Lexed]), Stop>
 
 /// The length of an array, if there is one.
 fn length(ts: &[Lexed]) -> Result<(Option<u64>, &[Lexed]), Stop>
-    ensures { Gives (λ x. (x.0, x.1.now)) (Maybe (Behind LeftBracket (Before IsNumber RightBracket))) after_decl ts.now result }
+    ensures { Gives (λ x. (x.0, x.1.now))
+        (Maybe (Behind LeftBracket (Before IsNumber RightBracket))) after_decl ts.now result }
 {
     if begins_with(Symbol::LeftBracket, ts) {
         let (len, rest) = bracketed(ts)?;

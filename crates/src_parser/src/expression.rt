@@ -168,8 +168,9 @@ fn tail(
 ) -> Result<(SrcExpr, &[Lexed]), Stop>
     requires some { 1 ≤ k }
     requires ranked { k ≤ 6 }
-    ensures { Gives (λ x.
-        (phrase_of x.0, x.1.now)) (Within room (Tail (Chains (k - 1) (IsUnary levels)) (op_at k) join (phrase_of first))) (after k) ts.now result }
+    ensures { Gives (λ x. (phrase_of x.0, x.1.now))
+        (Within room (Tail (Chains (k - 1) (IsUnary levels)) (op_at k) join (phrase_of first)))
+        (after k) ts.now result }
 {
     let mut left = first;
     let mut spare = room;
@@ -215,8 +216,8 @@ fn bracket(
     ts: &[Lexed],
 ) -> Result<(SrcExpr, &[Lexed]), Stop>
     requires { 3 ≤ room }
-    ensures { Gives (λ x.
-        (phrase_of x.0, x.1.now)) (Within room (Behind LeftBracket (Before (IsExpr levels) RightBracket))) never ts.now result }
+    ensures { Gives (λ x. (phrase_of x.0, x.1.now))
+        (Within room (Behind LeftBracket (Before (IsExpr levels) RightBracket))) never ts.now result }
 {
     let rest = expect(Symbol::LeftBracket, ts)?;
     closed(alloc, Symbol::RightBracket, levels, room - 1, rest)
@@ -251,8 +252,8 @@ fn named<'a>(
     room: usize,
     ts: &'a [Lexed],
 ) -> Result<(SrcExpr, &'a [Lexed]), Stop>
-    ensures { Gives (λ x.
-        (phrase_of x.0, x.1.now)) (Within room (UnaryBehind IsNothing (InExpr levels) (Named name.now) at)) (after 0) ts.now result }
+    ensures { Gives (λ x. (phrase_of x.0, x.1.now))
+        (Within room (UnaryBehind IsNothing (InExpr levels) (Named name.now) at)) (after 0) ts.now result }
 {
     let (index, rest) = index(alloc, levels, room, ts)?;
     let name = Items::from_slice(alloc, name.as_slice())?;
@@ -271,7 +272,8 @@ fn signed(
     ts: &[Lexed],
 ) -> Result<(SrcExpr, &[Lexed]), Stop>
     requires { 1 ≤ room }
-    ensures { Gives (λ x. (phrase_of x.0, x.1.now)) (Within room (Signed (IsUnary levels) op at)) (after 0) ts.now result }
+    ensures { Gives (λ x. (phrase_of x.0, x.1.now)) (Within room (Signed (IsUnary levels) op at))
+        (after 0) ts.now result }
 {
     let (a, rest) = unary(alloc, levels, room, ts)?;
     let node = SrcNode::Un(op, Box::new(alloc, a)?);
@@ -288,7 +290,8 @@ fn enclosed(
     ts: &[Lexed],
 ) -> Result<(SrcExpr, &[Lexed]), Stop>
     requires { 2 ≤ room }
-    ensures { Gives (λ x. (phrase_of x.0, x.1.now)) (Within room (Enclosed (IsExpr levels) at)) (after 0) ts.now result }
+    ensures { Gives (λ x. (phrase_of x.0, x.1.now)) (Within room (Enclosed (IsExpr levels) at))
+        (after 0) ts.now result }
 {
     let (a, rest) = closed(alloc, Symbol::RightParen, levels, room, ts)?;
     Ok((SrcExpr { at, node: a.node }, rest))
@@ -303,7 +306,8 @@ fn argument(
     ts: &[Lexed],
 ) -> Result<(SrcExpr, &[Lexed]), Stop>
     requires { 2 ≤ room }
-    ensures { Gives (λ x. (phrase_of x.0, x.1.now)) (Within room (Behind LeftParen (IsExpr levels))) (after 6) ts.now result }
+    ensures { Gives (λ x. (phrase_of x.0, x.1.now)) (Within room (Behind LeftParen (IsExpr levels)))
+        (after 6) ts.now result }
 {
     let rest = expect(Symbol::LeftParen, ts)?;
     chain(alloc, LOOSEST, levels, room - 1, rest)
@@ -320,7 +324,8 @@ fn call(
     ts: &[Lexed],
 ) -> Result<(SrcExpr, &[Lexed]), Stop>
     requires { 5 ≤ room }
-    ensures { Gives (λ x. (phrase_of x.0, x.1.now)) (Within room (Called (IsExpr levels) call at)) (after 0) ts.now result }
+    ensures { Gives (λ x. (phrase_of x.0, x.1.now)) (Within room (Called (IsExpr levels) call at))
+        (after 0) ts.now result }
 {
     let (a, rest) = argument(alloc, levels, room - 3, ts)?;
     let (a, (width, rest)) = keeping(a, number_between(Symbol::Comma, Symbol::RightParen, rest))?;
@@ -339,8 +344,8 @@ fn opened(
     ts: &[Lexed],
 ) -> Result<(SrcExpr, &[Lexed]), Stop>
     requires { least_of opening - 1 ≤ room }
-    ensures { Gives (λ x.
-        (phrase_of x.0, x.1.now)) (Within room (OpenBehind (IsUnary levels) (IsExpr levels) opening at)) (after 0) ts.now result }
+    ensures { Gives (λ x. (phrase_of x.0, x.1.now))
+        (Within room (OpenBehind (IsUnary levels) (IsExpr levels) opening at)) (after 0) ts.now result }
 {
     match opening {
         Opening::Sign(op) => signed(alloc, op, at, levels, room, ts),

@@ -102,7 +102,8 @@ fn assignment<'a>(
     levels: u8,
     ts: &'a [Lexed],
 ) -> Result<(Stmt, &'a [Lexed]), Stop>
-    ensures { Gives (λ x. (act_of x.0, x.1.now)) (ActBehind levels IsNothing (Named name.now) at) after_else ts.now result }
+    ensures { Gives (λ x. (act_of x.0, x.1.now)) (ActBehind levels IsNothing (Named name.now) at)
+        after_else ts.now result }
 {
     let (index, rest) = outer_index(alloc, levels, ts)?;
     let (value, rest) = between(alloc, Symbol::Equals, Symbol::Semicolon, levels, rest)?;
@@ -189,7 +190,8 @@ fn compound_of(word: &Word) -> Option<Compound>
 #[cycle(acts)]
 fn choice(alloc: Global, levels: u8, ts: &[Lexed]) -> Result<(Stmt, &[Lexed]), Stop>
     requires { 1 ≤ levels }
-    ensures { Gives (λ x. (act_of x.0, x.1.now)) (CompoundBehind levels (IsBlock levels) Chooses) after_else ts.now result }
+    ensures { Gives (λ x. (act_of x.0, x.1.now)) (CompoundBehind levels (IsBlock levels) Chooses)
+        after_else ts.now result }
 {
     let (test, rest) = test(alloc, levels, ts)?;
     let (test, (yes, rest)) = keeping(test, block(alloc, levels, rest))?;
@@ -201,7 +203,8 @@ fn choice(alloc: Global, levels: u8, ts: &[Lexed]) -> Result<(Stmt, &[Lexed]), S
 #[cycle(acts)]
 fn repetition(alloc: Global, levels: u8, ts: &[Lexed]) -> Result<(Stmt, &[Lexed]), Stop>
     requires { 1 ≤ levels }
-    ensures { Gives (λ x. (act_of x.0, x.1.now)) (CompoundBehind levels (IsBlock levels) Repeats) after_else ts.now result }
+    ensures { Gives (λ x. (act_of x.0, x.1.now)) (CompoundBehind levels (IsBlock levels) Repeats)
+        after_else ts.now result }
 {
     let (test, rest) = test(alloc, levels, ts)?;
     let (test, (body, rest)) = keeping(test, block(alloc, levels, rest))?;
@@ -212,7 +215,8 @@ fn repetition(alloc: Global, levels: u8, ts: &[Lexed]) -> Result<(Stmt, &[Lexed]
 #[cycle(acts)]
 fn counting(alloc: Global, levels: u8, ts: &[Lexed]) -> Result<(Stmt, &[Lexed]), Stop>
     requires { 1 ≤ levels }
-    ensures { Gives (λ x. (act_of x.0, x.1.now)) (CompoundBehind levels (IsBlock levels) Counts) after_else ts.now result }
+    ensures { Gives (λ x. (act_of x.0, x.1.now)) (CompoundBehind levels (IsBlock levels) Counts)
+        after_else ts.now result }
 {
     let (counter, rest) = name(alloc, ts)?;
     let (from, rest) = number_behind(Symbol::Equals, rest)?;
@@ -237,7 +241,8 @@ fn composed(
     ts: &[Lexed],
 ) -> Result<(Stmt, &[Lexed]), Stop>
     requires { 1 ≤ levels }
-    ensures { Gives (λ x. (act_of x.0, x.1.now)) (CompoundBehind levels (IsBlock levels) word) after_else ts.now result }
+    ensures { Gives (λ x. (act_of x.0, x.1.now)) (CompoundBehind levels (IsBlock levels) word)
+        after_else ts.now result }
 {
     match word {
         Compound::If => choice(alloc, levels, ts),

@@ -22,7 +22,9 @@ is_entered (f ∷ rest) at = enters f at || is_entered rest at
 -- a place continues the block of the place before it: both are assignments, and nothing enters
 -- there
 abbrev pub continues : List Flow → ℕ → Bool
-continues flow at = nat_lt 0 at && (is_assign (slice_get flow (at - 1)) && (is_assign (slice_get flow at) && not (is_entered flow at)))
+continues flow at =
+    nat_lt 0 at
+    && (is_assign (slice_get flow (at - 1)) && (is_assign (slice_get flow at) && not (is_entered flow at)))
 
 -- so many places from one on are a block
 pub record IsAssignBlock (flow : List Flow) (at n : ℕ) : Type 0 where

@@ -44,7 +44,9 @@ AllRead at cells (t ∷ trees) = ReadsCells at cells t × AllRead at cells trees
 
 abbrev pub DestinationLies : ℕ → List ℕ → Destination → Type 0
 DestinationLies at cells (cell address) = (at ≤ address) × (address < length cells)
-DestinationLies at cells (stored address) = ReadsCells at cells address × (at ≤ tree_value cells address) × (tree_value cells address < length cells)
+DestinationLies at cells (stored address) =
+    ReadsCells at cells address × (at ≤ tree_value cells address)
+    × (tree_value cells address < length cells)
 DestinationLies at cells (into id) = Unit {0}
 DestinationLies at cells temporary = Unit {0}
 DestinationLies at cells tested = Unit {0}

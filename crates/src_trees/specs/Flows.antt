@@ -41,7 +41,8 @@ abbrev mutual
   flow_of (assign place e) tree at = Assign tree ∷ []
   flow_of (choice test taken other) tree at =
       asked test.cmp tree (at + 1) (else_entry other (at + 1 + places_in taken))
-      ∷ (flow_in taken (tree + 1) (at + 1) ++ flow_else other (tree + 1 + statements_in taken) (at + 1 + places_in taken))
+      ∷ (flow_in taken (tree + 1) (at + 1)
+      ++ flow_else other (tree + 1 + statements_in taken) (at + 1 + places_in taken))
   flow_of (while test body) tree at =
       asked test.cmp tree (at + 1) (at + 1 + places_in body + 1) ∷ (flow_in body (tree + 1) (at + 1) ++ Jump at ∷ [])
   flow_of (count counter from_at from to body) tree at =

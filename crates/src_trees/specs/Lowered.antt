@@ -44,7 +44,8 @@ tree_of m asked (num n) = const asked n
 tree_of m asked (plain name at) = read (const m.addr (base_of m.places name)) m.word
 tree_of m asked (element name at to x) = read (element_address m name (number_of x) (tree_of m m.word x)) m.word
 tree_of m asked (un_of op at x) = un op (tree_of m asked x)
-tree_of m asked (bin_of op at x to y) = bin op (tree_of m (operand_width m.word x y) x) (tree_of m (operand_width m.word x y) y)
+tree_of m asked (bin_of op at x to y) =
+    bin op (tree_of m (operand_width m.word x y) x) (tree_of m (operand_width m.word x y) y)
 tree_of m asked (zext_of at x width) = zext (tree_of m m.word x) width
 tree_of m asked (sext_of at x width) = sext (tree_of m m.word x) width
 tree_of m asked (low at x width) = slice (tree_of m m.word x) (width - 1) 0
@@ -66,7 +67,10 @@ assigned_destination m name None = cell (base_of m.places name)
 assigned_destination m name (Some x) = element_destination m name (number_of x.shape) (tree_of m m.word x.shape)
 
 abbrev pub assign_work : MemoryMap → Place → Phrase → Work
-assign_work m place e = record { destination = assigned_destination m place.name place.index; trees = tree_of m m.word e.shape ∷ [] }
+assign_work m place e = record {
+  destination = assigned_destination m place.name place.index;
+  trees = tree_of m m.word e.shape ∷ [];
+}
 
 -- the trees of a comparison of two values of this width; one for equality has a second, which
 -- compares their difference with 0
@@ -100,7 +104,11 @@ abbrev pub answer : Cmp → Bool → Bool
 answer cmp holds = if holds_at_one cmp then holds else not holds
 
 abbrev pub compare_work : MemoryMap → Cmp → Shape → Shape → Work
-compare_work m cmp x y = record { destination = tested; trees = compared_trees cmp (operand_width m.word x y) (tree_of m (operand_width m.word x y) x) (tree_of m (operand_width m.word x y) y) }
+compare_work m cmp x y = record {
+  destination = tested;
+  trees = compared_trees cmp (operand_width m.word x y) (tree_of m (operand_width m.word x y) x)
+      (tree_of m (operand_width m.word x y) y);
+}
 
 abbrev pub test_work : MemoryMap → Test → Work
 test_work m test = compare_work m test.cmp test.left.shape test.right.shape
@@ -114,7 +122,10 @@ abbrev pub counting_work : MemoryMap → List ℕ → ℕ → ℕ → Work
 counting_work m counter at to = compare_work m Ne (plain counter at) (num (to + 1))
 
 abbrev pub step_work : MemoryMap → List ℕ → Work
-step_work m counter = record { destination = cell (base_of m.places counter); trees = bin Add (read (const m.addr (base_of m.places counter)) m.word) (const m.word 1) ∷ [] }
+step_work m counter = record {
+  destination = cell (base_of m.places counter);
+  trees = bin Add (read (const m.addr (base_of m.places counter)) m.word) (const m.word 1) ∷ [];
+}
 
 abbrev mutual
   -- the jobs of a statement, in the order of the text
@@ -122,7 +133,9 @@ abbrev mutual
   works m (assign place e) = assign_work m place e ∷ []
   works m (choice test taken other) = test_work m test ∷ (works_in m taken ++ works_else m other)
   works m (while test body) = test_work m test ∷ works_in m body
-  works m (count counter at from to body) = start_work m counter from ∷ (counting_work m counter at to ∷ (works_in m body ++ step_work m counter ∷ []))
+  works m (count counter at from to body) =
+      start_work m counter from
+      ∷ (counting_work m counter at to ∷ (works_in m body ++ step_work m counter ∷ []))
 
   pub works_in : MemoryMap → Acts → List Work
   works_in m no_acts = []

@@ -20,7 +20,8 @@ wide_nodes bits (slice a hi lo) = is_word bits (term_width (slice a hi lo)) + wi
 wide_nodes bits (cat a b) = is_word bits (term_width (cat a b)) + (wide_nodes bits a + wide_nodes bits b)
 wide_nodes bits (zext a w) = is_word bits w + wide_nodes bits a
 wide_nodes bits (sext a w) = is_word bits w + wide_nodes bits a
-wide_nodes bits (select c a b) = is_word bits (term_width a) + (wide_nodes bits c + (wide_nodes bits a + wide_nodes bits b))
+wide_nodes bits (select c a b) =
+    is_word bits (term_width a) + (wide_nodes bits c + (wide_nodes bits a + wide_nodes bits b))
 
 -- those below the root
 abbrev pub wide_below : ℕ → Term → ℕ
@@ -72,7 +73,9 @@ IsTreeGoal tested = Unit {0}
 -- all trees of a job
 abbrev pub TreesAre : ℕ → ℕ → ℕ → Destination → List Term → Type 0
 TreesAre bits temps most destination [] = Unit {0}
-TreesAre bits temps most destination (t ∷ trees) = (is_tree t ≡ true) × (tree_temps bits destination t ≤ temps) × (tree_size destination t ≤ most) × TreesAre bits temps most destination trees
+TreesAre bits temps most destination (t ∷ trees) =
+    (is_tree t ≡ true) × (tree_temps bits destination t ≤ temps) × (tree_size destination t ≤ most)
+    × TreesAre bits temps most destination trees
 
 -- a job of trees alone, of which each needs at most so many temporary cells and has at most so many
 -- nodes

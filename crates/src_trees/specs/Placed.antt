@@ -21,7 +21,8 @@ use Rattle.src_trees.specs.Blocks.{IsAssignBlock, jobs_at}
 
 -- within so many clocks, and without a mark before the last state, s comes to an address, with
 -- these cells behind the temporary ones
-pub record Comes (netlist : Netlist) (image : Image) (temps address : ℕ) (cells : List ℕ) (clocks : ℕ) (s : State) : Type 0 where
+pub record Comes (netlist : Netlist) (image : Image) (temps address : ℕ) (cells : List ℕ)
+    (clocks : ℕ) (s : State) : Type 0 where
   pub taken : ℕ
   pub last : State
   pub within : taken ≤ clocks
@@ -33,11 +34,13 @@ pub record Comes (netlist : Netlist) (image : Image) (temps address : ℕ) (cell
 pub record DoesJobs (netlist : Netlist) (image : Image) (temps : ℕ) (jobs : List Work) (from to : ℕ) : Type 0 where
   pub clocks : ℕ
   pub later : from + clocks ≤ to
-  pub does : (s : State) → IsAt netlist from s → AllLie temps s.cells jobs → Comes netlist image temps to (all_done jobs s.cells) clocks s
+  pub does : (s : State) → IsAt netlist from s → AllLie temps s.cells jobs →
+      Comes netlist image temps to (all_done jobs s.cells) clocks s
 
 -- a state at a test's mark leads, by the value of a tree, to one of two addresses, and the cells
 -- stay
-pub record Decides (netlist : Netlist) (image : Image) (temps tree : ℕ) (used : Term) (when_one when_zero clocks : ℕ) (s : State) : Type 0 where
+pub record Decides (netlist : Netlist) (image : Image) (temps tree : ℕ) (used : Term)
+    (when_one when_zero clocks : ℕ) (s : State) : Type 0 where
   pub label : label_in netlist image s ≡ Some (At tree)
   pub next : State
   pub clocked : clock netlist (words_of image) s ≡ Next next
@@ -45,25 +48,31 @@ pub record Decides (netlist : Netlist) (image : Image) (temps tree : ℕ) (used 
   pub on_zero : tree_value s.cells used ≡ 0 → Comes netlist image temps when_zero s.cells clocks next
 
 -- the words from an address decide a test by one of its trees, and both targets stand behind them
-pub record DoesTest (netlist : Netlist) (image : Image) (temps tree : ℕ) (job : Work) (from when_one when_zero : ℕ) : Type 0 where
+pub record DoesTest (netlist : Netlist) (image : Image) (temps tree : ℕ) (job : Work)
+    (from when_one when_zero : ℕ) : Type 0 where
   pub which : ℕ
   pub used : Term
   pub among : slice_get job.trees which ≡ Some used
   pub clocks : ℕ
   pub one_later : from + clocks < when_one
   pub zero_later : from + clocks < when_zero
-  pub asks : (s : State) → IsAt netlist from s → Lies temps s.cells job → Decides netlist image temps tree used when_one when_zero clocks s
+  pub asks : (s : State) → IsAt netlist from s → Lies temps s.cells job →
+      Decides netlist image temps tree used when_one when_zero clocks s
 
 -- the word at an address leads to another in one clock, and the cells stay
 pub record JumpComes (netlist : Netlist) (image : Image) (temps from to : ℕ) : Type 0 where
   pub goes : (s : State) → IsAt netlist from s → Comes netlist image temps to s.cells 1 s
 
 -- each place of the flow has its address; those in the middle of a block stand for nothing
-pub record IsPlaced (netlist : Netlist) (image : Image) (temps : ℕ) (flow : List Flow) (jobs : List Work) (starts : ℕ → ℕ) (end : ℕ) : Type 0 where
+pub record IsPlaced (netlist : Netlist) (image : Image) (temps : ℕ) (flow : List Flow)
+    (jobs : List Work) (starts : ℕ → ℕ) (end : ℕ) : Type 0 where
   pub first : starts 0 ≡ 0
   pub rises : (i k : ℕ) → i ≤ k → starts i ≤ starts k
-  pub blocks : (at n : ℕ) → IsAssignBlock flow at n → DoesJobs netlist image temps (jobs_at flow jobs at n) (starts at) (starts (at + n))
-  pub tests : (at tree when_one when_zero : ℕ) → slice_get flow at ≡ Some (Test tree when_one when_zero) → (job : Work) → slice_get jobs tree ≡ Some job
+  pub blocks : (at n : ℕ) → IsAssignBlock flow at n →
+      DoesJobs netlist image temps (jobs_at flow jobs at n) (starts at) (starts (at + n))
+  pub tests : (at tree when_one when_zero : ℕ)
+      → slice_get flow at ≡ Some (Test tree when_one when_zero)
+      → (job : Work) → slice_get jobs tree ≡ Some job
       → DoesTest netlist image temps tree job (starts at) (starts when_one) (starts when_zero)
   pub jumps : (at to : ℕ) → slice_get flow at ≡ Some (Jump to) → JumpComes netlist image temps (starts at) (starts to)
   pub behind_jump : (at to : ℕ) → slice_get flow at ≡ Some (Jump to) → starts at + 1 ≤ starts (at + 1)

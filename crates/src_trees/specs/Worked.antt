@@ -30,7 +30,9 @@ into name e = assign (record { name = name; at = 0; index = None }) (phrase e)
 abbrev counted : Listing
 counted = record {
   vars = record { name = a; at = 4; len = None } ∷ [];
-  body = while (record { cmp = Ne; left = phrase (plain a 0); right = phrase (num 0) }) (acts_of (into a (bin_of Sub 0 (plain a 0) 0 (num 1)) ∷ [])) ∷ [];
+  body =
+      while (record { cmp = Ne; left = phrase (plain a 0); right = phrase (num 0) })
+      (acts_of (into a (bin_of Sub 0 (plain a 0) 0 (num 1)) ∷ [])) ∷ [];
 }
 
 counted_flow : program_flow counted ≡ Test 0 3 1 ∷ Assign 1 ∷ Jump 0 ∷ End ∷ []
@@ -38,7 +40,11 @@ counted_flow = refl
 
 -- with three temporary cells, in words of 16 bits at addresses of 8
 counted_works : program_works (memory_map 16 8 3 counted.vars) counted ≡
-    record { destination = tested; trees = bin Equal (read (const 8 3) 16) (const 16 0) ∷ bin Equal (bin Sub (read (const 8 3) 16) (const 16 0)) (const 16 0) ∷ [] }
+    record {
+      destination = tested;
+      trees = bin Equal (read (const 8 3) 16) (const 16 0)
+          ∷ bin Equal (bin Sub (read (const 8 3) 16) (const 16 0)) (const 16 0) ∷ [];
+    }
     ∷ record { destination = cell 3; trees = bin Sub (read (const 8 3) 16) (const 16 1) ∷ [] } ∷ []
 counted_works = refl
 
@@ -46,20 +52,35 @@ counted_works = refl
 abbrev nested : Listing
 nested = record {
   vars = record { name = a; at = 4; len = None } ∷ record { name = x; at = 7; len = Some 4 } ∷ [];
-  body = count a 0 0 2 (acts_of (choice (record { cmp = Lt; left = phrase (element x 0 0 (plain a 0)); right = phrase (num 5) })
-      (acts_of (assign (record { name = x; at = 0; index = Some (phrase (plain a 0)) }) (phrase (element x 0 0 (num 3))) ∷ [])) (otherwise (acts_of [])) ∷ [])) ∷ [];
+  body =
+      count a 0 0 2 (acts_of (choice
+      (record { cmp = Lt; left = phrase (element x 0 0 (plain a 0)); right = phrase (num 5) })
+      (acts_of (assign (record { name = x; at = 0; index = Some (phrase (plain a 0)) })
+      (phrase (element x 0 0 (num 3))) ∷ []))
+      (otherwise (acts_of [])) ∷ [])) ∷ [];
 }
 
 -- the else part has its jump, over nothing
-nested_flow : program_flow nested ≡ Assign 0 ∷ Test 1 7 2 ∷ Test 2 3 5 ∷ Assign 3 ∷ Jump 5 ∷ Assign 4 ∷ Jump 1 ∷ End ∷ []
+nested_flow : program_flow nested
+    ≡ Assign 0 ∷ Test 1 7 2 ∷ Test 2 3 5 ∷ Assign 3 ∷ Jump 5 ∷ Assign 4 ∷ Jump 1 ∷ End ∷ []
 nested_flow = refl
 
 -- an index that isn't a literal is added to the array's address, in a word's width
 nested_works : program_works (memory_map 16 8 3 nested.vars) nested ≡
     record { destination = cell 3; trees = const 16 0 ∷ [] }
-    ∷ record { destination = tested; trees = bin Equal (read (const 8 3) 16) (const 16 3) ∷ bin Equal (bin Sub (read (const 8 3) 16) (const 16 3)) (const 16 0) ∷ [] }
-    ∷ record { destination = tested; trees = bin Ltu (read (slice (bin Add (read (const 8 3) 16) (const 16 4)) 7 0) 16) (const 16 5) ∷ [] }
-    ∷ record { destination = stored (slice (bin Add (read (const 8 3) 16) (const 16 4)) 7 0); trees = read (const 8 7) 16 ∷ [] }
+    ∷ record {
+      destination = tested;
+      trees = bin Equal (read (const 8 3) 16) (const 16 3)
+          ∷ bin Equal (bin Sub (read (const 8 3) 16) (const 16 3)) (const 16 0) ∷ [];
+    }
+    ∷ record {
+      destination = tested;
+      trees = bin Ltu (read (slice (bin Add (read (const 8 3) 16) (const 16 4)) 7 0) 16) (const 16 5) ∷ [];
+    }
+    ∷ record {
+      destination = stored (slice (bin Add (read (const 8 3) 16) (const 16 4)) 7 0);
+      trees = read (const 8 7) 16 ∷ [];
+    }
     ∷ record { destination = cell 3; trees = bin Add (read (const 8 3) 16) (const 16 1) ∷ [] } ∷ []
 nested_works = refl
 
@@ -78,11 +99,13 @@ wide_address : computed_address wide x (const 16 1) ≡ bin Add (const 16 1) (co
 wide_address = refl
 
 -- sext(low(a, 8) + 255, 16): a literal is as wide as the operand beside it
-narrow_literal : tree_of wide 16 (sext_of 0 (bin_of Add 0 (low 0 (plain a 0) 8) 0 (num 255)) 16) ≡ sext (bin Add (slice (read (const 16 3) 16) 7 0) (const 8 255)) 16
+narrow_literal : tree_of wide 16 (sext_of 0 (bin_of Add 0 (low 0 (plain a 0) 8) 0 (num 255)) 16)
+    ≡ sext (bin Add (slice (read (const 16 3) 16) 7 0) (const 8 255)) 16
 narrow_literal = refl
 
 -- a <= 5 is no 5 < a
-at_most : test_work wide (record { cmp = Le; left = phrase (plain a 0); right = phrase (num 5) }) ≡ record { destination = tested; trees = bin Ltu (const 16 5) (read (const 16 3) 16) ∷ [] }
+at_most : test_work wide (record { cmp = Le; left = phrase (plain a 0); right = phrase (num 5) })
+    ≡ record { destination = tested; trees = bin Ltu (const 16 5) (read (const 16 3) 16) ∷ [] }
 at_most = refl
 
 at_most_targets : asked Le 7 1 2 ≡ Test 7 2 1
@@ -98,18 +121,25 @@ read_element : tree_value cells (tree_of (memory_map 16 8 3 nested.vars) 16 (ele
 read_element = refl
 
 -- x[a] = x[3];
-stored_element : done (assign_work (memory_map 16 8 3 nested.vars) (record { name = x; at = 0; index = Some (phrase (plain a 0)) }) (phrase (element x 0 0 (num 3)))) cells ≡ 0 ∷ 0 ∷ 0 ∷ 2 ∷ 10 ∷ 20 ∷ 40 ∷ 40 ∷ []
+stored_element : done (assign_work (memory_map 16 8 3 nested.vars)
+    (record { name = x; at = 0; index = Some (phrase (plain a 0)) })
+    (phrase (element x 0 0 (num 3)))) cells
+    ≡ 0 ∷ 0 ∷ 0 ∷ 2 ∷ 10 ∷ 20 ∷ 40 ∷ 40 ∷ []
 stored_element = refl
 
 -- both trees of a == 2
-compared_twice : AllAre 1 cells (test_work (memory_map 16 8 3 nested.vars) (record { cmp = Eq; left = phrase (plain a 0); right = phrase (num 2) })).trees
+compared_twice : AllAre 1 cells (test_work (memory_map 16 8 3 nested.vars)
+    (record { cmp = Eq; left = phrase (plain a 0); right = phrase (num 2) })).trees
 compared_twice = (refl, (refl, tt))
 
 -- if a == 1 { a = 2; } a = 3; a = 4;
 abbrev joined : Listing
 joined = record {
   vars = counted.vars;
-  body = choice (record { cmp = Eq; left = phrase (plain a 0); right = phrase (num 1) }) (acts_of (into a (num 2) ∷ [])) without ∷ into a (num 3) ∷ into a (num 4) ∷ [];
+  body =
+      choice (record { cmp = Eq; left = phrase (plain a 0); right = phrase (num 1) })
+      (acts_of (into a (num 2) ∷ [])) without
+      ∷ into a (num 3) ∷ into a (num 4) ∷ [];
 }
 
 joined_flow : program_flow joined ≡ Test 0 1 2 ∷ Assign 1 ∷ Assign 2 ∷ Assign 3 ∷ End ∷ []

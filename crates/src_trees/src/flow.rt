@@ -75,7 +75,8 @@ fn while_flow(
     inner: &[Flow],
 ) -> Result<Items<Flow>, NoMemory>
     requires { at + length inner.now + 8 < 2 ^ 32 }
-    ensures { IfOk result (λ flow. flow ≡ asked cmp tree (at + 1) (at + 1 + length inner.now + 1) ∷ (inner.now ++ JumpTo at ∷ [])) }
+    ensures { IfOk result (λ flow. flow
+        ≡ asked cmp tree (at + 1) (at + 1 + length inner.now + 1) ∷ (inner.now ++ JumpTo at ∷ [])) }
 {
     let test = asked(cmp, tree, at + 1, at + 1 + inner.len() as u32 + 1);
     tested(alloc, test, inner, at)
@@ -109,8 +110,9 @@ fn else_flow(
     other: &[Flow],
 ) -> Result<Items<Flow>, NoMemory>
     requires { at + length taken.now + length other.now + 8 < 2 ^ 32 }
-    ensures { IfOk result (λ flow.
-        flow ≡ asked cmp tree (at + 1) (at + 1 + length taken.now + 1) ∷ (taken.now ++ JumpTo (at + 1 + length taken.now + 1 + length other.now) ∷ other.now)) }
+    ensures { IfOk result (λ flow. flow
+        ≡ asked cmp tree (at + 1) (at + 1 + length taken.now + 1)
+        ∷ (taken.now ++ JumpTo (at + 1 + length taken.now + 1 + length other.now) ∷ other.now)) }
 {
     let over = at + 1 + taken.len() as u32 + 1;
     let test = asked(cmp, tree, at + 1, over);
@@ -130,8 +132,9 @@ fn for_flow(
 ) -> Result<Items<Flow>, NoMemory>
     requires few { at + length inner.now + 8 < 2 ^ 32 }
     requires tree { tree + 1 < 2 ^ 32 }
-    ensures { IfOk result (λ flow.
-        flow ≡ AssignAt tree ∷ (asked Ne (tree + 1) (at + 2) (at + 2 + length inner.now + 2) ∷ (inner.now ++ AssignAt step ∷ (JumpTo (at + 1) ∷ [])))) }
+    ensures { IfOk result (λ flow. flow ≡ AssignAt tree
+        ∷ (asked Ne (tree + 1) (at + 2) (at + 2 + length inner.now + 2)
+        ∷ (inner.now ++ AssignAt step ∷ (JumpTo (at + 1) ∷ [])))) }
 {
     let mut flow = Items::new(alloc);
     flow.push(Flow::Assign(tree))?;
@@ -200,8 +203,10 @@ fn lower_if(
     at: u32,
 ) -> Result<Items<Flow>, NoMemory>
     requires ready { IsReady at jobs.old (1 + statements_in (acts_of (map act_of taken.now)) + 0) }
-    requires plain { IsPlain memory.now.word memory.now.places (choice (test_of test.now) (acts_of (map act_of taken.now)) without) }
-    ensures { IfOk result (IsLowered memory.now (choice (test_of test.now) (acts_of (map act_of taken.now)) without) at jobs.old jobs.new) }
+    requires plain { IsPlain memory.now.word memory.now.places
+        (choice (test_of test.now) (acts_of (map act_of taken.now)) without) }
+    ensures { IfOk result (IsLowered memory.now
+        (choice (test_of test.now) (acts_of (map act_of taken.now)) without) at jobs.old jobs.new) }
 {
     let job = test_job(alloc, memory, test)?;
     let tree = push_job(jobs, job)?;
@@ -220,9 +225,13 @@ fn lower_else(
     other: &[Stmt],
     at: u32,
 ) -> Result<Items<Flow>, NoMemory>
-    requires ready { IsReady at jobs.old (1 + statements_in (acts_of (map act_of taken.now)) + statements_in (acts_of (map act_of other.now))) }
-    requires plain { IsPlain memory.now.word memory.now.places (choice (test_of test.now) (acts_of (map act_of taken.now)) (otherwise (acts_of (map act_of other.now)))) }
-    ensures { IfOk result (IsLowered memory.now (choice (test_of test.now) (acts_of (map act_of taken.now)) (otherwise (acts_of (map act_of other.now)))) at jobs.old jobs.new) }
+    requires ready { IsReady at jobs.old (1 + statements_in (acts_of (map act_of taken.now))
+        + statements_in (acts_of (map act_of other.now))) }
+    requires plain { IsPlain memory.now.word memory.now.places (choice (test_of test.now)
+        (acts_of (map act_of taken.now)) (otherwise (acts_of (map act_of other.now)))) }
+    ensures { IfOk result (IsLowered memory.now
+        (choice (test_of test.now) (acts_of (map act_of taken.now)) (otherwise (acts_of (map act_of other.now))))
+        at jobs.old jobs.new) }
 {
     let job = test_job(alloc, memory, test)?;
     let tree = push_job(jobs, job)?;
@@ -249,8 +258,10 @@ fn lower_while(
     at: u32,
 ) -> Result<Items<Flow>, NoMemory>
     requires ready { IsReady at jobs.old (1 + statements_in (acts_of (map act_of body.now))) }
-    requires plain { IsPlain memory.now.word memory.now.places (while (test_of test.now) (acts_of (map act_of body.now))) }
-    ensures { IfOk result (IsLowered memory.now (while (test_of test.now) (acts_of (map act_of body.now))) at jobs.old jobs.new) }
+    requires plain { IsPlain memory.now.word memory.now.places
+        (while (test_of test.now) (acts_of (map act_of body.now))) }
+    ensures { IfOk result (IsLowered memory.now
+        (while (test_of test.now) (acts_of (map act_of body.now))) at jobs.old jobs.new) }
 {
     let job = test_job(alloc, memory, test)?;
     let tree = push_job(jobs, job)?;
@@ -270,8 +281,10 @@ fn lower_for(
     at: u32,
 ) -> Result<Items<Flow>, NoMemory>
     requires ready { IsReady at jobs.old (3 + statements_in (acts_of (map act_of body.now))) }
-    requires plain { IsPlain memory.now.word memory.now.places (count counter.now 0 ends.0 ends.1 (acts_of (map act_of body.now))) }
-    ensures { IfOk result (IsLowered memory.now (count counter.now 0 ends.0 ends.1 (acts_of (map act_of body.now))) at jobs.old jobs.new) }
+    requires plain { IsPlain memory.now.word memory.now.places
+        (count counter.now 0 ends.0 ends.1 (acts_of (map act_of body.now))) }
+    ensures { IfOk result (IsLowered memory.now
+        (count counter.now 0 ends.0 ends.1 (acts_of (map act_of body.now))) at jobs.old jobs.new) }
 {
     let (from, to) = ends;
     let start = start_job(alloc, memory, counter, from)?;
@@ -320,8 +333,10 @@ pub fn lower(
     requires reach { InReach typed.now.width addr_width places.now.temps (listing_of typed.now.program).vars }
     requires few { need_of typed.now.width (listing_of typed.now.program) < 2 ^ 32 }
     ensures flow { IfOk result (λ blocks. blocks.flow ≡ program_flow (listing_of typed.now.program)) }
-    ensures jobs { IfOk result (λ blocks.
-        works_of blocks.jobs.items ≡ program_works (record { word = typed.now.width; addr = addr_width; places = places.now.list }) (listing_of typed.now.program)) }
+    ensures jobs { IfOk result (λ blocks. works_of blocks.jobs.items
+        ≡ program_works
+        (record { word = typed.now.width; addr = addr_width; places = places.now.list })
+        (listing_of typed.now.program)) }
 {
     let memory = DataMemory::new(typed.width(), addr_width, places.list.as_slice());
     lower_body(alloc, &memory, typed.program().body.as_slice())
@@ -332,7 +347,8 @@ fn lower_body(alloc: Global, memory: &DataMemory<'_>, body: &[Stmt]) -> Result<B
     requires few { statements_in (acts_of (map act_of body.now)) ≤ 65536 }
     requires plain { ArePlain memory.now.word memory.now.places (acts_of (map act_of body.now)) }
     ensures flow { IfOk result (λ blocks. blocks.flow ≡ flow_in (acts_of (map act_of body.now)) 0 0 ++ End ∷ []) }
-    ensures jobs { IfOk result (λ blocks. works_of blocks.jobs.items ≡ works_in memory.now (acts_of (map act_of body.now))) }
+    ensures jobs { IfOk result (λ blocks.
+        works_of blocks.jobs.items ≡ works_in memory.now (acts_of (map act_of body.now))) }
 {
     let mut jobs = Items::new(alloc);
     let mut flow = lower_block(alloc, memory, &mut jobs, body, 0)?;

@@ -59,7 +59,8 @@ fn two<T: Drop>(alloc: Global, x: T, y: T) -> Result<Vec<T>, NoMemory>
 
 // A job of one tree.
 fn job(alloc: Global, aim: Aim, tree: Tree) -> Result<Job, NoMemory>
-    ensures { IfOk result (λ made. work_of made ≡ record { destination = destination_of aim; trees = tree_term tree ∷ [] }) }
+    ensures { IfOk result (λ made.
+        work_of made ≡ record { destination = destination_of aim; trees = tree_term tree ∷ [] }) }
 {
     let (aim, trees) = keeping(aim, one(alloc, tree))?;
     Ok(Job { aim, trees })
@@ -99,7 +100,8 @@ fn operated(
     requires near_left { IsNear memory.now.places (shape_of x.now.node) }
     requires near_right { IsNear memory.now.places (shape_of y.now.node) }
     ensures { IfOk result (λ made.
-        tree_term made ≡ bin op (tree_of memory.now width (shape_of x.now.node)) (tree_of memory.now width (shape_of y.now.node))) }
+        tree_term made ≡ bin op (tree_of memory.now width (shape_of x.now.node))
+        (tree_of memory.now width (shape_of y.now.node))) }
 {
     let left = operand(alloc, memory, width, x)?;
     let (left, right) = keeping(left, operand(alloc, memory, width, y))?;
@@ -132,8 +134,11 @@ fn equated(
     requires near_left { IsNear memory.now.places (shape_of x.now.node) }
     requires near_right { IsNear memory.now.places (shape_of y.now.node) }
     ensures { IfOk result (λ made.
-        map tree_term made.items ≡ bin Equal (tree_of memory.now width (shape_of x.now.node)) (tree_of memory.now width (shape_of y.now.node))
-        ∷ bin Equal (bin Sub (tree_of memory.now width (shape_of x.now.node)) (tree_of memory.now width (shape_of y.now.node))) (const width 0) ∷ []) }
+        map tree_term made.items
+        ≡ bin Equal (tree_of memory.now width (shape_of x.now.node))
+        (tree_of memory.now width (shape_of y.now.node))
+        ∷ bin Equal (bin Sub (tree_of memory.now width (shape_of x.now.node))
+        (tree_of memory.now width (shape_of y.now.node))) (const width 0) ∷ []) }
 {
     let same = operated(alloc, memory, Op2::Eq, width, x, y)?;
     let (same, difference) = keeping(same, operated(alloc, memory, Op2::Sub, width, x, y))?;
@@ -155,7 +160,9 @@ fn ordered(
     requires right { Fitting memory.now.word width (shape_of y.now.node) }
     requires near_left { IsNear memory.now.places (shape_of x.now.node) }
     requires near_right { IsNear memory.now.places (shape_of y.now.node) }
-    ensures { IfOk result (λ made. map tree_term made.items ≡ bin op (tree_of memory.now width (shape_of x.now.node)) (tree_of memory.now width (shape_of y.now.node)) ∷ []) }
+    ensures { IfOk result (λ made. map tree_term made.items
+        ≡ bin op (tree_of memory.now width (shape_of x.now.node))
+        (tree_of memory.now width (shape_of y.now.node)) ∷ []) }
 {
     let tree = operated(alloc, memory, op, width, x, y)?;
     let trees = one(alloc, tree)?;
@@ -207,7 +214,8 @@ pub(crate) fn test_job(
 
 // The counter of a `for`.
 fn counter_tree(alloc: Global, memory: &DataMemory<'_>, counter: &Name) -> Result<Tree, NoMemory>
-    ensures { IfOk result (λ made. tree_term made ≡ read (const memory.now.addr (base_of memory.now.places counter.now)) memory.now.word) }
+    ensures { IfOk result (λ made. tree_term made
+        ≡ read (const memory.now.addr (base_of memory.now.places counter.now)) memory.now.word) }
 {
     let at = Tree::Lit {
         width: memory.addr(),
@@ -236,7 +244,9 @@ fn counted(
     value: u64,
 ) -> Result<Tree, NoMemory>
     ensures { IfOk result (λ made.
-        tree_term made ≡ bin op (read (const memory.now.addr (base_of memory.now.places counter.now)) memory.now.word) (const memory.now.word value)) }
+        tree_term made
+        ≡ bin op (read (const memory.now.addr (base_of memory.now.places counter.now)) memory.now.word)
+        (const memory.now.word value)) }
 {
     let count = counter_tree(alloc, memory, counter)?;
     let made = over(alloc, op, count, number(memory, value))?;

@@ -26,10 +26,13 @@ ghost use Rattle.src_trees.specs.Placed.{IsPlaced};
 /// The tree of an expression has the expression's value in the store that the memory holds, and
 /// reads the variables' cells alone.
 pub fn law_of_trees()
-    ensures value { (bits addr temps : ℕ) (vars : List Declared) (cells : List ℕ) (asked : ℕ) (e : Shape) → InReach bits addr temps vars →
+    ensures value { (bits addr temps : ℕ) (vars : List Declared) (cells : List ℕ) (asked : ℕ) (e : Shape) →
+        InReach bits addr temps vars →
         CanRead bits vars (seen_store (memory_map bits addr temps vars) cells) asked e →
-        tree_value cells (tree_of (memory_map bits addr temps vars) asked e) ≡ shape_value bits vars (seen_store (memory_map bits addr temps vars) cells) asked e }
-    ensures reads { (bits addr temps : ℕ) (vars : List Declared) (cells : List ℕ) (asked : ℕ) (e : Shape) → InReach bits addr temps vars →
+        tree_value cells (tree_of (memory_map bits addr temps vars) asked e)
+        ≡ shape_value bits vars (seen_store (memory_map bits addr temps vars) cells) asked e }
+    ensures reads { (bits addr temps : ℕ) (vars : List Declared) (cells : List ℕ) (asked : ℕ) (e : Shape) →
+        InReach bits addr temps vars →
         CanRead bits vars (seen_store (memory_map bits addr temps vars) cells) asked e →
         ReadsCells temps cells (tree_of (memory_map bits addr temps vars) asked e) }
 {}
@@ -37,15 +40,19 @@ pub fn law_of_trees()
 /// The job of an assignment goes to the cell of its place, and changes the store that the memory
 /// holds as the assignment does. It reads and writes the variables' cells alone.
 pub fn law_of_assignments()
-    ensures cell { (bits addr temps : ℕ) (vars : List Declared) (cells : List ℕ) (place : Place) (e : Phrase) → HasCellRoom bits addr temps vars cells →
+    ensures cell { (bits addr temps : ℕ) (vars : List Declared) (cells : List ℕ) (place : Place) (e : Phrase) →
+        HasCellRoom bits addr temps vars cells →
         CanAssign bits vars (seen_store (memory_map bits addr temps vars) cells) place e →
         destination_cell cells (assign_work (memory_map bits addr temps vars) place e).destination
         ≡ Some (temps + cell_of bits vars (seen_store (memory_map bits addr temps vars) cells) place) }
-    ensures store { (bits addr temps : ℕ) (vars : List Declared) (cells : List ℕ) (place : Place) (e : Phrase) → HasCellRoom bits addr temps vars cells →
+    ensures store { (bits addr temps : ℕ) (vars : List Declared) (cells : List ℕ) (place : Place) (e : Phrase) →
+        HasCellRoom bits addr temps vars cells →
         CanAssign bits vars (seen_store (memory_map bits addr temps vars) cells) place e →
-        seen_store (memory_map bits addr temps vars) (done (assign_work (memory_map bits addr temps vars) place e) cells)
+        seen_store (memory_map bits addr temps vars)
+        (done (assign_work (memory_map bits addr temps vars) place e) cells)
         ≡ assigned bits vars place e (seen_store (memory_map bits addr temps vars) cells) }
-    ensures lies { (bits addr temps : ℕ) (vars : List Declared) (cells : List ℕ) (place : Place) (e : Phrase) → HasCellRoom bits addr temps vars cells →
+    ensures lies { (bits addr temps : ℕ) (vars : List Declared) (cells : List ℕ) (place : Place) (e : Phrase) →
+        HasCellRoom bits addr temps vars cells →
         CanAssign bits vars (seen_store (memory_map bits addr temps vars) cells) place e →
         Lies temps cells (assign_work (memory_map bits addr temps vars) place e) }
 {}
@@ -53,11 +60,14 @@ pub fn law_of_assignments()
 /// Each tree of a test has one value, 1 or 0, by which the test is decided as the program decides
 /// it. It reads the variables' cells alone.
 pub fn law_of_tests()
-    ensures value { (bits addr temps : ℕ) (vars : List Declared) (cells : List ℕ) (test : Test) → HasCellRoom bits addr temps vars cells →
+    ensures value { (bits addr temps : ℕ) (vars : List Declared) (cells : List ℕ) (test : Test) →
+        HasCellRoom bits addr temps vars cells →
         CanTest bits vars (seen_store (memory_map bits addr temps vars) cells) test →
-        AllAre (bit_of (answer test.cmp (holds bits vars test (seen_store (memory_map bits addr temps vars) cells)))) cells
-        (test_work (memory_map bits addr temps vars) test).trees }
-    ensures lies { (bits addr temps : ℕ) (vars : List Declared) (cells : List ℕ) (test : Test) → HasCellRoom bits addr temps vars cells →
+        AllAre
+        (bit_of (answer test.cmp (holds bits vars test (seen_store (memory_map bits addr temps vars) cells))))
+        cells (test_work (memory_map bits addr temps vars) test).trees }
+    ensures lies { (bits addr temps : ℕ) (vars : List Declared) (cells : List ℕ) (test : Test) →
+        HasCellRoom bits addr temps vars cells →
         CanTest bits vars (seen_store (memory_map bits addr temps vars) cells) test →
         Lies temps cells (test_work (memory_map bits addr temps vars) test) }
 {}
@@ -65,18 +75,25 @@ pub fn law_of_tests()
 /// The temporary cells of a program are the greatest count over its trees. These are trees, of at
 /// most 510 nodes each.
 pub fn law_of_temps()
-    ensures count { (bits addr temps : ℕ) (listing : Listing) → first_fault bits listing ≡ None → InReach bits addr temps listing.vars →
+    ensures count { (bits addr temps : ℕ) (listing : Listing) → first_fault bits listing ≡ None →
+        InReach bits addr temps listing.vars →
         temp_count bits listing ≡ most_temps bits (program_works (memory_map bits addr temps listing.vars) listing) }
-    ensures small { (bits addr temps : ℕ) (listing : Listing) → first_fault bits listing ≡ None → InReach bits addr temps listing.vars →
-        AllSmall bits (temp_count bits listing) 510 (program_works (memory_map bits addr temps listing.vars) listing) }
+    ensures small { (bits addr temps : ℕ) (listing : Listing) → first_fault bits listing ≡ None →
+        InReach bits addr temps listing.vars →
+        AllSmall bits (temp_count bits listing) 510
+        (program_works (memory_map bits addr temps listing.vars) listing) }
 {}
 
 /// An image whose words do what the flow of a program says, each block, test and jump at its
 /// address, traces the program.
 pub fn law_of_flow()
-    ensures { (netlist : Netlist) (image : Image) (bits addr temps : ℕ) (listing : Listing) (starts : ℕ → ℕ) → IsSound netlist → first_fault bits listing ≡ None →
-        memory_width netlist.storages ≡ bits → InReach bits addr temps listing.vars → temps + cell_count listing.vars ≤ memory_size netlist.storages →
+    ensures { (netlist : Netlist) (image : Image) (bits addr temps : ℕ) (listing : Listing) (starts : ℕ → ℕ) →
+        IsSound netlist → first_fault bits listing ≡ None → memory_width netlist.storages ≡ bits →
+        InReach bits addr temps listing.vars →
+        temps + cell_count listing.vars ≤ memory_size netlist.storages →
         image.places ≡ places_from temps (variables_of listing.vars) →
-        IsPlaced netlist image temps (program_flow listing) (program_works (memory_map bits addr temps listing.vars) listing) starts (places_in (acts_of listing.body)) →
+        IsPlaced netlist image temps (program_flow listing)
+        (program_works (memory_map bits addr temps listing.vars) listing) starts
+        (places_in (acts_of listing.body)) →
         TracesRight netlist image (strace bits listing) }
 {}

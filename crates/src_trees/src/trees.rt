@@ -145,7 +145,8 @@ pub(crate) fn operand(
 fn address(alloc: Global, memory: &DataMemory<'_>, spot: &Spot) -> Result<Tree, NoMemory>
     requires fitting { Fitting memory.now.word memory.now.word (spot_shape spot.now) }
     requires near { IsNear memory.now.places (spot_shape spot.now) }
-    ensures { IfOk result (λ made. read (tree_term made) memory.now.word ≡ tree_of memory.now memory.now.word (spot_shape spot.now)) }
+    ensures { IfOk result (λ made. read (tree_term made) memory.now.word
+        ≡ tree_of memory.now memory.now.word (spot_shape spot.now)) }
 {
     let first = u64::from(memory.base(&spot.name));
     let width = memory.addr();

@@ -13,8 +13,10 @@ use Rattle.net_model.specs.MemoryText.{register_line, cell_line}
 -- a line for each register, where the first of these storages has this number
 abbrev pub register_lines : List ℕ → ℕ → List Storage → List ℕ
 register_lines regs id [] = []
-register_lines regs id (Register name width input when ∷ storages) = register_line name (slice_index regs id) ++ register_lines regs (id + 1) storages
-register_lines regs id (Memory name width size addr_width value addr when ∷ storages) = register_lines regs (id + 1) storages
+register_lines regs id (Register name width input when ∷ storages) =
+    register_line name (slice_index regs id) ++ register_lines regs (id + 1) storages
+register_lines regs id (Memory name width size addr_width value addr when ∷ storages) =
+    register_lines regs (id + 1) storages
 
 -- nothing for a cell of 0
 abbrev pub shown_cell : List ℕ → ℕ → ℕ → List ℕ
@@ -28,7 +30,8 @@ cell_lines name address (value ∷ cells) = shown_cell name address value ++ cel
 -- cycles N, the registers in order of declaration, the cells by address, done
 abbrev pub state_text : Netlist → ℕ → State → List ℕ
 state_text netlist cycles s =
-    concat (codes "cycles " ∷ decimal cycles ∷ codes "\n" ∷ register_lines s.regs 0 netlist.storages ∷ cell_lines (memory_name netlist) 0 s.cells ∷ codes "done\n" ∷ [])
+    concat (codes "cycles " ∷ decimal cycles ∷ codes "\n" ∷ register_lines s.regs 0 netlist.storages
+    ∷ cell_lines (memory_name netlist) 0 s.cells ∷ codes "done\n" ∷ [])
 
 -- how long the lines of these registers are at most
 abbrev pub register_room : List Storage → ℕ
@@ -38,4 +41,5 @@ register_room (Memory name width size addr_width value addr when ∷ storages) =
 
 -- how long the text of a state is at most
 abbrev pub state_room : Netlist → ℕ
-state_room netlist = 33 + register_room netlist.storages + memory_size netlist.storages * (length (memory_name netlist) + 43)
+state_room netlist =
+    33 + register_room netlist.storages + memory_size netlist.storages * (length (memory_name netlist) + 43)

@@ -16,7 +16,8 @@ use std::alloc::Global;
 fn put_register(out: &mut Vec<u8>, name: &[u8], value: u64) -> Result<(), NoMemory>
     ensures text { OnOk result (out.new.items ≡ out.old.items ++ register_line name.now value) }
     ensures room { vec_capacity out.old ≤ vec_capacity out.new }
-    ensures succeeds { length out.old.items + length (register_line name.now value) ≤ vec_capacity out.old → IsOk result }
+    ensures succeeds { length out.old.items + length (register_line name.now value)
+        ≤ vec_capacity out.old → IsOk result }
 {
     let mut buffer = Buffer::new();
     out.extend_from_slice(name)?;
@@ -29,7 +30,8 @@ fn put_register(out: &mut Vec<u8>, name: &[u8], value: u64) -> Result<(), NoMemo
 fn put_cell(out: &mut Vec<u8>, name: &[u8], address: u32, value: u64) -> Result<(), NoMemory>
     ensures text { OnOk result (out.new.items ≡ out.old.items ++ shown_cell name.now address value) }
     ensures room { vec_capacity out.old ≤ vec_capacity out.new }
-    ensures succeeds { length out.old.items + length (shown_cell name.now address value) ≤ vec_capacity out.old → IsOk result }
+    ensures succeeds { length out.old.items + length (shown_cell name.now address value)
+        ≤ vec_capacity out.old → IsOk result }
 {
     if value == 0 {
         return Ok(());
@@ -50,9 +52,11 @@ fn put_storage(
 ) -> Result<(), NoMemory>
     requires here { slice_get sim.now.netlist.storages id ≡ Some storage.now }
     requires few { id < 2 ^ 32 }
-    ensures text { OnOk result (out.new.items ≡ out.old.items ++ register_lines sim.now.state.regs id (storage.now ∷ [])) }
+    ensures text { OnOk result
+        (out.new.items ≡ out.old.items ++ register_lines sim.now.state.regs id (storage.now ∷ [])) }
     ensures room { vec_capacity out.old ≤ vec_capacity out.new }
-    ensures succeeds { length out.old.items + length (register_lines sim.now.state.regs id (storage.now ∷ [])) ≤ vec_capacity out.old → IsOk result }
+    ensures succeeds { length out.old.items + length (register_lines sim.now.state.regs id (storage.now ∷ []))
+        ≤ vec_capacity out.old → IsOk result }
 {
     match storage {
         Storage::Register { name, .. } => {
@@ -69,8 +73,8 @@ fn put_registers(out: &mut Vec<u8>, storages: &[Storage], sim: &Sim<'_>) -> Resu
     requires few { length storages.now < 2 ^ 32 }
     ensures text { OnOk result (out.new.items ≡ out.old.items ++ register_lines sim.now.state.regs 0 storages.now) }
     ensures room { vec_capacity out.old ≤ vec_capacity out.new }
-    ensures succeeds { length out.old.items + length (register_lines sim.now.state.regs 0 storages.now) ≤ vec_capacity out.old →
-        IsOk result }
+    ensures succeeds { length out.old.items + length (register_lines sim.now.state.regs 0 storages.now)
+        ≤ vec_capacity out.old → IsOk result }
 {
     for (id, storage) in storages.iter().enumerate() {
         put_storage(out, id, storage, sim)?;
@@ -83,7 +87,8 @@ fn put_cells(out: &mut Vec<u8>, name: &[u8], sim: &Sim<'_>) -> Result<(), NoMemo
     requires { length sim.now.state.cells < 2 ^ 32 }
     ensures text { OnOk result (out.new.items ≡ out.old.items ++ cell_lines name.now 0 sim.now.state.cells) }
     ensures room { vec_capacity out.old ≤ vec_capacity out.new }
-    ensures succeeds { length out.old.items + length (cell_lines name.now 0 sim.now.state.cells) ≤ vec_capacity out.old → IsOk result }
+    ensures succeeds { length out.old.items + length (cell_lines name.now 0 sim.now.state.cells)
+        ≤ vec_capacity out.old → IsOk result }
 {
     let mut address = 0;
     while let Some(value) = sim.cell(address) {
@@ -105,8 +110,8 @@ pub fn write_state(
     requires state { IsState sim.now.netlist sim.now.state }
     ensures text { OnOk result (out.new.items ≡ out.old.items ++ state_text sim.now.netlist cycles sim.now.state) }
     ensures room { vec_capacity out.old ≤ vec_capacity out.new }
-    ensures succeeds { length out.old.items + length (state_text sim.now.netlist cycles sim.now.state) ≤ vec_capacity out.old →
-        IsOk result }
+    ensures succeeds { length out.old.items + length (state_text sim.now.netlist cycles sim.now.state)
+        ≤ vec_capacity out.old → IsOk result }
 {
     out.extend_from_slice(b"cycles")?;
     put_register(out, b"", cycles)?;
@@ -149,7 +154,8 @@ fn room_of(checked: &Checked) -> Option<usize>
 /// Room for the text of any state of the netlist, so that `write_state` into it can't fail.
 pub fn text_room(alloc: Global, checked: &Checked) -> Result<Vec<u8>, NoMemory>
     ensures empty { IfOk result (λ out. out.items ≡ []) }
-    ensures room { IfOk result (λ out. (cycles : ℕ) (state : State) → cycles < 2 ^ 64 → IsState checked.now.netlist state →
+    ensures room { IfOk result (λ out. (cycles : ℕ) (state : State) → cycles < 2 ^ 64 →
+        IsState checked.now.netlist state →
         length (state_text checked.now.netlist cycles state) ≤ vec_capacity out) }
 {
     let Some(room) = room_of(checked) else {

@@ -14,4 +14,5 @@ pub record IsMeasure (term : Term) (m : Measure) : Type 0 where
 -- the nodes are a pool's, and beside each stands its expression's measure
 pub record IsMeasuredPool (entries : List (Node × Measure)) : Type 0 where
   pub pool : IsPool (keys_of entries)
-  pub measures : (id : ℕ) (m : Measure) → slice_get (values_of entries) id ≡ Some m → IsMeasure (term_at (keys_of entries) id) m
+  pub measures : (id : ℕ) (m : Measure) → slice_get (values_of entries) id ≡ Some m →
+      IsMeasure (term_at (keys_of entries) id) m

@@ -42,7 +42,8 @@ AllBelow n is = AllByRecursion (λ i. i < n) is
 -- the expression of an id, where the newest node comes first
 unfoldable pub term_of_newest : List Node → ℕ → Term
 term_of_newest [] id = word 0
-term_of_newest (node ∷ older) id = if id == length older then node_term node (term_of_newest older) else term_of_newest older id
+term_of_newest (node ∷ older) id =
+    if id == length older then node_term node (term_of_newest older) else term_of_newest older id
 
 -- the expression of an id
 unfoldable pub term_at : List Node → ℕ → Term

@@ -24,7 +24,8 @@ pattern_line netlist number pattern word =
 -- the lines of patterns with their words, numbered from a number on
 abbrev pub pattern_lines : Netlist → ℕ → List (Pattern × ℕ) → List ℕ
 pattern_lines netlist number [] = []
-pattern_lines netlist number (row ∷ rows) = pattern_line netlist number row.0 row.1 ++ pattern_lines netlist (number + 1) rows
+pattern_lines netlist number (row ∷ rows) =
+    pattern_line netlist number row.0 row.1 ++ pattern_lines netlist (number + 1) rows
 
 -- patterns COUNT, the lines, and done
 abbrev pub text_of : ℕ → List ℕ → List ℕ
@@ -45,7 +46,8 @@ abbrev pub ArePatternWords : Netlist → List Pattern → List ℕ → Type 0
 ArePatternWords netlist [] [] = Unit {0}
 ArePatternWords netlist [] (word ∷ words) = ⊥
 ArePatternWords netlist (pattern ∷ patterns) [] = ⊥
-ArePatternWords netlist (pattern ∷ patterns) (word ∷ words) = IsLeastWord netlist pattern word × ArePatternWords netlist patterns words
+ArePatternWords netlist (pattern ∷ patterns) (word ∷ words) =
+    IsLeastWord netlist pattern word × ArePatternWords netlist patterns words
 
 -- the text of these patterns, numbered from 0, each with its least word
 pub record IsPatternsText (netlist : Netlist) (patterns : List Pattern) (text : List ℕ) : Type 0 where

@@ -17,5 +17,6 @@ pub record IsReady (netlist : Netlist) (book : Diagrams) (pool : List Node) (tab
 -- it stays so in each extension of the book and each growth of the pool
 abbrev pub StaysReady : Type 0
 StaysReady =
-    (netlist : Netlist) (old new : Diagrams) (pool more : List Node) (table : Table) → Extends old new → Grows pool more →
+    (netlist : Netlist) (old new : Diagrams) (pool more : List Node) (table : Table) →
+    Extends old new → Grows pool more →
     IsReady netlist old pool table → IsReady netlist new more table

@@ -67,11 +67,15 @@ only book legal word term = if has_word book legal word then term ∷ [] else []
 
 -- the routes give each word of a set its expression, by just one of them, and no other word any
 abbrev pub GivesTerm : Diagrams → List Node → ℕ → (ℕ → Term) → List Route → Type 0
-GivesTerm book pool legal f routes = (word : ℕ) → word < 2 ^ book.bits → terms_under book pool routes word ≡ only book legal word (f word)
+GivesTerm book pool legal f routes =
+    (word : ℕ) → word < 2 ^ book.bits →
+    terms_under book pool routes word ≡ only book legal word (f word)
 
 -- the set of a route is all words of the set with its expression
 abbrev pub RouteIs : Diagrams → List Node → ℕ → (ℕ → Term) → Route → Type 0
-RouteIs book pool legal f route = (word : ℕ) → word < 2 ^ book.bits → (has_word book route.set word ≡ true) ↔ ((has_word book legal word ≡ true) × (term_at pool route.expr ≡ f word))
+RouteIs book pool legal f route =
+    (word : ℕ) → word < 2 ^ book.bits →
+    (has_word book route.set word ≡ true) ↔ ((has_word book legal word ≡ true) × (term_at pool route.expr ≡ f word))
 
 -- the routes of a net
 abbrev pub routes_or_none : Option (List Route) → List Route
@@ -83,7 +87,9 @@ routes_at nets n = routes_or_none (slice_get nets n)
 
 -- the routes of each net of the netlist partition the words without clash by the net's symbolic
 -- value
-pub record AreRoutes (netlist : Netlist) (book : Diagrams) (pool : List Node) (legal : ℕ) (nets : List (List Route)) : Type 0 where
+pub record AreRoutes (netlist : Netlist) (book : Diagrams) (pool : List Node) (legal : ℕ)
+    (nets : List (List Route)) : Type 0 where
   pub long : length nets ≡ length netlist.nets
   pub tables : (n : ℕ) → IsRouteTable book pool (routes_at nets n)
-  pub gives : (n : ℕ) → n < length netlist.nets → GivesTerm book pool legal (λ word. sym_of netlist word n) (routes_at nets n)
+  pub gives : (n : ℕ) → n < length netlist.nets →
+      GivesTerm book pool legal (λ word. sym_of netlist word n) (routes_at nets n)

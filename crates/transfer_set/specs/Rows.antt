@@ -45,7 +45,9 @@ pub record ShowsMove (netlist : Netlist) (pool : List Node) (row : Row) : Type 0
 
 -- no later pattern comes before an earlier one: by storage, and then by the bytes of the text
 abbrev pub IsNotAfter : Row → Row → Type 0
-IsNotAfter a b = (a.storage < b.storage) ⊎ ((a.storage ≡ b.storage) × (slice_cmp nat_cmp b.text.items a.text.items ≡ Less → ⊥))
+IsNotAfter a b =
+    (a.storage < b.storage)
+    ⊎ ((a.storage ≡ b.storage) × (slice_cmp nat_cmp b.text.items a.text.items ≡ Less → ⊥))
 
 abbrev pub AreSorted : List Row → Type 0
 AreSorted rows = AllPairs IsNotAfter rows

@@ -16,5 +16,6 @@ is_one bits _ = false
 
 -- the register plus 1, in either order
 abbrev pub is_next : Counter → Term → Bool
-is_next counter (bin Add a b) = (is_reg counter a && is_one counter.width b) || (is_one counter.width a && is_reg counter b)
+is_next counter (bin Add a b) =
+    (is_reg counter a && is_one counter.width b) || (is_one counter.width a && is_reg counter b)
 is_next counter _ = false

@@ -40,7 +40,8 @@ pub record IsPatternTable (netlist : Netlist) (book : Diagrams) (pool : List Nod
   pub order : AreSorted table.rows
   pub patterns : HasPlainNames netlist → ArePatterns netlist (row_patterns pool table.rows)
   pub storages : length table.keeps ≡ length netlist.storages
-  pub keeps : (storage : ℕ) → storage < length netlist.storages → IsKeepSet netlist book storage (slice_index table.keeps storage)
+  pub keeps : (storage : ℕ) → storage < length netlist.storages →
+      IsKeepSet netlist book storage (slice_index table.keeps storage)
   pub step : IsStepSet netlist book table.step
   pub memory : table.memory ≡ memory_id netlist.storages
 

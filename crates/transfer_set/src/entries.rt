@@ -41,18 +41,21 @@ fn add_entry(
 ) -> Result<(), NoMemory>
     requires a { a < length book.old.nodes }
     requires b { b < length book.old.nodes }
-    requires held { HaveWords book.old out.old }
+    requires words { HaveWords book.old out.old }
     ensures grows { Extends book.old book.new }
-    ensures held { OnOk result (HaveWords book.new out.new) }
+    ensures words { OnOk result (HaveWords book.new out.new) }
     ensures moves { OnOk result ((pool : List TheNode) (id word : ℕ) →
-        moves_under book.new pool out.new id word ≡
-        moves_under book.old pool out.old id word ++
-        list_if ((storage == id) && (has_word book.old a word && has_word book.old b word)) (ids_move pool addr value ∷ [])) }
+        moves_under book.new pool out.new id word
+        ≡ moves_under book.old pool out.old id word
+        ++ list_if ((storage == id) && (has_word book.old a word && has_word book.old b word))
+        (ids_move pool addr value ∷ [])) }
     ensures whole { OnOk result ((netlist : Netlist) (pool : List TheNode) →
         AreWhole netlist pool book.old out.old →
-        IsWordsOf netlist book.old.bits storage (ids_move pool addr value) (λ word. has_word book.old a word && has_word book.old b word) →
+        IsWordsOf netlist book.old.bits storage (ids_move pool addr value)
+        (λ word. has_word book.old a word && has_word book.old b word) →
         AreWhole netlist pool book.new out.new) }
-    ensures known { OnOk result ((size : ℕ) → AreKnown size out.old → IsAddrKnown size addr → value < size → AreKnown size out.new) }
+    ensures known { OnOk result ((size : ℕ) → AreKnown size out.old → IsAddrKnown size addr →
+        value < size → AreKnown size out.new) }
 {
     let set = book.and(alloc, a, b)?;
     match book.least(set) {
@@ -94,17 +97,19 @@ fn add_write(
     requires on { on < length book.old.nodes }
     requires set { route.set < length book.old.nodes }
     requires expr { route.expr < length pool.now }
-    requires held { HaveWords book.old out.old }
+    requires words { HaveWords book.old out.old }
     ensures grows { Extends book.old book.new }
-    ensures held { OnOk result (HaveWords book.new out.new) }
+    ensures words { OnOk result (HaveWords book.new out.new) }
     ensures moves { OnOk result ((id word : ℕ) →
-        moves_under book.new pool.now out.new id word ≡
-        moves_under book.old pool.now out.old id word ++
-        list_if ((storage == id) && (has_word book.old on word && has_word book.old route.set word)) (register_moves storage (term_at pool.now route.expr))) }
-    ensures whole { OnOk result ((netlist : Netlist) →
-        AreWhole netlist pool.now book.old out.old →
+        moves_under book.new pool.now out.new id word
+        ≡ moves_under book.old pool.now out.old id word
+        ++ list_if
+        ((storage == id) && (has_word book.old on word && has_word book.old route.set word))
+        (register_moves storage (term_at pool.now route.expr))) }
+    ensures whole { OnOk result ((netlist : Netlist) → AreWhole netlist pool.now book.old out.old →
         (same_reg (term_at pool.now route.expr) storage ≡ false →
-        IsWordsOf netlist book.old.bits storage (write (term_at pool.now route.expr)) (λ word. has_word book.old on word && has_word book.old route.set word)) →
+        IsWordsOf netlist book.old.bits storage (write (term_at pool.now route.expr))
+        (λ word. has_word book.old on word && has_word book.old route.set word)) →
         AreWhole netlist pool.now book.new out.new) }
     ensures known { OnOk result (AreKnown (length pool.now) out.old → AreKnown (length pool.now) out.new) }
 {
@@ -127,13 +132,14 @@ pub(crate) fn add_register(
     requires on { on < length book.old.nodes }
     requires sets { AllSets book.old routes.now }
     requires exprs { AllExprs (length pool.now) routes.now }
-    requires held { HaveWords book.old out.old }
+    requires words { HaveWords book.old out.old }
     ensures grows { Extends book.old book.new }
-    ensures held { OnOk result (HaveWords book.new out.new) }
+    ensures words { OnOk result (HaveWords book.new out.new) }
     ensures moves { OnOk result ((id word : ℕ) →
-        moves_under book.new pool.now out.new id word ≡
-        moves_under book.old pool.now out.old id word ++
-        list_if ((storage == id) && has_word book.old on word) (each (register_moves storage) (terms_under book.old pool.now routes.now word))) }
+        moves_under book.new pool.now out.new id word
+        ≡ moves_under book.old pool.now out.old id word
+        ++ list_if ((storage == id) && has_word book.old on word)
+        (each (register_moves storage) (terms_under book.old pool.now routes.now word))) }
     ensures whole { OnOk result ((netlist : Netlist) →
         AreWhole netlist pool.now book.old out.old →
         AreWrites netlist pool.now book.old storage on routes.now →
@@ -159,18 +165,20 @@ fn add_values(
 ) -> Result<(), NoMemory>
     requires on { on < length book.old.nodes }
     requires values { AllSets book.old values.now }
-    requires held { HaveWords book.old out.old }
+    requires words { HaveWords book.old out.old }
     ensures grows { Extends book.old book.new }
-    ensures held { OnOk result (HaveWords book.new out.new) }
+    ensures words { OnOk result (HaveWords book.new out.new) }
     ensures moves { OnOk result ((pool : List TheNode) (id word : ℕ) →
-        moves_under book.new pool out.new id word ≡
-        moves_under book.old pool out.old id word ++
-        list_if ((storage == id) && has_word book.old on word) (each (memory_moves (term_at pool addr)) (terms_under book.old pool values.now word))) }
+        moves_under book.new pool out.new id word
+        ≡ moves_under book.old pool out.old id word
+        ++ list_if ((storage == id) && has_word book.old on word)
+        (each (memory_moves (term_at pool addr)) (terms_under book.old pool values.now word))) }
     ensures whole { OnOk result ((netlist : Netlist) (pool : List TheNode) →
         AreWhole netlist pool book.old out.old →
         AreValues netlist pool book.old storage addr on values.now →
         AreWhole netlist pool book.new out.new) }
-    ensures known { OnOk result ((size : ℕ) → AreKnown size out.old → addr < size → AllExprs size values.now → AreKnown size out.new) }
+    ensures known { OnOk result ((size : ℕ) → AreKnown size out.old → addr < size →
+        AllExprs size values.now → AreKnown size out.new) }
 {
     for route in values {
         add_entry(
@@ -201,20 +209,21 @@ pub(crate) fn add_memory(
     requires on { on < length book.old.nodes }
     requires addrs { AllSets book.old addrs.now }
     requires values { AllSets book.old values.now }
-    requires held { HaveWords book.old out.old }
+    requires words { HaveWords book.old out.old }
     ensures grows { Extends book.old book.new }
-    ensures held { OnOk result (HaveWords book.new out.new) }
+    ensures words { OnOk result (HaveWords book.new out.new) }
     ensures moves { OnOk result ((pool : List TheNode) (id word : ℕ) →
-        moves_under book.new pool out.new id word ≡
-        moves_under book.old pool out.old id word ++
-        list_if ((storage == id) && has_word book.old on word)
-        (each (λ a. each (memory_moves a) (terms_under book.old pool values.now word)) (terms_under book.old pool addrs.now word))) }
+        moves_under book.new pool out.new id word
+        ≡ moves_under book.old pool out.old id word
+        ++ list_if ((storage == id) && has_word book.old on word)
+        (each (λ a. each (memory_moves a) (terms_under book.old pool values.now word))
+        (terms_under book.old pool addrs.now word))) }
     ensures whole { OnOk result ((netlist : Netlist) (pool : List TheNode) →
         AreWhole netlist pool book.old out.old →
         ArePairs netlist pool book.old storage on addrs.now values.now →
         AreWhole netlist pool book.new out.new) }
-    ensures known { OnOk result ((size : ℕ) → AreKnown size out.old → AllExprs size addrs.now → AllExprs size values.now →
-        AreKnown size out.new) }
+    ensures known { OnOk result ((size : ℕ) → AreKnown size out.old → AllExprs size addrs.now →
+        AllExprs size values.now → AreKnown size out.new) }
 {
     for route in addrs {
         let both = book.and(alloc, on, route.set)?;

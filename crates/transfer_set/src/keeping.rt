@@ -41,7 +41,7 @@ pub(crate) fn keep_set(
     storage: u32,
 ) -> Result<SetId, NoMemory>
     requires legal { legal < length book.old.nodes }
-    requires held { HaveWords book.old entries.now }
+    requires words { HaveWords book.old entries.now }
     ensures grows { Extends book.old book.new }
     ensures within { IfOk result (λ id. id < length book.new.nodes) }
     ensures words { IfOk result (λ id. (word : ℕ) →
@@ -63,7 +63,7 @@ pub(crate) fn keep_sets(
     count: u32,
 ) -> Result<Items<SetId>, NoMemory>
     requires legal { legal < length book.old.nodes }
-    requires held { HaveWords book.old entries.now }
+    requires words { HaveWords book.old entries.now }
     ensures grows { Extends book.old book.new }
     ensures left { IfOk result (AreLeft book.old book.new legal entries.now count) }
 {

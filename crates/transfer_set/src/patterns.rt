@@ -42,7 +42,12 @@ impl Model for Patterns {
 
     ghost Value = { Table };
 
-    ghost view = { λ patterns. record { rows = patterns.rows.items; keeps = patterns.keeps; step = patterns.step; memory = patterns.memory } };
+    ghost view = { λ patterns. record {
+      rows = patterns.rows.items;
+      keeps = patterns.keeps;
+      step = patterns.step;
+      memory = patterns.memory;
+    } };
 
     ghost invariant = { λ patterns. length patterns.rows.items < 2 ^ 32 };
 }
@@ -163,7 +168,8 @@ impl Patterns {
         checked: &Checked,
     ) -> Result<Vec<u8>, NoMemory>
         requires { IsReady checked.now.netlist book.now _pool.now self.now }
-        ensures { IfOk result (λ text. IsPatternsText checked.now.netlist (row_patterns _pool.now self.now.rows) text.items) }
+        ensures { IfOk result (λ text.
+            IsPatternsText checked.now.netlist (row_patterns _pool.now self.now.rows) text.items) }
     {
         text(alloc, checked, book, &self.rows)
     }

@@ -45,7 +45,7 @@ fn shown_row(alloc: Global, checked: &Checked, pool: &Pool, entry: Entry) -> Res
     requires addr { IsAddrKnown (length pool.now) entry.addr }
     requires value { entry.value < length pool.now }
     ensures entry { IfOk result (λ row. entry_of row ≡ entry) }
-    ensures told { IfOk result (ShowsMove checked.now.netlist pool.now) }
+    ensures shows { IfOk result (ShowsMove checked.now.netlist pool.now) }
 {
     let text = transfer_text(alloc, checked, pool, entry.storage, entry.addr, entry.value)?;
     Ok(Row {
@@ -67,7 +67,7 @@ fn rows(
 ) -> Result<Vec<Row>, NoMemory>
     requires known { AreKnown (length pool.now) entries.now }
     ensures entries { IfOk result (λ rows. entries_of rows.items ≡ entries.now) }
-    ensures told { IfOk result (λ rows. All (ShowsMove checked.now.netlist pool.now) rows.items) }
+    ensures shows { IfOk result (λ rows. All (ShowsMove checked.now.netlist pool.now) rows.items) }
 {
     let mut rows = Vec::new(alloc);
     for entry in entries {
@@ -85,7 +85,7 @@ pub(crate) fn sorted_rows(
 ) -> Result<Vec<Row>, NoMemory>
     requires known { AreKnown (length pool.now) entries.now }
     ensures same { IfOk result (λ rows. AreRowsOf entries.now rows.items) }
-    ensures told { IfOk result (λ rows. All (ShowsMove checked.now.netlist pool.now) rows.items) }
+    ensures shows { IfOk result (λ rows. All (ShowsMove checked.now.netlist pool.now) rows.items) }
     ensures ordered { IfOk result (λ rows. AreSorted rows.items) }
     ensures few { IfOk result (λ rows. length rows.items < 2 ^ 32) }
 {

@@ -57,13 +57,14 @@ fn add_storage(
 ) -> Result<(), NoMemory>
     requires id { id < length checked.now.netlist.storages }
     requires source { IsSource checked.now.netlist book.old pool.now controls.now routes.now.of }
-    requires held { HaveWords book.old out.old }
+    requires words { HaveWords book.old out.old }
     ensures grows { Extends book.old book.new }
-    ensures held { OnOk result (HaveWords book.new out.new) }
+    ensures words { OnOk result (HaveWords book.new out.new) }
     ensures moves { OnOk result ((n word : ℕ) → word < 2 ^ book.old.bits →
-        moves_under book.new pool.now out.new n word ≡
-        moves_under book.old pool.now out.old n word ++
-        list_if ((id == n) && has_word book.old controls.now.legal word) (changes (move_at checked.now.netlist word id))) }
+        moves_under book.new pool.now out.new n word
+        ≡ moves_under book.old pool.now out.old n word
+        ++ list_if ((id == n) && has_word book.old controls.now.legal word)
+        (changes (move_at checked.now.netlist word id))) }
     ensures whole { OnOk result (AreWhole checked.now.netlist pool.now book.old out.old →
         AreWhole checked.now.netlist pool.now book.new out.new) }
     ensures known { OnOk result (AreKnown (length pool.now) out.old → AreKnown (length pool.now) out.new) }
@@ -102,7 +103,7 @@ pub(crate) fn collect_entries(
     requires source { IsSource checked.now.netlist book.old pool.now controls.now routes.now.of }
     requires bits { book.old.bits ≡ word_width checked.now.netlist }
     ensures grows { Extends book.old book.new }
-    ensures held { IfOk result (HaveWords book.new) }
+    ensures words { IfOk result (HaveWords book.new) }
     ensures moves { IfOk result (λ out. (n word : ℕ) → word < 2 ^ book.old.bits →
         moves_under book.new pool.now out n word ≡
         list_if (has_word book.old controls.now.legal word) (changes (move_at checked.now.netlist word n))) }

@@ -117,7 +117,7 @@ pub(crate) fn step_set(
     entries: &[Entry],
     counter: Counter,
 ) -> Result<SetId, NoMemory>
-    requires held { HaveWords book.old entries.now }
+    requires words { HaveWords book.old entries.now }
     requires known { AreKnown (length pool.now) entries.now }
     ensures grows { Extends book.old book.new }
     ensures within { IfOk result (λ id. id < length book.new.nodes) }

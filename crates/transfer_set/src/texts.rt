@@ -107,7 +107,8 @@ fn add_last(text: &mut Vec<u8>, number: u8) -> Result<(), NoMemory>
 
 // The bounds of a slice as the last operands, and the end.
 fn add_bounds(text: &mut Vec<u8>, hi: u8, lo: u8) -> Result<(), NoMemory>
-    ensures { OnOk result (text.new.items ≡ text.old.items ++ concat (codes "," ∷ decimal hi ∷ codes "," ∷ decimal lo ∷ codes ")" ∷ [])) }
+    ensures { OnOk result (text.new.items ≡ text.old.items
+        ++ concat (codes "," ∷ decimal hi ∷ codes "," ∷ decimal lo ∷ codes ")" ∷ [])) }
 {
     add_more(text, hi)?;
     add_last(text, lo)
@@ -115,7 +116,8 @@ fn add_bounds(text: &mut Vec<u8>, hi: u8, lo: u8) -> Result<(), NoMemory>
 
 // `read(MEMORY`.
 fn add_memory(text: &mut Vec<u8>, checked: &Checked) -> Result<(), NoMemory>
-    ensures { OnOk result (text.new.items ≡ text.old.items ++ concat (codes "read(" ∷ memory_name checked.now.netlist ∷ [])) }
+    ensures { OnOk result (text.new.items
+        ≡ text.old.items ++ concat (codes "read(" ∷ memory_name checked.now.netlist ∷ [])) }
 {
     add_bytes(text, b"read(")?;
     add_bytes(text, checked.memory_name())
@@ -159,8 +161,9 @@ fn add_read(
     addr: ExprId,
 ) -> Result<(), NoMemory>
     requires { addr < length pool.now }
-    ensures { OnOk result (text.new.items ≡ text.old.items
-        ++ concat (codes "read(" ∷ memory_name checked.now.netlist ∷ codes "," ∷ term_text checked.now.netlist (term_at pool.now addr) ∷ codes ")" ∷ [])) }
+    ensures { OnOk result (text.new.items ≡ text.old.items ++ concat
+        (codes "read(" ∷ memory_name checked.now.netlist ∷ codes ","
+        ∷ term_text checked.now.netlist (term_at pool.now addr) ∷ codes ")" ∷ [])) }
 {
     add_memory(text, checked)?;
     add_next(text, checked, pool, addr)?;
@@ -216,8 +219,9 @@ fn add_slice(
     lo: u8,
 ) -> Result<(), NoMemory>
     requires { a < length pool.now }
-    ensures { OnOk result (text.new.items ≡ text.old.items
-        ++ concat (codes "slice(" ∷ term_text checked.now.netlist (term_at pool.now a) ∷ codes "," ∷ decimal hi ∷ codes "," ∷ decimal lo ∷ codes ")" ∷ [])) }
+    ensures { OnOk result (text.new.items ≡ text.old.items ++ concat
+        (codes "slice(" ∷ term_text checked.now.netlist (term_at pool.now a) ∷ codes ","
+        ∷ decimal hi ∷ codes "," ∷ decimal lo ∷ codes ")" ∷ [])) }
 {
     add_first(text, checked, pool, b"slice", a)?;
     add_bounds(text, hi, lo)
@@ -234,8 +238,9 @@ fn add_extension(
     width: u8,
 ) -> Result<(), NoMemory>
     requires { a < length pool.now }
-    ensures { OnOk result (text.new.items ≡ text.old.items
-        ++ concat (word.now ∷ codes "(" ∷ term_text checked.now.netlist (term_at pool.now a) ∷ codes "," ∷ decimal width ∷ codes ")" ∷ [])) }
+    ensures { OnOk result (text.new.items ≡ text.old.items ++ concat
+        (word.now ∷ codes "(" ∷ term_text checked.now.netlist (term_at pool.now a) ∷ codes ","
+        ∷ decimal width ∷ codes ")" ∷ [])) }
 {
     add_first(text, checked, pool, word, a)?;
     add_last(text, width)
@@ -254,9 +259,10 @@ fn add_select(
     requires c { c < length pool.now }
     requires a { a < length pool.now }
     requires b { b < length pool.now }
-    ensures { OnOk result (text.new.items ≡ text.old.items
-        ++ concat (codes "select(" ∷ term_text checked.now.netlist (term_at pool.now c) ∷ codes ","
-        ∷ term_text checked.now.netlist (term_at pool.now a) ∷ codes "," ∷ term_text checked.now.netlist (term_at pool.now b) ∷ codes ")" ∷ [])) }
+    ensures { OnOk result (text.new.items ≡ text.old.items ++ concat
+        (codes "select(" ∷ term_text checked.now.netlist (term_at pool.now c) ∷ codes ","
+        ∷ term_text checked.now.netlist (term_at pool.now a) ∷ codes ","
+        ∷ term_text checked.now.netlist (term_at pool.now b) ∷ codes ")" ∷ [])) }
 {
     add_first(text, checked, pool, b"select", c)?;
     add_next(text, checked, pool, a)?;
@@ -317,7 +323,8 @@ fn add_transfer(
 ) -> Result<(), NoMemory>
     requires addr { IsAddrKnown (length pool.now) addr }
     requires value { value < length pool.now }
-    ensures { OnOk result (text.new.items ≡ text.old.items ++ move_text checked.now.netlist storage (ids_move pool.now addr value)) }
+    ensures { OnOk result (text.new.items
+        ≡ text.old.items ++ move_text checked.now.netlist storage (ids_move pool.now addr value)) }
 {
     add_bytes(text, storage_name(checked, storage))?;
     if let Some(addr) = addr {

@@ -36,7 +36,9 @@ AreAt nodes (p ∷ ps) = IsPartAt nodes p × AreAt nodes ps
 -- the sites have become more by those of what is found, or nothing is found
 abbrev pub Taken : List Site → List Site → Option Found → Option ℕ → Type 0
 Taken old new found None = found ≡ None
-Taken old new found (Some setting) = (added : List Site) × (new ≡ old ++ added) × (found ≡ Some (record { setting = setting; sites = added }))
+Taken old new found (Some setting) =
+    (added : List Site) × (new ≡ old ++ added)
+    × (found ≡ Some (record { setting = setting; sites = added }))
 
 -- where a tree goes
 abbrev pub destination_at : CodeDestination → Destination

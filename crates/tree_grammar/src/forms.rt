@@ -45,8 +45,8 @@ fn take_address<'a>(
     destination: Destination<'a>,
     at: u64,
 ) -> Result<Option<u64>, NoMemory>
-    ensures found { IfOk result (λ o.
-        Taken (sites_of parts.old.items) (sites_of parts.new.items) (address_match temps (Some (term_of addr.now)) (destination_at destination.entry)) o) }
+    ensures found { IfOk result (λ o. Taken (sites_of parts.old.items) (sites_of parts.new.items)
+        (address_match temps (Some (term_of addr.now)) (destination_at destination.entry)) o) }
     ensures at { OnOk result ((nodes : List Term) → AddressStands nodes at (destination_at destination.entry) →
         AreAt nodes parts.old.items → AreAt nodes parts.new.items) }
 {
@@ -84,8 +84,10 @@ fn take_memory<'a>(
 ) -> Result<Option<u64>, NoMemory>
     ensures found { IfOk result (λ o. Taken (sites_of parts.old.items) (sites_of parts.new.items)
         (both (address_match temps (rule_of form.now).addr (destination_at destination.entry))
-        (matched temps (rule_of form.now).value (tree_term tree.now) (is_whole (destination_at destination.entry)))) o) }
-    ensures at { OnOk result ((nodes : List Term) → Stands nodes at (destination_at destination.entry) (tree_term tree.now) →
+        (matched temps (rule_of form.now).value (tree_term tree.now) (is_whole (destination_at destination.entry))))
+        o) }
+    ensures at { OnOk result ((nodes : List Term) →
+        Stands nodes at (destination_at destination.entry) (tree_term tree.now) →
         AreAt nodes parts.old.items → AreAt nodes parts.new.items) }
 {
     let Some(addr) = &form.addr else {
@@ -113,9 +115,10 @@ fn take_form<'a>(
     whole: bool,
     at: u64,
 ) -> Result<Option<u64>, NoMemory>
-    ensures found { IfOk result (λ o.
-        Taken (sites_of parts.old.items) (sites_of parts.new.items) (taken temps (rule_of form.now) (destination_at destination.entry) (tree_term tree.now) whole) o) }
-    ensures at { OnOk result ((nodes : List Term) → Stands nodes at (destination_at destination.entry) (tree_term tree.now) →
+    ensures found { IfOk result (λ o. Taken (sites_of parts.old.items) (sites_of parts.new.items)
+        (taken temps (rule_of form.now) (destination_at destination.entry) (tree_term tree.now) whole) o) }
+    ensures at { OnOk result ((nodes : List Term) →
+        Stands nodes at (destination_at destination.entry) (tree_term tree.now) →
         AreAt nodes parts.old.items → AreAt nodes parts.new.items) }
 {
     match &form.goal {
@@ -154,10 +157,11 @@ pub fn match_at<'a>(
     temps: u32,
     at: u64,
 ) -> Result<Option<Match<'a>>, NoMemory>
-    ensures found { IfOk result (λ o.
-        option_map found_of o ≡ taken temps (rule_of form.now) (destination_at destination.entry) (tree_term tree.now) whole) }
-    ensures at { IfOk result (λ o. IfSome o (λ m.
-        (nodes : List Term) → Stands nodes at (destination_at destination.entry) (tree_term tree.now) → AreAt nodes m.parts.items)) }
+    ensures found { IfOk result (λ o. option_map found_of o
+        ≡ taken temps (rule_of form.now) (destination_at destination.entry) (tree_term tree.now) whole) }
+    ensures at { IfOk result (λ o. IfSome o (λ m. (nodes : List Term) →
+        Stands nodes at (destination_at destination.entry) (tree_term tree.now) →
+        AreAt nodes m.parts.items)) }
 {
     let mut parts = Vec::new(alloc);
     match take_form(&mut parts, temps, form, destination, tree, whole, at)? {

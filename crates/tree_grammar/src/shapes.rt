@@ -129,7 +129,8 @@ fn shows_value(shape: &Expr, value: u64) -> bool
 /// Whether the field shape takes the number of this width, in bits: it is as wide, and some word
 /// gives it this value.
 pub fn fits_field(shape: &Expr, width: u8, value: u64) -> bool
-    ensures { result ≡ (is_shape (term_of shape.now) && ((width == term_width (term_of shape.now)) && shows (term_of shape.now) value)) }
+    ensures { result ≡ (is_shape (term_of shape.now)
+        && ((width == term_width (term_of shape.now)) && shows (term_of shape.now) value)) }
 {
     is_field_shape(shape) && u64::from(width) == expr_width(shape) && shows_value(shape, value)
 }
@@ -192,7 +193,8 @@ fn shifted(value: u64, places: u8) -> Result<u64, NoMemory>
 // field's width.
 fn field_bits(field: &Expr, value: u64) -> Result<u64, NoMemory>
     requires { is_field (term_of field.now) ≡ true }
-    ensures { IfOk result (λ bits. field_setting (term_of field.now) (value % 2 ^ term_width (term_of field.now)) ≡ Some bits) }
+    ensures { IfOk result (λ bits.
+        field_setting (term_of field.now) (value % 2 ^ term_width (term_of field.now)) ≡ Some bits) }
 {
     match field {
         Expr::Word(width) => Ok(low_bits(value, u64::from(*width))),

@@ -66,8 +66,10 @@ fn take_literal(shape: &Expr, tree: &Tree) -> Result<Option<u64>, NoMemory>
 
 // Leaves a part open, which settles no bits.
 fn put_part<'a>(parts: &mut Vec<Part<'a>>, part: Part<'a>) -> Result<Option<u64>, NoMemory>
-    ensures found { IfOk result (λ o. Taken (sites_of parts.old.items) (sites_of parts.new.items) (open_if true (part_of part.entry)) o) }
-    ensures at { OnOk result ((nodes : List Term) → AreAt nodes parts.old.items → IsPartAt nodes part.entry → AreAt nodes parts.new.items) }
+    ensures found { IfOk result (λ o. Taken (sites_of parts.old.items) (sites_of parts.new.items)
+        (open_if true (part_of part.entry)) o) }
+    ensures at { OnOk result ((nodes : List Term) → AreAt nodes parts.old.items →
+        IsPartAt nodes part.entry → AreAt nodes parts.new.items) }
 {
     parts.push(part)?;
     Ok(Some(0))
@@ -83,10 +85,10 @@ fn take_cell<'a>(
     whole: bool,
     at: u64,
 ) -> Result<Option<u64>, NoMemory>
-    ensures found { IfOk result (λ o.
-        Taken (sites_of parts.old.items) (sites_of parts.new.items) (cell_match temps (term_of shape.now) width (tree_term tree.now) whole) o) }
-    ensures at { OnOk result ((nodes : List Term) → HoldsSubtrees nodes at (tree_term tree.now) → AreAt nodes parts.old.items →
-        AreAt nodes parts.new.items) }
+    ensures found { IfOk result (λ o. Taken (sites_of parts.old.items) (sites_of parts.new.items)
+        (cell_match temps (term_of shape.now) width (tree_term tree.now) whole) o) }
+    ensures at { OnOk result ((nodes : List Term) → HoldsSubtrees nodes at (tree_term tree.now) →
+        AreAt nodes parts.old.items → AreAt nodes parts.new.items) }
 {
     if u64::from(width) != tree_width(tree) {
         return Ok(None);
@@ -117,7 +119,8 @@ struct Pair<'a> {
 }
 
 fn pair_if<'a>(same: bool, expr: &'a Expr, tree: &'a Tree) -> Option<Pair<'a>>
-    ensures { option_map pair_of result ≡ (if same then Some (record { term = term_of expr.now; tree = tree_term tree.now }) else None) }
+    ensures { option_map pair_of result
+        ≡ (if same then Some (record { term = term_of expr.now; tree = tree_term tree.now }) else None) }
 {
     if same {
         Some(Pair { expr, tree })
@@ -165,8 +168,8 @@ fn take_operand<'a>(
 ) -> Result<Option<u64>, NoMemory>
     ensures found { IfOk result (λ o. Taken (sites_of parts.old.items) (sites_of parts.new.items)
         (open_if (width == term_width (tree_term tree.now)) (operand id (tree_term tree.now) whole)) o) }
-    ensures at { OnOk result ((nodes : List Term) → HoldsSubtrees nodes at (tree_term tree.now) → AreAt nodes parts.old.items →
-        AreAt nodes parts.new.items) }
+    ensures at { OnOk result ((nodes : List Term) → HoldsSubtrees nodes at (tree_term tree.now) →
+        AreAt nodes parts.old.items → AreAt nodes parts.new.items) }
 {
     if u64::from(width) != tree_width(tree) {
         return Ok(None);
@@ -192,10 +195,10 @@ pub(crate) fn take<'a>(
     whole: bool,
     at: u64,
 ) -> Result<Option<u64>, NoMemory>
-    ensures found { IfOk result (λ o.
-        Taken (sites_of parts.old.items) (sites_of parts.new.items) (matched temps (term_of e.now) (tree_term tree.now) whole) o) }
-    ensures at { OnOk result ((nodes : List Term) → HoldsSubtrees nodes at (tree_term tree.now) → AreAt nodes parts.old.items →
-        AreAt nodes parts.new.items) }
+    ensures found { IfOk result (λ o. Taken (sites_of parts.old.items) (sites_of parts.new.items)
+        (matched temps (term_of e.now) (tree_term tree.now) whole) o) }
+    ensures at { OnOk result ((nodes : List Term) → HoldsSubtrees nodes at (tree_term tree.now) →
+        AreAt nodes parts.old.items → AreAt nodes parts.new.items) }
 {
     if is_field_shape(e) {
         return take_number(e, tree);

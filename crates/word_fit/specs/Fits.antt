@@ -27,12 +27,14 @@ group_stores m (x ∷ g) = is_store (m x).move || group_stores m g
 
 -- the word does each step's transfer with its setting, steps, keeps the data memory unless a step
 -- writes it, keeps each live register that isn't a destination, and doesn't clash
-pub record FitsGroup {A : Type 0} (netlist : Netlist) (m : A → Operation) (word : ℕ) (g : List A) (live : Regs) : Type 0 where
+pub record FitsGroup {A : Type 0} (netlist : Netlist) (m : A → Operation) (word : ℕ) (g : List A)
+    (live : Regs) : Type 0 where
   pub clean : IsClean netlist word
   pub does : DoesAll netlist m word g
   pub steps : Steps netlist word
   pub memory : group_stores m g ≡ false → memory_move netlist word ≡ keep
-  pub registers : (r : ℕ) → IsRegister (slice_get netlist.storages r) → live r ≡ true → group_writes m g r ≡ false → move_at netlist word r ≡ keep
+  pub registers : (r : ℕ) → IsRegister (slice_get netlist.storages r) → live r ≡ true →
+      group_writes m g r ≡ false → move_at netlist word r ≡ keep
 
 -- the same as a relation of words, groups and live registers
 abbrev pub fits_over : {A : Type 0} → Netlist → (A → Operation) → ℕ → List A → Regs → Type 0

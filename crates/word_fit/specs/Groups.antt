@@ -28,7 +28,8 @@ pub record IsLiveBehind {A : Type 0} (m : A → Operation) (later : List (List A
 -- ---- words of groups
 
 -- the words fit the groups, one each
-abbrev pub GroupsFit : {A : Type 0} → (A → Operation) → (ℕ → List A → Regs → Type 0) → List ℕ → List (List A) → Regs → Type 0
+abbrev pub GroupsFit : {A : Type 0} → (A → Operation) → (ℕ → List A → Regs → Type 0) → List ℕ →
+    List (List A) → Regs → Type 0
 GroupsFit m fits [] [] after = Unit {0}
 GroupsFit m fits (w ∷ ws) (g ∷ gs) after = fits w g (live_before m gs after) × GroupsFit m fits ws gs after
 GroupsFit m fits ws gs after = ⊥
@@ -39,9 +40,11 @@ AllHaveWords m fits [] after = Unit {0}
 AllHaveWords m fits (g ∷ gs) after = ((w : ℕ) × fits w g (live_before m gs after)) × AllHaveWords m fits gs after
 
 -- each group's word is the least word that fits it with the registers that are live after it
-pub record AreLeast {A : Type 0} (m : A → Operation) (fits : ℕ → List A → Regs → Type 0) (words : List ℕ) (groups : List (List A)) (after : Regs) : Type 0 where
+pub record AreLeast {A : Type 0} (m : A → Operation) (fits : ℕ → List A → Regs → Type 0)
+    (words : List ℕ) (groups : List (List A)) (after : Regs) : Type 0 where
   pub long : length words ≡ length groups
-  pub least : (k : ℕ) (g : List A) → slice_get groups k ≡ Some g → IsLeastFit (λ word. fits word g (live_at m groups after k)) (slice_index words k)
+  pub least : (k : ℕ) (g : List A) → slice_get groups k ≡ Some g →
+      IsLeastFit (λ word. fits word g (live_at m groups after k)) (slice_index words k)
 
 -- ---- what words leave
 

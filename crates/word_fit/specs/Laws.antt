@@ -16,15 +16,18 @@ use Rattle.word_fit.specs.Runs.{IsClocked, RunsTo, StandAt}
 -- a clock under a word that fits a group follows the group, from every state
 abbrev pub ClocksFollow : Type 0
 ClocksFollow =
-    (netlist : Netlist) (order : List ℕ) (m : Step → Operation) (code : List ℕ) (w : ℕ) (g : List Step) (live : Regs) (s : State) →
-    KeepsRules netlist order → FitsGroup netlist m w g live → IsState netlist s → word_at netlist code s ≡ w → IsClocked netlist m code g live s
+    (netlist : Netlist) (order : List ℕ) (m : Step → Operation) (code : List ℕ) (w : ℕ)
+    (g : List Step) (live : Regs) (s : State) →
+    KeepsRules netlist order → FitsGroup netlist m w g live → IsState netlist s →
+    word_at netlist code s ≡ w → IsClocked netlist m code g live s
 
 -- words that fit groups and stand in a code from the program counter on, which isn't led past its
 -- last address, clocked in order, don't clash, leave the program counter behind them, and leave the
 -- memory and the registers that are live after them as the groups do one after the other
 abbrev pub RunsFollow : Type 0
 RunsFollow =
-    (netlist : Netlist) (order : List ℕ) (m : Step → Operation) (code words : List ℕ) (groups : List (List Step)) (after : Regs) (s : State) →
+    (netlist : Netlist) (order : List ℕ) (m : Step → Operation) (code words : List ℕ)
+    (groups : List (List Step)) (after : Regs) (s : State) →
     KeepsRules netlist order → GroupsFit m (fits_over netlist m) words groups after → IsState netlist s →
     StandAt code (counter_in netlist s) words → counter_in netlist s + length words < 2 ^ counter_width netlist →
     RunsTo netlist code s (length words) after (groups_effect m groups s)
@@ -32,7 +35,8 @@ RunsFollow =
 -- and where each group has one step, as the steps do
 abbrev pub RunsFollowSteps : Type 0
 RunsFollowSteps =
-    (netlist : Netlist) (order : List ℕ) (m : Step → Operation) (code words : List ℕ) (steps : List Step) (after : Regs) (s : State) →
+    (netlist : Netlist) (order : List ℕ) (m : Step → Operation) (code words : List ℕ)
+    (steps : List Step) (after : Regs) (s : State) →
     KeepsRules netlist order → GroupsFit m (fits_over netlist m) words (singles steps) after → IsState netlist s →
     StandAt code (counter_in netlist s) words → counter_in netlist s + length words < 2 ^ counter_width netlist →
     RunsTo netlist code s (length words) after (steps_effect m steps s)
@@ -59,4 +63,5 @@ LeastWordsFit =
 abbrev pub LeastWordsAreOne : Type 0
 LeastWordsAreOne =
     (netlist : Netlist) (m : Step → Operation) (words others : List ℕ) (groups : List (List Step)) (after : Regs) →
-    AreLeast m (fits_over netlist m) words groups after → AreLeast m (fits_over netlist m) others groups after → words ≡ others
+    AreLeast m (fits_over netlist m) words groups after →
+    AreLeast m (fits_over netlist m) others groups after → words ≡ others

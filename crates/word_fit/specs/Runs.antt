@@ -10,12 +10,14 @@ use Rattle.form_model.specs.Live.{Regs}
 use Rattle.word_fit.specs.Groups.{Agree, Follows}
 
 -- a clock doesn't clash, follows the group, and leaves the program counter one on
-pub record IsClocked {A : Type 0} (netlist : Netlist) (m : A → Operation) (words : List ℕ) (g : List A) (live : Regs) (s : State) : Type 0 where
+pub record IsClocked {A : Type 0} (netlist : Netlist) (m : A → Operation) (words : List ℕ)
+    (g : List A) (live : Regs) (s : State) : Type 0 where
   pub next : State
   pub clocked : clock netlist words s ≡ Next next
   pub state : IsState netlist next
   pub follows : Follows m g live s next
-  pub counter : counter_in netlist s + 1 < 2 ^ counter_width netlist → counter_in netlist next ≡ counter_in netlist s + 1
+  pub counter : counter_in netlist s + 1 < 2 ^ counter_width netlist →
+      counter_in netlist next ≡ counter_in netlist s + 1
 
 -- the words stand in the code from this address on
 abbrev pub StandAt : List ℕ → ℕ → List ℕ → Type 0

@@ -21,14 +21,17 @@ abbrev as_is : Operation → Operation
 as_is d = d
 
 -- one clock edge swaps two registers, and one after the other the steps don't
-swapped : (group_effect as_is (copies 0 1 ∷ copies 1 0 ∷ []) (record { regs = 5 ∷ 6 ∷ []; cells = [] })).regs ≡ 6 ∷ 5 ∷ []
+swapped : (group_effect as_is (copies 0 1 ∷ copies 1 0 ∷ []) (record { regs = 5 ∷ 6 ∷ []; cells = [] })).regs
+    ≡ 6 ∷ 5 ∷ []
 swapped = refl
 
-copied : (steps_effect as_is (copies 0 1 ∷ copies 1 0 ∷ []) (record { regs = 5 ∷ 6 ∷ []; cells = [] })).regs ≡ 6 ∷ 6 ∷ []
+copied : (steps_effect as_is (copies 0 1 ∷ copies 1 0 ∷ []) (record { regs = 5 ∷ 6 ∷ []; cells = [] })).regs
+    ≡ 6 ∷ 6 ∷ []
 copied = refl
 
 -- a step under a setting writes the cell that the setting names
-stored : (group_effect as_is (stores 2 ∷ []) (record { regs = 5 ∷ 6 ∷ []; cells = 0 ∷ 0 ∷ 0 ∷ [] })).cells ≡ 0 ∷ 0 ∷ 6 ∷ []
+stored : (group_effect as_is (stores 2 ∷ []) (record { regs = 5 ∷ 6 ∷ []; cells = 0 ∷ 0 ∷ 0 ∷ [] })).cells
+    ≡ 0 ∷ 0 ∷ 6 ∷ []
 stored = refl
 
 -- before a store, what it reads is live, and what an earlier step writes isn't

@@ -34,7 +34,8 @@ IsMoveWithin nodes (WriteAt addr value) = (addr < length nodes) × (value < leng
 pub record AreMoves (netlist : Netlist) (word : ℕ) (nodes : List Node) (moves : List StorageMove) : Type 0 where
   pub long : length moves ≡ length netlist.storages
   pub within : (id : ℕ) (move : StorageMove) → slice_get moves id ≡ Some move → IsMoveWithin nodes move
-  pub are : (id : ℕ) (move : StorageMove) → slice_get moves id ≡ Some move → move_in nodes move ≡ move_at netlist word id
+  pub are : (id : ℕ) (move : StorageMove) → slice_get moves id ≡ Some move →
+      move_in nodes move ≡ move_at netlist word id
 
 -- all that a netlist does under the word
 pub record IsWordMoves (netlist : Netlist) (word : ℕ) (nodes : List Node) (m : WordMoves) : Type 0 where

@@ -37,8 +37,9 @@ pub(crate) fn gate_id(
     requires known { AllByRecursion (IsKnown netlist.now pool.old ids.now) (gate_nets net.now.gate) }
     ensures grows { Grows pool.old pool.new }
     ensures within { IfOk result (λ id. id < length pool.new) }
-    ensures term { IfOk result (λ id. term_at pool.new id ≡
-        gate_term (net_terms pool.old ids.now) (slice_index values.now) (flag_at statics.now) net.now.width net.now.gate) }
+    ensures term { IfOk result (λ id. term_at pool.new id
+        ≡ gate_term (net_terms pool.old ids.now) (slice_index values.now) (flag_at statics.now)
+        net.now.width net.now.gate) }
 {
     let width = net.width;
     match &net.gate {

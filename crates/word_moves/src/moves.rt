@@ -120,7 +120,8 @@ fn moves_of(
 fn move_of(pool: &Pool, ids: &[ExprId], values: &[u64], id: usize, storage: &Storage) -> StorageMove
     requires { StorageKnown pool.now ids.now storage.now }
     ensures within { IsMoveWithin pool.now result }
-    ensures is { move_in pool.now result ≡ storage_move (net_terms pool.now ids.now) (slice_index values.now) id storage.now }
+    ensures is { move_in pool.now result
+        ≡ storage_move (net_terms pool.now ids.now) (slice_index values.now) id storage.now }
 {
     match storage {
         Storage::Register { input, when, .. } => {

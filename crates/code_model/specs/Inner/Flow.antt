@@ -33,7 +33,8 @@ Stands netlist image l d P way m =
 
 -- within so many clocks, and without a mark before the last state, s leads to such a state with
 -- this store
-pub record Leads (netlist : Netlist) (image : Image) (Q : State → Type 0) (cells : List ℕ) (clocks : ℕ) (s : State) : Type 0 where
+pub record Leads (netlist : Netlist) (image : Image) (Q : State → Type 0) (cells : List ℕ)
+    (clocks : ℕ) (s : State) : Type 0 where
   pub taken : ℕ
   pub last : State
   pub within : taken ≤ clocks
@@ -42,7 +43,8 @@ pub record Leads (netlist : Netlist) (image : Image) (Q : State → Type 0) (cel
   pub store : store_in image last ≡ cells
 
 -- s stands at the mark of a test, and the test decides where it leads, which leaves the store
-pub record Tests (netlist : Netlist) (image : Image) (tree : ℕ) (test : List ℕ → Bool) (Q R : State → Type 0) (clocks : ℕ) (s : State) : Type 0 where
+pub record Tests (netlist : Netlist) (image : Image) (tree : ℕ) (test : List ℕ → Bool)
+    (Q R : State → Type 0) (clocks : ℕ) (s : State) : Type 0 where
   pub label : label_in netlist image s ≡ Some (At tree)
   pub next : State
   pub clocked : clock netlist (words_of image) s ≡ Next next

@@ -57,7 +57,8 @@ abbrev pub CanMove : Machine → List Step → Step → List Step → Regs → T
 CanMove machine g x rest live = Movable (operation_in machine) (fits_in machine) g x rest live
 
 abbrev pub MovesAt : Machine → List Step → List Step → Regs → ℕ → List Step → List Step → Type 0
-MovesAt machine g h live index first second = IsMovedAt (operation_in machine) (fits_in machine) g h live index first second
+MovesAt machine g h live index first second =
+    IsMovedAt (operation_in machine) (fits_in machine) g h live index first second
 
 abbrev pub Moves : Machine → List Step → List Step → Regs → List Step → List Step → Type 0
 Moves machine g h live first second = IsMoved (operation_in machine) (fits_in machine) g h live first second

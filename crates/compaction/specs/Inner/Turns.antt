@@ -21,7 +21,8 @@ pub record IsFree {A : Type 0} (m : A → Operation) (g : List A) (x : A) (rest 
   pub unread : is_read_by m (m x) rest ≡ false
 
 -- the step of h at a place moves to g
-pub record IsMovedAt {A : Type 0} (m : A → Operation) (fits : ℕ → List A → Regs → Type 0) (g h : List A) (live : Regs) (index : ℕ) (first second : List A) : Type 0 where
+pub record IsMovedAt {A : Type 0} (m : A → Operation) (fits : ℕ → List A → Regs → Type 0)
+    (g h : List A) (live : Regs) (index : ℕ) (first second : List A) : Type 0 where
   pub step : A
   pub at : slice_get h index ≡ Some step
   pub first_is : first ≡ g ++ step ∷ []
@@ -29,13 +30,15 @@ pub record IsMovedAt {A : Type 0} (m : A → Operation) (fits : ℕ → List A �
   pub movable : Movable m fits g step (remove h index) live
 
 -- the first movable step of h moves to g
-pub record IsMoved {A : Type 0} (m : A → Operation) (fits : ℕ → List A → Regs → Type 0) (g h : List A) (live : Regs) (first second : List A) : Type 0 where
+pub record IsMoved {A : Type 0} (m : A → Operation) (fits : ℕ → List A → Regs → Type 0)
+    (g h : List A) (live : Regs) (first second : List A) : Type 0 where
   pub index : ℕ
   pub moved : IsMovedAt m fits g h live index first second
   pub before : (i : ℕ) → i < index → (x : A) → slice_get h i ≡ Some x → Movable m fits g x (remove h i) live → ⊥
 
 -- the change that the packer makes of two neighbours
-abbrev pub IsChange : (Step → Operation) → (ℕ → List Step → Regs → Type 0) → List Step → List Step → Regs → Change → Type 0
+abbrev pub IsChange : (Step → Operation) → (ℕ → List Step → Regs → Type 0) → List Step → List Step →
+    Regs → Change → Type 0
 IsChange m fits g h live (Merged both) = (both ≡ g ++ h) × Mergeable m fits g h live
 IsChange m fits g h live (Moved first second) = (Mergeable m fits g h live → ⊥) × IsMoved m fits g h live first second
 IsChange m fits g h live Settled = IsSettled m fits g h live
@@ -43,7 +46,8 @@ IsChange m fits g h live Settled = IsSettled m fits g h live
 -- ---- what is settled
 
 -- the first group and its neighbour stay
-abbrev pub FirstSettled : {A : Type 0} → (A → Operation) → (ℕ → List A → Regs → Type 0) → Regs → List A → List (List A) → Type 0
+abbrev pub FirstSettled : {A : Type 0} → (A → Operation) → (ℕ → List A → Regs → Type 0) → Regs →
+    List A → List (List A) → Type 0
 FirstSettled m fits after g [] = Unit {0}
 FirstSettled m fits after g (h ∷ gs) = IsSettled m fits g h (live_before m gs after)
 
@@ -59,7 +63,8 @@ SettledTo m fits after (suc k) [] = Unit {0}
 SettledTo m fits after (suc k) (g ∷ gs) = FirstSettled m fits after g gs × SettledTo m fits after k gs
 
 -- what holds of the groups while the first k pairs are settled
-pub record IsPackedTo {A : Type 0} (m : A → Operation) (fits : ℕ → List A → Regs → Type 0) (after : Regs) (k : ℕ) (gs : List (List A)) : Type 0 where
+pub record IsPackedTo {A : Type 0} (m : A → Operation) (fits : ℕ → List A → Regs → Type 0)
+    (after : Regs) (k : ℕ) (gs : List (List A)) : Type 0 where
   pub words : AllHaveWords m fits gs after
   pub differ : EachDiffers m gs
   pub settled : SettledTo m fits after k gs
@@ -88,7 +93,8 @@ abbrev pub work : {A : Type 0} → List (List A) → ℕ → ℕ
 work gs k = 2 * weight gs + (length gs - k)
 
 -- one turn of the packer, which stood at the pair k and goes on at the pair `next`
-pub record IsTurn {A : Type 0} (m : A → Operation) (fits : ℕ → List A → Regs → Type 0) (after : Regs) (old new : List (List A)) (k next : ℕ) : Type 0 where
+pub record IsTurn {A : Type 0} (m : A → Operation) (fits : ℕ → List A → Regs → Type 0)
+    (after : Regs) (old new : List (List A)) (k next : ℕ) : Type 0 where
   pub same : IsSame m old new
   pub packed : IsPackedTo m fits after next new
   pub less : work new next < work old k
@@ -96,7 +102,8 @@ pub record IsTurn {A : Type 0} (m : A → Operation) (fits : ℕ → List A → 
 
 -- what the turns make of groups: those that are written, which do the same, have words, and are
 -- packed
-pub record IsPacking {A : Type 0} (m : A → Operation) (fits : ℕ → List A → Regs → Type 0) (after : Regs) (old new : List (List A)) : Type 0 where
+pub record IsPacking {A : Type 0} (m : A → Operation) (fits : ℕ → List A → Regs → Type 0)
+    (after : Regs) (old new : List (List A)) : Type 0 where
   pub same : IsSame m old new
   pub words : AllHaveWords m fits new after
   pub differ : EachDiffers m new

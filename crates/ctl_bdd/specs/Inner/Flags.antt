@@ -10,4 +10,5 @@ use Rattle.net_model.specs.Symbolic.{all_nets}
 pub record IsClosed (netlist : Netlist) (flags : List Bool) : Type 0 where
   pub long : length flags ≡ length netlist.nets
   pub control : (n : ℕ) → n < length netlist.nets → flag_at flags n ≡ true → is_control netlist n ≡ true
-  pub closed : (n : ℕ) → n < length netlist.nets → flag_at flags n ≡ true → all_nets (flag_at flags) (named_by netlist n) ≡ true
+  pub closed : (n : ℕ) → n < length netlist.nets → flag_at flags n ≡ true →
+      all_nets (flag_at flags) (named_by netlist n) ≡ true

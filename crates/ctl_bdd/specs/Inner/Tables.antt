@@ -9,7 +9,8 @@ use Rattle.ctl_bdd.specs.Tables.{sets_at}
 
 -- the sets of each row, and a number for it that a selector of so many bits may have
 abbrev pub HasRows : List (List ℕ) → ℕ → ℕ → List (ℕ × ℕ) → Type 0
-HasRows table bits width rows = AllByRecursion (λ (row : ℕ × ℕ). (row.0 < 2 ^ bits) × (length (sets_at table row.1) ≡ width)) rows
+HasRows table bits width rows =
+    AllByRecursion (λ (row : ℕ × ℕ). (row.0 < 2 ^ bits) × (length (sets_at table row.1) ≡ width)) rows
 
 abbrev pub HasRest : List (List ℕ) → ℕ → Option ℕ → Type 0
 HasRest table width None = Unit {0}

@@ -27,9 +27,11 @@ IsBranchOr netlist pool reach pattern (Some parts) = IsBranch netlist reach patt
 abbrev pub IsClass : Netlist → List Node → ℕ → Pattern → Class → Type 0
 IsClass netlist pool reach pattern (Plain clobbers) = IsPlain netlist pattern × AreClobbers netlist pattern clobbers
 IsClass netlist pool reach pattern Jump = IsJump netlist pattern
-IsClass netlist pool reach pattern (Branch parts) = IsBranch netlist reach pattern (ids_branch pool parts) × AreBranchIds (length pool) parts
+IsClass netlist pool reach pattern (Branch parts) =
+    IsBranch netlist reach pattern (ids_branch pool parts) × AreBranchIds (length pool) parts
 IsClass netlist pool reach pattern Other =
-    (IsPlain netlist pattern → ⊥) × (IsJump netlist pattern → ⊥) × ((parts : Parts) → IsBranch netlist reach pattern parts → ⊥)
+    (IsPlain netlist pattern → ⊥) × (IsJump netlist pattern → ⊥)
+    × ((parts : Parts) → IsBranch netlist reach pattern parts → ⊥)
 
 -- a list with the forms of a pattern after the others
 pub record HasAdded (netlist : Netlist) (reach number : ℕ) (pattern : Pattern) (old new : List Rule) : Type 0 where
@@ -45,4 +47,6 @@ pub data IsReachOf (netlist : Netlist) (pattern : Pattern) (reach : ℕ) : Type 
 -- the greatest of these
 abbrev pub IsGreatestReach : Netlist → List Pattern → ℕ → Type 0
 IsGreatestReach netlist [] reach = reach ≡ 0
-IsGreatestReach netlist (pattern ∷ patterns) reach = (first : ℕ) × (rest : ℕ) × IsReachOf netlist pattern first × IsGreatestReach netlist patterns rest × (reach ≡ max first rest)
+IsGreatestReach netlist (pattern ∷ patterns) reach =
+    (first : ℕ) × (rest : ℕ) × IsReachOf netlist pattern first
+    × IsGreatestReach netlist patterns rest × (reach ≡ max first rest)

@@ -19,11 +19,14 @@ ids_sides pool addr value = record { addr = option_map (term_at pool) addr; valu
 
 -- a target by its id
 abbrev pub id_target : List Node → TargetId → BranchTarget
-id_target pool target = if target.relative then relative (term_at pool target.expr) else absolute (term_at pool target.expr)
+id_target pool target =
+    if target.relative then relative (term_at pool target.expr)
+    else absolute (term_at pool target.expr)
 
 -- a branch by its ids
 abbrev pub ids_branch : List Node → BranchIds → Branch
-ids_branch pool parts = record { when_one = parts.when_one; test = term_at pool parts.test; to = id_target pool parts.target }
+ids_branch pool parts =
+    record { when_one = parts.when_one; test = term_at pool parts.test; to = id_target pool parts.target }
 
 pub record AreBranchIds (size : ℕ) (parts : BranchIds) : Type 0 where
   pub test : parts.test < size

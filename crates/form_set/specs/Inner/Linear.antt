@@ -27,7 +27,8 @@ is_linear free (cat a b) = are_apart free a b && (is_linear free a && is_linear 
 is_linear free (zext a w) = is_linear free a
 is_linear free (sext a w) = is_linear free a
 is_linear free (select c a b) =
-    (are_apart free c a && (are_apart free c b && are_apart free a b)) && (is_linear free c && (is_linear free a && is_linear free b))
+    (are_apart free c a && (are_apart free c b && are_apart free a b))
+    && (is_linear free c && (is_linear free a && is_linear free b))
 
 -- so it is for a transfer, address and value together
 abbrev pub move_linear : ℕ → Move → Bool

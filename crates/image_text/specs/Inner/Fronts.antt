@@ -41,19 +41,27 @@ with_size limits bits count = if bits == limits.bits && nat_le count limits.word
 
 unfoldable pub with_place : ℕ → Image → Place → Option Front
 with_place count image place =
-    if no_items image.costs && no_items image.marks && no_items image.words then Some (Open count (record image { places = image.places ++ (place ∷ []) })) else None
+    if no_items image.costs && no_items image.marks && no_items image.words
+    then Some (Open count (record image { places = image.places ++ (place ∷ []) }))
+    else None
 
 unfoldable pub with_cost : ℕ → Image → ℕ × ℕ → Option Front
 with_cost count image cost =
-    if no_items image.marks && no_items image.words then Some (Open count (record image { costs = image.costs ++ (cost ∷ []) })) else None
+    if no_items image.marks && no_items image.words
+    then Some (Open count (record image { costs = image.costs ++ (cost ∷ []) }))
+    else None
 
 unfoldable pub with_mark : ℕ → Image → Mark → Option Front
 with_mark count image mark =
-    if no_items image.words && may_follow (last_mark None image.marks) mark then Some (Open count (record image { marks = image.marks ++ (mark ∷ []) })) else None
+    if no_items image.words && may_follow (last_mark None image.marks) mark
+    then Some (Open count (record image { marks = image.marks ++ (mark ∷ []) }))
+    else None
 
 unfoldable pub with_word : Limits → ℕ → Image → ℕ → Word → Option Front
 with_word limits count image address code =
-    if address == length image.words && nat_lt address count && nat_lt code.word (2 ^ limits.bits) then Some (Open count (record image { words = image.words ++ (code ∷ []) })) else None
+    if address == length image.words && nat_lt address count && nat_lt code.word (2 ^ limits.bits)
+    then Some (Open count (record image { words = image.words ++ (code ∷ []) }))
+    else None
 
 unfoldable pub whole : ℕ → Image → Option Front
 whole count image = if length image.words == count then Some (Whole image) else None

@@ -16,7 +16,8 @@ code_items address (word ∷ words) = Code address word ∷ code_items (address 
 abbrev pub image_items : Image → List Item
 image_items image =
     Size image.bits (length image.words) ∷ Temps image.temps
-    ∷ (map Variable image.places ++ (map Tree image.costs ++ (map Label image.marks ++ (code_items 0 image.words ++ (Done ∷ [])))))
+    ∷ (map Variable image.places
+    ++ (map Tree image.costs ++ (map Label image.marks ++ (code_items 0 image.words ++ (Done ∷ [])))))
 
 abbrev pub image_lines : Image → List (List ℕ)
 image_lines image = map (item_line (bytes_of image.bits)) (image_items image)

@@ -53,8 +53,10 @@ pub record IsSearch (graph : List (List ℕ)) (marks : List Mark) (met starts pa
   pub long : length marks ≡ length graph
   pub at : (i : ℕ) → i < length met → MetAt marks (slice_index met i) i
   pub back : (m i : ℕ) → MetAt marks m i → (i < length met) × (slice_index met i ≡ m)
-  pub joined : (p q : ℕ) → p < length met → q < length met → Uncut starts p q → Reaches graph (slice_index met p) (slice_index met q)
-  pub seen : (m i k : ℕ) → mark_at marks m ≡ Met i k → AllByRecursion (SeenFrom marks starts i) (take k (named_in graph m))
+  pub joined : (p q : ℕ) → p < length met → q < length met → Uncut starts p q →
+      Reaches graph (slice_index met p) (slice_index met q)
+  pub seen : (m i k : ℕ) → mark_at marks m ≡ Met i k →
+      AllByRecursion (SeenFrom marks starts i) (take k (named_in graph m))
   pub ended : (m i k : ℕ) → mark_at marks m ≡ Met i k → Among m path ⊎ (length (named_in graph m) ≤ k)
   pub rising : Rising starts
   pub low : (s : ℕ) → Among s starts → s < length met
@@ -118,7 +120,8 @@ pub record IsCompleting (graph : List (List ℕ)) (index : ℕ) (told : Bool) (o
   pub starts : now.starts ≡ old.starts
   pub path : now.path ≡ old.path
   pub inside : (m i : ℕ) → MetAt old.marks m i → length now.met ≤ i → mark_at now.marks m ≡ Done told
-  pub outside : (m : ℕ) → ((i : ℕ) → MetAt old.marks m i → i < length now.met) → mark_at now.marks m ≡ mark_at old.marks m
+  pub outside : (m : ℕ) → ((i : ℕ) → MetAt old.marks m i → i < length now.met) →
+      mark_at now.marks m ≡ mark_at old.marks m
   pub eased : work graph now.marks ≤ work graph old.marks
 
 -- met nets stand at their indices

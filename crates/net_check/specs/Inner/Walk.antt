@@ -36,8 +36,10 @@ pub record IsWalk (graph : List (List ℕ)) (stages : List Stage) (path order : 
   pub whole : unplaced stages + length order ≡ length stages
   pub placed : (m : ℕ) → stage_at stages m ≡ Placed → position_of order m < length order
   pub first : (m : ℕ) → position_of order m < length order → stage_at stages m ≡ Placed
-  pub falls : (m : ℕ) → stage_at stages m ≡ Placed → AllByRecursion (λ d. position_of order d < position_of order m) (named_in graph m)
-  pub seen : (m k : ℕ) → stage_at stages m ≡ Open k → AllByRecursion (λ d. stage_at stages d ≡ Placed) (take k (named_in graph m))
+  pub falls : (m : ℕ) → stage_at stages m ≡ Placed →
+      AllByRecursion (λ d. position_of order d < position_of order m) (named_in graph m)
+  pub seen : (m k : ℕ) → stage_at stages m ≡ Open k →
+      AllByRecursion (λ d. stage_at stages d ≡ Placed) (take k (named_in graph m))
   pub kept : (m k : ℕ) → stage_at stages m ≡ Open k → Among m path
   pub linked : Linked graph path
   pub inside : (m : ℕ) → Among m path → m < length graph

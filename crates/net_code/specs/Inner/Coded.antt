@@ -45,28 +45,35 @@ groups_at blocks block = (block_at blocks block).groups
 -- steps are packed into the groups of a block, behind which these registers are live, and each
 -- group has its word; there are no more groups than steps, and no group has two steps of one
 -- pattern
-pub record IsPackedBlock (netlist : Netlist) (patterns : List Pattern) (steps : List Step) (after : Regs) (block : PackedBlock) : Type 0 where
+pub record IsPackedBlock (netlist : Netlist) (patterns : List Pattern) (steps : List Step)
+    (after : Regs) (block : PackedBlock) : Type 0 where
   pub packing : IsPackingOf netlist patterns steps after block.groups
   pub least : AreGroupWords netlist patterns block.groups after block.words
   pub few : length block.groups ≤ length steps
 
 -- the block of a test's operands, and its branch: the place of its form and the setting of its
 -- condition's bits
-pub record IsTestCode (netlist : Netlist) (patterns : List Pattern) (stock : Stock) (job : Work) (choice : Choice) (block : PackedBlock) (branch : ℕ × ℕ) : Type 0 where
-  pub packed : IsPackedBlock netlist patterns (job_steps stock job choice) (wanted stock tested (tree_used job choice) choice.plan) block
+pub record IsTestCode (netlist : Netlist) (patterns : List Pattern) (stock : Stock) (job : Work)
+    (choice : Choice) (block : PackedBlock) (branch : ℕ × ℕ) : Type 0 where
+  pub packed : IsPackedBlock netlist patterns (job_steps stock job choice)
+      (wanted stock tested (tree_used job choice) choice.plan) block
   pub form : slice_get stock.rules branch.0 ≡ Some (plan_rule stock choice.plan)
   pub setting : branch.1 ≡ branch_setting stock (tree_used job choice) choice.plan
 
 -- those of all blocks and tests that begin before a place of the flow
-pub record IsBlockCode (netlist : Netlist) (patterns : List Pattern) (stock : Stock) (flow : List Flow) (works : List Work) (choices : List Choice)
-    (upto : ℕ) (blocks : List PackedBlock) (branches : List (ℕ × ℕ)) : Type 0 where
+pub record IsBlockCode (netlist : Netlist) (patterns : List Pattern) (stock : Stock)
+    (flow : List Flow) (works : List Work) (choices : List Choice) (upto : ℕ)
+    (blocks : List PackedBlock) (branches : List (ℕ × ℕ)) : Type 0 where
   pub long : length blocks ≡ blocks_before flow upto
   pub many : length branches ≡ tests_before flow upto
   pub runs : (at n : ℕ) → at < upto → IsAssignBlock flow at n →
-      IsPackedBlock netlist patterns (jobs_steps stock (jobs_at flow works at n) (choices_at flow choices at n)) no_regs (block_at blocks (blocks_before flow at))
+      IsPackedBlock netlist patterns
+      (jobs_steps stock (jobs_at flow works at n) (choices_at flow choices at n)) no_regs
+      (block_at blocks (blocks_before flow at))
   pub tests : (at tree when_one when_zero : ℕ) → at < upto → slice_get flow at ≡ Some (Test tree when_one when_zero) →
       (job : Work) (choice : Choice) → slice_get works tree ≡ Some job → slice_get choices tree ≡ Some choice →
-      IsTestCode netlist patterns stock job choice (block_at blocks (blocks_before flow at)) (branch_or_zero (slice_get branches (tests_before flow at)))
+      IsTestCode netlist patterns stock job choice (block_at blocks (blocks_before flow at))
+      (branch_or_zero (slice_get branches (tests_before flow at)))
 
 -- no group of a block has two steps of one pattern
 abbrev pub IsOnce : PackedBlock → Type 0
@@ -80,7 +87,8 @@ HasWord netlist patterns (Group block at) = Unit {0}
 HasWord netlist patterns (Jump step) = (word : ℕ) × FitsJump netlist word (operation_of patterns step)
 
 -- the word of an item, with the patterns of its steps
-pub record IsWordOf (netlist : Netlist) (patterns : List Pattern) (blocks : List PackedBlock) (item : Item) (word : Word) : Type 0 where
+pub record IsWordOf (netlist : Netlist) (patterns : List Pattern) (blocks : List PackedBlock)
+    (item : Item) (word : Word) : Type 0 where
   pub is : IsItemWord netlist patterns (words_at blocks) word.word item
   pub lists : IsPatternList (item_steps (groups_at blocks) item) word.patterns
 

@@ -26,7 +26,8 @@ pub record IsCovering (machine : Machine) (program : CoveredProgram) (task : Tas
   pub netlist : task.netlist ≡ machine_netlist machine
   pub checked : IsChecked machine.checked.now.order task
   pub patterns : ArePatterns (machine_netlist machine) (machine_patterns machine)
-  pub forms : AreForms (machine_netlist machine) (machine_patterns machine) (stock_of program).rules program.forms.now.reach
+  pub forms : AreForms (machine_netlist machine) (machine_patterns machine) (stock_of program).rules
+      program.forms.now.reach
   pub temps : program.temps ≡ temp_count task.width task.listing
   pub flow : program.flow.now ≡ program_flow task.listing
   pub works : works_in program ≡ task_works task

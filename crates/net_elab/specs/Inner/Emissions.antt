@@ -78,7 +78,8 @@ abbrev pub AllDriversWide : Scope → List (Phrase × Phrase) → Type 0
 AllDriversWide s [] = Unit {0}
 AllDriversWide s (driver ∷ drivers) = IsSome (wide s driver.0) × IsSome (wide s driver.1) × AllDriversWide s drivers
 
-pub record EmittedDrivers (site : NetSite) (at : ℕ) (drivers : List (Phrase × Phrase)) (old new : List Net) (made : List (ℕ × ℕ)) : Type 0 where
+pub record EmittedDrivers (site : NetSite) (at : ℕ) (drivers : List (Phrase × Phrase))
+    (old new : List Net) (made : List (ℕ × ℕ)) : Type 0 where
   pub nets : new ≡ old ++ elaborated_drivers site at (length old) drivers
   pub long : length new ≡ length old + count_drivers drivers
   pub pairs : made ≡ driver_pairs site (length old) drivers

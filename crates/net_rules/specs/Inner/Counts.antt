@@ -17,7 +17,8 @@ abbrev pub capped_module : Item → ℕ
 capped_module item = capped (count_module (Some (entry_of item)))
 
 abbrev pub count_part_of : List Entry → Ident → List (Ident × Phrase) → ℕ
-count_part_of text owner links = count_part links (ports_of (item_named text owner.name)) (equations_of (item_named text owner.name))
+count_part_of text owner links =
+    count_part links (ports_of (item_named text owner.name)) (equations_of (item_named text owner.name))
 
 -- each of these inputs gives the nets of its link and then its wire
 abbrev pub count_linked : List (Ident × Phrase) → List Port → ℕ

@@ -54,9 +54,12 @@ IsMemoryFaultOf netlist memory _ = ⊥
 -- how the clocks on these words end: with the text of the state that is reached, or with the first
 -- clash
 abbrev pub IsEndText : Netlist → List ℕ → State → ℕ → List ℕ → Type 0
-IsEndText netlist words start clocks out = (last : State) × (run netlist words start clocks ≡ Reached last) × (out ≡ state_text netlist clocks last)
+IsEndText netlist words start clocks out =
+    (last : State) × (run netlist words start clocks ≡ Reached last)
+    × (out ≡ state_text netlist clocks last)
 
 abbrev pub IsEndFault : Netlist → List ℕ → State → ℕ → RunFault → Type 0
-IsEndFault netlist words start clocks (Clash cycle bus at) = (run netlist words start clocks ≡ Clashed cycle bus) × (at ≡ name_at netlist bus)
+IsEndFault netlist words start clocks (Clash cycle bus at) =
+    (run netlist words start clocks ≡ Clashed cycle bus) × (at ≡ name_at netlist bus)
 IsEndFault netlist words start clocks Memory = Unit {0}
 IsEndFault netlist words start clocks _ = ⊥

@@ -12,7 +12,8 @@ use Rattle.net_watch.specs.Inner.Traces.{IsShown}
 
 -- it has the image's words, and no clock up to the end mark clashes; nothing was told of the
 -- variables
-pub record IsWatchable (sim : Shown) (image : Image) (vars : List Declared) (address : ℕ) (last_cells : List ℕ) (clocks : ℕ) : Type 0 where
+pub record IsWatchable (sim : Shown) (image : Image) (vars : List Declared) (address : ℕ)
+    (last_cells : List ℕ) (clocks : ℕ) : Type 0 where
   pub scene : IsScene sim.netlist image vars address
   pub state : IsState sim.netlist sim.state
   pub words : sim.words ≡ words_of image

@@ -76,7 +76,8 @@ is_wanted table live written r = live r && (not (r == table.memory) && not (writ
 unfoldable pub register_sets : Table → Regs → Regs → ℕ → List ℕ
 register_sets table live written zero = []
 register_sets table live written (suc r) =
-    register_sets table live written r ++ (if is_wanted table live written r then option_list (slice_get table.keeps r) else [])
+    register_sets table live written r
+    ++ (if is_wanted table live written r then option_list (slice_get table.keeps r) else [])
 
 -- all sets that are to hold a word of the group
 abbrev pub group_sets : Table → List Step → Regs → Bool → Regs → List ℕ

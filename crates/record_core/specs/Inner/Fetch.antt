@@ -15,7 +15,8 @@ contents files = map (λ file. file.items) files
 abbrev pub FetchStops : List (List ℕ) → ShelfState → ShelfState → Status → Type 0
 FetchStops names before now status =
     (status ≡ Memory)
-    ⊎ (By ReadFault (IsFileReadFault names before now) status ⊎ By (λ (p : ℕ × ℕ). TooLong p.0 p.1) (IsFileTooLong names before now) status)
+    ⊎ (By ReadFault (IsFileReadFault names before now) status
+    ⊎ By (λ (p : ℕ × ℕ). TooLong p.0 p.1) (IsFileTooLong names before now) status)
 
 -- no file is longer than the limit
 abbrev pub AreShort : List (List ℕ) → Type 0

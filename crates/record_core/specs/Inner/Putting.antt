@@ -12,25 +12,29 @@ use Rattle.record_core.specs.declared.status.Status.{Status}
 use Rattle.record_core.specs.declared.status.Status.TheVariants.{Done, MemText, Memory}
 
 -- the checkpoints of a task were put, or a front of them where the output failed
-pub record PutsWatched (task : Task) (memory : List ℕ) (clocks : ℕ) (before now : SinkState) (put : Result (Unit {0}) WriteFault) : Type 0 where
+pub record PutsWatched (task : Task) (memory : List ℕ) (clocks : ℕ) (before now : SinkState)
+    (put : Result (Unit {0}) WriteFault) : Type 0 where
   pub text : List ℕ
   pub watched : IsWatched memory clocks text task
   pub puts : Puts before now text put
 
 -- the same of the text that `go` answers
-pub record PutsGo (line : Status → List ℕ) (net src memory : List ℕ) (clocks : ℕ) (before now : SinkState) (put : Result (Unit {0}) WriteFault) : Type 0 where
+pub record PutsGo (line : Status → List ℕ) (net src memory : List ℕ) (clocks : ℕ)
+    (before now : SinkState) (put : Result (Unit {0}) WriteFault) : Type 0 where
   pub text : List ℕ
   pub answers : GoAnswers line net src memory clocks Done text
   pub puts : Puts before now text put
 
 -- and of that which a command does
-pub record PutsDone (line : Option ℕ → Status → List ℕ) (command : Command) (files : List (List ℕ)) (before now : SinkState) (put : Result (Unit {0}) WriteFault) : Type 0 where
+pub record PutsDone (line : Option ℕ → Status → List ℕ) (command : Command) (files : List (List ℕ))
+    (before now : SinkState) (put : Result (Unit {0}) WriteFault) : Type 0 where
   pub text : List ℕ
   pub answers : TextAnswers line command files Done text
   pub puts : Puts before now text put
 
 -- and of that which the words do
-pub record PutsAnswer (words : List (List ℕ)) (earlier later : ShelfState) (before now : SinkState) (put : Result (Unit {0}) WriteFault) : Type 0 where
+pub record PutsAnswer (words : List (List ℕ)) (earlier later : ShelfState) (before now : SinkState)
+    (put : Result (Unit {0}) WriteFault) : Type 0 where
   pub text : List ℕ
   pub answers : Answers words earlier later Done text
   pub puts : Puts before now text put

@@ -3,4 +3,6 @@ use Rattle.std.specs.Prelude.{◌≡◌, ◌<◌, ◌^◌, ℕ, List, length, sl
 
 -- each value that is a word is held by its cell, if there is one
 abbrev pub AreGiven : ℕ → List ℕ → List ℕ → Type 0
-AreGiven width given cells = (cell : ℕ) → cell < length cells → slice_index given cell < 2 ^ width → slice_index cells cell ≡ slice_index given cell
+AreGiven width given cells =
+    (cell : ℕ) → cell < length cells → slice_index given cell < 2 ^ width →
+    slice_index cells cell ≡ slice_index given cell

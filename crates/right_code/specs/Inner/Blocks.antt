@@ -26,7 +26,8 @@ pub record WalksTo (netlist : Netlist) (image : Image) (at n : ℕ) (live : Regs
   pub agree : Agree live last goal
 
 -- so many words from an address on fit groups, which mean the steps of the jobs' covers
-pub record IsBlockMade (netlist : Netlist) (patterns : List Pattern) (stock : Stock) (image : Image) (jobs : List Work) (at n : ℕ) : Type 0 where
+pub record IsBlockMade (netlist : Netlist) (patterns : List Pattern) (stock : Stock) (image : Image)
+    (jobs : List Work) (at n : ℕ) : Type 0 where
   pub choices : List Choice
   pub covered : AreCovered stock jobs choices
   pub live : Regs

@@ -19,13 +19,17 @@ use Rattle.right_code.specs.Inner.Forks.{IsJumpMade, IsForkMade}
 -- the words of an image stand for the parts of a flow: those of each block and each test's operands
 -- fit their covers' steps, each branch and jump word is one of its form with the bits of its
 -- target, the end goes to itself, the code has room for all words, and the marks are the parts'
-pub record IsMadeCode (netlist : Netlist) (patterns : List Pattern) (stock : Stock) (image : Image) (flow : List Flow) (jobs : List Work) (parts : List Part) : Type 0 where
+pub record IsMadeCode (netlist : Netlist) (patterns : List Pattern) (stock : Stock) (image : Image)
+    (flow : List Flow) (jobs : List Work) (parts : List Part) : Type 0 where
   pub fit : PartsFit stock.rules flow 0 flow parts
   pub marks : image.marks ≡ marks_from 0 parts
   pub room : total parts ≤ code_size netlist.codes
   pub blocks : (at n block words : ℕ) → IsAssignBlock flow at n → slice_get parts at ≡ Some (Block block words)
       → IsBlockMade netlist patterns stock image (jobs_at flow jobs at n) (address parts at) words
   pub forks : (at : ℕ) (f : Fork) → slice_get parts at ≡ Some (Test f) → (job : Work) → slice_get jobs f.tree ≡ Some job
-      → IsForkMade netlist patterns stock image job (rule_at_one (slice_get stock.rules f.form)) f (address parts at) (address parts f.to) (address parts f.other)
-  pub jumps : (at to : ℕ) → slice_get parts at ≡ Some (Jump to) → IsJumpMade netlist patterns (image_word image (address parts at)) (address parts to)
-  pub ends : (at : ℕ) → slice_get parts at ≡ Some End → IsJumpMade netlist patterns (image_word image (address parts at)) (address parts at)
+      → IsForkMade netlist patterns stock image job (rule_at_one (slice_get stock.rules f.form)) f
+      (address parts at) (address parts f.to) (address parts f.other)
+  pub jumps : (at to : ℕ) → slice_get parts at ≡ Some (Jump to) →
+      IsJumpMade netlist patterns (image_word image (address parts at)) (address parts to)
+  pub ends : (at : ℕ) → slice_get parts at ≡ Some End →
+      IsJumpMade netlist patterns (image_word image (address parts at)) (address parts at)

@@ -35,24 +35,31 @@ one_side b x y = if b then x else y
 -- the program counter plus 1
 abbrev pub IsNextTerm : Netlist → Term → Type 0
 IsNextTerm netlist e =
-    (e ≡ next_of (counter_of netlist.codes) (counter_width netlist)) ⊎ (e ≡ swapped_next_of (counter_of netlist.codes) (counter_width netlist))
+    (e ≡ next_of (counter_of netlist.codes) (counter_width netlist))
+    ⊎ (e ≡ swapped_next_of (counter_of netlist.codes) (counter_width netlist))
 
 -- what a branch form goes to: an address that the word shows, or one that lies so far behind as the
 -- word shows
 abbrev pub IsTargetTerm : Netlist → BranchTarget → Term → Type 0
 IsTargetTerm netlist (absolute shape) e = e ≡ shape
 IsTargetTerm netlist (relative shape) e =
-    (is_shape shape ≡ true) × (term_width shape ≡ counter_width netlist) × ((e ≡ bin Add (reg (counter_of netlist.codes) (counter_width netlist)) shape) ⊎ (e ≡ bin Add shape (reg (counter_of netlist.codes) (counter_width netlist))))
+    (is_shape shape ≡ true) × (term_width shape ≡ counter_width netlist)
+    × ((e ≡ bin Add (reg (counter_of netlist.codes) (counter_width netlist)) shape)
+    ⊎ (e ≡ bin Add shape (reg (counter_of netlist.codes) (counter_width netlist))))
 
 -- a branch form and its pattern: PC := select(c, target, step) or PC := select(c, step, target),
 -- with no bit both in the condition and the target
-pub record IsBranchForm (netlist : Netlist) (patterns : List Pattern) (rule : Rule) (when_one : Bool) (way : BranchTarget) : Type 0 where
+pub record IsBranchForm (netlist : Netlist) (patterns : List Pattern) (rule : Rule)
+    (when_one : Bool) (way : BranchTarget) : Type 0 where
   pub goal : rule.goal ≡ branches when_one way
   pub condition : Term
   pub target : Term
   pub step : Term
   pub is : slice_get patterns rule.pattern
-      ≡ Some (record { storage = counter_of netlist.codes; move = write (select condition (one_side when_one target step) (one_side when_one step target)) })
+      ≡ Some (record {
+        storage = counter_of netlist.codes;
+        move = write (select condition (one_side when_one target step) (one_side when_one step target));
+      })
   pub goes : IsTargetTerm netlist way target
   pub steps : IsNextTerm netlist step
   pub alike : MeansAlike rule.value condition
@@ -61,7 +68,8 @@ pub record IsBranchForm (netlist : Netlist) (patterns : List Pattern) (rule : Ru
 
 -- a jump form and its pattern
 pub record IsJumpForm (netlist : Netlist) (patterns : List Pattern) (rule : Rule) : Type 0 where
-  pub is : slice_get patterns rule.pattern ≡ Some (record { storage = counter_of netlist.codes; move = write rule.value })
+  pub is : slice_get patterns rule.pattern
+      ≡ Some (record { storage = counter_of netlist.codes; move = write rule.value })
 
 -- the word is one of a jump form to an address
 pub record IsJumpMade (netlist : Netlist) (patterns : List Pattern) (i to : ℕ) : Type 0 where
@@ -86,13 +94,16 @@ test_of job = record { destination = tested; trees = job.trees }
 -- the words behind a branch word
 abbrev pub BehindMade : Netlist → List Pattern → Image → Bool → Bool → ℕ → ℕ → ℕ → Type 0
 BehindMade netlist patterns image next true at to other =
-    IsJumpMade netlist patterns (image_word image (at + 1)) other × IsJumpMade netlist patterns (image_word image (at + 2)) to
+    IsJumpMade netlist patterns (image_word image (at + 1)) other
+    × IsJumpMade netlist patterns (image_word image (at + 2)) to
 BehindMade netlist patterns image true false at to other = Unit {0}
-BehindMade netlist patterns image false false at to other = IsJumpMade netlist patterns (image_word image (at + 1)) other
+BehindMade netlist patterns image false false at to other =
+    IsJumpMade netlist patterns (image_word image (at + 1)) other
 
 -- the words of a test's operands fit groups, which mean the steps of its cover where the registers
 -- of the condition are live behind them
-pub record IsTestMade (netlist : Netlist) (patterns : List Pattern) (stock : Stock) (image : Image) (job : Work) (choice : Choice) (at n : ℕ) : Type 0 where
+pub record IsTestMade (netlist : Netlist) (patterns : List Pattern) (stock : Stock) (image : Image)
+    (job : Work) (choice : Choice) (at n : ℕ) : Type 0 where
   pub covered : IsCovered stock (test_of job) choice
   pub live : Regs
   pub groups : List (List Step)
@@ -105,7 +116,8 @@ pub record IsTestMade (netlist : Netlist) (patterns : List Pattern) (stock : Sto
 
 -- those, the branch word, whose bits are those of the condition and of the target, and the jumps
 -- behind it
-pub record IsForkMade (netlist : Netlist) (patterns : List Pattern) (stock : Stock) (image : Image) (job : Work) (when_one : Bool) (f : Fork) (at to other : ℕ) : Type 0 where
+pub record IsForkMade (netlist : Netlist) (patterns : List Pattern) (stock : Stock) (image : Image)
+    (job : Work) (when_one : Bool) (f : Fork) (at to other : ℕ) : Type 0 where
   pub choice : Choice
   pub operands : IsTestMade netlist patterns stock image job choice at f.words
   pub way : BranchTarget
@@ -113,5 +125,8 @@ pub record IsForkMade (netlist : Netlist) (patterns : List Pattern) (stock : Sto
   pub bits : ℕ
   pub shown : IsTargetShown netlist way (at + f.words) to f.long bits
   pub word : FitsJump netlist (image_word image (at + f.words))
-      (operation_of patterns (record { pattern = (plan_rule stock choice.plan).pattern; setting = bit_or (branch_setting stock (tree_used (test_of job) choice) choice.plan) bits }))
+      (operation_of patterns (record {
+        pattern = (plan_rule stock choice.plan).pattern;
+        setting = bit_or (branch_setting stock (tree_used (test_of job) choice) choice.plan) bits;
+      }))
   pub behind : BehindMade netlist patterns image f.next f.long (at + f.words) to other

@@ -20,7 +20,9 @@ HasOne destination trees = IsOne trees
 -- each of these jobs has one
 abbrev pub AreCovered : Stock → List Work → List Choice → Type 0
 AreCovered stock [] [] = Unit {0}
-AreCovered stock (work ∷ works) (choice ∷ choices) = IsCovered stock work choice × HasOne work.destination work.trees × AreCovered stock works choices
+AreCovered stock (work ∷ works) (choice ∷ choices) =
+    IsCovered stock work choice × HasOne work.destination work.trees
+    × AreCovered stock works choices
 AreCovered stock _ _ = ⊥
 
 -- t is what jobs leave from s, but for the cells below an address and for the registers

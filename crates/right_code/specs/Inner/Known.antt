@@ -19,4 +19,6 @@ pub record IsKnownPattern (netlist : Netlist) (pattern : Pattern) : Type 0 where
   pub fits : MoveFits pattern.move
 
 abbrev pub AreKnown : Netlist → List Pattern → Type 0
-AreKnown netlist patterns = (k : ℕ) (pattern : Pattern) → slice_get patterns k ≡ Some pattern → IsKnownPattern netlist pattern
+AreKnown netlist patterns =
+    (k : ℕ) (pattern : Pattern) → slice_get patterns k ≡ Some pattern →
+    IsKnownPattern netlist pattern

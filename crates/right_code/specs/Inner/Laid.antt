@@ -46,13 +46,17 @@ pub record AreTurns (netlist : Netlist) (patterns : List Pattern) (rules : List 
   pub jump : IsJumpForm netlist patterns rule
   pub shown : (v : ℕ) → v < reach → shows rule.value v ≡ true
   pub narrow : reach ≤ 2 ^ counter_width netlist
-  pub forks : (k : ℕ) (turn : Rule) (when_one : Bool) (way : BranchTarget) → slice_get rules k ≡ Some turn → turn.goal ≡ branches when_one way → IsBranchForm netlist patterns turn when_one way
-  pub reaches : (k : ℕ) (turn : Rule) (when_one : Bool) (way : BranchTarget) → slice_get rules k ≡ Some turn → turn.goal ≡ branches when_one way → TargetReaches reach way
+  pub forks : (k : ℕ) (turn : Rule) (when_one : Bool) (way : BranchTarget) →
+      slice_get rules k ≡ Some turn → turn.goal ≡ branches when_one way →
+      IsBranchForm netlist patterns turn when_one way
+  pub reaches : (k : ℕ) (turn : Rule) (when_one : Bool) (way : BranchTarget) →
+      slice_get rules k ≡ Some turn → turn.goal ≡ branches when_one way → TargetReaches reach way
 
 -- ---- blocks and tests
 
 -- a block's words are those of groups that mean the steps of its jobs' covers, so many
-pub record IsBlockReady (netlist : Netlist) (patterns : List Pattern) (stock : Stock) (jobs : List Work) (words : List ℕ) (size : ℕ) : Type 0 where
+pub record IsBlockReady (netlist : Netlist) (patterns : List Pattern) (stock : Stock)
+    (jobs : List Work) (words : List ℕ) (size : ℕ) : Type 0 where
   pub choices : List Choice
   pub covered : AreCovered stock jobs choices
   pub live : Regs
@@ -63,7 +67,8 @@ pub record IsBlockReady (netlist : Netlist) (patterns : List Pattern) (stock : S
 
 -- a test's words are those of groups that mean the steps of its cover, with the registers of the
 -- condition live behind them, and its branch has the cover's form and setting
-pub record IsForkReady (netlist : Netlist) (patterns : List Pattern) (stock : Stock) (job : Work) (words : List ℕ) (f : Fork) : Type 0 where
+pub record IsForkReady (netlist : Netlist) (patterns : List Pattern) (stock : Stock) (job : Work)
+    (words : List ℕ) (f : Fork) : Type 0 where
   pub choice : Choice
   pub covered : IsCovered stock (test_of job) choice
   pub live : Regs
@@ -79,12 +84,18 @@ pub record IsForkReady (netlist : Netlist) (patterns : List Pattern) (stock : St
 
 -- an image holds the words of the layout's items in their order, where each block and each test is
 -- ready
-pub record IsLaidCode (netlist : Netlist) (patterns : List Pattern) (stock : Stock) (image : Image) (flow : List Flow) (jobs : List Work) (parts : List Part) (reach : ℕ) : Type 0 where
+pub record IsLaidCode (netlist : Netlist) (patterns : List Pattern) (stock : Stock) (image : Image)
+    (flow : List Flow) (jobs : List Work) (parts : List Part) (reach : ℕ) : Type 0 where
   pub layout : IsLayout stock.rules flow parts reach
   pub room : total parts ≤ code_size netlist.codes
   pub marks : image.marks ≡ marks_from 0 parts
   pub words : ℕ → List ℕ
-  pub stand : StandItems netlist patterns words (words_of image) 0 (items_from stock.rules (jump_form stock.rules reach) (starts 0 parts) 0 parts)
+  pub stand : StandItems netlist patterns words (words_of image) 0
+      (items_from stock.rules (jump_form stock.rules reach) (starts 0 parts) 0 parts)
   pub long : length (words_of image) ≡ total parts
-  pub blocks : (at n block size : ℕ) → IsAssignBlock flow at n → slice_get parts at ≡ Some (Block block size) → IsBlockReady netlist patterns stock (jobs_at flow jobs at n) (words block) size
-  pub forks : (at : ℕ) (f : Fork) → slice_get parts at ≡ Some (Test f) → (job : Work) → slice_get jobs f.tree ≡ Some job → IsForkReady netlist patterns stock job (words f.block) f
+  pub blocks : (at n block size : ℕ) → IsAssignBlock flow at n →
+      slice_get parts at ≡ Some (Block block size) →
+      IsBlockReady netlist patterns stock (jobs_at flow jobs at n) (words block) size
+  pub forks : (at : ℕ) (f : Fork) → slice_get parts at ≡ Some (Test f) →
+      (job : Work) → slice_get jobs f.tree ≡ Some job →
+      IsForkReady netlist patterns stock job (words f.block) f

@@ -18,7 +18,9 @@ rest_terms book pool nets width (Some n) word = terms_under book pool (routes_at
 -- the routes of these nets give these expressions at a word
 abbrev pub AllGive : Diagrams → List Node → List (List Route) → ℕ → (ℕ → Term) → ℕ → List ℕ → Type 0
 AllGive book pool nets legal t word [] = Unit {0}
-AllGive book pool nets legal t word (m ∷ ms) = (terms_under book pool (routes_at nets m) word ≡ only book legal word (t m)) × AllGive book pool nets legal t word ms
+AllGive book pool nets legal t word (m ∷ ms) =
+    (terms_under book pool (routes_at nets m) word ≡ only book legal word (t m))
+    × AllGive book pool nets legal t word ms
 
 -- each expression has this width
 abbrev pub AllWide : List Node → ℕ → List Route → Type 0
@@ -33,13 +35,17 @@ abbrev pub RowTests : Diagrams → ℕ → ℕ → List (ℕ × ℕ) → List (�
 RowTests book word key [] [] = Unit {0}
 RowTests book word key [] (row ∷ rows) = ⊥
 RowTests book word key (test ∷ tests) [] = ⊥
-RowTests book word key (test ∷ tests) (row ∷ rows) = (has_word book test.0 word ≡ (row.0 == key)) × (test.1 ≡ row.1) × RowTests book word key tests rows
+RowTests book word key (test ∷ tests) (row ∷ rows) =
+    (has_word book test.0 word ≡ (row.0 == key)) × (test.1 ≡ row.1)
+    × RowTests book word key tests rows
 
 abbrev pub DriverTests : Diagrams → ℕ → (ℕ → ℕ) → List (ℕ × ℕ) → List (ℕ × ℕ) → Type 0
 DriverTests book word u [] [] = Unit {0}
 DriverTests book word u [] (driver ∷ drivers) = ⊥
 DriverTests book word u (test ∷ tests) [] = ⊥
-DriverTests book word u (test ∷ tests) (driver ∷ drivers) = (has_word book test.0 word ≡ (u driver.1 == 1)) × (test.1 ≡ driver.0) × DriverTests book word u tests drivers
+DriverTests book word u (test ∷ tests) (driver ∷ drivers) =
+    (has_word book test.0 word ≡ (u driver.1 == 1)) × (test.1 ≡ driver.0)
+    × DriverTests book word u tests drivers
 
 -- legal words
 abbrev pub AllLegal : Diagrams → ℕ → List ℕ → Type 0

@@ -4,8 +4,8 @@ use Rattle.net_model.specs.Terms.{Term, read, un, bin, cat, zext, sext, select, 
 use Rattle.net_model.specs.Symbolic.{sliced}
 use Rattle.sym_expr.specs.declared.pool.Node.{Node}
 use Rattle.sym_expr.specs.declared.pool.Node.TheVariants.{Slice as SliceNode}
-use Rattle.route_trace.specs.declared.heads.Two.{Two}
-use Rattle.route_trace.specs.declared.heads.Two.TheVariants.{Bin as TwoBin, Cat as TwoCat, Select as TwoSelect}
+use Rattle.route_trace.specs.declared.heads.Binary.{Binary}
+use Rattle.route_trace.specs.declared.heads.Binary.TheVariants.{Bin as BinaryBin, Cat as BinaryCat, Select as BinarySelect}
 use Rattle.route_trace.specs.declared.heads.Head.{Head}
 use Rattle.route_trace.specs.declared.heads.Head.TheVariants.{Same, Read, Un, Slice, Zext, Sext, Bin, Cat, Select}
 
@@ -48,18 +48,18 @@ LastFits (Bin o a) t width = width ≡ term_width (t a)
 LastFits (Cat a) t width = term_width (t a) + width ≤ 64
 LastFits (Select c a) t width = (term_width (t c) ≡ 1) × (width ≡ term_width (t a))
 
-abbrev pub two_head : Two → ℕ → Head
-two_head (TwoBin o) a = Bin o a
-two_head TwoCat a = Cat a
-two_head (TwoSelect c) a = Select c a
+abbrev pub binary_head : Binary → ℕ → Head
+binary_head (BinaryBin o) a = Bin o a
+binary_head BinaryCat a = Cat a
+binary_head (BinarySelect c) a = Select c a
 
-abbrev pub two_parts : Two → List ℕ
-two_parts (TwoBin o) = []
-two_parts TwoCat = []
-two_parts (TwoSelect c) = c ∷ []
+abbrev pub binary_parts : Binary → List ℕ
+binary_parts (BinaryBin o) = []
+binary_parts BinaryCat = []
+binary_parts (BinarySelect c) = c ∷ []
 
 -- the expression once both operands are there
-abbrev pub two_term : Two → (ℕ → Term) → Term → Term → Term
-two_term (TwoBin o) t a b = bin o a b
-two_term TwoCat t a b = cat a b
-two_term (TwoSelect c) t a b = select (t c) a b
+abbrev pub binary_term : Binary → (ℕ → Term) → Term → Term → Term
+binary_term (BinaryBin o) t a b = bin o a b
+binary_term BinaryCat t a b = cat a b
+binary_term (BinarySelect c) t a b = select (t c) a b

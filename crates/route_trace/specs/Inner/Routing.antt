@@ -7,8 +7,8 @@ use Rattle.sym_expr.specs.Pools.{term_at}
 use Rattle.transfer_set.specs.declared.route.Route.{Route}
 use Rattle.transfer_set.specs.Routes.{Fresh, IsRouteTable, exprs_under, terms_under, routes_at}
 use Rattle.route_trace.specs.declared.heads.Head.{Head}
-use Rattle.route_trace.specs.declared.heads.Two.{Two}
-use Rattle.route_trace.specs.Inner.Heads.{LastFits, two_head, two_term}
+use Rattle.route_trace.specs.declared.heads.Binary.{Binary}
+use Rattle.route_trace.specs.Inner.Heads.{LastFits, binary_head, binary_term}
 
 -- where an expression is found
 abbrev pub Finds : ℕ → List Route → Option ℕ → Type 0
@@ -18,12 +18,13 @@ Finds expr routes (Some place) = (route : Route) × (slice_get routes place ≡ 
 -- each expression can be the last operand
 abbrev pub AllFit : Head → List Node → List Route → Type 0
 AllFit head pool [] = Unit {0}
-AllFit head pool (route ∷ routes) = LastFits head (term_at pool) (term_width (term_at pool route.expr)) × AllFit head pool routes
+AllFit head pool (route ∷ routes) =
+    LastFits head (term_at pool) (term_width (term_at pool route.expr)) × AllFit head pool routes
 
 -- each pair of expressions can be the two operands
-abbrev pub AllBinaryFit : Two → List Node → List Route → List Route → Type 0
-AllBinaryFit two pool [] bs = Unit {0}
-AllBinaryFit two pool (a ∷ rest) bs = AllFit (two_head two a.expr) pool bs × AllBinaryFit two pool rest bs
+abbrev pub AllBinaryFit : Binary → List Node → List Route → List Route → Type 0
+AllBinaryFit binary pool [] bs = Unit {0}
+AllBinaryFit binary pool (a ∷ rest) bs = AllFit (binary_head binary a.expr) pool bs × AllBinaryFit binary pool rest bs
 
 -- what a function gives for each term
 abbrev pub each : (Term → List Term) → List Term → List Term
@@ -31,8 +32,8 @@ each f [] = []
 each f (t ∷ ts) = f t ++ each f ts
 
 -- an operator over all pairs
-abbrev pub pairs : Two → (ℕ → Term) → List Term → List Term → List Term
-pairs two t firsts seconds = each (λ a. map (two_term two t a) seconds) firsts
+abbrev pub pairs : Binary → (ℕ → Term) → List Term → List Term → List Term
+pairs binary t firsts seconds = each (λ a. map (binary_term binary t a) seconds) firsts
 
 -- routes of nets, where at most one route of a net holds a word
 pub record AreTables (book : Diagrams) (pool : List Node) (nets : List (List Route)) : Type 0 where
@@ -50,4 +51,6 @@ passes book word (test ∷ tests) = has_word book test.0 word || passes book wor
 
 abbrev pub first_terms : Diagrams → List Node → List (List Route) → ℕ → List (ℕ × ℕ) → List Term
 first_terms book pool nets word [] = []
-first_terms book pool nets word (test ∷ tests) = if has_word book test.0 word then terms_under book pool (routes_at nets test.1) word else first_terms book pool nets word tests
+first_terms book pool nets word (test ∷ tests) =
+    if has_word book test.0 word then terms_under book pool (routes_at nets test.1) word
+    else first_terms book pool nets word tests

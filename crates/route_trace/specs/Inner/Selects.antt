@@ -3,13 +3,14 @@ use Rattle.std.specs.Prelude.{List, [], ◌∷◌, map}
 use Rattle.net_model.specs.Terms.{Term, select}
 use Rattle.sym_expr.specs.declared.pool.Node.{Node}
 use Rattle.transfer_set.specs.declared.route.Route.{Route}
-use Rattle.route_trace.specs.declared.heads.Two.TheVariants.{Select}
+use Rattle.route_trace.specs.declared.heads.Binary.TheVariants.{Select}
 use Rattle.route_trace.specs.Inner.Routing.{AllBinaryFit, each}
 
 -- the two operands fit under each selector
 abbrev pub AllSelectFit : List Node → List Route → List Route → List Route → Type 0
 AllSelectFit pool [] firsts seconds = Unit {0}
-AllSelectFit pool (c ∷ choices) firsts seconds = AllBinaryFit (Select c.expr) pool firsts seconds × AllSelectFit pool choices firsts seconds
+AllSelectFit pool (c ∷ choices) firsts seconds =
+    AllBinaryFit (Select c.expr) pool firsts seconds × AllSelectFit pool choices firsts seconds
 
 -- all choices under one selector
 abbrev pub under : Term → List Term → List Term → List Term

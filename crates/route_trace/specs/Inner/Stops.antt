@@ -13,7 +13,8 @@ pub record IsOver (book : Diagrams) (pool : List Node) (IsRight : ℕ → List T
   pub routes : List Route
   pub many : 4096 < length routes
   pub table : IsRouteTable book pool routes
-  pub part : (word : ℕ) → word < 2 ^ book.bits → (terms_under book pool routes word ≡ []) ⊎ IsRight word (terms_under book pool routes word)
+  pub part : (word : ℕ) → word < 2 ^ book.bits →
+      (terms_under book pool routes word ≡ []) ⊎ IsRight word (terms_under book pool routes word)
 
 -- what is said where there are too many; want of memory says nothing
 abbrev pub IfMany : Stop → Type 0 → Type 0

@@ -27,12 +27,14 @@ HasBits netlist book sets n = AreSets book sets × AreBits netlist book n sets
 -- a selector is static and has its bits, or has one bit and no sets
 abbrev pub IsSelector : Netlist → Diagrams → List ℕ → ℕ → Type 0
 IsSelector netlist book sets sel =
-    ((is_static netlist sel ≡ true) × HasBits netlist book sets sel) ⊎ ((is_static netlist sel ≡ false) × (sets ≡ []) × (width_at netlist sel ≡ 1))
+    ((is_static netlist sel ≡ true) × HasBits netlist book sets sel)
+    ⊎ ((is_static netlist sel ≡ false) × (sets ≡ []) × (width_at netlist sel ≡ 1))
 
 -- what decides a gate is known
 abbrev pub IsDecided : Netlist → Diagrams → List (ℕ × List ℕ) → Gate → Type 0
 IsDecided netlist book bits (Case sel rows rest) = IsSelector netlist book (sets_in bits sel) sel
-IsDecided netlist book bits (Bus drivers) = AllByRecursion (λ (driver : ℕ × ℕ). HasBits netlist book (sets_in bits driver.1) driver.1) drivers
+IsDecided netlist book bits (Bus drivers) =
+    AllByRecursion (λ (driver : ℕ × ℕ). HasBits netlist book (sets_in bits driver.1) driver.1) drivers
 IsDecided netlist book bits _ = Unit {0}
 
 -- the net of a case's row with this number, or that of the rest
@@ -53,7 +55,8 @@ IsTargetWide pool nets width (Some n) = AllWide pool width (routes_at nets n)
 -- the nets of all rows have
 abbrev pub AreRowsWide : List Node → List (List Route) → ℕ → List (ℕ × ℕ) → Option ℕ → Type 0
 AreRowsWide pool nets width [] rest = IsTargetWide pool nets width rest
-AreRowsWide pool nets width (row ∷ rows) rest = AllWide pool width (routes_at nets row.1) × AreRowsWide pool nets width rows rest
+AreRowsWide pool nets width (row ∷ rows) rest =
+    AllWide pool width (routes_at nets row.1) × AreRowsWide pool nets width rows rest
 
 -- the selector is static where it has sets, and they give its value
 abbrev pub IsSelectedAt : Diagrams → List ℕ → ℕ → (ℕ → ℕ) → (ℕ → Bool) → ℕ → Type 0
@@ -62,4 +65,5 @@ IsSelectedAt book sets word u f sel =
 
 -- the sets of enables give their values
 abbrev pub AreEnabledAt : Diagrams → List (ℕ × List ℕ) → ℕ → (ℕ → ℕ) → List (ℕ × ℕ) → Type 0
-AreEnabledAt book bits word u drivers = AllByRecursion (λ (driver : ℕ × ℕ). number_at book (sets_in bits driver.1) word ≡ u driver.1) drivers
+AreEnabledAt book bits word u drivers =
+    AllByRecursion (λ (driver : ℕ × ℕ). number_at book (sets_in bits driver.1) word ≡ u driver.1) drivers

@@ -22,7 +22,9 @@ pub record HasLarge (pool : List Node) (routes : List Route) : Type 0 where
 
 -- what the routes of a net tell
 abbrev pub IsJudged : List Node → List Route → Verdict → Type 0
-IsJudged pool routes Kept = (length routes ≤ 4096) × AllByRecursion (λ (route : Route). size_of (term_at pool route.expr) ≤ 255) routes
+IsJudged pool routes Kept =
+    (length routes ≤ 4096)
+    × AllByRecursion (λ (route : Route). size_of (term_at pool route.expr) ≤ 255) routes
 IsJudged pool routes Large = (length routes ≤ 4096) × HasLarge pool routes
 IsJudged pool routes Many = 4096 < length routes
 IsJudged pool routes Skipped = ⊥

@@ -7,4 +7,6 @@ use Rattle.src_model.specs.Names.{declared}
 use Rattle.rec_bits.specs.Faults.{same_name}
 
 abbrev pub Finds : List (Bor (List ℕ) × Bor Declared) → List Declared → Type 0
-Finds entries vars = (name : List ℕ) → option_copied (lookup (λ key. same_name name key.now) entries) ≡ declared vars name
+Finds entries vars =
+    (name : List ℕ) →
+    option_copied (lookup (λ key. same_name name key.now) entries) ≡ declared vars name

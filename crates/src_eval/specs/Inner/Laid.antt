@@ -14,13 +14,15 @@ use Rattle.src_eval.specs.Inner.Steps.{StepsFit, is_test}
 
 -- the step changes every store so, and goes on there
 abbrev pub IsDoing : (List ℕ → List ℕ) → ℕ → Step → Type 0
-IsDoing change next (Assign first index value to) = (to ≡ next) × ((cells : List ℕ) → stored first index value cells ≡ change cells)
+IsDoing change next (Assign first index value to) =
+    (to ≡ next) × ((cells : List ℕ) → stored first index value cells ≡ change cells)
 IsDoing change next (Test test on_true on_false) = ⊥
 
 -- the step asks every store so, and goes on at one of two steps
 abbrev pub IsAsking : (List ℕ → Bool) → ℕ → ℕ → Step → Type 0
 IsAsking question yes_to no_to (Assign first index value to) = ⊥
-IsAsking question yes_to no_to (Test test on_true on_false) = (on_true ≡ yes_to) × (on_false ≡ no_to) × ((cells : List ℕ) → met test cells ≡ question cells)
+IsAsking question yes_to no_to (Test test on_true on_false) =
+    (on_true ≡ yes_to) × (on_false ≡ no_to) × ((cells : List ℕ) → met test cells ≡ question cells)
 
 -- the list has such a step there
 pub record Has (steps : List Step) (at : ℕ) (Is : Step → Type 0) : Type 0 where
@@ -43,19 +45,25 @@ abbrev mutual
   pub Laid : ℕ → List Declared → List Step → Act → ℕ → ℕ → Type 0
   Laid word vars steps (assign place e) tree next = Has steps tree (IsDoing (assigned word vars place e) next)
   Laid word vars steps (choice test taken other) tree next =
-      Has steps tree (IsAsking (holds word vars test) (entry taken (tree + 1) next) (entry_else other (tree + 1 + statements_in taken) next))
-      × LaidIn word vars steps taken (tree + 1) next × LaidElse word vars steps other (tree + 1 + statements_in taken) next
+      Has steps tree (IsAsking (holds word vars test) (entry taken (tree + 1) next)
+      (entry_else other (tree + 1 + statements_in taken) next))
+      × LaidIn word vars steps taken (tree + 1) next
+      × LaidElse word vars steps other (tree + 1 + statements_in taken) next
   Laid word vars steps (while test body) tree next =
-      Has steps tree (IsAsking (holds word vars test) (entry body (tree + 1) tree) next) × LaidIn word vars steps body (tree + 1) tree
+      Has steps tree (IsAsking (holds word vars test) (entry body (tree + 1) tree) next)
+      × LaidIn word vars steps body (tree + 1) tree
   Laid word vars steps (count counter at from to body) tree next =
       Has steps tree (IsDoing (started vars counter from) (tree + 1))
-      × Has steps (tree + 1) (IsAsking (counting vars counter to) (entry body (tree + 2) (tree + 2 + statements_in body)) next)
+      × Has steps (tree + 1) (IsAsking (counting vars counter to)
+      (entry body (tree + 2) (tree + 2 + statements_in body)) next)
       × LaidIn word vars steps body (tree + 2) (tree + 2 + statements_in body)
       × Has steps (tree + 2 + statements_in body) (IsDoing (stepped word vars counter) (tree + 1))
 
   pub LaidIn : ℕ → List Declared → List Step → Acts → ℕ → ℕ → Type 0
   LaidIn word vars steps no_acts tree next = Unit {0}
-  LaidIn word vars steps (act a rest) tree next = Laid word vars steps a tree (entry rest (tree + statements a) next) × LaidIn word vars steps rest (tree + statements a) next
+  LaidIn word vars steps (act a rest) tree next =
+      Laid word vars steps a tree (entry rest (tree + statements a) next)
+      × LaidIn word vars steps rest (tree + statements a) next
 
   pub LaidElse : ℕ → List Declared → List Step → Otherwise → ℕ → ℕ → Type 0
   LaidElse word vars steps without tree next = Unit {0}

@@ -24,7 +24,8 @@ comparison_prop word test = hlevel (le_prop, fits_prop word test.width test.left
 
 step_prop : (word : ℕ) (steps : List Step) (at : ℕ) (o : Option Step) → IsProp (FitsStep word steps at o)
 step_prop word steps at None = hlevel
-step_prop word steps at (Some (Assign first index value next)) = hlevel (props, fits_prop word word index, fits_prop word word value)
+step_prop word steps at (Some (Assign first index value next)) =
+    hlevel (props, fits_prop word word index, fits_prop word word value)
 step_prop word steps at (Some (Test test on_true on_false)) = comparison_prop word test
 
 pub kept_prop : (m : Machine) → IsProp (MachineFits m)

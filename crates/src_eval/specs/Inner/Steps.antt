@@ -17,7 +17,9 @@ is_test _ = false
 -- an assignment is followed by a later step, or by a test
 abbrev pub FitsStep : ℕ → List Step → ℕ → Option Step → Type 0
 FitsStep word steps at None = Unit {0}
-FitsStep word steps at (Some (Assign first index value next)) = FormulaFits word word index × FormulaFits word word value × IsTrue (nat_lt at next || is_test (slice_get steps next))
+FitsStep word steps at (Some (Assign first index value next)) =
+    FormulaFits word word index × FormulaFits word word value
+    × IsTrue (nat_lt at next || is_test (slice_get steps next))
 FitsStep word steps at (Some (Test test on_true on_false)) = FitsComparison word test
 
 abbrev pub StepsFit : ℕ → List Step → Type 0

@@ -13,7 +13,8 @@ cells_past n (Some cell) = Some (n + cell)
 -- the first cell of the first variable of a name, if there is one
 abbrev pub cell_of_name : List Declared → List ℕ → Option ℕ
 cell_of_name [] name = None
-cell_of_name (v ∷ rest) name = if same_name name v.name then Some 0 else cells_past (cells_in v) (cell_of_name rest name)
+cell_of_name (v ∷ rest) name =
+    if same_name name v.name then Some 0 else cells_past (cells_in v) (cell_of_name rest name)
 
 pub record IsCellTable (entries : List (Bor (List ℕ) × ℕ)) (total : ℕ) (vars : List Declared) : Type 0 where
   pub finds : (name : List ℕ) → lookup (λ key. same_name name key.now) entries ≡ cell_of_name vars name

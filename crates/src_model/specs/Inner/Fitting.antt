@@ -13,7 +13,8 @@ pub record FitsCount (word from to : ℕ) : Type 0 where
 abbrev mutual
   pub FitsAct : ℕ → Act → Type 0
   FitsAct word (assign place e) = Fitting word word (place_shape place) × FitsWord word e.shape
-  FitsAct word (choice test taken other) = FitsSides word test.left.shape test.right.shape × FitsActs word taken × FitsElse word other
+  FitsAct word (choice test taken other) =
+      FitsSides word test.left.shape test.right.shape × FitsActs word taken × FitsElse word other
   FitsAct word (while test body) = FitsSides word test.left.shape test.right.shape × FitsActs word body
   FitsAct word (count counter at from to body) = FitsCount word from to × FitsActs word body
 

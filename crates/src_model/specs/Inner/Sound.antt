@@ -32,7 +32,8 @@ pub record Holds (bits : ℕ) (vars : List Declared) (rounds : List Round) (cell
   pub counts : Counts vars cells rounds
 
 -- a store at the test of a `for`
-pub record Turns (bits : ℕ) (vars : List Declared) (rounds : List Round) (counter : List ℕ) (from to : ℕ) (cells : List ℕ) : Type 0 where
+pub record Turns (bits : ℕ) (vars : List Declared) (rounds : List Round) (counter : List ℕ)
+    (from to : ℕ) (cells : List ℕ) : Type 0 where
   pub holds : Holds bits vars rounds cells
   pub least : from ≤ counter_value vars counter cells
   pub most : counter_value vars counter cells ≤ to + 1
@@ -50,7 +51,8 @@ pub record SoundShape (bits : ℕ) (vars : List Declared) (rounds : List Round) 
   pub known : Known vars e
   pub within : loose vars rounds e ≡ []
 
-pub record SoundAssign (bits : ℕ) (vars : List Declared) (rounds : List Round) (place : Place) (e : Phrase) : Type 0 where
+pub record SoundAssign (bits : ℕ) (vars : List Declared) (rounds : List Round) (place : Place)
+    (e : Phrase) : Type 0 where
   pub left : SoundShape bits vars rounds bits (place_shape place)
   pub right : SoundShape bits vars rounds bits e.shape
   pub width : shape_width bits bits e.shape ≡ bits
@@ -63,7 +65,8 @@ pub record SoundTest (bits : ℕ) (vars : List Declared) (rounds : List Round) (
   pub left_within : loose vars rounds test.left.shape ≡ []
   pub right_within : loose vars rounds test.right.shape ≡ []
 
-pub record SoundCount (bits : ℕ) (vars : List Declared) (rounds : List Round) (counter : List ℕ) (from to : ℕ) : Type 0 where
+pub record SoundCount (bits : ℕ) (vars : List Declared) (rounds : List Round) (counter : List ℕ)
+    (from to : ℕ) : Type 0 where
   pub fits : FitsCount bits from to
   pub plain : is_plain (declared vars counter) ≡ true
   pub free : Frees rounds counter
@@ -71,10 +74,13 @@ pub record SoundCount (bits : ℕ) (vars : List Declared) (rounds : List Round) 
 abbrev mutual
   pub Sound : ℕ → List Declared → List Round → Act → Type 0
   Sound bits vars rounds (assign place e) = SoundAssign bits vars rounds place e
-  Sound bits vars rounds (choice test taken other) = SoundTest bits vars rounds test × SoundIn bits vars rounds taken × SoundElse bits vars rounds other
+  Sound bits vars rounds (choice test taken other) =
+      SoundTest bits vars rounds test × SoundIn bits vars rounds taken
+      × SoundElse bits vars rounds other
   Sound bits vars rounds (while test body) = SoundTest bits vars rounds test × SoundIn bits vars rounds body
   Sound bits vars rounds (count counter at from to body) =
-      SoundCount bits vars rounds counter from to × SoundIn bits vars (record { counter = counter; from = from; to = to } ∷ rounds) body
+      SoundCount bits vars rounds counter from to
+      × SoundIn bits vars (record { counter = counter; from = from; to = to } ∷ rounds) body
 
   pub SoundIn : ℕ → List Declared → List Round → Acts → Type 0
   SoundIn bits vars rounds no_acts = Unit {0}

@@ -52,7 +52,8 @@ least_of Paren = 3
 least_of (Asks call) = 6
 
 -- what stands behind the token that opens a level
-abbrev pub OpenBehind : (List Lexed → Phrase → Type 0) → (List Lexed → Phrase → Type 0) → Opening → ℕ → List Lexed → Phrase → Type 0
+abbrev pub OpenBehind : (List Lexed → Phrase → Type 0) → (List Lexed → Phrase → Type 0) → Opening →
+    ℕ → List Lexed → Phrase → Type 0
 OpenBehind U E (Sign op) at = Signed U op at
 OpenBehind U E Paren at = Enclosed E at
 OpenBehind U E (Asks call) at = Called E call at

@@ -19,8 +19,11 @@ pub record IsPlainTest (word : ℕ) (places : List VariablePlace) (test : Test) 
 
 abbrev mutual
   pub IsPlain : ℕ → List VariablePlace → Act → Type 0
-  IsPlain word places (assign place e) = Fitting word word (place_shape place) × Fitting word word e.shape × IsNear places (place_shape place) × IsNear places e.shape
-  IsPlain word places (choice test taken other) = IsPlainTest word places test × ArePlain word places taken × IsPlainElse word places other
+  IsPlain word places (assign place e) =
+      Fitting word word (place_shape place) × Fitting word word e.shape
+      × IsNear places (place_shape place) × IsNear places e.shape
+  IsPlain word places (choice test taken other) =
+      IsPlainTest word places test × ArePlain word places taken × IsPlainElse word places other
   IsPlain word places (while test body) = IsPlainTest word places test × ArePlain word places body
   IsPlain word places (count counter at from to body) = (to + 1 < 2 ^ 64) × ArePlain word places body
 

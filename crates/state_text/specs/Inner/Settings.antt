@@ -30,18 +30,23 @@ entry_of storage width text = number_below width text >>= λ value. Some (Entry 
 -- behind the memory's name and a space: ADDRESS VALUE
 unfoldable pub cell_of : ℕ → ℕ → List ℕ → Option Setting
 cell_of size width text =
-    parts_at 32 text >>= λ parts. number_of parts.0 >>= λ address. number_below width parts.1 >>= λ value. if nat_lt address size then Some (Cell address value) else None
+    parts_at 32 text >>= λ parts. number_of parts.0 >>= λ address.
+    number_below width parts.1 >>= λ value.
+    if nat_lt address size then Some (Cell address value) else None
 
 -- what stands behind the name of this storage; nothing sets the program counter
 unfoldable pub setting_at : ℕ → ℕ → ℕ → Option Storage → List ℕ → Option Setting
 setting_at counter memory id None text = None
-setting_at counter memory id (Some (Register name width input when)) text = if id == counter then None else entry_of id width text
-setting_at counter memory id (Some (Memory name width size addr_width value addr when)) text = if id == memory then cell_of size width text else None
+setting_at counter memory id (Some (Register name width input when)) text =
+    if id == counter then None else entry_of id width text
+setting_at counter memory id (Some (Memory name width size addr_width value addr when)) text =
+    if id == memory then cell_of size width text else None
 
 -- what stands behind a name
 unfoldable pub setting_for : Netlist → List ℕ → List ℕ → Option Setting
 setting_for netlist name text =
-    named_at netlist.storages name >>= λ id. setting_at (counter_of netlist.codes) (memory_id netlist.storages) id (slice_get netlist.storages id) text
+    named_at netlist.storages name >>= λ id.
+    setting_at (counter_of netlist.codes) (memory_id netlist.storages) id (slice_get netlist.storages id) text
 
 -- what a line sets, if it is of the form
 unfoldable pub setting_of : Netlist → List ℕ → Option Setting
@@ -54,8 +59,11 @@ with_setting s (Cell address value) = with_cell s address value
 -- what a line sets fits: a register that isn't the program counter, or a cell, with a value of its
 -- width
 abbrev pub SettingFits : Netlist → Setting → Type 0
-SettingFits netlist (Entry id value) = IsRegister (slice_get netlist.storages id) × (id ≢ counter_of netlist.codes) × (value < 2 ^ storage_bits (slice_get netlist.storages id))
-SettingFits netlist (Cell address value) = (address < memory_size netlist.storages) × (value < 2 ^ memory_width netlist.storages)
+SettingFits netlist (Entry id value) =
+    IsRegister (slice_get netlist.storages id) × (id ≢ counter_of netlist.codes)
+    × (value < 2 ^ storage_bits (slice_get netlist.storages id))
+SettingFits netlist (Cell address value) =
+    (address < memory_size netlist.storages) × (value < 2 ^ memory_width netlist.storages)
 
 -- there is such an entry or cell
 abbrev pub IsWithin : State → Setting → Type 0

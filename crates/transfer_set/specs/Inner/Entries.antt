@@ -40,7 +40,8 @@ patterns_of pool entries = map (pattern_of pool) entries
 abbrev pub moves_under : Diagrams → List Node → List Entry → ℕ → ℕ → List Move
 moves_under book pool [] id word = []
 moves_under book pool (entry ∷ entries) id word =
-    list_if ((entry.storage == id) && has_word book entry.set word) (entry_move pool entry ∷ []) ++ moves_under book pool entries id word
+    list_if ((entry.storage == id) && has_word book entry.set word) (entry_move pool entry ∷ [])
+    ++ moves_under book pool entries id word
 
 -- each set holds a word
 abbrev pub HaveWords : Diagrams → List Entry → Type 0
@@ -54,7 +55,8 @@ AreKnown size entries = AllByRecursion (λ (entry : Entry). IsAddrKnown size ent
 -- the set of each entry is all words that give its storage its transfer
 abbrev pub AreWhole : Netlist → List Node → Diagrams → List Entry → Type 0
 AreWhole netlist pool book entries =
-    AllByRecursion (λ (entry : Entry). IsWordsOf netlist book.bits entry.storage (entry_move pool entry) (λ word. has_word book entry.set word)) entries
+    AllByRecursion (λ (entry : Entry). IsWordsOf netlist book.bits entry.storage
+    (entry_move pool entry) (λ word. has_word book entry.set word)) entries
 
 -- ---- what feeds a storage
 
@@ -70,27 +72,35 @@ memory_moves a t = write_at a t ∷ []
 -- expression
 abbrev pub AreWrites : Netlist → List Node → Diagrams → ℕ → ℕ → List Route → Type 0
 AreWrites netlist pool book storage on routes =
-    (place : ℕ) (route : Route) → slice_get routes place ≡ Some route → same_reg (term_at pool route.expr) storage ≡ false →
-    IsWordsOf netlist book.bits storage (write (term_at pool route.expr)) (λ word. has_word book on word && has_word book route.set word)
+    (place : ℕ) (route : Route) → slice_get routes place ≡ Some route →
+    same_reg (term_at pool route.expr) storage ≡ false →
+    IsWordsOf netlist book.bits storage (write (term_at pool route.expr))
+    (λ word. has_word book on word && has_word book route.set word)
 
 -- and so for a memory at one address
 abbrev pub AreValues : Netlist → List Node → Diagrams → ℕ → ℕ → ℕ → List Route → Type 0
 AreValues netlist pool book storage addr on values =
     (place : ℕ) (value : Route) → slice_get values place ≡ Some value →
-    IsWordsOf netlist book.bits storage (write_at (term_at pool addr) (term_at pool value.expr)) (λ word. has_word book on word && has_word book value.set word)
+    IsWordsOf netlist book.bits storage (write_at (term_at pool addr) (term_at pool value.expr))
+    (λ word. has_word book on word && has_word book value.set word)
 
 -- and at each address
 abbrev pub ArePairs : Netlist → List Node → Diagrams → ℕ → ℕ → List Route → List Route → Type 0
 ArePairs netlist pool book storage on addrs values =
-    (place : ℕ) (addr : Route) → slice_get addrs place ≡ Some addr → (at : ℕ) (value : Route) → slice_get values at ≡ Some value →
-    IsWordsOf netlist book.bits storage (write_at (term_at pool addr.expr) (term_at pool value.expr)) (λ word. (has_word book on word && has_word book addr.set word) && has_word book value.set word)
+    (place : ℕ) (addr : Route) → slice_get addrs place ≡ Some addr → (at : ℕ) (value : Route) →
+    slice_get values at ≡ Some value →
+    IsWordsOf netlist book.bits storage
+    (write_at (term_at pool addr.expr) (term_at pool value.expr))
+    (λ word. (has_word book on word && has_word book addr.set word) && has_word book value.set word)
 
 -- ---- words that keep
 
 -- no set of the storage's transfers holds the word
 abbrev pub keeps_all : Diagrams → List Entry → ℕ → ℕ → Bool
 keeps_all book [] storage word = true
-keeps_all book (entry ∷ entries) storage word = not ((entry.storage == storage) && has_word book entry.set word) && keeps_all book entries storage word
+keeps_all book (entry ∷ entries) storage word =
+    not ((entry.storage == storage) && has_word book entry.set word)
+    && keeps_all book entries storage word
 
 -- a set for each storage, of those words that are in the set of no transfer of it
 pub record AreLeft (old new : Diagrams) (legal : ℕ) (entries : List Entry) (count : ℕ) (sets : List ℕ) : Type 0 where

@@ -40,7 +40,8 @@ HasSet bits (Some when) = (set : ℕ) × (bits_in bits when ≡ Some (set ∷ []
 -- the words of this set are those under which a storage is on
 pub record IsOnSet (netlist : Netlist) (book : Diagrams) (set : ℕ) (when : Option ℕ) : Type 0 where
   pub within : set < length book.nodes
-  pub words : (word : ℕ) → word < 2 ^ book.bits → has_word book set word ≡ is_enabled (value_of netlist no_state word) when
+  pub words : (word : ℕ) → word < 2 ^ book.bits →
+      has_word book set word ≡ is_enabled (value_of netlist no_state word) when
 
 -- it is known when a storage is on
 abbrev pub IsWhenKnown : Netlist → Diagrams → List (ℕ × List ℕ) → Option ℕ → Type 0
@@ -49,10 +50,12 @@ IsWhenKnown netlist book bits when = HasSet bits when × IsOnSet netlist book (w
 abbrev pub IsStorageKnown : Netlist → Diagrams → List (ℕ × List ℕ) → Option Storage → Type 0
 IsStorageKnown netlist book bits None = Unit {0}
 IsStorageKnown netlist book bits (Some (Register name width input when)) = IsWhenKnown netlist book bits when
-IsStorageKnown netlist book bits (Some (Memory name width size addr_width value addr when)) = IsWhenKnown netlist book bits when
+IsStorageKnown netlist book bits (Some (Memory name width size addr_width value addr when)) =
+    IsWhenKnown netlist book bits when
 
 -- what transfers are collected from
-pub record IsSource (netlist : Netlist) (book : Diagrams) (pool : List Node) (controls : ControlBits) (nets : List (List Route)) : Type 0 where
+pub record IsSource (netlist : Netlist) (book : Diagrams) (pool : List Node)
+    (controls : ControlBits) (nets : List (List Route)) : Type 0 where
   pub routes : AreRoutes netlist book pool controls.legal nets
   pub within : controls.legal < length book.nodes
   pub legal : (word : ℕ) → word < 2 ^ book.bits → (has_word book controls.legal word ≡ true) ↔ IsClean netlist word

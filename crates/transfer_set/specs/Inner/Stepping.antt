@@ -21,4 +21,6 @@ entry_steps pool counter entry = (entry.storage == counter.storage) && move_step
 -- a transfer that steps has the word
 abbrev pub any_step : Diagrams → List Node → Counter → List Entry → ℕ → Bool
 any_step book pool counter [] i = false
-any_step book pool counter (entry ∷ entries) i = (entry_steps pool counter entry && has_word book entry.set i) || any_step book pool counter entries i
+any_step book pool counter (entry ∷ entries) i =
+    (entry_steps pool counter entry && has_word book entry.set i)
+    || any_step book pool counter entries i

@@ -16,9 +16,13 @@ impl Patterns {
     /// The text of a pattern's transfer, as `print` writes it.
     pub fn text(&self, alloc: Global, pattern: u32) -> Result<Name, NoMemory>
         requires { pattern < length self.now.rows }
-        ensures kept { IfOk result (λ text. option_map (λ row. row.text.items) (slice_get self.now.rows pattern) ≡ Some text) }
-        ensures told { IfOk result (λ text. (netlist : Netlist) (book : Diagrams) (pool : List Node) → IsPatternTable netlist book pool self.now →
-            option_map (λ row. move_text netlist row.storage row.move) (slice_get (row_patterns pool self.now.rows) pattern) ≡ Some text) }
+        ensures kept { IfOk result (λ text.
+            option_map (λ row. row.text.items) (slice_get self.now.rows pattern) ≡ Some text) }
+        ensures transfer { IfOk result (λ text. (netlist : Netlist) (book : Diagrams) (pool : List Node) →
+            IsPatternTable netlist book pool self.now →
+            option_map (λ row. move_text netlist row.storage row.move)
+            (slice_get (row_patterns pool self.now.rows) pattern)
+            ≡ Some text) }
     {
         let row = &self.rows[pattern as usize];
         Items::from_slice(alloc, row.text.as_slice())

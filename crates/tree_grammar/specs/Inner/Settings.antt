@@ -11,7 +11,10 @@ is_word _ = false
 
 -- the setting of a sext of a field
 abbrev pub extension_setting : Term → ℕ → ℕ → Option ℕ
-extension_setting a w v = if sext_of (v % 2 ^ term_width a) (term_width a) w == v then field_setting a (v % 2 ^ term_width a) else None
+extension_setting a w v =
+    if sext_of (v % 2 ^ term_width a) (term_width a) w == v
+    then field_setting a (v % 2 ^ term_width a)
+    else None
 
 -- with a number the shape shows all that are less
 abbrev pub IsSteady : Term → Type 0

@@ -18,6 +18,10 @@ abbrev pub unary_operands : Term → Term → Option TermPair
 unary_operands (un op a) (un o b) = if same_op1 o op then Some (record { term = a; tree = b }) else None
 unary_operands (slice a hi lo) (slice b h l) =
     if (term_width b == term_width a) && ((h == hi) && (l == lo)) then Some (record { term = a; tree = b }) else None
-unary_operands (zext a width) (zext b w) = if (term_width b == term_width a) && (w == width) then Some (record { term = a; tree = b }) else None
-unary_operands (sext a width) (sext b w) = if (term_width b == term_width a) && (w == width) then Some (record { term = a; tree = b }) else None
+unary_operands (zext a width) (zext b w) =
+    if (term_width b == term_width a) && (w == width) then Some (record { term = a; tree = b })
+    else None
+unary_operands (sext a width) (sext b w) =
+    if (term_width b == term_width a) && (w == width) then Some (record { term = a; tree = b })
+    else None
 unary_operands _ _ = None

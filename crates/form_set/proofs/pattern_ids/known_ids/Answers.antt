@@ -9,5 +9,5 @@ returns-clause-ids c =
     known_some c.args.checked.now.netlist c.args.checked.now.order c.netlist-netlist.ensures.kept c.args._book.now c.args._pool.now c.args.patterns.now c.requires.ready
     c.len-len.ensures.fits c.args.number c.ids_at.result c.ids_at.ensures
 
-pub returns-clause-told : goal.returns-clause-told
-returns-clause-told c = ap (option_map (ids_pattern c.args._pool.now)) c.ids_at.ensures ∙ told_at c.args._pool.now c.args.patterns.now.rows c.args.number
+pub returns-clause-pattern : goal.returns-clause-pattern
+returns-clause-pattern c = ap (option_map (ids_pattern c.args._pool.now)) c.ids_at.ensures ∙ told_at c.args._pool.now c.args.patterns.now.rows c.args.number

@@ -15,7 +15,7 @@ pub returns-in_ok-add_route-in-Some-clause-terms : goal.returns-in_ok-add_route-
 returns-in_ok-add_route-in-Some-clause-terms c word fits =
     added_terms c.args.book.now c.args.book.now c.add_route.new.book c.args.pool.now c.intern.new.self (extends_refl c.args.book.now) c.in_ok-expr-in-Some.ensures.grows c.args.out.now c.add_route.new.out c.requires.table
     c.in_ok-expr-in-Some.expr _ c.in_ok-expr-in-Some.ensures.term word (has_word c.args.book.now c.args.set word) (has_word c.args.book.now c.args.set word) refl
-    (c.in_ok-add_route-in-Some.ensures.held word fits)
+    (c.in_ok-add_route-in-Some.ensures.by_word word fits)
 
 pub returns-in_err-add_route-in-Some-clause-table : goal.returns-in_err-add_route-in-Some-clause-table
 returns-in_err-add_route-in-Some-clause-table c = IfOk-from_err c.from_residual-in_err-add_route-in-Some.result _ c.from_residual-in_err-add_route-in-Some.ensures.0

@@ -28,8 +28,8 @@ returns-in_ok-both-in-Some-clause-exprs c =
     (merged_exprs c.args.book.now c.or.new.self c.in_ok-both-in-Some.ensures.grows c.args.out.now c.requires.routes c.args.expr c.args.set c.requires.set c.in_ok-both-in-Some.both c.in-Some.place (_, f.0, f.1)
     c.in_ok-both-in-Some.ensures.within (rw c.as_slice-in-Some.ensures at c.in_ok-both-in-Some.ensures.words))
 
-pub returns-in_ok-both-in-Some-clause-held : goal.returns-in_ok-both-in-Some-clause-held
-returns-in_ok-both-in-Some-clause-held c word fits =
+pub returns-in_ok-both-in-Some-clause-by_word : goal.returns-in_ok-both-in-Some-clause-by_word
+returns-in_ok-both-in-Some-clause-by_word c word fits =
     let f = found_index c.args.expr c.as_slice.result.now c.args.out.now c.in-Some.place (record { expr = 0; set = 0 }) c.as_slice.ensures c.in-Some.ensures in
     rw c.set.ensures
     (merged_held c.args.book.now c.or.new.self c.in_ok-both-in-Some.ensures.grows c.args.out.now c.requires.routes c.args.expr c.args.set c.requires.set c.in_ok-both-in-Some.both c.in-Some.place (_, f.0, f.1)
@@ -44,8 +44,8 @@ pub returns-in_ok-push-in-None-clause-exprs : goal.returns-in_ok-push-in-None-cl
 returns-in_ok-push-in-None-clause-exprs c size less h =
     rw c.in_ok-push-in-None.ensures.pushed (exprs_push size c.args.out.now (record { expr = c.args.expr; set = c.args.set }) less h)
 
-pub returns-in_ok-push-in-None-clause-held : goal.returns-in_ok-push-in-None-clause-held
-returns-in_ok-push-in-None-clause-held c word fits =
+pub returns-in_ok-push-in-None-clause-by_word : goal.returns-in_ok-push-in-None-clause-by_word
+returns-in_ok-push-in-None-clause-by_word c word fits =
     rw c.in_ok-push-in-None.ensures.pushed
     (pushed_held c.args.book.now c.args.book.now (extends_refl c.args.book.now) c.args.out.now c.requires.routes c.args.expr c.args.set c.requires.set word (c.requires.apart word fits))
 
@@ -55,8 +55,8 @@ returns-in_err-both-in-Some-clause-routes c = IfOk-from_err c.from_residual.resu
 pub returns-in_err-both-in-Some-clause-exprs : goal.returns-in_err-both-in-Some-clause-exprs
 returns-in_err-both-in-Some-clause-exprs c = IfOk-from_err c.from_residual.result _ c.from_residual.ensures.0
 
-pub returns-in_err-both-in-Some-clause-held : goal.returns-in_err-both-in-Some-clause-held
-returns-in_err-both-in-Some-clause-held c = IfOk-from_err c.from_residual.result _ c.from_residual.ensures.0
+pub returns-in_err-both-in-Some-clause-by_word : goal.returns-in_err-both-in-Some-clause-by_word
+returns-in_err-both-in-Some-clause-by_word c = IfOk-from_err c.from_residual.result _ c.from_residual.ensures.0
 
 pub returns-in_err-push-in-None-clause-routes : goal.returns-in_err-push-in-None-clause-routes
 returns-in_err-push-in-None-clause-routes c = IfOk-from_err c.from_residual-in_err-push-in-None.result _ c.from_residual-in_err-push-in-None.ensures.0
@@ -64,5 +64,5 @@ returns-in_err-push-in-None-clause-routes c = IfOk-from_err c.from_residual-in_e
 pub returns-in_err-push-in-None-clause-exprs : goal.returns-in_err-push-in-None-clause-exprs
 returns-in_err-push-in-None-clause-exprs c = IfOk-from_err c.from_residual-in_err-push-in-None.result _ c.from_residual-in_err-push-in-None.ensures.0
 
-pub returns-in_err-push-in-None-clause-held : goal.returns-in_err-push-in-None-clause-held
-returns-in_err-push-in-None-clause-held c = IfOk-from_err c.from_residual-in_err-push-in-None.result _ c.from_residual-in_err-push-in-None.ensures.0
+pub returns-in_err-push-in-None-clause-by_word : goal.returns-in_err-push-in-None-clause-by_word
+returns-in_err-push-in-None-clause-by_word c = IfOk-from_err c.from_residual-in_err-push-in-None.result _ c.from_residual-in_err-push-in-None.ensures.0

@@ -13,7 +13,7 @@ invariant-loop-word l = record {
   table : IsRouteTable l.book l.pool l.out;
   within : l.left < length l.book.nodes;
   inside : (word : ℕ) → has_word l.book l.left word ≡ true → has_word l.initial.book l.set word ≡ true;
-  terms : (word : ℕ) → word < 2 ^ l.initial.book.bits → terms_under l.book l.pool l.out word ≡ left_terms (has_word l.initial.book l.set word) (has_word l.book l.left word) (pairs l.two (term_at l.initial.pool) (terms_under l.initial.book l.initial.pool l.firsts word) (terms_under l.initial.book l.initial.pool l.seconds word)) (terms_under l.initial.book l.initial.pool l.initial.out word);
+  terms : (word : ℕ) → word < 2 ^ l.initial.book.bits → terms_under l.book l.pool l.out word ≡ left_terms (has_word l.initial.book l.set word) (has_word l.book l.left word) (pairs l.binary (term_at l.initial.pool) (terms_under l.initial.book l.initial.pool l.firsts word) (terms_under l.initial.book l.initial.pool l.seconds word)) (terms_under l.initial.book l.initial.pool l.initial.out word);
 }
 
 -- each turn takes a word

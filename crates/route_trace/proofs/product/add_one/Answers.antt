@@ -65,7 +65,7 @@ returns-clause-terms c word fits =
     let f = same_words c.args.book.now c.without.new.book c.in_ok-left.ensures.book c.args.route.set c.requires.route_set word in
     added_terms c.args.book.now c.and.new.self c.add_route.new.book c.args.pool.now c.close.new.pool grows c.in_ok-expr.ensures.grows c.args.out.now c.add_route.new.out c.requires.table
     c.in_ok-expr.expr _ c.in_ok-expr.ensures.term word _ (has_word c.and.new.self c.in_ok-both.both word) (c.in_ok-both.ensures.words word ∙ (λ j. e j && f j))
-    (c.in_ok-add_route.ensures.held word (subst (λ b. word < 2 ^ b) (sym grows.bits) fits))
+    (c.in_ok-add_route.ensures.by_word word (subst (λ b. word < 2 ^ b) (sym grows.bits) fits))
 
 pub returns-clause-left_within : goal.returns-clause-left_within
 returns-clause-left_within c =

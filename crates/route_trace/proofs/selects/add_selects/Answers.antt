@@ -11,8 +11,8 @@ use Rattle.route_trace.specs.Inner.Selects.{under}
 use Rattle.route_trace.proofs.Merging.{set_at, held_later}
 use Rattle.route_trace.proofs.Products.{expr_at, table_later, both_later}
 use Rattle.route_trace.proofs.Loops.{each_apart, each_step}
-use Rattle.route_trace.proofs.Choices.{two_fit_later, select_fit_at, under_later}
-use Rattle.route_trace.specs.declared.heads.Two.TheVariants.{Select}
+use Rattle.route_trace.proofs.Choices.{binary_fit_later, select_fit_at, under_later}
+use Rattle.route_trace.specs.declared.heads.Binary.TheVariants.{Select}
 use Rattle.route_trace.proofs.Stopping.{many_in, part_taken}
 use Rattle.route_trace.proofs.selects.add_selects.Goals as goal
 
@@ -64,7 +64,7 @@ add_pairs-requires-clause-second_one c word fits =
 pub add_pairs-requires-clause-fits : goal.add_pairs-requires-clause-fits
 add_pairs-requires-clause-fits c =
     let at = slice_get-get_or c.args.choices.now c.loop-route.route-index (record { expr = 0; set = 0 }) c.loop-route-test.true in
-    two_fit_later c.args.pool.now c.loop-route.pool c.loop-route.invariant.pool (Select (slice_index_or c.args.choices.now c.loop-route.route-index (record { expr = 0; set = 0 })).expr)
+    binary_fit_later c.args.pool.now c.loop-route.pool c.loop-route.invariant.pool (Select (slice_index_or c.args.choices.now c.loop-route.route-index (record { expr = 0; set = 0 })).expr)
     (expr_at (length c.args.pool.now) c.args.choices.now c.loop-route.route-index _ at c.requires.choice.exprs, tt) c.args.firsts.now c.args.seconds.now c.requires.first.exprs c.requires.second.exprs
     (select_fit_at c.args.pool.now c.args.choices.now c.args.firsts.now c.args.seconds.now c.loop-route.route-index _ at c.requires.fits)
 

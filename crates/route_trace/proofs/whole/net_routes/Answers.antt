@@ -3,8 +3,8 @@ use Rattle.std.proofs.lemmas.Result.{IfErr-weaker, IfOk-weaker}
 use Rattle.net_model.specs.Value.{value_of}
 use Rattle.net_model.specs.Symbolic.{no_state, is_static}
 use Rattle.route_trace.specs.declared.heads.Head.TheVariants.{Same, Read, Un, Slice, Zext, Sext}
-use Rattle.route_trace.specs.declared.heads.Two.TheVariants.{Bin, Cat}
-use Rattle.route_trace.proofs.Given.{fit_wide, two_fit_wide}
+use Rattle.route_trace.specs.declared.heads.Binary.TheVariants.{Bin, Cat}
+use Rattle.route_trace.proofs.Given.{binary_fit_wide, fit_wide}
 use Rattle.route_trace.proofs.Deciders.{selector_sets, selector_few, selector_keys, selector_bit, selected_at, rows_wide, driver_sets, driver_one, enabled_at}
 use Rattle.route_trace.proofs.Stopping.{many_in}
 use Rattle.route_trace.proofs.whole.net_routes.Goals as goal
@@ -36,12 +36,12 @@ routes_under-requires-in-Sext-clause-fits c =
 pub routes_over-requires-clause-fits : goal.routes_over-requires-clause-fits
 routes_over-requires-clause-fits c =
     let g = rw c.in-Bin.is at c.requires.fits.2 in
-    two_fit_wide (Bin c.in-Bin.op) c.args.pool.now _ _ (λ a e. g.1.1 ∙ sym e) _ _ (c.requires.widths.widths _) (c.requires.widths.widths _)
+    binary_fit_wide (Bin c.in-Bin.op) c.args.pool.now _ _ (λ a e. g.1.1 ∙ sym e) _ _ (c.requires.widths.widths _) (c.requires.widths.widths _)
 
 pub routes_over-requires-in-Cat-clause-fits : goal.routes_over-requires-in-Cat-clause-fits
 routes_over-requires-in-Cat-clause-fits c =
     let g = rw c.in-Cat.is at c.requires.fits.2 in
-    two_fit_wide Cat c.args.pool.now _ _ (λ a e. omega (arith, e, g.2, c.requires.fits.1)) _ _ (c.requires.widths.widths _) (c.requires.widths.widths _)
+    binary_fit_wide Cat c.args.pool.now _ _ (λ a e. omega (arith, e, g.2, c.requires.fits.1)) _ _ (c.requires.widths.widths _) (c.requires.widths.widths _)
 
 pub case_routes-requires-clause-sets : goal.case_routes-requires-clause-sets
 case_routes-requires-clause-sets c = selector_sets c.args.netlist.now c.args.book.now _ _ (rw c.in-Case.is at c.requires.decided)

@@ -7,28 +7,28 @@ use Rattle.transfer_set.specs.Inner.Entries.{list_if}
 use Rattle.transfer_set.proofs.Collecting.{held_entries_later, held_entries_push, known_push, moves_later, moves_push, nothing, whole_later, whole_push, words_same}
 use Rattle.transfer_set.proofs.entries.add_entry.Goals as goal
 
-pub returns-in-None-clause-held : goal.returns-in-None-clause-held
-returns-in-None-clause-held c = held_entries_later c.args.book.now c.and.new.self c.in_ok-set.ensures.grows c.args.out.now c.requires.held
+pub returns-in-None-clause-words : goal.returns-in-None-clause-words
+returns-in-None-clause-words c = held_entries_later c.args.book.now c.and.new.self c.in_ok-set.ensures.grows c.args.out.now c.requires.words
 
 pub returns-in-None-clause-moves : goal.returns-in-None-clause-moves
 returns-in-None-clause-moves c pool id word =
-    moves_later c.args.book.now c.and.new.self c.in_ok-set.ensures.grows pool c.args.out.now c.requires.held id word
+    moves_later c.args.book.now c.and.new.self c.in_ok-set.ensures.grows pool c.args.out.now c.requires.words id word
     ∙ nothing _ (ids_move pool c.args.addr c.args.value ∷ []) (c.args.storage == id) _ (sym (c.in_ok-set.ensures.words word) ∙ c.in-None.ensures.none word)
 
 pub returns-in-None-clause-whole : goal.returns-in-None-clause-whole
-returns-in-None-clause-whole c netlist pool w is = whole_later c.args.book.now c.and.new.self c.in_ok-set.ensures.grows netlist pool c.args.out.now c.requires.held w
+returns-in-None-clause-whole c netlist pool w is = whole_later c.args.book.now c.and.new.self c.in_ok-set.ensures.grows netlist pool c.args.out.now c.requires.words w
 
-pub returns-in_ok-push-in-Some-clause-held : goal.returns-in_ok-push-in-Some-clause-held
-returns-in_ok-push-in-Some-clause-held c =
+pub returns-in_ok-push-in-Some-clause-words : goal.returns-in_ok-push-in-Some-clause-words
+returns-in_ok-push-in-Some-clause-words c =
     let x : Entry = record { storage = c.args.storage; addr = c.args.addr; value = c.args.value; set = c.in_ok-set.set } in
     rw c.in_ok-push-in-Some.ensures.pushed
-    (held_entries_push c.and.new.self c.args.out.now x (held_entries_later c.args.book.now c.and.new.self c.in_ok-set.ensures.grows c.args.out.now c.requires.held)
+    (held_entries_push c.and.new.self c.args.out.now x (held_entries_later c.args.book.now c.and.new.self c.in_ok-set.ensures.grows c.args.out.now c.requires.words)
     (record { within = c.in_ok-set.ensures.within; word = c.in-Some.field-0; fits = c.in-Some.ensures.within; holds = c.in-Some.ensures.some }))
 
 pub returns-in_ok-push-in-Some-clause-moves : goal.returns-in_ok-push-in-Some-clause-moves
 returns-in_ok-push-in-Some-clause-moves c pool id word =
     let x : Entry = record { storage = c.args.storage; addr = c.args.addr; value = c.args.value; set = c.in_ok-set.set } in
-    let p = moves_later c.args.book.now c.and.new.self c.in_ok-set.ensures.grows pool c.args.out.now c.requires.held id word in
+    let p = moves_later c.args.book.now c.and.new.self c.in_ok-set.ensures.grows pool c.args.out.now c.requires.words id word in
     let q = c.in_ok-set.ensures.words word in
     rw c.in_ok-push-in-Some.ensures.pushed
     (moves_push c.and.new.self pool c.args.out.now x id word
@@ -38,7 +38,7 @@ pub returns-in_ok-push-in-Some-clause-whole : goal.returns-in_ok-push-in-Some-cl
 returns-in_ok-push-in-Some-clause-whole c netlist pool w is =
     let x : Entry = record { storage = c.args.storage; addr = c.args.addr; value = c.args.value; set = c.in_ok-set.set } in
     rw c.in_ok-push-in-Some.ensures.pushed
-    (whole_push netlist pool c.and.new.self c.args.out.now x (whole_later c.args.book.now c.and.new.self c.in_ok-set.ensures.grows netlist pool c.args.out.now c.requires.held w)
+    (whole_push netlist pool c.and.new.self c.args.out.now x (whole_later c.args.book.now c.and.new.self c.in_ok-set.ensures.grows netlist pool c.args.out.now c.requires.words w)
     (words_same netlist c.args.book.now.bits c.and.new.self.bits c.args.storage (ids_move pool c.args.addr c.args.value)
     (λ word. has_word c.args.book.now c.args.a word && has_word c.args.book.now c.args.b word) (λ word. has_word c.and.new.self c.in_ok-set.set word)
     c.in_ok-set.ensures.grows.bits c.in_ok-set.ensures.words is))
@@ -48,8 +48,8 @@ returns-in_ok-push-in-Some-clause-known c size h a v =
     let x : Entry = record { storage = c.args.storage; addr = c.args.addr; value = c.args.value; set = c.in_ok-set.set } in
     rw c.in_ok-push-in-Some.ensures.pushed (known_push size c.args.out.now x h a v)
 
-pub returns-in_err-push-in-Some-clause-held : goal.returns-in_err-push-in-Some-clause-held
-returns-in_err-push-in-Some-clause-held c = IfOk-from_err c.from_residual-in_err-push-in-Some.result _ c.from_residual-in_err-push-in-Some.ensures.0
+pub returns-in_err-push-in-Some-clause-words : goal.returns-in_err-push-in-Some-clause-words
+returns-in_err-push-in-Some-clause-words c = IfOk-from_err c.from_residual-in_err-push-in-Some.result _ c.from_residual-in_err-push-in-Some.ensures.0
 
 pub returns-in_err-push-in-Some-clause-moves : goal.returns-in_err-push-in-Some-clause-moves
 returns-in_err-push-in-Some-clause-moves c = IfOk-from_err c.from_residual-in_err-push-in-Some.result _ c.from_residual-in_err-push-in-Some.ensures.0
@@ -60,8 +60,8 @@ returns-in_err-push-in-Some-clause-whole c = IfOk-from_err c.from_residual-in_er
 pub returns-in_err-push-in-Some-clause-known : goal.returns-in_err-push-in-Some-clause-known
 returns-in_err-push-in-Some-clause-known c = IfOk-from_err c.from_residual-in_err-push-in-Some.result _ c.from_residual-in_err-push-in-Some.ensures.0
 
-pub returns-in_err-set-clause-held : goal.returns-in_err-set-clause-held
-returns-in_err-set-clause-held c = IfOk-from_err c.from_residual.result _ c.from_residual.ensures.0
+pub returns-in_err-set-clause-words : goal.returns-in_err-set-clause-words
+returns-in_err-set-clause-words c = IfOk-from_err c.from_residual.result _ c.from_residual.ensures.0
 
 pub returns-in_err-set-clause-moves : goal.returns-in_err-set-clause-moves
 returns-in_err-set-clause-moves c = IfOk-from_err c.from_residual.result _ c.from_residual.ensures.0

@@ -21,8 +21,8 @@ pub add_values-requires-clause-values : goal.add_values-requires-clause-values
 add_values-requires-clause-values c =
     sets_later c.args.book.now c.and.new.self (extends_trans c.args.book.now c.loop-route.book c.and.new.self c.loop-route.invariant.grows c.in_ok-both.ensures.grows) c.args.values.now c.requires.values
 
-pub add_values-requires-clause-held : goal.add_values-requires-clause-held
-add_values-requires-clause-held c = held_entries_later c.loop-route.book c.and.new.self c.in_ok-both.ensures.grows c.loop-route.out c.loop-route.invariant.held
+pub add_values-requires-clause-words : goal.add_values-requires-clause-words
+add_values-requires-clause-words c = held_entries_later c.loop-route.book c.and.new.self c.in_ok-both.ensures.grows c.loop-route.out c.loop-route.invariant.words
 
 pub loop-route-preserved : goal.loop-route-preserved
 loop-route-preserved c =
@@ -36,7 +36,7 @@ loop-route-preserved c =
     let of_route = same_words c.args.book.now c.loop-route.book grows route.set within in
     record {
       grows = extends_trans c.args.book.now c.and.new.self c.add_values.new.book more c.in_ok-add_values.ensures.grows;
-      held = c.in_ok-add_values.ensures.held;
+      words = c.in_ok-add_values.ensures.words;
       moves = λ pool id word.
           let words = c.in_ok-both.ensures.words word in
           turn (λ (a : Term). each (memory_moves a) (terms_under c.args.book.now pool c.args.values.now word)) (term_at pool route.expr)
@@ -45,7 +45,7 @@ loop-route-preserved c =
           (each (memory_moves (term_at pool route.expr)) (terms_under c.and.new.self pool c.args.values.now word))
           (c.args.storage == id) (has_word c.args.book.now c.args.on word) (has_word c.args.book.now route.set word)
           (has_word c.loop-route.book c.args.on word) (has_word c.loop-route.book route.set word)
-          (moves_later c.loop-route.book c.and.new.self step pool c.loop-route.out c.loop-route.invariant.held id word ∙ c.loop-route.invariant.moves pool id word)
+          (moves_later c.loop-route.book c.and.new.self step pool c.loop-route.out c.loop-route.invariant.words id word ∙ c.loop-route.invariant.moves pool id word)
           (on word) (of_route word)
           (ap (each (memory_moves (term_at pool route.expr))) (terms_later c.args.book.now c.and.new.self more pool c.args.values.now c.requires.values word))
           (c.in_ok-add_values.ensures.moves pool id word
@@ -54,7 +54,7 @@ loop-route-preserved c =
           (terms_more c.args.book.now pool c.args.addrs.now c.loop-route.route-index route at word);
       whole = λ netlist pool w h.
           c.in_ok-add_values.ensures.whole netlist pool
-          (whole_later c.loop-route.book c.and.new.self step netlist pool c.loop-route.out c.loop-route.invariant.held (c.loop-route.invariant.whole netlist pool w h))
+          (whole_later c.loop-route.book c.and.new.self step netlist pool c.loop-route.out c.loop-route.invariant.words (c.loop-route.invariant.whole netlist pool w h))
           (λ place value there.
           let of_value = same_words c.args.book.now c.and.new.self more value.set (set_at c.args.book.now c.args.values.now place value there c.requires.values).within in
           words_same netlist c.args.book.now.bits c.and.new.self.bits c.args.storage (write_at (term_at pool route.expr) (term_at pool value.expr))
@@ -67,8 +67,8 @@ loop-route-preserved c =
       known = λ size h a v. c.in_ok-add_values.ensures.known size (c.loop-route.invariant.known size h a v) (expr_at size c.args.addrs.now c.loop-route.route-index route at a) v;
     }
 
-pub returns-in_err-add_values-clause-held : goal.returns-in_err-add_values-clause-held
-returns-in_err-add_values-clause-held c = IfOk-from_err c.from_residual-in_err-add_values.result _ c.from_residual-in_err-add_values.ensures.0
+pub returns-in_err-add_values-clause-words : goal.returns-in_err-add_values-clause-words
+returns-in_err-add_values-clause-words c = IfOk-from_err c.from_residual-in_err-add_values.result _ c.from_residual-in_err-add_values.ensures.0
 
 pub returns-in_err-add_values-clause-moves : goal.returns-in_err-add_values-clause-moves
 returns-in_err-add_values-clause-moves c = IfOk-from_err c.from_residual-in_err-add_values.result _ c.from_residual-in_err-add_values.ensures.0
@@ -79,8 +79,8 @@ returns-in_err-add_values-clause-whole c = IfOk-from_err c.from_residual-in_err-
 pub returns-in_err-add_values-clause-known : goal.returns-in_err-add_values-clause-known
 returns-in_err-add_values-clause-known c = IfOk-from_err c.from_residual-in_err-add_values.result _ c.from_residual-in_err-add_values.ensures.0
 
-pub returns-in_err-both-clause-held : goal.returns-in_err-both-clause-held
-returns-in_err-both-clause-held c = IfOk-from_err c.from_residual.result _ c.from_residual.ensures.0
+pub returns-in_err-both-clause-words : goal.returns-in_err-both-clause-words
+returns-in_err-both-clause-words c = IfOk-from_err c.from_residual.result _ c.from_residual.ensures.0
 
 pub returns-in_err-both-clause-moves : goal.returns-in_err-both-clause-moves
 returns-in_err-both-clause-moves c = IfOk-from_err c.from_residual.result _ c.from_residual.ensures.0

@@ -10,7 +10,7 @@ use Rattle.transfer_set.proofs.entries.add_memory.Given as goal
 abbrev pub invariant-loop-route : goal.invariant-loop-route
 invariant-loop-route l = record {
   grows : Extends l.initial.book l.book;
-  held : HaveWords l.book l.out;
+  words : HaveWords l.book l.out;
   moves : (pool : List Node) (id word : ℕ) → moves_under l.book pool l.out id word ≡ moves_under l.initial.book pool l.initial.out id word ++ list_if ((l.storage == id) && has_word l.initial.book l.on word) (each (λ (a : Term). each (memory_moves a) (terms_under l.initial.book pool l.values word)) (terms_under l.initial.book pool (take l.route-index l.addrs) word));
   whole : (netlist : Netlist) (pool : List Node) → AreWhole netlist pool l.initial.book l.initial.out → ArePairs netlist pool l.initial.book l.storage l.on l.addrs l.values → AreWhole netlist pool l.book l.out;
   known : (size : ℕ) → AreKnown size l.initial.out → AllExprs size l.addrs → AllExprs size l.values → AreKnown size l.out;

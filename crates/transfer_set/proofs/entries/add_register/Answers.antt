@@ -30,7 +30,7 @@ loop-route-preserved c =
     let of_route = same_words c.args.book.now c.loop-route.book grows route.set within in
     record {
       grows = extends_trans c.args.book.now c.loop-route.book c.add_write.new.book grows c.in_ok-add_write.ensures.grows;
-      held = c.in_ok-add_write.ensures.held;
+      words = c.in_ok-add_write.ensures.words;
       moves = λ id word.
           turn (register_moves c.args.storage) (term_at c.args.pool.now route.expr)
           (terms_under c.args.book.now c.args.pool.now (take c.loop-route.route-index c.args.routes.now) word) _

@@ -8,7 +8,7 @@ use Rattle.transfer_set.proofs.entries.add_register.Given as goal
 abbrev pub invariant-loop-route : goal.invariant-loop-route
 invariant-loop-route l = record {
   grows : Extends l.initial.book l.book;
-  held : HaveWords l.book l.out;
+  words : HaveWords l.book l.out;
   moves : (id word : ℕ) → moves_under l.book l.pool l.out id word ≡ moves_under l.initial.book l.pool l.initial.out id word ++ list_if ((l.storage == id) && has_word l.initial.book l.on word) (each (register_moves l.storage) (terms_under l.initial.book l.pool (take l.route-index l.routes) word));
   whole : (netlist : Netlist) → AreWhole netlist l.pool l.initial.book l.initial.out → AreWrites netlist l.pool l.initial.book l.storage l.on l.routes → AreWhole netlist l.pool l.book l.out;
   known : AreKnown (length l.pool) l.initial.out → AreKnown (length l.pool) l.out;

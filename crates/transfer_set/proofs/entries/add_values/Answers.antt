@@ -27,7 +27,7 @@ loop-route-preserved c =
     let of_route = same_words c.args.book.now c.loop-route.book grows route.set within in
     record {
       grows = extends_trans c.args.book.now c.loop-route.book c.add_entry.new.book grows c.in_ok-add_entry.ensures.grows;
-      held = c.in_ok-add_entry.ensures.held;
+      words = c.in_ok-add_entry.ensures.words;
       moves = λ pool id word.
           turn (memory_moves (term_at pool c.args.addr)) (term_at pool route.expr)
           (terms_under c.args.book.now pool (take c.loop-route.route-index c.args.values.now) word) _
@@ -45,8 +45,8 @@ loop-route-preserved c =
       known = λ size h a v. c.in_ok-add_entry.ensures.known size (c.loop-route.invariant.known size h a v) a (expr_at size c.args.values.now c.loop-route.route-index route at v);
     }
 
-pub returns-in_err-add_entry-clause-held : goal.returns-in_err-add_entry-clause-held
-returns-in_err-add_entry-clause-held c = IfOk-from_err c.from_residual.result _ c.from_residual.ensures.0
+pub returns-in_err-add_entry-clause-words : goal.returns-in_err-add_entry-clause-words
+returns-in_err-add_entry-clause-words c = IfOk-from_err c.from_residual.result _ c.from_residual.ensures.0
 
 pub returns-in_err-add_entry-clause-moves : goal.returns-in_err-add_entry-clause-moves
 returns-in_err-add_entry-clause-moves c = IfOk-from_err c.from_residual.result _ c.from_residual.ensures.0

@@ -10,7 +10,7 @@ use Rattle.transfer_set.proofs.entries.add_values.Given as goal
 abbrev pub invariant-loop-route : goal.invariant-loop-route
 invariant-loop-route l = record {
   grows : Extends l.initial.book l.book;
-  held : HaveWords l.book l.out;
+  words : HaveWords l.book l.out;
   moves : (pool : List Node) (id word : ℕ) → moves_under l.book pool l.out id word ≡ moves_under l.initial.book pool l.initial.out id word ++ list_if ((l.storage == id) && has_word l.initial.book l.on word) (each (memory_moves (term_at pool l.addr)) (terms_under l.initial.book pool (take l.route-index l.values) word));
   whole : (netlist : Netlist) (pool : List Node) → AreWhole netlist pool l.initial.book l.initial.out → AreValues netlist pool l.initial.book l.storage l.addr l.on l.values → AreWhole netlist pool l.book l.out;
   known : (size : ℕ) → AreKnown size l.initial.out → l.addr < size → AllExprs size l.values → AreKnown size l.out;

@@ -19,9 +19,9 @@ collect_entries-requires-clause-source c =
     source_of c.args.checked.now.netlist c.args.checked.now.order c.netlist.ensures.kept c.args.book.now c.args.controls.now c.requires.controls
     (omega (arith, c.size.ensures.size, c.size.ensures.both)) c.size.ensures.full c.requires.word c.args.pool.now c.args.routes.now.of c.requires.routes
 
-pub step_set-requires-clause-held : goal.step_set-requires-clause-held
-step_set-requires-clause-held c =
-    rw (c.as_slice-2.ensures) (held_entries_later c.collect_entries.new.book c.keep_sets.new.book c.in_ok-keeps.ensures.grows c.in_ok-entries.entries c.in_ok-entries.ensures.held)
+pub step_set-requires-clause-words : goal.step_set-requires-clause-words
+step_set-requires-clause-words c =
+    rw (c.as_slice-2.ensures) (held_entries_later c.collect_entries.new.book c.keep_sets.new.book c.in_ok-keeps.ensures.grows c.in_ok-entries.entries c.in_ok-entries.ensures.words)
 
 pub returns-in_err-keeps-clause-grows : goal.returns-in_err-keeps-clause-grows
 returns-in_err-keeps-clause-grows c =
@@ -46,11 +46,11 @@ returns-clause-ready c =
     subst (λ count. AreLeft c.collect_entries.new.book c.keep_sets.new.book c.args.controls.now.legal c.in_ok-entries.entries count c.in_ok-keeps.keeps) e (rw c.as_slice.ensures at c.in_ok-keeps.ensures.left) in
     let patterns = table_is c.args.checked.now.netlist c.args.checked.now.order c.netlist.ensures.kept c.args.book.now c.collect_entries.new.book c.keep_sets.new.book c.step_set.new.book
     c.in_ok-entries.ensures.grows c.in_ok-keeps.ensures.grows c.in_ok-step.ensures.grows
-    c.args.pool.now c.in_ok-entries.entries c.in_ok-entries.ensures.held c.in_ok-entries.ensures.known c.in_ok-entries.ensures.whole
+    c.args.pool.now c.in_ok-entries.entries c.in_ok-entries.ensures.words c.in_ok-entries.ensures.known c.in_ok-entries.ensures.whole
     c.args.controls.now.legal c.requires.controls.within
     c.requires.controls.legal
     c.in_ok-entries.ensures.moves c.in_ok-entries.ensures.every
-    c.in_ok-rows.rows.items (rw c.as_slice-3.ensures at c.in_ok-rows.ensures.same) c.in_ok-rows.ensures.told c.in_ok-rows.ensures.ordered
+    c.in_ok-rows.rows.items (rw c.as_slice-3.ensures at c.in_ok-rows.ensures.same) c.in_ok-rows.ensures.shows c.in_ok-rows.ensures.ordered
     c.in_ok-keeps.keeps left c.of.result c.of.ensures.storage c.of.ensures.width
     c.in_ok-step.step c.in_ok-step.ensures.within (rw c.as_slice-2.ensures at c.in_ok-step.ensures.words) c.memory.result c.memory.ensures in
     record { patterns = patterns; bits = (returns-clause-grows c).bits ∙ c.requires.word }

@@ -5,5 +5,5 @@ use Rattle.transfer_set.proofs.row.rows.Given as goal
 abbrev pub invariant-loop-entry : goal.invariant-loop-entry
 invariant-loop-entry l = record {
   entries : entries_of l.rows.items ≡ take l.entry-index l.entries;
-  told : All (ShowsMove l.checked.netlist l.pool) l.rows.items;
+  shows : All (ShowsMove l.checked.netlist l.pool) l.rows.items;
 }

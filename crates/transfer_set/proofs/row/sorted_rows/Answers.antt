@@ -8,8 +8,8 @@ returns-clause-ordered c = in_order c.sort.new.self.items (c.in_ok-sort.ensures.
 pub returns-in_err-rows-clause-same : goal.returns-in_err-rows-clause-same
 returns-in_err-rows-clause-same c = IfOk-from_err c.from_residual.result _ c.from_residual.ensures.0
 
-pub returns-in_err-rows-clause-told : goal.returns-in_err-rows-clause-told
-returns-in_err-rows-clause-told c = IfOk-from_err c.from_residual.result _ c.from_residual.ensures.0
+pub returns-in_err-rows-clause-shows : goal.returns-in_err-rows-clause-shows
+returns-in_err-rows-clause-shows c = IfOk-from_err c.from_residual.result _ c.from_residual.ensures.0
 
 pub returns-in_err-rows-clause-ordered : goal.returns-in_err-rows-clause-ordered
 returns-in_err-rows-clause-ordered c = IfOk-from_err c.from_residual.result _ c.from_residual.ensures.0
@@ -20,8 +20,8 @@ returns-in_err-rows-clause-few c = IfOk-from_err c.from_residual.result _ c.from
 pub returns-in_err-sort-clause-same : goal.returns-in_err-sort-clause-same
 returns-in_err-sort-clause-same c = IfOk-from_err c.from_residual-in_err-sort.result _ c.from_residual-in_err-sort.ensures.0
 
-pub returns-in_err-sort-clause-told : goal.returns-in_err-sort-clause-told
-returns-in_err-sort-clause-told c = IfOk-from_err c.from_residual-in_err-sort.result _ c.from_residual-in_err-sort.ensures.0
+pub returns-in_err-sort-clause-shows : goal.returns-in_err-sort-clause-shows
+returns-in_err-sort-clause-shows c = IfOk-from_err c.from_residual-in_err-sort.result _ c.from_residual-in_err-sort.ensures.0
 
 pub returns-in_err-sort-clause-ordered : goal.returns-in_err-sort-clause-ordered
 returns-in_err-sort-clause-ordered c = IfOk-from_err c.from_residual-in_err-sort.result _ c.from_residual-in_err-sort.ensures.0

@@ -25,7 +25,7 @@ loop-id-preserved c =
     let grows = c.loop-id.invariant.grows in
     record {
       grows = extends_trans c.args.book.now c.loop-id.book c.add_storage.new.book grows c.in_ok-add_storage.ensures.grows;
-      held = c.in_ok-add_storage.ensures.held;
+      words = c.in_ok-add_storage.ensures.words;
       moves = λ n word fits.
           let same = same_words c.args.book.now c.loop-id.book grows c.args.controls.now.legal c.requires.source.within word in
           let so_far = c.loop-id.invariant.moves n word fits in
@@ -43,7 +43,7 @@ returns-clause-moves c n word fits =
     ∙ past c.args.checked.now.netlist word n c.loop-id.id (has_word c.args.book.now c.args.controls.now.legal word) (omega (arith, e, c.loop-id-test.false))
 
 pub returns-clause-each : goal.returns-clause-each
-returns-clause-each c = each_is c.args.checked.now.netlist c.loop-id.book c.args.pool.now c.loop-id.out c.loop-id.invariant.held c.loop-id.invariant.whole
+returns-clause-each c = each_is c.args.checked.now.netlist c.loop-id.book c.args.pool.now c.loop-id.out c.loop-id.invariant.words c.loop-id.invariant.whole
 
 pub returns-clause-every : goal.returns-clause-every
 returns-clause-every c =
@@ -53,8 +53,8 @@ returns-clause-every c =
     (λ n word fits. c.loop-id.invariant.moves n word fits
     ∙ past c.args.checked.now.netlist word n c.loop-id.id (has_word c.args.book.now c.args.controls.now.legal word) (omega (arith, e, c.loop-id-test.false)))
 
-pub returns-in_err-add_storage-clause-held : goal.returns-in_err-add_storage-clause-held
-returns-in_err-add_storage-clause-held c = IfOk-from_err c.from_residual.result _ c.from_residual.ensures.0
+pub returns-in_err-add_storage-clause-words : goal.returns-in_err-add_storage-clause-words
+returns-in_err-add_storage-clause-words c = IfOk-from_err c.from_residual.result _ c.from_residual.ensures.0
 
 pub returns-in_err-add_storage-clause-moves : goal.returns-in_err-add_storage-clause-moves
 returns-in_err-add_storage-clause-moves c = IfOk-from_err c.from_residual.result _ c.from_residual.ensures.0

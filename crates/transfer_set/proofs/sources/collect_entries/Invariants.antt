@@ -8,7 +8,7 @@ use Rattle.transfer_set.proofs.sources.collect_entries.Given as goal
 abbrev pub invariant-loop-id : goal.invariant-loop-id
 invariant-loop-id l = record {
   grows : Extends l.initial.book l.book;
-  held : HaveWords l.book l.out;
+  words : HaveWords l.book l.out;
   moves : (n word : ℕ) → word < 2 ^ l.initial.book.bits → moves_under l.book l.pool l.out n word ≡ list_if (nat_lt n l.id && has_word l.initial.book l.controls.legal word) (changes (move_at l.checked.netlist word n));
   whole : AreWhole l.checked.netlist l.pool l.book l.out;
   known : AreKnown (length l.pool) l.out;

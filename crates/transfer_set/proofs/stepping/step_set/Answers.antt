@@ -14,7 +14,7 @@ loop-entry-preserved c =
     let none : Entry = record { storage = 0; addr = None; value = 0; set = 0 } in
     let entry : Entry = slice_index_or c.args.entries.now c.loop-entry.entry-index none in
     let at : slice_get c.args.entries.now c.loop-entry.entry-index ≡ Some entry = slice_get-get_or c.args.entries.now c.loop-entry.entry-index none c.loop-entry-test.true in
-    let set = entry_at c.args.book.now c.args.entries.now c.loop-entry.entry-index entry at c.requires.held in
+    let set = entry_at c.args.book.now c.args.entries.now c.loop-entry.entry-index entry at c.requires.words in
     let grows = c.loop-entry.invariant.grows in
     record {
       grows = extends_trans c.args.book.now c.loop-entry.book c.with_step.new.book grows c.in_ok-words.ensures.grows;
