@@ -267,18 +267,15 @@ pub(crate) fn inlets(alloc: Global, nets: &[Net]) -> Result<Items<Inlet>, NoMemo
 {
     let mut inlets = Items::new(alloc);
     for (at, net) in nets.iter().enumerate() {
-        let place = at as u32;
-        match &net.gate {
-            Gate::Word(_) => inlets.push(Inlet {
-                place,
-                storage: None,
-            })?,
-            Gate::Reg(id) => inlets.push(Inlet {
-                place,
-                storage: Some(*id),
-            })?,
-            _ => {}
-        }
+        let storage = match &net.gate {
+            Gate::Word(_) => None,
+            Gate::Reg(id) => Some(*id),
+            _ => continue,
+        };
+        inlets.push(Inlet {
+            place: at as u32,
+            storage,
+        })?;
     }
     Ok(inlets)
 }
