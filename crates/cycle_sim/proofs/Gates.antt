@@ -24,7 +24,7 @@ use Rattle.cycle_sim.specs.declared.operation.Operation.{Operation}
 use Rattle.cycle_sim.specs.declared.operation.Operation.TheVariants.{Table, Search}
 use Rattle.cycle_sim.specs.Inner.Operations.{HasOperands, operation_value}
 use Rattle.cycle_sim.specs.Inner.Decoding.{binary_of, choice_of, chosen, decoded, drivers_by, optional, rows_by, table_of}
-use Rattle.cycle_sim.specs.Inner.Programs.{HoldsGate, IsPlainGate}
+use Rattle.cycle_sim.specs.Inner.Programs.{StandsGate, IsPlainGate}
 
 -- ---- numbers
 
@@ -41,8 +41,8 @@ paired a k b h la lb =
 
 -- ---- operators
 
-module _ (v : ℕ → ℕ) (s : State) (word p q a b : ℕ) (ea : v p ≡ a) (eb : v q ≡ b) where
-  pub binary_gives : (op : Op2) (from width : ℕ) → a < 2 ^ from → b < 2 ^ from → result_width op from ≡ width → width ≤ 64 → operation_value v s word (binary_of op from width p q) ≡ apply2_of op from a b
+module _ (v : ℕ → ℕ) (s : State) (p q a b : ℕ) (ea : v p ≡ a) (eb : v q ≡ b) where
+  pub binary_gives : (op : Op2) (from width : ℕ) → a < 2 ^ from → b < 2 ^ from → result_width op from ≡ width → width ≤ 64 → operation_value v s (binary_of op from width p q) ≡ apply2_of op from a b
   binary_gives Add from width ha hb e h =
       rw (ea, eb, ← e) (masked (a + b) from (subst (λ n. n ≤ 64) (sym e) h))
   binary_gives Sub from width ha hb e h =
@@ -95,10 +95,10 @@ module _ (v f w : ℕ → ℕ) (nowhere : v 4294967295 ≡ 0) where
   search_gives key [] (Some rest) h = h.0
   search_gives key (row ∷ rows) rest h = rw (h.0, search_gives key rows rest h.1) refl
 
-  choice_gives : (s : State) (word bits sel : ℕ) (rows : List (ℕ × ℕ)) (rest : Option ℕ) → w sel < 2 ^ bits → v (f sel) ≡ w sel → Stands v f w (row_nets rows rest) → operation_value v s word (choice_of f bits sel rows rest) ≡ case_value w (w sel) rows rest
-  choice_gives s word bits sel rows rest lt e h = by_case (nat_le bits 8)
+  choice_gives : (s : State) (bits sel : ℕ) (rows : List (ℕ × ℕ)) (rest : Option ℕ) → w sel < 2 ^ bits → v (f sel) ≡ w sel → Stands v f w (row_nets rows rest) → operation_value v s (choice_of f bits sel rows rest) ≡ case_value w (w sel) rows rest
+  choice_gives s bits sel rows rest lt e h = by_case (nat_le bits 8)
     where
-      by_case : (t : Bool) → operation_value v s word (cond t (Table (f sel) (table_of f rows rest (2 ^ bits))) (Search (f sel) (rows_by f rows) (optional f rest))) ≡ case_value w (w sel) rows rest
+      by_case : (t : Bool) → operation_value v s (cond t (Table (f sel) (table_of f rows rest (2 ^ bits))) (Search (f sel) (rows_by f rows) (optional f rest))) ≡ case_value w (w sel) rows rest
       by_case true = rw e (ap v (table_at f rows rest (2 ^ bits) (w sel) 4294967295 lt) ∙ chosen_gives (w sel) rows rest h)
       by_case false = rw e (search_gives (w sel) rows rest h)
 
@@ -112,21 +112,21 @@ bus_gives v f w (driver ∷ drivers) h = rw (h.0, h.1.0, bus_gives v f w drivers
 -- standing there
 abbrev pub Gives : (v w : ℕ → ℕ) (netlist : Netlist) (s : State) (word width : ℕ) → Gate → Option Operation → Type 0
 Gives v w netlist s word width gate None =
-    IsPlainGate gate → (x : ℕ) → HoldsGate gate x → x ≡ gate_value w netlist s word width gate
+    IsPlainGate gate → (x : ℕ) → StandsGate s word gate x → x ≡ gate_value w netlist s word width gate
 Gives v w netlist s word width gate (Some operation) =
-    operation_value v s word operation ≡ gate_value w netlist s word width gate
+    operation_value v s operation ≡ gate_value w netlist s word width gate
 
 module _ (netlist : Netlist) (typed : IsTyped netlist) (f : ℕ → ℕ) where
   pub gives : (v w : ℕ → ℕ) (s : State) (word width : ℕ) (gate : Gate) → v 4294967295 ≡ 0 → ((m : ℕ) → w m < 2 ^ width_at netlist m) → GateFits netlist width gate → width ≤ 64 → Stands v f w (gate_nets gate) → Gives v w netlist s word width gate (decoded netlist f width gate)
-  gives v w s word width (Word code) z fits g high h = refl
-  gives v w s word width (Reg id) z fits g high h = refl
+  gives v w s word width (Word code) z fits g high h = λ p x e. e
+  gives v w s word width (Reg id) z fits g high h = λ p x e. e
   gives v w s word width (Read memory addr) z fits g high h = ap (slice_index s.cells) h.0
   gives v w s word width (Const c) z fits g high h = λ p x e. e
   gives v w s word width (Wire a) z fits g high h = λ p x e. absurd p
   gives v w s word width (Un op a) z fits g high h =
       ap (apply1_of op width) (low_same (v (f a)) (w a) width h.0 (subst (λ n. w a < 2 ^ n) g.1 (fits a)))
   gives v w s word width (Bin op a b) z fits g high h =
-      binary_gives v s word (f a) (f b) (w a) (w b) h.0 h.1.0 op (width_at netlist a) width (fits a) (subst (λ n. w b < 2 ^ n) g.1.1 (fits b)) g.2 high
+      binary_gives v s (f a) (f b) (w a) (w b) h.0 h.1.0 op (width_at netlist a) width (fits a) (subst (λ n. w b < 2 ^ n) g.1.1 (fits b)) g.2 high
   gives v w s word width (Slice of hi lo) z fits g high h =
       ap (λ n. bit_and (n / 2 ^ lo) (2 ^ width - 1)) h.0
       ∙ and_mask (w of / 2 ^ lo) width
@@ -138,7 +138,7 @@ module _ (netlist : Netlist) (typed : IsTyped netlist) (f : ℕ → ℕ) where
   gives v w s word width (Sext a) z fits g high h =
       ap (λ n. sext_of n (width_at netlist a) width) (low_same (v (f a)) (w a) (width_at netlist a) h.0 (fits a))
   gives v w s word width (Case sel rows rest) z fits g high h =
-      choice_gives v f w z s word (width_at netlist sel) sel rows rest (fits sel) h.0 h.1
+      choice_gives v f w z s (width_at netlist sel) sel rows rest (fits sel) h.0 h.1
   gives v w s word width (Bus drivers) z fits g high h = bus_gives v f w drivers h
 
   -- ---- the places and the widths of an operation

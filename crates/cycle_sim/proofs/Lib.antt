@@ -1,4 +1,5 @@
 pub mod Edges
 pub mod Gates
 pub mod Runs
+pub mod Inlets
 pub mod Programs

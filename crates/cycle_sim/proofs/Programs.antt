@@ -21,12 +21,13 @@ use Rattle.cycle_sim.specs.declared.edge.BusDrivers.{BusDrivers}
 use Rattle.cycle_sim.specs.declared.edge.Port.{Port}
 use Rattle.cycle_sim.specs.declared.program.Program.{Program}
 use Rattle.cycle_sim.specs.Clocks.{cell_net}
-use Rattle.cycle_sim.specs.Inner.Decoding.{buses_from, buses_with, constant_of, constants_of, drivers_by, latches_by, optional, port_by, source_in}
-use Rattle.cycle_sim.specs.Inner.Operations.{run_of}
+use Rattle.cycle_sim.specs.Inner.Decoding.{buses_from, buses_with, constant_of, constants_of, drivers_by, inlets_from, latches_by, optional, port_by, source_in}
+use Rattle.cycle_sim.specs.Inner.Operations.{AreWithin, filled, run_of}
 use Rattle.cycle_sim.specs.Inner.Ports.{cell_by, cells_by, port_of, memory_port_width, HasPortWidth}
-use Rattle.cycle_sim.specs.Inner.Programs.{clash_by, regs_by, AreSources, RunsAs, HoldsNet, HoldsGate, IsPlain, IsPlainGate, IsProgram, IsRoom, Runs}
+use Rattle.cycle_sim.specs.Inner.Programs.{clash_by, regs_by, AreSources, RunsAs, HoldsNet, HoldsGate, IsFilled, IsPlain, IsPlainGate, IsProgram, IsRoom, Runs}
 use Rattle.cycle_sim.specs.Inner.Running.{IsRunning}
 use Rattle.cycle_sim.proofs.Edges.{words_fit_at}
+use Rattle.cycle_sim.proofs.Inlets.{inlets_below, is_filled}
 use Rattle.cycle_sim.proofs.Runs.{run_long}
 
 -- ---- buses, registers and memory over places
@@ -83,23 +84,23 @@ past_zero : (netlist : Netlist) (s : State) (word k n : ℕ) → slice_get netli
 past_zero netlist s word zero n e = refl
 past_zero netlist s word (suc k) n e = ap (net_value (value_within k netlist s word) netlist s word) e
 
-module _ (netlist : Netlist) (order : List ℕ) (o : IsOrder netlist order) (typed : IsTyped netlist) (program : Program) (r : Runs netlist program.instructions) (s : State) (word : ℕ) (room : List ℕ) (fit : StateFits netlist s) (w : WordFits netlist word) (h : IsRoom netlist room) where
+module _ (netlist : Netlist) (order : List ℕ) (o : IsOrder netlist order) (typed : IsTyped netlist) (program : Program) (r : Runs netlist program.instructions) (s : State) (word : ℕ) (room : List ℕ) (fit : StateFits netlist s) (w : WordFits netlist word) (h : IsFilled netlist s word room) where
   -- each net's value stands at its place
-  stand : (sources : List ℕ) → AreSources netlist order sources → (m : ℕ) → slice_index (run_of s word program.instructions room) (source_in sources m) ≡ value_of netlist s word m
+  stand : (sources : List ℕ) → AreSources netlist order sources → (m : ℕ) → slice_index (run_of s program.instructions room) (source_in sources m) ≡ value_of netlist s word m
   stand sources places m =
-      elim (slice_get_cases netlist.nets m).1 as (λ _. slice_index (run_of s word program.instructions room) (source_in sources m) ≡ value_of netlist s word m) [
+      elim (slice_get_cases netlist.nets m).1 as (λ _. slice_index (run_of s program.instructions room) (source_in sources m) ≡ value_of netlist s word m) [
         | inl x ↦
             let p = places.each m x.1 in
             r.right s word room fit w h (source_in sources m) p.within p.plain ∙ p.same s word
         | inr x ↦
             let q : source_in sources m ≡ 4294967295 = get_or_past sources m 4294967295 (omega (arith, x.0, places.long)) in
-            ap (slice_index (run_of s word program.instructions room)) q
-            ∙ get_or_past (run_of s word program.instructions room) 4294967295 0 (omega (arith, run_long s word program.instructions room, h.long, typed.few))
+            ap (slice_index (run_of s program.instructions room)) q
+            ∙ get_or_past (run_of s program.instructions room) 4294967295 0 (omega (arith, run_long s program.instructions room, h.long, typed.few))
             ∙ sym (past_zero netlist s word (length netlist.nets) m x.1)
       ]
 
   -- constants still stand
-  constant_holds : (n : ℕ) (net : Net) → slice_get netlist.nets n ≡ Some net → n < length netlist.nets → (gate : Gate) → gate ≡ net.gate → HoldsGate gate (slice_index (run_of s word program.instructions room) n)
+  constant_holds : (n : ℕ) (net : Net) → slice_get netlist.nets n ≡ Some net → n < length netlist.nets → (gate : Gate) → gate ≡ net.gate → HoldsGate gate (slice_index (run_of s program.instructions room) n)
   constant_holds n net there within (Const c) e =
       r.right s word room fit w h n within (subst (λ x. IsPlain x) (sym there) (subst (λ g. IsPlainGate g) e tt))
       ∙ value_is netlist s word order o n within
@@ -107,19 +108,19 @@ module _ (netlist : Netlist) (order : List ℕ) (o : IsOrder netlist order) (typ
       ∙ sym (ap (gate_value (value_of netlist s word) netlist s word net.width) e)
   constant_holds n net there within gate e = tt
 
-  still_room : IsRoom netlist (run_of s word program.instructions room)
+  still_room : IsRoom netlist (run_of s program.instructions room)
   still_room = record {
-    long = run_long s word program.instructions room ∙ h.long;
+    long = run_long s program.instructions room ∙ h.long;
     constants = λ n.
-        elim (slice_get_cases netlist.nets n).1 as (λ _. HoldsNet (slice_get netlist.nets n) (slice_index (run_of s word program.instructions room) n)) [
-          | inl x ↦ subst (λ y. HoldsNet y (slice_index (run_of s word program.instructions room) n)) (sym x.2) (constant_holds n x.0 x.2 x.1 x.0.gate refl)
-          | inr x ↦ subst (λ y. HoldsNet y (slice_index (run_of s word program.instructions room) n)) (sym x.1) tt
+        elim (slice_get_cases netlist.nets n).1 as (λ _. HoldsNet (slice_get netlist.nets n) (slice_index (run_of s program.instructions room) n)) [
+          | inl x ↦ subst (λ y. HoldsNet y (slice_index (run_of s program.instructions room) n)) (sym x.2) (constant_holds n x.0 x.2 x.1 x.0.gate refl)
+          | inr x ↦ subst (λ y. HoldsNet y (slice_index (run_of s program.instructions room) n)) (sym x.1) tt
         ];
   }
 
-  pub follows : (sources : List ℕ) → AreSources netlist order sources → program.latches ≡ latches_by (source_in sources) netlist.storages → program.buses ≡ buses_from (source_in sources) 0 netlist.nets → program.port ≡ port_by (source_in sources) (port_of netlist.storages) → RunsAs netlist s word (run_of s word program.instructions room) program
+  pub follows : (sources : List ℕ) → AreSources netlist order sources → program.latches ≡ latches_by (source_in sources) netlist.storages → program.buses ≡ buses_from (source_in sources) 0 netlist.nets → program.port ≡ port_by (source_in sources) (port_of netlist.storages) → RunsAs netlist s word (run_of s program.instructions room) program
   follows sources places l b p =
-      let v : ℕ → ℕ = slice_index (run_of s word program.instructions room) in
+      let v : ℕ → ℕ = slice_index (run_of s program.instructions room) in
       let all : (λ m. v (source_in sources m)) ≡ value_of netlist s word = fun_ext (stand sources places) in
       record {
         room = still_room;
@@ -133,11 +134,15 @@ module _ (netlist : Netlist) (order : List ℕ) (o : IsOrder netlist order) (typ
         written = λ size. ap (λ x. cell_by v x size) p ∙ cell_is v (source_in sources) netlist.storages size ∙ ap (λ u. cell_net u netlist.storages size) all;
       }
 
-pub is_program : (netlist : Netlist) (order : List ℕ) → IsOrder netlist order → IsTyped netlist → (program : Program) → Runs netlist program.instructions → (sources : List ℕ) → AreSources netlist order sources → program.latches ≡ latches_by (source_in sources) netlist.storages → program.buses ≡ buses_from (source_in sources) 0 netlist.nets → program.port ≡ port_by (source_in sources) (port_of netlist.storages) → IsProgram netlist program
-is_program netlist order o typed program r sources places l b p = record {
+pub is_program : (netlist : Netlist) (order : List ℕ) → IsOrder netlist order → IsTyped netlist → (program : Program) → Runs netlist program.instructions → program.inlets ≡ inlets_from 0 netlist.nets → (sources : List ℕ) → AreSources netlist order sources → program.latches ≡ latches_by (source_in sources) netlist.storages → program.buses ≡ buses_from (source_in sources) 0 netlist.nets → program.port ≡ port_by (source_in sources) (port_of netlist.storages) → IsProgram netlist program
+is_program netlist order o typed program r i sources places l b p = record {
+  within = subst (λ inlets. AreWithin (length netlist.nets) inlets) (sym i) (inlets_below 0 netlist.nets (length netlist.nets) (omega arith));
   ready = r.ready;
   long = ap length l ∙ latches_long (source_in sources) netlist.storages;
-  follows = λ s word room fit w h. follows netlist order o typed program r s word room fit w h sources places l b p;
+  follows = λ s word room fit w h.
+      follows netlist order o typed program r s word (filled s.regs word program.inlets room) fit w
+      (subst (λ inlets. IsFilled netlist s word (filled s.regs word inlets room)) (sym i) (is_filled netlist s word room h))
+      sources places l b p;
 }
 
 -- ---- the first room
@@ -162,7 +167,7 @@ constants_room netlist = record { long = constants_long netlist.nets; constants 
 
 module _ (netlist : Netlist) (words : List ℕ) (s : State) (program : Program) (room : List ℕ) (h : IsRunning netlist words s program room) (values : List ℕ) where
   -- what the instructions leave
-  pub ran : values ≡ run_of s (word_at netlist words s) program.instructions room → RunsAs netlist s (word_at netlist words s) values program
+  pub ran : values ≡ run_of s program.instructions (filled s.regs (word_at netlist words s) program.inlets room) → RunsAs netlist s (word_at netlist words s) values program
   ran e =
       subst (λ l. RunsAs netlist s (word_at netlist words s) l program) (sym e)
       (h.decoded.follows s (word_at netlist words s) room h.state.fits (words_fit_at netlist words h.words_fit _) h.room)

@@ -20,7 +20,7 @@ use Rattle.cycle_sim.specs.declared.operation.Instruction.{Instruction}
 use Rattle.cycle_sim.specs.declared.operation.Operation.{Operation}
 use Rattle.cycle_sim.specs.Inner.Operations.{AreReady, HasOperands, operation_value, run_of}
 use Rattle.cycle_sim.specs.Inner.Decoding.{decoded, source_in, source_of}
-use Rattle.cycle_sim.specs.Inner.Programs.{added, AreSources, HoldsNet, IsPlain, IsPlainGate, IsRoom, IsSource, Runs}
+use Rattle.cycle_sim.specs.Inner.Programs.{added, AreSources, IsFilled, IsPlain, IsPlainGate, IsSource, Runs, StandsNet}
 use Rattle.cycle_sim.proofs.Gates.{Gives, gives, OptionReady, decoded_ready}
 
 -- ---- the place of a net
@@ -75,17 +75,17 @@ sources_done netlist order o sources long done = record { long = long; each = λ
 
 -- ---- a run
 
-module _ (s : State) (word : ℕ) where
-  pub run_long : (instructions : List Instruction) (values : List ℕ) → length (run_of s word instructions values) ≡ length values
+module _ (s : State) where
+  pub run_long : (instructions : List Instruction) (values : List ℕ) → length (run_of s instructions values) ≡ length values
   run_long [] values = refl
   run_long (instruction ∷ instructions) values = run_long instructions _ ∙ length-set _ _ _
 
-  run_more : (instructions : List Instruction) (last : Instruction) (values : List ℕ) → run_of s word (instructions ++ last ∷ []) values ≡ slice_set (run_of s word instructions values) last.place (operation_value (slice_index (run_of s word instructions values)) s word last.operation)
+  run_more : (instructions : List Instruction) (last : Instruction) (values : List ℕ) → run_of s (instructions ++ last ∷ []) values ≡ slice_set (run_of s instructions values) last.place (operation_value (slice_index (run_of s instructions values)) s last.operation)
   run_more [] last values = refl
   run_more (instruction ∷ instructions) last values = run_more instructions last _
 
   -- what is written nowhere stays
-  run_other : (n : ℕ) (instructions : List Instruction) (values : List ℕ) → AllByRecursion (λ (instruction : Instruction). n ≢ instruction.place) instructions → slice_index (run_of s word instructions values) n ≡ slice_index values n
+  run_other : (n : ℕ) (instructions : List Instruction) (values : List ℕ) → AllByRecursion (λ (instruction : Instruction). n ≢ instruction.place) instructions → slice_index (run_of s instructions values) n ≡ slice_index values n
   run_other n [] values h = refl
   run_other n (instruction ∷ instructions) values h =
       run_other n instructions _ h.1 ∙ get_or-set_other values instruction.place n _ 0 h.0
@@ -94,7 +94,7 @@ module _ (s : State) (word : ℕ) where
 pub record Built (netlist : Netlist) (order : List ℕ) (i : ℕ) (instructions : List Instruction) : Type 0 where
   pub ready : AreReady (length netlist.nets) instructions
   pub before : AllByRecursion (λ (instruction : Instruction). position_of order instruction.place < i) instructions
-  pub right : (s : State) (word : ℕ) (room : List ℕ) → StateFits netlist s → WordFits netlist word → IsRoom netlist room → (n : ℕ) → position_of order n < i → IsPlain (slice_get netlist.nets n) → slice_index (run_of s word instructions room) n ≡ value_of netlist s word n
+  pub right : (s : State) (word : ℕ) (room : List ℕ) → StateFits netlist s → WordFits netlist word → IsFilled netlist s word room → (n : ℕ) → position_of order n < i → IsPlain (slice_get netlist.nets n) → slice_index (run_of s instructions room) n ≡ value_of netlist s word n
 
 pub none_built : (netlist : Netlist) (order : List ℕ) → Built netlist order 0 []
 none_built netlist order = record { ready = tt; before = tt; right = λ s word room f w r n h. absurd (omega (arith, h)) }
@@ -112,24 +112,24 @@ module _ (netlist : Netlist) (order : List ℕ) (o : IsOrder netlist order) (typ
   fits_turn : NetFits netlist (Some net)
   fits_turn = subst (λ r. NetFits netlist r) at_turn (typed.nets (slice_index order i))
 
-  module _ (s : State) (word : ℕ) (room : List ℕ) (f : StateFits netlist s) (w : WordFits netlist word) (r : IsRoom netlist room) where
+  module _ (s : State) (word : ℕ) (room : List ℕ) (f : StateFits netlist s) (w : WordFits netlist word) (r : IsFilled netlist s word room) where
     -- a net before this one stands at its place
-    stands : (m : ℕ) → position_of order m < i → slice_index (run_of s word instructions room) (source_in sources m) ≡ value_of netlist s word m
+    stands : (m : ℕ) → position_of order m < i → slice_index (run_of s instructions room) (source_in sources m) ≡ value_of netlist s word m
     stands m h =
         let q : slice_index order (position_of order m) ≡ m = at_place order m (omega (arith, h, lt)) in
         let k : slice_index order (position_of order m) < length netlist.nets = o.nets (position_of order m) (omega (arith, h, lt)) in
         let p = places.each m (subst (λ j. j < length netlist.nets) q k) in
         b.right s word room f w r (source_in sources m) (omega (arith, p.earlier, h)) p.plain ∙ p.same s word
 
-    nowhere : slice_index (run_of s word instructions room) 4294967295 ≡ 0
+    nowhere : slice_index (run_of s instructions room) 4294967295 ≡ 0
     nowhere =
-        get_or_past (run_of s word instructions room) 4294967295 0 (omega (arith, run_long s word instructions room, r.long, typed.few))
+        get_or_past (run_of s instructions room) 4294967295 0 (omega (arith, run_long s instructions room, r.long, typed.few))
 
-    turn_gives : Gives (slice_index (run_of s word instructions room)) (value_of netlist s word) netlist s word net.width net.gate (decoded netlist (source_in sources) net.width net.gate)
+    turn_gives : Gives (slice_index (run_of s instructions room)) (value_of netlist s word) netlist s word net.width net.gate (decoded netlist (source_in sources) net.width net.gate)
     turn_gives =
-        gives netlist typed (source_in sources) (slice_index (run_of s word instructions room)) (value_of netlist s word) s word net.width net.gate nowhere
+        gives netlist typed (source_in sources) (slice_index (run_of s instructions room)) (value_of netlist s word) s word net.width net.gate nowhere
         (value_fits netlist s word typed f w (length netlist.nets)) fits_turn.2 fits_turn.1
-        (all_weaker (λ m. position_of order m < position_of order (slice_index order i)) (λ m. slice_index (run_of s word instructions room) (source_in sources m) ≡ value_of netlist s word m)
+        (all_weaker (λ m. position_of order m < position_of order (slice_index order i)) (λ m. slice_index (run_of s instructions room) (source_in sources m) ≡ value_of netlist s word m)
         (λ m h. stands m (omega (arith, h, place_at order i lt)))
         (gate_nets net.gate) (below netlist order o (slice_index order i) net at_turn (o.nets i lt) net.gate refl))
 
@@ -137,32 +137,32 @@ module _ (netlist : Netlist) (order : List ℕ) (o : IsOrder netlist order) (typ
     turn_equation = equation netlist order o (slice_index order i) net at_turn (o.nets i lt) net.gate refl s word
 
     -- a net without an instruction stands there from the start
-    turn_none : Gives (slice_index (run_of s word instructions room)) (value_of netlist s word) netlist s word net.width net.gate None → (n : ℕ) → position_of order n < i + 1 → IsPlain (slice_get netlist.nets n) → slice_index (run_of s word instructions room) n ≡ value_of netlist s word n
+    turn_none : Gives (slice_index (run_of s instructions room)) (value_of netlist s word) netlist s word net.width net.gate None → (n : ℕ) → position_of order n < i + 1 → IsPlain (slice_get netlist.nets n) → slice_index (run_of s instructions room) n ≡ value_of netlist s word n
     turn_none g n h p =
-        elim (cases_lt (position_of order n) i) as (λ _. slice_index (run_of s word instructions room) n ≡ value_of netlist s word n) [
+        elim (cases_lt (position_of order n) i) as (λ _. slice_index (run_of s instructions room) n ≡ value_of netlist s word n) [
           | inl k ↦ b.right s word room f w r n k p
           | inr k ↦
               let q : slice_index order (position_of order n) ≡ n = at_place order n (omega (arith, h, lt)) in
               let e : position_of order n ≡ i = omega (arith, h, k) in
               let e' : slice_index order i ≡ n = ap (slice_index order) (sym e) ∙ q in
               let there : slice_get netlist.nets n ≡ Some net = ap (slice_get netlist.nets) (sym e') ∙ at_turn in
-              run_other s word n instructions room
+              run_other s n instructions room
               (all_weaker (λ (instruction : Instruction). position_of order instruction.place < i) (λ (instruction : Instruction). n ≢ instruction.place)
               (λ (instruction : Instruction) (l : position_of order instruction.place < i) (d : n ≡ instruction.place). absurd (omega (arith, l, k, ap (position_of order) d)))
               instructions b.before)
-              ∙ g (subst (λ r. IsPlain r) there p) (slice_index room n) (subst (λ r. HoldsNet r (slice_index room n)) there (r.constants n))
+              ∙ g (subst (λ r. IsPlain r) there p) (slice_index room n) (subst (λ r. StandsNet s word r (slice_index room n)) there (r.stands n))
               ∙ sym turn_equation
               ∙ ap (value_of netlist s word) e'
         ]
 
-    turn_some : (operation : Operation) → Gives (slice_index (run_of s word instructions room)) (value_of netlist s word) netlist s word net.width net.gate (Some operation) → (n : ℕ) → position_of order n < i + 1 → IsPlain (slice_get netlist.nets n) → slice_index (slice_set (run_of s word instructions room) (slice_index order i) (operation_value (slice_index (run_of s word instructions room)) s word operation)) n ≡ value_of netlist s word n
+    turn_some : (operation : Operation) → Gives (slice_index (run_of s instructions room)) (value_of netlist s word) netlist s word net.width net.gate (Some operation) → (n : ℕ) → position_of order n < i + 1 → IsPlain (slice_get netlist.nets n) → slice_index (slice_set (run_of s instructions room) (slice_index order i) (operation_value (slice_index (run_of s instructions room)) s operation)) n ≡ value_of netlist s word n
     turn_some operation g n h =
         one_more netlist order o (λ (m v : ℕ). IsPlain (slice_get netlist.nets m) → v ≡ value_of netlist s word m)
-        (run_of s word instructions room) 0 _ i lt (run_long s word instructions room ∙ r.long)
+        (run_of s instructions room) 0 _ i lt (run_long s instructions room ∙ r.long)
         (λ m k p. b.right s word room f w r m k p) (λ p. g ∙ sym turn_equation) n h
 
   -- one more net of the order
-  added_built : (d : Option Operation) → OptionReady netlist typed (source_in sources) (length netlist.nets) (λ m h. (places.each m h).within) d → ((s : State) (word : ℕ) (room : List ℕ) → StateFits netlist s → WordFits netlist word → IsRoom netlist room → Gives (slice_index (run_of s word instructions room)) (value_of netlist s word) netlist s word net.width net.gate d) → Built netlist order (i + 1) (added (slice_index order i) d instructions)
+  added_built : (d : Option Operation) → OptionReady netlist typed (source_in sources) (length netlist.nets) (λ m h. (places.each m h).within) d → ((s : State) (word : ℕ) (room : List ℕ) → StateFits netlist s → WordFits netlist word → IsFilled netlist s word room → Gives (slice_index (run_of s instructions room)) (value_of netlist s word) netlist s word net.width net.gate d) → Built netlist order (i + 1) (added (slice_index order i) d instructions)
   added_built None y g = record {
     ready = b.ready;
     before = all_weaker (λ (instruction : Instruction). position_of order instruction.place < i) (λ (instruction : Instruction). position_of order instruction.place < i + 1) (λ instruction h. omega (arith, h)) instructions b.before;
@@ -171,7 +171,7 @@ module _ (netlist : Netlist) (order : List ℕ) (o : IsOrder netlist order) (typ
   added_built (Some operation) y g = record {
     ready = all_append (λ (instruction : Instruction). (instruction.place < length netlist.nets) × HasOperands (length netlist.nets) instruction.operation) instructions _ b.ready ((o.nets i lt, y), tt);
     before = all_append (λ (instruction : Instruction). position_of order instruction.place < i + 1) instructions _ (all_weaker (λ (instruction : Instruction). position_of order instruction.place < i) (λ (instruction : Instruction). position_of order instruction.place < i + 1) (λ instruction h. omega (arith, h)) instructions b.before) (omega (arith, place_at order i lt), tt);
-    right = λ s word room f w r n h p. ap (λ l. slice_index l n) (run_more s word instructions _ room) ∙ turn_some s word room f w r operation (g s word room f w r) n h p;
+    right = λ s word room f w r n h p. ap (λ l. slice_index l n) (run_more s instructions _ room) ∙ turn_some s word room f w r operation (g s word room f w r) n h p;
   }
 
   pub turn_built : Built netlist order (i + 1) (added (slice_index order i) (decoded netlist (source_in sources) net.width net.gate) instructions)

@@ -1,10 +1,10 @@
 // Gates, storages and buses decoded once, over the places where the values of nets stand.
 
 ghost use Rattle.std.specs.Prelude.{◌≡◌, ◌<◌, ◌^◌, ◌≤◌, IfOk, length};
-ghost use Rattle.cycle_sim.specs.Inner.Decoding.{binary_of, buses_from, choice_of, chosen, constants_of, decoded, drivers_by, latches_by, latch_by, constant_of, optional, port_by, rows_by, source_in, source_of, table_of};
+ghost use Rattle.cycle_sim.specs.Inner.Decoding.{binary_of, buses_from, choice_of, chosen, constants_of, decoded, drivers_by, latches_by, latch_by, constant_of, inlets_from, optional, port_by, rows_by, source_in, source_of, table_of};
 
 use crate::edge::{BusDrivers, Latch, Port};
-use crate::operation::{NOWHERE, Operation, place_at};
+use crate::operation::{Inlet, NOWHERE, Operation, place_at};
 use crate::values::net_width;
 use net_model::{Gate, Net, Netlist, Storage};
 use rec_bits::{Items, NoMemory, Op2, mask};
@@ -39,7 +39,8 @@ pub(crate) fn source_of(sources: &[u32], id: u32, gate: &Gate) -> u32
     }
 }
 
-/// What a gate does at a clock, or None for a constant and where the value stands at its source.
+/// What a gate does at a clock, or None for a constant, for what an inlet takes, and where the
+/// value stands at its source.
 pub(crate) fn decode(
     alloc: Global,
     netlist: &Netlist,
@@ -51,10 +52,8 @@ pub(crate) fn decode(
     ensures { IfOk result (λ operation. operation ≡ decoded netlist.now (source_in sources.now) net.now.width net.now.gate) }
 {
     match &net.gate {
-        Gate::Word(_) => Ok(Some(Operation::Fetch)),
-        Gate::Reg(id) => Ok(Some(Operation::Load(*id))),
         Gate::Read { memory: _, addr } => Ok(Some(Operation::Recall(source_at(sources, *addr)))),
-        Gate::Const(_) | Gate::Wire(_) | Gate::Zext(_) => Ok(None),
+        Gate::Word(_) | Gate::Reg(_) | Gate::Const(_) | Gate::Wire(_) | Gate::Zext(_) => Ok(None),
         Gate::Un(op, a) => Ok(Some(Operation::Unary {
             op: *op,
             width: net.width,
@@ -212,11 +211,11 @@ fn constant_of(gate: &Gate) -> u64
 }
 
 /// The constants in their places, and 0 elsewhere.
-pub(crate) fn constants(alloc: Global, nets: &[Net]) -> Result<Items<u64>, NoMemory>
-    ensures { IfOk result (λ values. values ≡ constants_of nets.now) }
+pub(crate) fn constants(alloc: Global, nets: &[Net]) -> Result<Vec<u64>, NoMemory>
+    ensures { IfOk result (λ values. values.items ≡ constants_of nets.now) }
 {
     let values = nets.iter().map(|net| constant_of(&net.gate));
-    Ok(Items::from_vec(values.collect(alloc)?))
+    Ok(values.collect(alloc)?)
 }
 
 fn latch_of(sources: &[u32], storage: &Storage) -> Latch
@@ -259,6 +258,26 @@ pub(crate) fn routed(sources: &[u32], port: Option<Port>) -> Option<Port>
         }),
         None => None,
     }
+}
+
+/// The inlets: the places of the instruction word and of registers.
+pub(crate) fn inlets(alloc: Global, nets: &[Net]) -> Result<Items<Inlet>, NoMemory>
+    requires { length nets.now < 2 ^ 32 }
+    ensures { IfOk result (λ inlets. inlets ≡ inlets_from 0 nets.now) }
+{
+    let mut inlets = Items::new(alloc);
+    for (at, net) in nets.iter().enumerate() {
+        let storage = match &net.gate {
+            Gate::Word(_) => None,
+            Gate::Reg(id) => Some(*id),
+            _ => continue,
+        };
+        inlets.push(Inlet {
+            place: at as u32,
+            storage,
+        })?;
+    }
+    Ok(inlets)
 }
 
 /// The buses with their drivers' places.

@@ -13,13 +13,15 @@
 //!
 //! A netlist is decoded once, when its simulator is made. Wires, and nets with zeros above another,
 //! have no place in the array, since what names them goes to their source; constants are written
-//! once; widths have become masks; a case over at most 8 bits looks its place up in a table.
+//! once; the instruction word and the registers are copied to their places (inlets) before the
+//! instructions run, which saves an instruction for each; widths have become masks; a case over at
+//! most 8 bits looks its place up in a table.
 //!
 //! Files:
 //!
 //! - `values`: the values of all nets, each evaluated once, in the order of the checked netlist, as
 //!   `word_moves` asks for them.
-//! - `operation`: what an instruction is, and a run of many.
+//! - `operation`: what inlets and instructions are, and a run of many.
 //! - `decode`: gates, storages and buses turned into operations over places of one array.
 //! - `program`: the instructions of a netlist, in the order of its nets.
 //! - `edge`: what a clock does, given the array: clashes, registers, the memory.
@@ -27,8 +29,9 @@
 //! - `specs/`, cited by public contracts: `Clocks` and `Shown` (what contracts see of a simulator).
 //!   `specs/Inner/`: `Running`, `Ports`, `Operations`, `Decoding` and `Programs`, for the
 //!   invariant.
-//! - `proofs/`: `Gates`: an instruction gives its net's value; `Runs`: so do all of them;
-//!   `Programs`: and so a program is one of its netlist; `Edges`: a clock, from the array.
+//! - `proofs/`: `Inlets`: what stands in the array before the instructions; `Gates`: an instruction
+//!   gives its net's value; `Runs`: so do all of them; `Programs`: and so a program is one of its
+//!   netlist; `Edges`: a clock, from the array.
 #![tactic(auto)]
 
 mod decode;

@@ -2,7 +2,7 @@
 
 ghost use Rattle.std.specs.Prelude.{◌≡◌, ◌%◌, ◌^◌, ◌<◌, ◌≤◌, length, slice_index, slice_index_or};
 ghost use Rattle.rec_bits.specs.Operators.{apply1_of, apply2_of, sext_of};
-ghost use Rattle.cycle_sim.specs.Inner.Operations.{AreReady, HasOperands, operation_value, run_of};
+ghost use Rattle.cycle_sim.specs.Inner.Operations.{AreReady, AreWithin, HasOperands, filled, inlet_value, operation_value, run_of};
 
 use crate::values::{bus_of, case_of, number_at, value_at};
 use net_model::State;
@@ -15,10 +15,6 @@ pub(crate) const NOWHERE: u32 = 4_294_967_295;
 /// of the result.
 #[derive(Drop)]
 pub(crate) enum Operation {
-    /// The instruction word.
-    Fetch,
-    /// The state of the storage with this number.
-    Load(u32),
     /// The data memory's cell at an address.
     Recall(u32),
     Sum {
@@ -95,6 +91,14 @@ pub(crate) struct Instruction {
     pub operation: Operation,
 }
 
+/// A place that takes its number before the instructions run.
+#[derive(Clone, Copy)]
+pub(crate) struct Inlet {
+    pub place: u32,
+    /// The storage whose state it takes; without one it takes the instruction word.
+    pub storage: Option<u32>,
+}
+
 /// The place that a list has at an index.
 pub(crate) fn place_at(places: &[u32], index: u64) -> u32
     ensures { result ≡ slice_index_or places.now index 4294967295 }
@@ -124,13 +128,11 @@ fn operand(values: &[u64], place: u32) -> u64
 }
 
 // The number that an operation gives.
-fn operate(operation: &Operation, state: &State, word: u64, values: &[u64]) -> u64
+fn operate(operation: &Operation, state: &State, values: &[u64]) -> u64
     requires { HasOperands (length values.now) operation.now }
-    ensures { result ≡ operation_value (slice_index values.now) state.now word operation.now }
+    ensures { result ≡ operation_value (slice_index values.now) state.now operation.now }
 {
     match operation {
-        Operation::Fetch => word,
-        Operation::Load(id) => value_at(state.regs.as_slice(), *id),
         Operation::Recall(addr) => number_at(state.cells.as_slice(), operand(values, *addr)),
         Operation::Sum { a, b, mask } => {
             operand(values, *a).wrapping_add(operand(values, *b)) & *mask
@@ -195,16 +197,36 @@ fn extension(a: u64, from: u8, to: u8) -> u64
     sext(low_bits(from, a), from, to)
 }
 
+fn inlet_value(regs: &[u64], word: u64, storage: Option<u32>) -> u64
+    ensures { result ≡ inlet_value regs.now word storage }
+{
+    match storage {
+        Some(id) => value_at(regs, id),
+        None => word,
+    }
+}
+
+/// Gives the inlets their numbers.
+pub(crate) fn fill(inlets: &[Inlet], regs: &[u64], word: u64, values: &mut [u64])
+    requires { AreWithin (length values.old) inlets.now }
+    ensures { values.new ≡ filled regs.now word inlets.now values.old }
+{
+    for inlet in inlets {
+        values[inlet.place as usize] = inlet_value(regs, word, inlet.storage);
+    }
+}
+
 /// Runs the instructions in their order.
 // its few values stay in registers where it is a function of its own
 #[inline(never)]
-pub(crate) fn run(instructions: &[Instruction], state: &State, word: u64, values: &mut Items<u64>)
+pub(crate) fn run(instructions: &[Instruction], state: &State, values: &mut [u64])
     requires { AreReady (length values.old) instructions.now }
-    ensures { values.new ≡ run_of state.now word instructions.now values.old }
+    ensures { values.new ≡ run_of state.now instructions.now values.old }
 {
-    for instruction in instructions {
-        let current = values.as_slice();
-        let number = operate(&instruction.operation, state, word, current);
-        values.set(instruction.place as usize, number);
+    let mut rest = instructions;
+    while let Some((instruction, others)) = rest.split_first() {
+        let number = operate(&instruction.operation, state, values);
+        values[instruction.place as usize] = number;
+        rest = others;
     }
 }

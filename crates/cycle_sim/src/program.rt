@@ -1,14 +1,15 @@
 // A checked netlist decoded: what a simulator does at each clock.
 
-ghost use Rattle.std.specs.Prelude.{◌≡◌, IfOk, OnOk};
+ghost use Rattle.std.specs.Prelude.{◌≡◌, IfOk, OnOk, length};
 ghost use Rattle.net_model.specs.Nets.{memory_width};
+ghost use Rattle.cycle_sim.specs.Inner.Operations.{AreReady, AreWithin, filled, run_of};
 ghost use Rattle.cycle_sim.specs.Inner.Ports.{HasPortWidth, memory_port_width};
 ghost use Rattle.cycle_sim.specs.Inner.Programs.{added, AreSources, IsProgram, Runs};
 
-use crate::decode::{buses, decode, latches, routed, source_of};
+use crate::decode::{buses, decode, inlets, latches, routed, source_of};
 use crate::edge::{BusDrivers, Latch, Port, find_port};
-use crate::operation::{Instruction, Operation};
-use net_model::Checked;
+use crate::operation::{Inlet, Instruction, Operation, fill, run};
+use net_model::{Checked, State};
 use rec_bits::{Items, NoMemory};
 use std::alloc::Global;
 
@@ -16,10 +17,27 @@ use std::alloc::Global;
 /// values.
 #[derive(Drop)]
 pub(crate) struct Program {
+    pub inlets: Items<Inlet>,
     pub instructions: Items<Instruction>,
     pub latches: Items<Latch>,
     pub buses: Items<BusDrivers>,
     pub port: Option<Port>,
+}
+
+impl Program {
+    /// The numbers of all places, in a state under an instruction word.
+    pub(crate) fn run(&self, state: &State, word: u64, values: &mut Vec<u64>)
+        requires within { AreWithin (length values.old.items) self.now.inlets }
+        requires ready { AreReady (length values.old.items) self.now.instructions }
+        ensures { values.new.items ≡ run_of state.now self.now.instructions (filled state.now.regs word self.now.inlets values.old.items) }
+    {
+        let inlets = self.inlets.as_slice();
+        let regs = state.regs.as_slice();
+        let instructions = self.instructions.as_slice();
+        let places = values.as_mut_slice();
+        fill(inlets, regs, word, places);
+        run(instructions, state, places);
+    }
 }
 
 /// The program of a netlist.
@@ -29,14 +47,17 @@ pub(crate) fn program_of(alloc: Global, checked: &Checked) -> Result<Program, No
     ensures fits { IfOk result (λ program. HasPortWidth program.port) }
 {
     let netlist = checked.netlist();
+    let nets = netlist.nets.as_slice();
     let found = sources(alloc, checked)?;
     let sources = found.as_slice();
+    let inlets = inlets(alloc, nets)?;
     let instructions = instructions(alloc, checked, sources)?;
     let storages = netlist.storages.as_slice();
     let latches = latches(alloc, sources, storages)?;
-    let buses = buses(alloc, sources, netlist.nets.as_slice())?;
+    let buses = buses(alloc, sources, nets)?;
     let port = routed(sources, find_port(storages));
     Ok(Program {
+        inlets,
         instructions,
         latches,
         buses,

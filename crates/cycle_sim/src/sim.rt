@@ -11,7 +11,6 @@ ghost use Rattle.cycle_sim.specs.Inner.Ports.{HasPortWidth, memory_port_width};
 
 use crate::decode::constants;
 use crate::edge::{Port, clock_cells, clock_registers, first_clash};
-use crate::operation::run;
 use crate::program::{Program, program_of};
 use crate::values::{number_at, value_at};
 use net_model::{Checked, Netlist, State, Storage};
@@ -38,7 +37,7 @@ pub struct Sim<'a> {
     last_write: Option<u32>,
     // what a clock does, over the places of `values`
     program: Program,
-    values: Items<u64>,
+    values: Vec<u64>,
 }
 
 impl<'a> Model for Sim<'a> {
@@ -49,7 +48,7 @@ impl<'a> Model for Sim<'a> {
 
     ghost view = { λ sim. record { netlist = sim.checked.now.netlist; words = sim.words; state = sim.state; last_write = sim.last_write } };
 
-    ghost invariant = { λ sim. IsRunning sim.checked.now.netlist sim.words sim.state sim.program sim.values };
+    ghost invariant = { λ sim. IsRunning sim.checked.now.netlist sim.words sim.state sim.program sim.values.items };
 }
 
 impl<'a> Sim<'a> {
@@ -89,8 +88,7 @@ impl<'a> Sim<'a> {
     {
         let words = self.words.as_slice();
         let word = word_of(self.checked, words, &self.state);
-        let instructions = self.program.instructions.as_slice();
-        run(instructions, &self.state, word, &mut self.values);
+        self.program.run(&self.state, word, &mut self.values);
         let values = self.values.as_slice();
         let buses = self.program.buses.as_slice();
         match first_clash(values, buses) {

@@ -14,8 +14,9 @@ use Rattle.cycle_sim.specs.declared.edge.BusDrivers.{BusDrivers}
 use Rattle.cycle_sim.specs.declared.edge.Latch.{Latch}
 use Rattle.cycle_sim.specs.declared.edge.Latch.TheVariants.{Input, Held}
 use Rattle.cycle_sim.specs.declared.edge.Port.{Port}
+use Rattle.cycle_sim.specs.declared.operation.Inlet.{Inlet}
 use Rattle.cycle_sim.specs.declared.operation.Operation.{Operation}
-use Rattle.cycle_sim.specs.declared.operation.Operation.TheVariants.{Fetch, Load, Recall, Sum, Difference, Product, Conjunction, Disjunction, Exclusion, Sameness, Below, Unary, Binary, Field, Pair, Extension, Table, Search, Drive}
+use Rattle.cycle_sim.specs.declared.operation.Operation.TheVariants.{Recall, Sum, Difference, Product, Conjunction, Disjunction, Exclusion, Sameness, Below, Unary, Binary, Field, Pair, Extension, Table, Search, Drive}
 
 -- the place of a net's value, by the list of places
 abbrev pub source_in : List ℕ → ℕ → ℕ
@@ -68,10 +69,11 @@ binary_of Eq from width a b = Sameness a b
 binary_of Ltu from width a b = Below a b
 binary_of op from width a b = Binary op from a b
 
--- what a gate does at a clock; a constant stands in its place, and a wire's value at its source
+-- what a gate does at a clock; a constant and what an inlet takes stand in their places, and a
+-- wire's value at its source
 abbrev pub decoded : Netlist → (ℕ → ℕ) → ℕ → Gate → Option Operation
-decoded netlist f width (Word code) = Some Fetch
-decoded netlist f width (Reg id) = Some (Load id)
+decoded netlist f width (Word code) = None
+decoded netlist f width (Reg id) = None
 decoded netlist f width (Read memory addr) = Some (Recall (f addr))
 decoded netlist f width (Const c) = None
 decoded netlist f width (Wire a) = None
@@ -92,6 +94,18 @@ constant_of _ = 0
 
 abbrev pub constants_of : List Net → List ℕ
 constants_of nets = map (λ (net : Net). constant_of net.gate) nets
+
+-- ---- inlets
+
+-- the inlets of a list of nets, the first of which has the number n
+abbrev pub inlets_with : ℕ → Gate → List Inlet → List Inlet
+inlets_with n (Word code) inlets = record { place = n; storage = None } ∷ inlets
+inlets_with n (Reg id) inlets = record { place = n; storage = Some id } ∷ inlets
+inlets_with n _ inlets = inlets
+
+abbrev pub inlets_from : ℕ → List Net → List Inlet
+inlets_from n [] = []
+inlets_from n (net ∷ nets) = inlets_with n net.gate (inlets_from (n + 1) nets)
 
 -- ---- buses and storages
 

@@ -3,7 +3,7 @@ use Rattle.std.specs.Prelude.{ℕ, ◌<◌, ◌≤◌, ◌≡◌, List, [], ◌�
 use Rattle.net_model.specs.declared.hardware.Netlist.{Netlist}
 use Rattle.net_model.specs.declared.hardware.Net.{Net}
 use Rattle.net_model.specs.declared.hardware.Gate.{Gate}
-use Rattle.net_model.specs.declared.hardware.Gate.TheVariants.{Const, Wire, Zext}
+use Rattle.net_model.specs.declared.hardware.Gate.TheVariants.{Word, Reg, Const, Wire, Zext}
 use Rattle.net_model.specs.declared.states.State.{State}
 use Rattle.net_model.specs.Clock.{clash_in, enabled_count, is_enabled, next_cells, next_regs}
 use Rattle.net_model.specs.Order.{position_of}
@@ -17,7 +17,7 @@ use Rattle.cycle_sim.specs.declared.operation.Operation.{Operation}
 use Rattle.cycle_sim.specs.declared.program.Program.{Program}
 use Rattle.cycle_sim.specs.Clocks.{cell_net}
 use Rattle.cycle_sim.specs.Inner.Decoding.{source_in}
-use Rattle.cycle_sim.specs.Inner.Operations.{AreReady, run_of}
+use Rattle.cycle_sim.specs.Inner.Operations.{AreReady, AreWithin, filled, run_of}
 use Rattle.cycle_sim.specs.Inner.Ports.{cell_by, cells_by}
 
 -- ---- a clock over places, where v gives the number at each place
@@ -78,16 +78,32 @@ pub record IsRoom (netlist : Netlist) (values : List ℕ) : Type 0 where
   pub long : length values ≡ length netlist.nets
   pub constants : (n : ℕ) → HoldsNet (slice_get netlist.nets n) (slice_index values n)
 
+-- what needs no instruction stands in its place: a constant, the word and the state of a register
+abbrev pub StandsGate : State → ℕ → Gate → ℕ → Type 0
+StandsGate s word (Word code) x = x ≡ word
+StandsGate s word (Reg id) x = x ≡ slice_index s.regs id
+StandsGate s word (Const c) x = x ≡ c
+StandsGate s word _ x = Unit {0}
+
+abbrev pub StandsNet : State → ℕ → Option Net → ℕ → Type 0
+StandsNet s word None x = Unit {0}
+StandsNet s word (Some net) x = StandsGate s word net.gate x
+
+-- a room whose inlets have their numbers
+pub record IsFilled (netlist : Netlist) (s : State) (word : ℕ) (values : List ℕ) : Type 0 where
+  pub long : length values ≡ length netlist.nets
+  pub stands : (n : ℕ) → StandsNet s word (slice_get netlist.nets n) (slice_index values n)
+
 -- ---- instructions
 
 abbrev pub added : ℕ → Option Operation → List Instruction → List Instruction
 added n None instructions = instructions
 added n (Some operation) instructions = instructions ++ record { place = n; operation = operation } ∷ []
 
--- instructions that leave in any room the value of each net with a place of its own
+-- instructions that leave in any filled room the value of each net with a place of its own
 pub record Runs (netlist : Netlist) (instructions : List Instruction) : Type 0 where
   pub ready : AreReady (length netlist.nets) instructions
-  pub right : (s : State) (word : ℕ) (room : List ℕ) → StateFits netlist s → WordFits netlist word → IsRoom netlist room → (n : ℕ) → n < length netlist.nets → IsPlain (slice_get netlist.nets n) → slice_index (run_of s word instructions room) n ≡ value_of netlist s word n
+  pub right : (s : State) (word : ℕ) (room : List ℕ) → StateFits netlist s → WordFits netlist word → IsFilled netlist s word room → (n : ℕ) → n < length netlist.nets → IsPlain (slice_get netlist.nets n) → slice_index (run_of s instructions room) n ≡ value_of netlist s word n
 
 -- ---- programs
 
@@ -101,6 +117,7 @@ pub record RunsAs (netlist : Netlist) (s : State) (word : ℕ) (values : List �
 
 -- a program that does in any room what the netlist does in each state under each word
 pub record IsProgram (netlist : Netlist) (program : Program) : Type 0 where
+  pub within : AreWithin (length netlist.nets) program.inlets
   pub ready : AreReady (length netlist.nets) program.instructions
   pub long : length program.latches ≡ length netlist.storages
-  pub follows : (s : State) (word : ℕ) (room : List ℕ) → StateFits netlist s → WordFits netlist word → IsRoom netlist room → RunsAs netlist s word (run_of s word program.instructions room) program
+  pub follows : (s : State) (word : ℕ) (room : List ℕ) → StateFits netlist s → WordFits netlist word → IsRoom netlist room → RunsAs netlist s word (run_of s program.instructions (filled s.regs word program.inlets room)) program

@@ -1,5 +1,5 @@
 use Rattle.std.proofs.Common.{◌≡◌, ◌∙◌, ap}
-use Rattle.cycle_sim.specs.Inner.Decoding.{buses_from, latches_by, port_by, source_in}
+use Rattle.cycle_sim.specs.Inner.Decoding.{buses_from, inlets_from, latches_by, port_by, source_in}
 use Rattle.cycle_sim.specs.Inner.Ports.{port_of, memory_port_width}
 use Rattle.cycle_sim.specs.Inner.Programs.{AreSources}
 use Rattle.cycle_sim.proofs.Edges.{has_port_width, port_width_is}
@@ -10,9 +10,10 @@ pub returns-clause-program : goal.returns-clause-program
 returns-clause-program c =
     let places : AreSources c.args.checked.now.netlist c.args.checked.now.order c.as_slice-sources.result.now = rw c.as_slice-sources.ensures c.in_ok-found.ensures in
     let l : c.in_ok-latches.latches ≡ latches_by (source_in c.as_slice-sources.result.now) c.args.checked.now.netlist.storages = rw (c.as_slice-storages.ensures, c.netlist-netlist.ensures.value) at c.in_ok-latches.ensures in
-    let b : c.in_ok-buses.buses ≡ buses_from (source_in c.as_slice-sources.result.now) 0 c.args.checked.now.netlist.nets = rw (c.as_slice.ensures, c.netlist-netlist.ensures.value) at c.in_ok-buses.ensures in
+    let b : c.in_ok-buses.buses ≡ buses_from (source_in c.as_slice-sources.result.now) 0 c.args.checked.now.netlist.nets = rw (c.as_slice-nets.ensures, c.netlist-netlist.ensures.value) at c.in_ok-buses.ensures in
     let p : c.routed-port.result ≡ port_by (source_in c.as_slice-sources.result.now) (port_of c.args.checked.now.netlist.storages) = rw (c.find_port.ensures, c.as_slice-storages.ensures, c.netlist-netlist.ensures.value) at c.routed-port.ensures in
-    is_program c.args.checked.now.netlist c.args.checked.now.order c.netlist-netlist.ensures.kept.ordered c.netlist-netlist.ensures.sound.typed _ c.in_ok-instructions.ensures c.as_slice-sources.result.now places l b p
+    let i : c.in_ok-inlets.inlets ≡ inlets_from 0 c.args.checked.now.netlist.nets = rw (c.as_slice-nets.ensures, c.netlist-netlist.ensures.value) at c.in_ok-inlets.ensures in
+    is_program c.args.checked.now.netlist c.args.checked.now.order c.netlist-netlist.ensures.kept.ordered c.netlist-netlist.ensures.sound.typed _ c.in_ok-instructions.ensures i c.as_slice-sources.result.now places l b p
 
 pub returns-clause-width : goal.returns-clause-width
 returns-clause-width c =

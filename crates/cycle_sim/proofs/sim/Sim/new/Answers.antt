@@ -6,7 +6,7 @@ use Rattle.cycle_sim.proofs.sim.Sim.new.Goals as goal
 
 pub invariant_of-result : goal.invariant_of-result
 invariant_of-result c =
-    let room : c.in_ok-values.values ≡ constants_of c.args.checked.now.netlist.nets = rw (c.as_slice.ensures, c.netlist-netlist.ensures.value) at c.in_ok-values.ensures in
+    let room : c.in_ok-values.values.items ≡ constants_of c.args.checked.now.netlist.nets = rw (c.as_slice.ensures, c.netlist-netlist.ensures.value) at c.in_ok-values.ensures in
     record {
       typed = c.netlist-netlist.ensures.sound.typed;
       few = omega (arith, few_cells _ _ c.args.start c.netlist-netlist.ensures.kept c.requires.start, c.requires.start.cells);
