@@ -27,7 +27,8 @@ written_cell netlist words s = cell_net (value_of netlist s (word_at netlist wor
 -- `Clash` clashed at that bus, left the state as it was and wrote nothing
 abbrev pub Clocks : Shown → Shown → Clocked → Type 0
 Clocks old new Stepped =
-    (clock old.netlist old.words old.state ≡ Next new.state) × (new.last_write ≡ written_cell old.netlist old.words old.state)
+    (clock old.netlist old.words old.state ≡ Next new.state)
+    × (new.last_write ≡ written_cell old.netlist old.words old.state)
 Clocks old new (answer.Clash bus) =
     (clock old.netlist old.words old.state ≡ Clash bus) × (new.state ≡ old.state) × (new.last_write ≡ None)
 

@@ -49,7 +49,8 @@ pub(crate) fn decode(
 ) -> Result<Option<Operation>, NoMemory>
     requires low { 1 ≤ net.now.width }
     requires high { net.now.width ≤ 64 }
-    ensures { IfOk result (λ operation. operation ≡ decoded netlist.now (source_in sources.now) net.now.width net.now.gate) }
+    ensures { IfOk result (λ operation. operation
+        ≡ decoded netlist.now (source_in sources.now) net.now.width net.now.gate) }
 {
     match &net.gate {
         Gate::Read { memory: _, addr } => Ok(Some(Operation::Recall(source_at(sources, *addr)))),

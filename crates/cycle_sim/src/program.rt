@@ -29,7 +29,8 @@ impl Program {
     pub(crate) fn run(&self, state: &State, word: u64, values: &mut Vec<u64>)
         requires within { AreWithin (length values.old.items) self.now.inlets }
         requires ready { AreReady (length values.old.items) self.now.instructions }
-        ensures { values.new.items ≡ run_of state.now self.now.instructions (filled state.now.regs word self.now.inlets values.old.items) }
+        ensures { values.new.items ≡ run_of state.now self.now.instructions
+            (filled state.now.regs word self.now.inlets values.old.items) }
     {
         let inlets = self.inlets.as_slice();
         let regs = state.regs.as_slice();
@@ -43,7 +44,8 @@ impl Program {
 /// The program of a netlist.
 pub(crate) fn program_of(alloc: Global, checked: &Checked) -> Result<Program, NoMemory>
     ensures program { IfOk result (λ program. IsProgram checked.now.netlist program) }
-    ensures width { IfOk result (λ program. memory_port_width program.port ≡ memory_width checked.now.netlist.storages) }
+    ensures width { IfOk result (λ program.
+        memory_port_width program.port ≡ memory_width checked.now.netlist.storages) }
     ensures fits { IfOk result (λ program. HasPortWidth program.port) }
 {
     let netlist = checked.netlist();

@@ -62,7 +62,8 @@ impl<'a> Sim<'a> {
     ) -> Result<Sim<'a>, NoMemory>
         requires words { AllByRecursion (WordFits checked.now.netlist) words }
         requires start { IsState checked.now.netlist start }
-        ensures { IfOk result (λ sim. sim ≡ record { netlist = checked.now.netlist; words = words; state = start; last_write = None }) }
+        ensures { IfOk result (λ sim. sim
+            ≡ record { netlist = checked.now.netlist; words = words; state = start; last_write = None }) }
     {
         let netlist = checked.netlist();
         let program = program_of(alloc, checked)?;
@@ -134,8 +135,11 @@ impl<'a> Sim<'a> {
     /// Puts a value into a cell and answers true; answers false, and changes nothing, where there
     /// is no such cell or the value is too wide for it.
     pub fn set_cell(&mut self, address: u32, value: u64) -> bool
-        ensures fits { IsTrue result ↔ ((address < length self.old.state.cells) × (value < 2 ^ memory_width self.old.netlist.storages)) }
-        ensures set { OnTrue result (self.new ≡ record self.old { state = record self.old.state { cells = slice_set self.old.state.cells address value } }) }
+        ensures fits { IsTrue result ↔ ((address < length self.old.state.cells)
+            × (value < 2 ^ memory_width self.old.netlist.storages)) }
+        ensures set { OnTrue result (self.new ≡ record self.old {
+          state = record self.old.state { cells = slice_set self.old.state.cells address value };
+        }) }
         ensures kept { OnFalse result (self.new ≡ self.old) }
         ensures state { IsState self.new.netlist self.new.state }
     {

@@ -55,7 +55,9 @@ drivers_by f drivers = map (λ (driver : ℕ × ℕ). (f driver.0, f driver.1)) 
 -- a case has a table where its selector has at most 8 bits
 abbrev pub choice_of : (ℕ → ℕ) → ℕ → ℕ → List (ℕ × ℕ) → Option ℕ → Operation
 choice_of f bits sel rows rest =
-    if nat_le bits 8 then Table (f sel) (table_of f rows rest (2 ^ bits)) else Search (f sel) (rows_by f rows) (optional f rest)
+    if nat_le bits 8
+    then Table (f sel) (table_of f rows rest (2 ^ bits))
+    else Search (f sel) (rows_by f rows) (optional f rest)
 
 -- an operator by the width of its operands and that of its result
 abbrev pub binary_of : Op2 → ℕ → ℕ → ℕ → ℕ → Operation

@@ -74,4 +74,6 @@ AreWithin n inlets = AllByRecursion (λ (inlet : Inlet). inlet.place < n) inlets
 -- instructions over so many places
 abbrev pub AreReady : ℕ → List Instruction → Type 0
 AreReady n instructions =
-    AllByRecursion (λ (instruction : Instruction). (instruction.place < n) × HasOperands n instruction.operation) instructions
+    AllByRecursion
+    (λ (instruction : Instruction). (instruction.place < n) × HasOperands n instruction.operation)
+    instructions

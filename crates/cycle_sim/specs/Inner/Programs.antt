@@ -103,7 +103,10 @@ added n (Some operation) instructions = instructions ++ record { place = n; oper
 -- instructions that leave in any filled room the value of each net with a place of its own
 pub record Runs (netlist : Netlist) (instructions : List Instruction) : Type 0 where
   pub ready : AreReady (length netlist.nets) instructions
-  pub right : (s : State) (word : ℕ) (room : List ℕ) → StateFits netlist s → WordFits netlist word → IsFilled netlist s word room → (n : ℕ) → n < length netlist.nets → IsPlain (slice_get netlist.nets n) → slice_index (run_of s instructions room) n ≡ value_of netlist s word n
+  pub right : (s : State) (word : ℕ) (room : List ℕ) → StateFits netlist s → WordFits netlist word →
+      IsFilled netlist s word room → (n : ℕ) → n < length netlist.nets →
+      IsPlain (slice_get netlist.nets n) →
+      slice_index (run_of s instructions room) n ≡ value_of netlist s word n
 
 -- ---- programs
 
@@ -111,13 +114,22 @@ pub record Runs (netlist : Netlist) (instructions : List Instruction) : Type 0 w
 pub record RunsAs (netlist : Netlist) (s : State) (word : ℕ) (values : List ℕ) (program : Program) : Type 0 where
   pub room : IsRoom netlist values
   pub clash : clash_by (slice_index values) program.buses ≡ clash_in (value_of netlist s word) netlist.nets
-  pub regs : (regs : List ℕ) → regs_by (slice_index values) program.latches regs ≡ next_regs (value_of netlist s word) netlist.storages regs
-  pub cells : (cells : List ℕ) → cells_by (slice_index values) program.port cells ≡ next_cells (value_of netlist s word) netlist.storages cells
-  pub written : (size : ℕ) → cell_by (slice_index values) program.port size ≡ cell_net (value_of netlist s word) netlist.storages size
+  pub regs : (regs : List ℕ) →
+      regs_by (slice_index values) program.latches regs
+      ≡ next_regs (value_of netlist s word) netlist.storages regs
+  pub cells : (cells : List ℕ) →
+      cells_by (slice_index values) program.port cells
+      ≡ next_cells (value_of netlist s word) netlist.storages cells
+  pub written : (size : ℕ) →
+      cell_by (slice_index values) program.port size
+      ≡ cell_net (value_of netlist s word) netlist.storages size
 
 -- a program that does in any room what the netlist does in each state under each word
 pub record IsProgram (netlist : Netlist) (program : Program) : Type 0 where
   pub within : AreWithin (length netlist.nets) program.inlets
   pub ready : AreReady (length netlist.nets) program.instructions
   pub long : length program.latches ≡ length netlist.storages
-  pub follows : (s : State) (word : ℕ) (room : List ℕ) → StateFits netlist s → WordFits netlist word → IsRoom netlist room → RunsAs netlist s word (run_of s program.instructions (filled s.regs word program.inlets room)) program
+  pub follows : (s : State) (word : ℕ) (room : List ℕ) → StateFits netlist s → WordFits netlist word →
+      IsRoom netlist room →
+      RunsAs netlist s word
+      (run_of s program.instructions (filled s.regs word program.inlets room)) program
