@@ -89,7 +89,7 @@ fn fit_parts<'a>(
 {
     let operands = operands_in(alloc, parts)?;
     let cuts = cuts_in(alloc, parts)?;
-    let a = orders(alloc, instance, table, &operands, avoid)?;
+    let a = orders(alloc, instance, table, &operands, avoid, Some(0))?;
     let b = cuts_cost(alloc, instance, table, &cuts)?;
     Ok(fit_of(operands, cuts, a, b))
 }
