@@ -11,16 +11,17 @@ use Rattle.cover.specs.Inner.Jobs.{stock_of, nodes_of}
 use Rattle.cover.specs.Inner.Tables.{IsAmong, AreEmpty, EachKept, IsKept}
 use Rattle.cover.proofs.OfferLemmas.{get_either}
 
+-- what an entry is read as, whatever stands for none
+pub same_default : (row : List (Option ℕ)) (i : ℕ) (o d : Option ℕ) → i < length row → o ≡ get_or row i o → get_or row i d ≡ o
+same_default [] i o d l e = absurd (omega (arith, l))
+same_default (x ∷ row) zero o d l e = sym e
+same_default (x ∷ row) (suc i) o d l e = same_default row i o d (omega (arith, l)) e
+
 pub entry_right : (instance : Instance) (number : ℕ) (row : KeptRow) (whole : Bool) (avoid slot : ℕ) (o : Option ℕ) → IsKept instance number row → row.whole ≡ whole → row.avoid ≡ avoid → slot < 17 → o ≡ get_or row.costs.items slot o → (t : Term) → slice_get (nodes_of instance) number ≡ Some t → IsSlot whole slot → IsLeast (stock_of instance) avoid (row_ask t whole slot) o
 entry_right instance number row whole avoid slot o right ew ea lt e t get is =
     subst (λ w. IsLeast (stock_of instance) avoid (row_ask t w slot) o) ew
     (subst (λ a. IsLeast (stock_of instance) a (row_ask t row.whole slot) o) ea
     (subst (λ x. IsLeast (stock_of instance) row.avoid (row_ask t row.whole slot) x) (same_default row.costs.items slot o None (let l = right.len in omega (arith, l, lt)) e) (right.least t get slot (subst (λ w. IsSlot w slot) (sym ew) is))))
-  where
-    same_default : (row : List (Option ℕ)) (i : ℕ) (o d : Option ℕ) → i < length row → o ≡ get_or row i o → get_or row i d ≡ o
-    same_default [] i o d l e = absurd (omega (arith, l))
-    same_default (x ∷ row) zero o d l e = sym e
-    same_default (x ∷ row) (suc i) o d l e = same_default row i o d (omega (arith, l)) e
 
 -- ---- lists of what is kept
 

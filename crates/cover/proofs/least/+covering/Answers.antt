@@ -1,4 +1,4 @@
-use Rattle.std.proofs.Common.{◌≡◌, ◌<◌, ◌-◌, length, drop, arith, rules, refl, sym, ap, ◌∙◌, subst, inl, inr, Option, Some, Vec, vec_len, ℕ}
+use Rattle.std.proofs.Common.{◌≡◌, ◌<◌, ◌-◌, length, drop, arith, rules, refl, sym, ap, ◌∙◌, subst, inl, inr, Option, Some, None, Vec, vec_len, ℕ}
 use Rattle.std.specs.Prelude.{slice_get, remove}
 use Rattle.std.proofs.lemmas.Bool.{OnTrue_at}
 use Rattle.std.proofs.lemmas.Option.{slice_get_read}
@@ -23,6 +23,7 @@ use Rattle.net_model.specs.Terms.{size_of}
 use Rattle.cover.proofs.LeastLemmas.{order_one, other_left, cut_none, cut_more, order_more, order_all, order_none, from_parts, from_none, from_last}
 use Rattle.cover.specs.declared.matches.FormMatch.{FormMatch}
 use Rattle.cover.proofs.FloorLemmas.{floor_none, floor_more}
+use Rattle.cover.proofs.TableLemmas.{same_default}
 use Rattle.cover.proofs.least.+covering.Goals as goal
 
 pub operand_cost-least-requires : goal.operand_cost-least-requires
@@ -296,3 +297,10 @@ cuts_cost-returns-clause-least t c =
     let parts = cut_more (stock_of c.args.instance.now) (tree_term c.index-cuts-0.result.tree.now) (open_cuts (drop 1 c.args.cuts.now)) c.in_ok-m.m c.in_ok-n.n c.in_ok-m.ensures.least (subst (λ l. IsLeastCut (stock_of c.args.instance.now) (open_cuts l) c.in_ok-n.n) (tail_is c.args.cuts.now) c.in_ok-n.ensures.least) in
     IfOk-weaker c.sum_of.result (λ x. x ≡ summed c.in_ok-m.m c.in_ok-n.n) (λ x. IsLeastCut (stock_of c.args.instance.now) (open_cuts c.args.cuts.now) x)
     (λ o same. subst (λ x. IsLeastCut (stock_of c.args.instance.now) (open_cuts c.args.cuts.now) x) (sym same) (subst (λ xs. IsLeastCut (stock_of c.args.instance.now) xs (summed c.in_ok-m.m c.in_ok-n.n)) (sym e) parts)) c.sum_of.ensures
+
+pub least-returns-clause-least : goal.least-returns-clause-least
+least-returns-clause-least t c =
+    let n : length c.in_ok-costs.costs.items ≡ 17 = search rules in
+    subst (λ o. IsLeast (stock_of c.args.instance.now) c.args.avoid (row_ask (tree_term c.args.tree.now) c.args.whole c.args.slot) o)
+    (same_default c.in_ok-costs.costs.items c.args.slot c.index-cost.result.now None (omega (arith, n, c.requires.slot.within)) c.index-cost.ensures)
+    (c.in_ok-costs.ensures.least c.args.slot c.requires.slot)
