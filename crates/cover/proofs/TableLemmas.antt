@@ -8,7 +8,7 @@ use Rattle.cover.specs.declared.table.KeptRow.{KeptRow}
 use Rattle.cover.specs.Inner.Least.{IsLeast}
 use Rattle.cover.specs.Inner.Rows.{row_ask, IsSlot}
 use Rattle.cover.specs.Inner.Jobs.{stock_of, nodes_of}
-use Rattle.cover.specs.Inner.Tables.{IsAmong, AreEmpty, EachKept, IsKept}
+use Rattle.cover.specs.Inner.Tables.{AreEmpty, EachKept, IsKept}
 use Rattle.cover.proofs.OfferLemmas.{get_either}
 
 -- what an entry is read as, whatever stands for none

@@ -29,7 +29,7 @@
 //!   its subtree, and `Instance`, what is to be covered by what.
 //! - `least`: least costs of a tree, of operands over all orders, and of cuts, and the *floor* of
 //!   operands, which no order costs less than: orders are gone through only where it can make an
-//!   entry less.
+//!   entry less, and only up to one that costs no more.
 //! - `fits`: the forms that begin a cover of what is asked for, and the least cost of its covers.
 //! - `choice`: the first cover of a known least cost, from the root down.
 //! - `jobs`: `cover`: the better of a job's trees.

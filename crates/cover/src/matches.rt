@@ -1,6 +1,6 @@
 //! The forms that match a subtree, which are found once for all sets of registers to avoid.
 
-ghost use Rattle.std.specs.Prelude.{◌≡◌, ◌<◌, ◌==◌, true, ℕ, Bool, Option, Some, None, IfOk, OnOk, length, slice_get};
+ghost use Rattle.std.specs.Prelude.{◌≡◌, ◌<◌, ◌==◌, Some, IfOk, OnOk, length, slice_get};
 ghost use Rattle.form_model.specs.Trees.{tree_term};
 ghost use Rattle.cover.specs.Inner.Asks.{start_under};
 ghost use Rattle.cover.specs.Inner.Jobs.{nodes_of};

@@ -1,5 +1,5 @@
 -- What is kept in the table of a tree.
-use Rattle.std.specs.Prelude.{ℕ, ◌≡◌, List, [], Option, Some, slice_get, length}
+use Rattle.std.specs.Prelude.{ℕ, ◌≡◌, List, [], Some, slice_get, length}
 use Rattle.std.specs.declared.vec.Vec.{Vec}
 use Rattle.std.specs.declared.rc.Rc.{Rc}
 use Rattle.std.specs.declared.alloc.Global.{Global}
