@@ -19,6 +19,12 @@ same_places : (ps : Operands) → SamePlaces ps ps
 same_places no_operands = tt
 same_places (operand_then i p ps) = (refl, same_places ps)
 
+pub some_none : {o : Option ℕ} {m : ℕ} → o ≡ Some m → o ≡ None → ⊥
+some_none e f = cc
+
+pub same_some : {o : Option ℕ} {m n : ℕ} → o ≡ Some m → o ≡ Some n → m ≡ n
+same_some e f = cc
+
 -- the least cost of the covers by a form whose parts are known
 pub fits_least : (stock : Stock) (avoid : ℕ) (ask : Ask) (k : ℕ) (inputs : List Operand) (stored : List Term) (a b : ℕ) → Fits stock avoid ask k inputs stored a b → IsLeastForm stock avoid ask k (Some (1 + a + b))
 fits_least stock avoid ask k inputs stored a b f =

@@ -18,7 +18,7 @@ use Rattle.cover.specs.declared.parts.OpenCut.{OpenCut}
 use Rattle.cover.specs.Inner.Asks.{Ask, takes}
 use Rattle.cover.specs.Inner.Least.{IsLeast, IsLeastForm, IsLeastOrder, IsLeastCut, summed}
 use Rattle.cover.specs.Inner.Jobs.{stock_of, nodes_of, open_operands, open_cuts}
-use Rattle.cover.specs.Inner.Choice.{ask_of, StandsWant, IsFit, Fits, FitOf, FitsParts, NeverBegins}
+use Rattle.cover.specs.Inner.Choice.{ask_of, StandsWant, IsFit, Fits, FitOf, FitsParts, NeverBegins, fit_cost}
 use Rattle.cover.proofs.LeastLemmas.{some_form}
 use Rattle.cover.proofs.ChoiceLemmas.{never_by, fits_least}
 
@@ -72,3 +72,7 @@ never_some stock avoid ask n k c o f least is e sum differ =
     let fits : Fits stock avoid ask k (open_operands f.operands.items) (open_cuts f.cuts.items) f.operands_cost f.cuts_cost = subst (IsFit stock avoid ask k) e is in
     never_by stock avoid ask n k (Some (1 + f.operands_cost + f.cuts_cost)) least (fits_least stock avoid ask k (open_operands f.operands.items) (open_cuts f.cuts.items) f.operands_cost f.cuts_cost fits)
     (λ m g same. differ (let h : 1 + f.operands_cost + f.cuts_cost ≡ m = cc in sum ∙ h ∙ same))
+
+pub fit_form : (stock : Stock) (avoid : ℕ) (ask : Ask) (k : ℕ) (o : Option Fit) → IsFit stock avoid ask k o → IsLeastForm stock avoid ask k (option_map fit_cost o)
+fit_form stock avoid ask k None h = h
+fit_form stock avoid ask k (Some f) h = fits_least stock avoid ask k (open_operands f.operands.items) (open_cuts f.cuts.items) f.operands_cost f.cuts_cost h

@@ -7,6 +7,7 @@ use Rattle.std.proofs.lemmas.Bool.Decides.{nat_tests}
 use Rattle.std.proofs.lemmas.List.{length-map}
 use Rattle.std.proofs.lemmas.Option.{slice_get_within}
 use Rattle.net_model.specs.Terms.{Term, size_of}
+use Rattle.form_model.specs.Trees.{tree_term}
 use Rattle.form_model.specs.Rules.{Rule, rule_of, kind_of, Destination}
 use Rattle.form_model.specs.Matches.{Site, operand, cut, Found, matched, taken}
 use Rattle.form_model.specs.Plans.{use_form, Operands, Cuts, operands_cost, cuts_cost}
@@ -14,7 +15,9 @@ use Rattle.form_model.specs.Covers.{operands_of, cuts_of}
 use Rattle.form_model.specs.declared.forms.Form.{Form}
 use Rattle.tree_grammar.specs.declared.parts.Match.{Match}
 use Rattle.tree_grammar.specs.declared.parts.Part.{Part}
-use Rattle.tree_grammar.specs.Parts.{found_of, sites_of, AreAt}
+use Rattle.tree_grammar.specs.declared.parts.Part.TheVariants
+use Rattle.tree_grammar.specs.Numbers.{HoldsSubtrees}
+use Rattle.tree_grammar.specs.Parts.{destination_at, found_of, sites_of, AreAt}
 use Rattle.cover.specs.declared.table.Instance.{Instance}
 use Rattle.cover.specs.declared.rows.Offer.{Offer}
 use Rattle.cover.specs.declared.rows.Offer.TheVariants.{Nothing, Chains}
@@ -24,8 +27,9 @@ use Rattle.cover.specs.Inner.Asks.{takes, rest, start_under, operands_size, term
 use Rattle.cover.specs.Inner.Least.{AtMost, IsLeast, IsLeastOrder, IsLeastCut, IsFloor, IsCostBelow, summed}
 use Rattle.cover.specs.Inner.Rows.{Row, entry, entry_destination, row_ask, IsSlot, goal_slot, IsOffer, offer_is}
 use Rattle.cover.specs.Inner.Jobs.{stock_of, nodes_of, open_operands, open_cuts}
-use Rattle.cover.specs.Inner.Matched.{IsOpened, Takes, IsFormMatch, MatchesForm, with_match, AreFirstMatches}
+use Rattle.cover.specs.Inner.Matched.{rest_at, IsOpened, Takes, IsFormMatch, MatchesForm, with_match, AreFirstMatches}
 use Rattle.cover.specs.Inner.Choice.{NeverBegins, CostsOf, CostsWithin, BeginsOne}
+use Rattle.cover.proofs.NodeLemmas.{nodes_hold, whole_number}
 use Rattle.cover.proofs.SizeLemmas.{picked, rest_small}
 use Rattle.cover.proofs.SharingLemmas.{get_push}
 use Rattle.cover.proofs.LeastLemmas.{some_form, both_at_most}
@@ -63,8 +67,16 @@ start_some (Some p) free q h = (picked (free || nat_lt p 16) (Some p) q h).1
 
 -- ---- one form
 
-pub form_match : (instance : Instance) (form : Form) (k goal : ℕ) (t : Term) (whole : Bool) (size : ℕ) (m : Match) (parts : List Part) (x : FormMatch) → Start instance form k goal t whole m → AreAt (nodes_of instance) m.parts.items → size ≡ size_of t → parts ≡ m.parts.items → IsOpened parts size k goal form.clobbers x → IsFormMatch instance t whole x
-form_match instance form k goal t whole size m parts x s at is e o = record {
+-- what goes on from the tree of this number goes on from the whole tree
+rest_number : (number : ℕ) (t : Term) (parts : List Part) → ((nodes : List Term) → HoldsSubtrees nodes number t → AreAt nodes parts) → rest_at number parts ≡ rest (size_of t) true (sites_of parts)
+rest_number number t [] h = refl
+rest_number number t (TheVariants.Operand id tree whole at ∷ []) h = ap (λ b. if b then Some id else None) (whole_number number at t (tree_term tree.now) (λ nodes holds. (h nodes holds).0))
+rest_number number t (TheVariants.Cut shape tree at ∷ []) h = ap (λ b. if b then Some 16 else None) (whole_number number at t (tree_term tree.now) (λ nodes holds. (h nodes holds).0))
+rest_number number t (TheVariants.Operand id tree whole at ∷ p ∷ parts) h = refl
+rest_number number t (TheVariants.Cut shape tree at ∷ p ∷ parts) h = refl
+
+pub form_match : (instance : Instance) (form : Form) (k goal : ℕ) (t : Term) (whole : Bool) (number : ℕ) (m : Match) (parts : List Part) (x : FormMatch) → slice_get (nodes_of instance) number ≡ Some t → Start instance form k goal t whole m → ((nodes : List Term) → HoldsSubtrees nodes number t → AreAt nodes m.parts.items) → parts ≡ m.parts.items → IsOpened parts number k goal form.clobbers x → IsFormMatch instance t whole x
+form_match instance form k goal t whole number m parts x get s at e o = record {
   rule = rule_of form;
   found = found_of m;
   listed = subst (λ j. slice_get (stock_of instance).rules j ≡ Some (rule_of form)) (sym o.form) s.listed;
@@ -72,13 +84,16 @@ form_match instance form k goal t whole size m parts x s at is e o = record {
   goes = s.goes ∙ ap Some (sym o.goal);
   slot = subst (IsSlot whole) (sym o.goal) s.slot;
   takes_it = subst (λ j. takes (stock_of instance) (rule_of form) (row_ask t whole j) ≡ Some (found_of m)) (sym o.goal) s.takes_it;
-  start = o.start ∙ ap (λ n. rest n true (sites_of parts)) is ∙ ap (λ l. rest (size_of t) true (sites_of l)) e;
+  start = o.start ∙ ap (rest_at number) e ∙ rest_number number t m.parts.items at;
   register = subst (λ l. IfSome x.start (λ q. (u : Term) (w : Bool) → sites_of l ≡ operand q u w ∷ [] → q < 16)) e o.register;
   operands = o.operands ∙ ap (λ l. operands_of (sites_of l)) e;
   cuts = o.cuts ∙ ap (λ l. cuts_of (sites_of l)) e;
-  operands_at = o.operands_at (nodes_of instance) (subst (AreAt (nodes_of instance)) (sym e) at);
-  cuts_at = o.cuts_at (nodes_of instance) (subst (AreAt (nodes_of instance)) (sym e) at);
+  operands_at = o.operands_at (nodes_of instance) (subst (AreAt (nodes_of instance)) (sym e) here);
+  cuts_at = o.cuts_at (nodes_of instance) (subst (AreAt (nodes_of instance)) (sym e) here);
 }
+  where
+    here : AreAt (nodes_of instance) m.parts.items
+    here = at (nodes_of instance) (nodes_hold (destination_at instance.destination) (tree_term instance.tree.now) number t get)
 
 -- the entry to which a form goes that takes the tree
 takes_goal : (instance : Instance) (form : Form) (k : ℕ) (t : Term) (whole : Bool) → slice_get instance.forms.now k ≡ Some form → (x : Takes (stock_of instance) t whole k) → (x.rule ≡ rule_of form) × (goal_slot (rule_of form).goal whole ≡ Some x.entry)

@@ -1,15 +1,19 @@
 -- Each numbered tree of a job has its own subtrees behind it.
-use Rattle.std.proofs.Common.{◌≡◌, ℕ, zero, suc, ◌+◌, List, [], ◌∷◌, ◌++◌, length, Some, arith, refl, sym, ap, ◌∙◌, subst, inl, inr, ◌⊎◌, Bool, true, false, nat_lt}
-use Rattle.std.specs.Prelude.{slice_get, remove, if◌then◌else◌}
+use Rattle.std.proofs.Common.{◌≡◌, ℕ, zero, suc, ◌+◌, List, [], ◌∷◌, ◌++◌, length, Some, arith, refl, sym, ap, ◌∙◌, subst, inl, inr, ◌⊎◌, Bool, true, false, nat_lt, ◌-◌, ◌<◌, replicate}
+use Rattle.std.specs.Prelude.{slice_get, remove, if◌then◌else◌, ◌==◌}
+use Rattle.std.proofs.lemmas.Bool.Decides.{nat_tests}
+use Rattle.std.proofs.lemmas.List.{length-replicate}
+use Rattle.std.proofs.lemmas.Option.{slice_get_within}
 use Rattle.net_model.specs.Terms.{Term, word, reg, const, read, un, bin, slice, cat, zext, sext, select, size_of}
 use Rattle.form_model.specs.Rules.{Destination, into, cell, stored, temporary, tested}
 use Rattle.tree_grammar.specs.Numbers.{subtrees, HoldsSubtrees}
 use Rattle.tree_grammar.specs.Parts.{Stands}
-use Rattle.tree_grammar.proofs.NumberLemmas.{size_length}
+use Rattle.tree_grammar.proofs.NumberLemmas.{size_length, holds_here}
 use Rattle.cover.specs.declared.parts.OpenOperand.{OpenOperand}
 use Rattle.form_model.specs.Trees.{tree_term}
 use Rattle.cover.specs.Inner.Rows.{entry_destination}
 use Rattle.cover.specs.Inner.Jobs.{job_nodes, OperandsAt}
+use Rattle.cover.proofs.SizeLemmas.{size_pos}
 
 -- behind each tree of the list stand its subtrees
 abbrev Whole : List Term → Type 0
@@ -92,6 +96,54 @@ slot_stands nodes n r t h = go (nat_lt r 16)
     go : (b : Bool) → Stands nodes n (if b then into r else temporary) t
     go true = record { address = tt; value = h }
     go false = record { address = tt; value = h }
+
+-- ---- the number of the whole tree
+
+get_any : (xs : List Term) (n : ℕ) → n < length xs → (x : Term) × (slice_get xs n ≡ Some x)
+get_any [] n lt = absurd (omega (arith, lt))
+get_any (x ∷ xs) zero lt = (x, refl)
+get_any (x ∷ xs) (suc n) lt = get_any xs n (omega (arith, lt))
+
+filler : (n : ℕ) (x p : Term) (at : ℕ) → slice_get (replicate n x) at ≡ Some p → p ≡ x
+filler zero x p at h = absurd (cc)
+filler (suc n) x p zero h = cc
+filler (suc n) x p (suc at) h = filler n x p at h
+
+-- a subtree that isn't the first is smaller than the tree
+smaller : (t p : Term) (k : ℕ) → slice_get (subtrees t) (suc k) ≡ Some p → size_of p < size_of t
+smaller t p k h =
+    let pos = size_pos p in
+    let lp = size_length p in
+    let (x, last) = get_any (subtrees p) (size_of p - 1) (omega (arith, pos, lp)) in
+    let within = slice_get_within (subtrees t) (suc k + (size_of p - 1)) x (whole_tree t (suc k) p (size_of p - 1) x h last) in
+    let lt = size_length t in
+    omega (arith, within, lt, pos)
+
+-- a part that stands at its number wherever the tree's subtrees stand is the whole tree exactly
+-- where its number is the tree's
+pub whole_number : (number at : ℕ) (t p : Term) → ((nodes : List Term) → HoldsSubtrees nodes number t → slice_get nodes at ≡ Some p) → (at == number) ≡ (size_of p == size_of t)
+whole_number number at t p stands =
+    let before = replicate number (zext p 0) in
+    let len = length-replicate number (zext p 0) in
+    let there = stands (before ++ subtrees t) (λ k s get. (let e : number + k ≡ length before + k = omega (arith, len) in ap (slice_get (before ++ subtrees t)) e ∙ get_right before (subtrees t) k ∙ get)) in
+    elim (get_split before (subtrees t) at p there) [
+      | inl a ↦ absurd (let e = ap size_of (filler number (zext p 0) p at a) in omega (arith, e))
+      | inr b ↦ behind b.0 (let e = b.1 in omega (arith, e, len)) b.2
+    ]
+  where
+    behind : (m : ℕ) → at ≡ number + m → slice_get (subtrees t) m ≡ Some p → (at == number) ≡ (size_of p == size_of t)
+    behind zero e get =
+        let first = holds_here (subtrees t) 0 t (from_start (subtrees t)) in
+        let same : p ≡ t = cc in
+        let s = ap size_of same in
+        let x : (at == number) ≡ true = grind (arith, nat_tests) in
+        let y : (size_of p == size_of t) ≡ true = grind (arith, nat_tests) in
+        x ∙ sym y
+    behind (suc k) e get =
+        let lt = smaller t p k get in
+        let x : (at == number) ≡ false = grind (arith, nat_tests) in
+        let y : (size_of p == size_of t) ≡ false = grind (arith, nat_tests) in
+        x ∙ sym y
 
 -- ---- numbers of operands and cuts
 

@@ -164,7 +164,7 @@ pub get_new : {X : Type 0} (xs : List X) (y : X) → slice_get (xs ++ (y ∷ [])
 get_new [] y = refl
 get_new (z ∷ xs) y = get_new xs y
 
-get_either : {X : Type 0} (xs : List X) (y x : X) (i : ℕ) → slice_get (xs ++ (y ∷ [])) i ≡ Some x → (slice_get xs i ≡ Some x) ⊎ (x ≡ y)
+pub get_either : {X : Type 0} (xs : List X) (y x : X) (i : ℕ) → slice_get (xs ++ (y ∷ [])) i ≡ Some x → (slice_get xs i ≡ Some x) ⊎ (x ≡ y)
 get_either [] y x zero h = inr (cc)
 get_either [] y x (suc i) h = absurd (cc)
 get_either (z ∷ xs) y x zero h = inl h

@@ -8,15 +8,15 @@ use Rattle.form_model.specs.Rules.{rule_of, kind_of, Destination}
 use Rattle.form_model.specs.Matches.{taken}
 use Rattle.form_model.specs.declared.forms.Form.{Form}
 use Rattle.tree_grammar.specs.declared.parts.Match.{Match}
-use Rattle.form_model.specs.Trees.{tree_term}
-use Rattle.tree_grammar.specs.Parts.{destination_at, found_of, sites_of, AreAt, Stands}
+use Rattle.tree_grammar.specs.Numbers.{HoldsSubtrees}
+use Rattle.tree_grammar.specs.Parts.{found_of, sites_of, AreAt, Stands}
 use Rattle.cover.specs.declared.table.Instance.{Instance}
 use Rattle.cover.specs.Inner.Asks.{takes}
 use Rattle.cover.specs.Inner.Rows.{entry_destination, row_ask, IsSlot, goal_slot}
-use Rattle.cover.specs.Inner.Jobs.{stock_of, nodes_of}
+use Rattle.cover.specs.Inner.Jobs.{stock_of}
 use Rattle.cover.proofs.SizeLemmas.{Small}
 use Rattle.cover.proofs.OfferLemmas.{row_small}
-use Rattle.cover.proofs.NodeLemmas.{nodes_hold, slot_stands}
+use Rattle.cover.proofs.NodeLemmas.{slot_stands}
 
 pub record Start (instance : Instance) (form : Form) (k goal : ℕ) (t : Term) (whole : Bool) (m : Match) : Type 0 where
   pub listed : slice_get (stock_of instance).rules k ≡ Some (rule_of form)
@@ -41,7 +41,8 @@ start_of instance form k goal t whole destination g o m got goes is found some a
       small = (row_small (stock_of instance) (rule_of form) t whole goal (found_of m) slot t').1;
     }
 
-pub start_at : (instance : Instance) (number goal : ℕ) (t : Term) (destination : Destination) (o : Option Match) (m : Match) → slice_get (nodes_of instance) number ≡ Some t → IfSome o (λ x. (nodes : List Term) → Stands nodes number destination t → AreAt nodes x.parts.items) → o ≡ Some m → destination ≡ entry_destination goal → AreAt (nodes_of instance) m.parts.items
-start_at instance number goal t destination o m get at some is =
+-- the numbers of a match's parts are right wherever the tree's subtrees stand
+pub start_at : (number goal : ℕ) (t : Term) (destination : Destination) (o : Option Match) (m : Match) → IfSome o (λ x. (nodes : List Term) → Stands nodes number destination t → AreAt nodes x.parts.items) → o ≡ Some m → destination ≡ entry_destination goal → (nodes : List Term) → HoldsSubtrees nodes number t → AreAt nodes m.parts.items
+start_at number goal t destination o m at some is nodes holds =
     let f : (nodes : List Term) → Stands nodes number destination t → AreAt nodes m.parts.items = subst (λ y. IfSome y (λ x. (nodes : List Term) → Stands nodes number destination t → AreAt nodes x.parts.items)) some at in
-    f (nodes_of instance) (subst (λ p. Stands (nodes_of instance) number p t) (sym is) (slot_stands (nodes_of instance) number goal t (nodes_hold (destination_at instance.destination) (tree_term instance.tree.now) number t get)))
+    f nodes (subst (λ p. Stands nodes number p t) (sym is) (slot_stands nodes number goal t holds))

@@ -1,49 +1,59 @@
--- Rows that are kept.
-use Rattle.std.proofs.Common.{◌≡◌, ℕ, Bool, true, false, List, [], ◌∷◌, Option, None, Some, refl, sym, subst, nat_eq, arith, get_or, ◌<◌, length, zero, suc}
-use Rattle.std.proofs.lemmas.Bool.{eqb-true}
-use Rattle.rec_bits.proofs.Booleans.{both}
-use Rattle.cover.specs.declared.table.Key.{Key}
-use Rattle.cover.specs.declared.table.MatchKey.{MatchKey}
-use Rattle.cover.specs.contracts.table.MatchKeyPartialEq.TheImpl.{ghosts as match_key_eq}
-use Rattle.cover.specs.declared.table.Instance.{Instance}
-use Rattle.cover.specs.contracts.table.KeyPartialEq.TheImpl.{ghosts as key_eq}
-use Rattle.std.specs.Prelude.{slice_get}
+-- What is kept in lists.
+use Rattle.std.proofs.Common.{◌≡◌, ℕ, Bool, List, [], ◌∷◌, ◌++◌, Option, None, Some, Vec, refl, sym, ap, ◌∙◌, subst, arith, get_or, ◌<◌, length, zero, suc, inl, inr, ◌⊎◌}
+use Rattle.std.specs.Prelude.{slice_get, slice_set}
+use Rattle.std.specs.declared.alloc.Global.{Global}
 use Rattle.net_model.specs.Terms.{Term}
+use Rattle.cover.specs.declared.table.Instance.{Instance}
+use Rattle.cover.specs.declared.table.KeptRow.{KeptRow}
 use Rattle.cover.specs.Inner.Least.{IsLeast}
 use Rattle.cover.specs.Inner.Rows.{row_ask, IsSlot}
-use Rattle.std.specs.contracts.prelude.BoolPartialEq.TheImpl.{ghosts as bool_eq}
 use Rattle.cover.specs.Inner.Jobs.{stock_of, nodes_of}
-use Rattle.cover.specs.Inner.Tables.{IsRight}
+use Rattle.cover.specs.Inner.Tables.{AreEmpty, EachKept, IsKept}
+use Rattle.cover.proofs.OfferLemmas.{get_either}
 
-same_bool : (a b : Bool) → bool_eq.eq a b ≡ true → a ≡ b
-same_bool true true h = refl
-same_bool true false h = absurd (cc)
-same_bool false true h = absurd (cc)
-same_bool false false h = refl
+-- what an entry is read as, whatever stands for none
+pub same_default : (row : List (Option ℕ)) (i : ℕ) (o d : Option ℕ) → i < length row → o ≡ get_or row i o → get_or row i d ≡ o
+same_default [] i o d l e = absurd (omega (arith, l))
+same_default (x ∷ row) zero o d l e = sym e
+same_default (x ∷ row) (suc i) o d l e = same_default row i o d (omega (arith, l)) e
 
--- equal keys are the same
-pub exact_key : (a b : Key) → key_eq.eq a b ≡ true → a ≡ b
-exact_key a b h =
-    let p = both (nat_eq a.number b.number) _ h in
-    let q = both (bool_eq.eq a.whole b.whole) (nat_eq a.avoid b.avoid) p.1 in
-    let en : a.number ≡ b.number = eqb-true a.number b.number p.0 in
-    let ew : a.whole ≡ b.whole = same_bool a.whole b.whole q.0 in
-    let ea : a.avoid ≡ b.avoid = eqb-true a.avoid b.avoid q.1 in
-    (λ j. record { number = en j; whole = ew j; avoid = ea j })
+pub entry_right : (instance : Instance) (number : ℕ) (row : KeptRow) (whole : Bool) (avoid slot : ℕ) (o : Option ℕ) → IsKept instance number row → row.whole ≡ whole → row.avoid ≡ avoid → slot < 17 → o ≡ get_or row.costs.items slot o → (t : Term) → slice_get (nodes_of instance) number ≡ Some t → IsSlot whole slot → IsLeast (stock_of instance) avoid (row_ask t whole slot) o
+entry_right instance number row whole avoid slot o right ew ea lt e t get is =
+    subst (λ w. IsLeast (stock_of instance) avoid (row_ask t w slot) o) ew
+    (subst (λ a. IsLeast (stock_of instance) a (row_ask t row.whole slot) o) ea
+    (subst (λ x. IsLeast (stock_of instance) row.avoid (row_ask t row.whole slot) x) (same_default row.costs.items slot o None (let l = right.len in omega (arith, l, lt)) e) (right.least t get slot (subst (λ w. IsSlot w slot) (sym ew) is))))
 
--- equal keys of matches are the same
-pub exact_match_key : (a b : MatchKey) → match_key_eq.eq a b ≡ true → a ≡ b
-exact_match_key a b h =
-    let p = both (nat_eq a.number b.number) (bool_eq.eq a.whole b.whole) h in
-    let en : a.number ≡ b.number = eqb-true a.number b.number p.0 in
-    let ew : a.whole ≡ b.whole = same_bool a.whole b.whole p.1 in
-    (λ j. record { number = en j; whole = ew j })
+-- ---- lists of what is kept
 
-pub entry_right : (instance : Instance) (key : Key) (row : List (Option ℕ)) (slot : ℕ) (o : Option ℕ) → IsRight instance key row → slot < 17 → o ≡ get_or row slot o → (t : Term) → slice_get (nodes_of instance) key.number ≡ Some t → IsSlot key.whole slot → IsLeast (stock_of instance) key.avoid (row_ask t key.whole slot) o
-entry_right instance key row slot o right lt e t get is =
-    subst (λ x. IsLeast (stock_of instance) key.avoid (row_ask t key.whole slot) x) (same_default row slot o None (let l = right.len in omega (arith, l, lt)) e) (right.least t get slot is)
-  where
-    same_default : (row : List (Option ℕ)) (i : ℕ) (o d : Option ℕ) → i < length row → o ≡ get_or row i o → get_or row i d ≡ o
-    same_default [] i o d l e = absurd (omega (arith, l))
-    same_default (x ∷ row) zero o d l e = sym e
-    same_default (x ∷ row) (suc i) o d l e = same_default row i o d (omega (arith, l)) e
+module _ {A : Type 0} where
+  pub empty_push : (lists : List (Vec A Global)) (v : Vec A Global) → AreEmpty lists → v.items ≡ [] → AreEmpty (lists ++ (v ∷ []))
+  empty_push lists v h e n u got = elim (get_either lists v u n got) [
+    | inl old ↦ h n u old
+    | inr new ↦ ap (λ (x : Vec A Global). x.items) new ∙ e
+  ]
+
+  pub empty_kept : (P : ℕ → A → Type 0) (lists : List (Vec A Global)) → AreEmpty lists → EachKept P lists
+  empty_kept P lists h n v x got (i, here) = let e = h n v got in absurd (cc)
+
+  set_get : (lists : List (Vec A Global)) (n m : ℕ) (v u : Vec A Global) → slice_get (slice_set lists n v) m ≡ Some u → (slice_get lists m ≡ Some u) ⊎ ((m ≡ n) × (u ≡ v))
+  set_get [] zero m v u h = absurd (cc)
+  set_get [] (suc n) m v u h = absurd (cc)
+  set_get (x ∷ xs) zero zero v u h = inr (refl, cc)
+  set_get (x ∷ xs) zero (suc m) v u h = inl h
+  set_get (x ∷ xs) (suc n) zero v u h = inl h
+  set_get (x ∷ xs) (suc n) (suc m) v u h = elim (set_get xs n m v u h) [
+    | inl a ↦ inl a
+    | inr b ↦ inr (ap suc b.0, b.1)
+  ]
+
+  -- one list has one more item
+  pub kept_push : (P : ℕ → A → Type 0) (lists : List (Vec A Global)) (n : ℕ) (old new : Vec A Global) (x : A) → EachKept P lists → slice_get lists n ≡ Some old → new.items ≡ old.items ++ (x ∷ []) → P n x → EachKept P (slice_set lists n new)
+  kept_push P lists n old new x h here e is m v y got (i, among) = elim (set_get lists n m new v got) [
+    | inl before ↦ h m v y before (i, among)
+    | inr (at, same) ↦
+        let there : slice_get (old.items ++ (x ∷ [])) i ≡ Some y = subst (λ l. slice_get l i ≡ Some y) (ap (λ (z : Vec A Global). z.items) same ∙ e) among in
+        subst (λ k. P k y) (sym at) (elim (get_either old.items x y i there) [
+          | inl known ↦ h n old y here (i, known)
+          | inr added ↦ subst (P n) (sym added) is
+        ])
+  ]

@@ -232,7 +232,7 @@ fn costs_within<'a>(
     if is_above(form_cost(floor, b)?, n) {
         return Ok(None);
     }
-    let a = orders(alloc, instance, table, operands, avoid)?;
+    let a = orders(alloc, instance, table, operands, avoid, floor)?;
     costs_of(n, a, b)
 }
 

@@ -1,10 +1,11 @@
 //! The forms that begin a cover of what is asked for, and the least cost of its covers.
 
-ghost use Rattle.std.specs.Prelude.{◌≡◌, ◌+◌, ◌<◌, IfOk, OnOk, IfSome, length};
+ghost use Rattle.std.specs.Prelude.{◌≡◌, ◌<◌, IfOk, OnOk, IfSome, length};
+ghost use Rattle.std.specs.Option.{option_map};
 ghost use Rattle.form_model.specs.Covers.{operands_of, cuts_of};
 ghost use Rattle.tree_grammar.specs.Parts.{sites_of, AreAt};
 ghost use Rattle.cover.specs.Inner.Least.{IsLeast, IsLeastForm};
-ghost use Rattle.cover.specs.Inner.Choice.{ask_of, StandsWant, IsFit, FitOf, FitsParts};
+ghost use Rattle.cover.specs.Inner.Choice.{ask_of, StandsWant, IsFit, FitOf, FitsParts, fit_cost};
 ghost use Rattle.cover.specs.Inner.Jobs.{stock_of, nodes_of, OperandsAt, CutsAt};
 ghost use Rattle.cover.specs.Inner.Tables.{AreRight};
 
@@ -89,7 +90,7 @@ fn fit_parts<'a>(
 {
     let operands = operands_in(alloc, parts)?;
     let cuts = cuts_in(alloc, parts)?;
-    let a = orders(alloc, instance, table, &operands, avoid)?;
+    let a = orders(alloc, instance, table, &operands, avoid, Some(0))?;
     let b = cuts_cost(alloc, instance, table, &cuts)?;
     Ok(fit_of(operands, cuts, a, b))
 }
@@ -115,9 +116,19 @@ fn fit_of<'a>(
 
 // The cost of the covers that begin with the form.
 pub(crate) fn cost_of(fit: &Fit) -> Result<u64, NoMemory>
-    ensures { IfOk result (λ n. n ≡ 1 + fit.now.operands_cost + fit.now.cuts_cost) }
+    ensures { IfOk result (λ n. n ≡ fit_cost fit.now) }
 {
     plus(plus(1, fit.operands_cost)?, fit.cuts_cost)
+}
+
+// The same where it begins any.
+fn cost_if(fit: &Option<Fit>) -> Result<Option<u64>, NoMemory>
+    ensures { IfOk result (λ o. o ≡ option_map fit_cost fit.now) }
+{
+    match fit {
+        Some(fit) => Ok(Some(cost_of(fit)?)),
+        None => Ok(None),
+    }
 }
 
 // The least cost of the covers that begin with the form at `k`.
@@ -134,10 +145,8 @@ fn form_least<'a>(
     ensures least { IfOk result (λ o. IsLeastForm (stock_of instance.now) 0 (ask_of want.now) k o) }
     ensures right { OnOk result (AreRight instance.now table.new) }
 {
-    let Some(fit) = fit_at(alloc, instance, table, want, 0, k)? else {
-        return Ok(None);
-    };
-    Ok(Some(cost_of(&fit)?))
+    let fit = fit_at(alloc, instance, table, want, 0, k)?;
+    cost_if(&fit)
 }
 
 // The least cost of the covers.

@@ -15,7 +15,7 @@ use crate::matches::{Matches, start_of};
 use crate::parts::{OpenCut, OpenOperand, put_reg, register_of, without};
 use crate::rows::{ChainRule, Offer, close, known_cost, note, offer_of};
 use crate::sharing::first_equal;
-use crate::table::{CostTable, Instance, Key, keep, kept, matches_at};
+use crate::table::{CostTable, Instance, KeptRow, keep, kept, matches_at};
 use form_model::{RegSet, Tree};
 use rec_bits::NoMemory;
 use smallvec::SmallVec;
@@ -40,17 +40,22 @@ pub(crate) fn least<'a>(
     ensures least { IfOk result (λ o. IsLeast (stock_of instance.now) avoid (row_ask (tree_term tree.now) whole slot) o) }
     ensures right { OnOk result (AreRight instance.now table.new) }
 {
-    let key = Key {
-        number: first_equal(&table.firsts, number),
-        whole,
-        avoid,
-    };
-    if let Some(cost) = kept(instance, table, key, slot) {
+    let first = first_equal(&table.firsts, number);
+    if let Some(cost) = kept(instance, table, first, whole, avoid, slot) {
         return Ok(cost);
     }
-    let row = least_row(alloc, instance, table, tree, key.number, whole, avoid)?;
-    let cost = row[slot as usize];
-    keep(instance, table, key, row)?;
+    let costs = least_row(alloc, instance, table, tree, first, whole, avoid)?;
+    let cost = costs[slot as usize];
+    keep(
+        instance,
+        table,
+        first,
+        KeptRow {
+            whole,
+            avoid,
+            costs,
+        },
+    )?;
     Ok(cost)
 }
 
@@ -216,7 +221,7 @@ fn cost_below<'a>(
     if is_as_dear(form_cost(floor, b)?, known) {
         return Ok(None);
     }
-    let a = orders(alloc, instance, table, operands, avoid)?;
+    let a = orders(alloc, instance, table, operands, avoid, floor)?;
     form_cost(a, b)
 }
 
@@ -243,7 +248,8 @@ pub(crate) fn floor_of<'a>(
     sum_of(m, n)
 }
 
-// The least cost of the operands, over their orders.
+// The least cost of the operands, over their orders, of which none costs less than the floor: one
+// that costs no more ends the search.
 #[cycle(covering)]
 pub(crate) fn orders<'a>(
     alloc: Global,
@@ -251,8 +257,10 @@ pub(crate) fn orders<'a>(
     table: &mut CostTable<'a>,
     ops: &[OpenOperand<'a>],
     avoid: RegSet,
+    floor: Option<u64>,
 ) -> Result<Option<u64>, NoMemory>
     requires at { OperandsAt (nodes_of instance.now) ops.now }
+    requires floor { IsFloor (stock_of instance.now) avoid (open_operands ops.now) floor }
     requires right { AreRight instance.now table.old }
     ensures least { IfOk result (λ o. IsLeastOrder (stock_of instance.now) avoid (open_operands ops.now) o) }
     ensures right { OnOk result (AreRight instance.now table.new) }
@@ -264,6 +272,9 @@ pub(crate) fn orders<'a>(
     for i in 0..ops.len() {
         let from = orders_from(alloc, instance, table, ops, avoid, i)?;
         best = lesser_of(best, from);
+        if is_as_dear(floor, best) {
+            return Ok(best);
+        }
     }
     Ok(best)
 }
@@ -313,8 +324,11 @@ pub(crate) fn orders_after<'a>(
 {
     let first = ops[i];
     let later = put_reg(avoid, first.id)?;
+    if ops.len() == 2 {
+        return operand_cost(alloc, instance, table, ops[1 - i], later);
+    }
     let rest = without(alloc, ops, i)?;
-    orders(alloc, instance, table, &rest, later)
+    orders(alloc, instance, table, &rest, later, Some(0))
 }
 
 // The least cost of the cuts.

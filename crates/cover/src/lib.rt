@@ -7,7 +7,7 @@
 //! is always one right answer.
 //!
 //! Invariant: `AreRight` in `specs/Inner/Tables`. Equal subtrees have one number. Each row that the
-//! table keeps is right for its key, the number of a subtree, whether it is whole, and the
+//! table keeps under the number of a subtree is right, for whether the subtree is whole and for the
 //! registers to avoid: for each register and for a temporary cell it has the least cost of the
 //! covers that write none of these. Each list of matches has all forms that match its subtree, in
 //! their order. A row is kept only once it is closed under the forms that go on from another entry
@@ -22,12 +22,14 @@
 //! - `rows`: a row of least costs, and its closure under chain rules.
 //! - `sharing`: which of the numbered subtrees are equal.
 //! - `matches`: the forms that match a subtree, with what their matches leave open, once for all
-//!   sets of registers to avoid. A form with an operator that isn't the tree's is passed over.
-//! - `table`: the rows and the lists of matches that were found, and `Instance`, what is to be
-//!   covered by what.
+//!   sets of registers to avoid.
+//! - `takes`: which forms needn't be matched with a tree, since an operator of theirs isn't the
+//!   tree's at its place.
+//! - `table`: the rows and the lists of matches that were found, each in a list under the number of
+//!   its subtree, and `Instance`, what is to be covered by what.
 //! - `least`: least costs of a tree, of operands over all orders, and of cuts, and the *floor* of
 //!   operands, which no order costs less than: orders are gone through only where it can make an
-//!   entry less.
+//!   entry less, and only up to one that costs no more.
 //! - `fits`: the forms that begin a cover of what is asked for, and the least cost of its covers.
 //! - `choice`: the first cover of a known least cost, from the root down.
 //! - `jobs`: `cover`: the better of a job's trees.
@@ -52,6 +54,7 @@ mod parts;
 mod rows;
 mod sharing;
 mod table;
+mod takes;
 
 pub use covers::{CoverFault, JobCover};
 pub use jobs::cover;

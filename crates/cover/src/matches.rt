@@ -1,9 +1,6 @@
 //! The forms that match a subtree, which are found once for all sets of registers to avoid.
 
-ghost use Rattle.std.specs.Prelude.{◌≡◌, ◌<◌, ◌==◌, true, ℕ, Bool, Option, Some, None, IfOk, OnOk, length, slice_get};
-ghost use Rattle.std.specs.Bool.{OnFalse};
-ghost use Rattle.net_model.specs.Terms.{Term, size_of, term_of};
-ghost use Rattle.form_model.specs.Matches.{Found, bin_match, matched, un_match};
+ghost use Rattle.std.specs.Prelude.{◌≡◌, ◌<◌, ◌==◌, Some, IfOk, OnOk, length, slice_get};
 ghost use Rattle.form_model.specs.Trees.{tree_term};
 ghost use Rattle.cover.specs.Inner.Asks.{start_under};
 ghost use Rattle.cover.specs.Inner.Jobs.{nodes_of};
@@ -12,11 +9,11 @@ ghost use Rattle.cover.specs.Inner.Matched.{AddsMatch, AreMatches, IsOpened, Mat
 use crate::parts::{OpenCut, OpenOperand, cuts_in, operands_in, rest_of};
 use crate::rows::{destination_of_entry, goal_of};
 use crate::table::Instance;
+use crate::takes::may_take;
 use form_model::{RegSet, Tree};
-use net_model::Expr;
-use rec_bits::{NoMemory, Op1, Op2};
+use rec_bits::NoMemory;
 use std::alloc::Global;
-use tree_grammar::{Part, match_at, tree_size};
+use tree_grammar::{Part, match_at};
 
 /// A form that matches a tree for an entry of the tree's row, with what its match leaves open.
 #[derive(Drop)]
@@ -54,50 +51,16 @@ pub(crate) fn start_of(found: &FormMatch, avoid: RegSet) -> Option<u8>
     }
 }
 
-// Whether the tree's root is this operator of one operand.
-fn is_un(tree: &Tree, op: Op1) -> bool
-    ensures { OnFalse result ((f : Term → Bool → Option Found) → un_match f op (tree_term tree.now) ≡ None) }
-{
-    match tree {
-        Tree::Un(o, _) => *o == op,
-        _ => false,
-    }
-}
-
-// Whether the tree's root is this operator of two operands.
-fn is_bin(tree: &Tree, op: Op2) -> bool
-    ensures { OnFalse result ((f g : Term → Bool → Option Found) → bin_match f g op (tree_term tree.now) ≡ None) }
-{
-    match tree {
-        Tree::Bin(o, _, _) => *o == op,
-        _ => false,
-    }
-}
-
-// Whether a form's value may take the tree: an operator at its root has to be the tree's too. It
-// spares most forms a match.
-fn may_take(value: &Expr, tree: &Tree) -> bool
-    ensures { OnFalse result ((temps : ℕ) (whole : Bool) → matched temps (term_of value.now) (tree_term tree.now) whole ≡ None) }
-{
-    match value {
-        Expr::Un(op, _) => is_un(tree, *op),
-        Expr::Bin(op, _, _) => is_bin(tree, *op),
-        _ => true,
-    }
-}
-
 // The match of the form at `k`, if it matches the tree for an entry of the tree's row.
 fn match_form<'a>(
     alloc: Global,
     instance: &Instance<'a>,
     tree: &'a Tree,
     number: u64,
-    size: u64,
     whole: bool,
     k: usize,
 ) -> Result<Option<FormMatch<'a>>, NoMemory>
     requires form { k < length instance.now.forms.now }
-    requires size { size ≡ size_of (tree_term tree.now) }
     requires number { slice_get (nodes_of instance.now) number ≡ Some (tree_term tree.now) }
     ensures { IfOk result (λ o. MatchesForm instance.now (tree_term tree.now) whole k o) }
 {
@@ -120,7 +83,7 @@ fn match_form<'a>(
     else {
         return Ok(None);
     };
-    let opened = open_match(alloc, &found.parts, size, k, goal, form.clobbers)?;
+    let opened = open_match(alloc, &found.parts, number, k, goal, form.clobbers)?;
     Ok(Some(opened))
 }
 
@@ -128,14 +91,14 @@ fn match_form<'a>(
 fn open_match<'a>(
     alloc: Global,
     parts: &[Part<'a>],
-    size: u64,
+    number: u64,
     form: usize,
     goal: u8,
     clobbers: RegSet,
 ) -> Result<FormMatch<'a>, NoMemory>
-    ensures { IfOk result (λ m. IsOpened parts.now size form goal clobbers m) }
+    ensures { IfOk result (λ m. IsOpened parts.now number form goal clobbers m) }
 {
-    let start = rest_of(parts, size, true)?;
+    let start = rest_of(parts, number)?;
     let operands = operands_in(alloc, parts)?;
     let cuts = cuts_in(alloc, parts)?;
     Ok(FormMatch {
@@ -154,17 +117,15 @@ fn put_match<'a>(
     instance: &Instance<'a>,
     tree: &'a Tree,
     number: u64,
-    size: u64,
     whole: bool,
     k: usize,
     list: &mut Vec<FormMatch<'a>>,
 ) -> Result<(), NoMemory>
     requires form { k < length instance.now.forms.now }
-    requires size { size ≡ size_of (tree_term tree.now) }
     requires number { slice_get (nodes_of instance.now) number ≡ Some (tree_term tree.now) }
     ensures { OnOk result (AddsMatch instance.now (tree_term tree.now) whole k list.old.items list.new.items) }
 {
-    let Some(found) = match_form(alloc, instance, tree, number, size, whole, k)? else {
+    let Some(found) = match_form(alloc, instance, tree, number, whole, k)? else {
         return Ok(());
     };
     list.push(found)?;
@@ -185,9 +146,8 @@ pub(crate) fn matches_of<'a>(
     ensures whole { IfOk result (λ ms. ms.whole ≡ whole) }
 {
     let mut list = Vec::new(alloc);
-    let size = tree_size(tree)?;
     for k in 0..instance.forms.len() {
-        put_match(alloc, instance, tree, number, size, whole, k, &mut list)?;
+        put_match(alloc, instance, tree, number, whole, k, &mut list)?;
     }
     Ok(Matches { tree, whole, list })
 }

@@ -5,13 +5,14 @@ ghost use Rattle.net_model.specs.Terms.{Term};
 ghost use Rattle.form_model.specs.Covers.{operands_of, cuts_of};
 ghost use Rattle.form_model.specs.Matches.{operand};
 ghost use Rattle.tree_grammar.specs.Parts.{part_of, sites_of, AreAt};
-ghost use Rattle.cover.specs.Inner.Asks.{with_reg, rest};
+ghost use Rattle.cover.specs.Inner.Asks.{with_reg};
 ghost use Rattle.cover.specs.Inner.Jobs.{open_operands, open_cuts, OperandsAt, CutsAt, HasOperand, HasCut};
+ghost use Rattle.cover.specs.Inner.Matched.{rest_at};
 
 use form_model::{RegSet, Tree};
 use rec_bits::NoMemory;
 use std::alloc::Global;
-use tree_grammar::{Part, tree_size};
+use tree_grammar::Part;
 
 /// An operand that a match leaves open, with the number of its tree among the job's subtrees.
 #[derive(Clone, Copy)]
@@ -121,34 +122,31 @@ pub(crate) fn without<'a>(
     Ok(rest)
 }
 
-// The entry of the same tree's row from which a match goes on, if its one part is the whole tree. A
-// cut goes on from the entry of a temporary cell where there is nothing to avoid.
-pub(crate) fn rest_of(parts: &[Part], size: u64, free: bool) -> Result<Option<u8>, NoMemory>
-    ensures is { IfOk result (λ o. o ≡ rest size free (sites_of parts.now)) }
+// The entry of the same tree's row from which a match goes on where there is nothing to avoid, if
+// its one part is the whole tree, which alone has the tree's number.
+pub(crate) fn rest_of(parts: &[Part], number: u64) -> Result<Option<u8>, NoMemory>
+    ensures is { IfOk result (λ o. o ≡ rest_at number parts.now) }
     ensures register { IfOk result (λ o. IfSome o (λ q. (t : Term) (w : Bool) → sites_of parts.now ≡ operand q t w ∷ [] → q < 16)) }
 {
     if parts.len() != 1 {
         return Ok(None);
     }
-    rest_of_one(parts[0], size, free)
+    rest_of_one(parts[0], number)
 }
 
-fn rest_of_one(part: Part, size: u64, free: bool) -> Result<Option<u8>, NoMemory>
-    ensures is { IfOk result (λ o. o ≡ rest size free (part_of part.entry ∷ [])) }
+fn rest_of_one(part: Part, number: u64) -> Result<Option<u8>, NoMemory>
+    ensures is { IfOk result (λ o. o ≡ rest_at number (part.entry ∷ [])) }
     ensures register { IfOk result (λ o. IfSome o (λ q. (t : Term) (w : Bool) → part_of part.entry ∷ [] ≡ operand q t w ∷ [] → q < 16)) }
 {
     match part {
-        Part::Operand { id, tree, .. } => {
-            if tree_size(tree)? != size {
+        Part::Operand { id, at, .. } => {
+            if at != number {
                 return Ok(None);
             }
             Ok(Some(register_of(id)?))
         }
-        Part::Cut { tree, .. } => {
-            if !free {
-                return Ok(None);
-            }
-            if tree_size(tree)? != size {
+        Part::Cut { at, .. } => {
+            if at != number {
                 return Ok(None);
             }
             Ok(Some(16))

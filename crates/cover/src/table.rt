@@ -7,12 +7,11 @@ ghost use Rattle.cover.specs.Inner.Rows.{row_ask, IsSlot};
 ghost use Rattle.form_model.specs.Trees.{tree_term};
 ghost use Rattle.cover.specs.Inner.Jobs.{stock_of, nodes_of};
 ghost use Rattle.cover.specs.Inner.Matched.{AreMatches};
-ghost use Rattle.cover.specs.Inner.Tables.{IsRight, AreRight};
+ghost use Rattle.cover.specs.Inner.Tables.{AreEmpty, AreRight, HasMatches, IsAmong, IsKept};
 
 use crate::matches::{Matches, matches_of};
 use crate::sharing::{first_equal, first_numbers};
 use form_model::{Form, RegSet, Tree};
-use indexmap::IndexMap;
 use rec_bits::NoMemory;
 use std::alloc::Global;
 use std::rc::Rc;
@@ -28,20 +27,12 @@ pub struct Instance<'a> {
     pub tree: &'a Tree,
 }
 
-/// What a row is kept under: the number of the tree, the first of those that are equal, whether it
-/// is whole, and the registers to avoid.
-#[derive(Clone, Copy, PartialEq, Eq, Hash)]
-pub struct Key {
-    pub number: u64,
+/// The row of least costs of a tree, whole or not, for a set of registers to avoid.
+#[derive(Drop)]
+pub struct KeptRow {
     pub whole: bool,
     pub avoid: RegSet,
-}
-
-/// What the matches of a tree are kept under.
-#[derive(Clone, Copy, PartialEq, Eq, Hash)]
-pub struct MatchKey {
-    pub number: u64,
-    pub whole: bool,
+    pub costs: Vec<Option<u64>>,
 }
 
 /// The matches and the rows of least costs that were found.
@@ -50,8 +41,21 @@ pub struct CostTable<'a> {
     /// For the number of each subtree that of the first equal one, under which what is found of all
     /// of them is kept.
     pub firsts: Vec<u64>,
-    pub matches: IndexMap<MatchKey, Rc<Matches<'a>>>,
-    pub rows: IndexMap<Key, Vec<Option<u64>>>,
+    /// For each number the matches of its subtree as a whole one, as a part, or as both.
+    pub matches: Vec<Vec<Rc<Matches<'a>>>>,
+    /// For each number the rows of its subtree.
+    pub rows: Vec<Vec<KeptRow>>,
+}
+
+// As many empty lists.
+fn empty_lists<T: Drop>(alloc: Global, count: usize) -> Result<Vec<Vec<T>>, NoMemory>
+    ensures { IfOk result (λ lists. AreEmpty lists.items) }
+{
+    let mut lists = Vec::new(alloc);
+    while lists.len() < count {
+        lists.push(Vec::new(alloc))?;
+    }
+    Ok(lists)
 }
 
 // A table with no matches and no rows.
@@ -61,45 +65,87 @@ pub(crate) fn new_table<'a>(
 ) -> Result<CostTable<'a>, NoMemory>
     ensures { IfOk result (λ table. AreRight instance.now table) }
 {
+    let firsts = first_numbers(alloc, instance)?;
+    let count = firsts.len();
     Ok(CostTable {
-        firsts: first_numbers(alloc, instance)?,
-        matches: IndexMap::new(alloc),
-        rows: IndexMap::new(alloc),
+        firsts,
+        matches: empty_lists(alloc, count)?,
+        rows: empty_lists(alloc, count)?,
     })
 }
 
-// The least cost that is kept in an entry of the key's row; the outer option tells whether the row
-// is kept.
+// The row that is kept of the tree, whole or not, with these registers to avoid.
+fn row_in(rows: &[KeptRow], whole: bool, avoid: RegSet) -> Option<&KeptRow>
+    ensures { IfSome result (λ row. IsAmong rows.now row.now × (row.now.whole ≡ whole) × (row.now.avoid ≡ avoid)) }
+{
+    for row in rows {
+        if row.avoid == avoid && row.whole == whole {
+            return Some(row);
+        }
+    }
+    None
+}
+
+// The least cost that is kept in an entry of a row of the tree of this number; the outer option
+// tells whether the row is kept.
 pub(crate) fn kept(
     instance: &Instance,
     table: &CostTable,
-    key: Key,
+    number: u64,
+    whole: bool,
+    avoid: RegSet,
     slot: u8,
 ) -> Option<Option<u64>>
     requires right { AreRight instance.now table.now }
     requires slot { slot < 17 }
-    ensures { IfSome result (λ o. (t : Term) → slice_get (nodes_of instance.now) key.number ≡ Some t → IsSlot key.whole slot →
-        IsLeast (stock_of instance.now) key.avoid (row_ask t key.whole slot) o) }
+    ensures { IfSome result (λ o. (t : Term) → slice_get (nodes_of instance.now) number ≡ Some t → IsSlot whole slot →
+        IsLeast (stock_of instance.now) avoid (row_ask t whole slot) o) }
 {
-    match table.rows.get(&key) {
-        Some(row) => Some(row[slot as usize]),
-        None => None,
-    }
+    let rows = table.rows.get(number as usize)?;
+    let row = row_in(rows, whole, avoid)?;
+    Some(row.costs[slot as usize])
 }
 
-// Keeps a row.
+// Keeps a row of the tree of this number.
 pub(crate) fn keep(
     instance: &Instance,
     table: &mut CostTable,
-    key: Key,
-    row: Vec<Option<u64>>,
+    number: u64,
+    row: KeptRow,
 ) -> Result<(), NoMemory>
     requires right { AreRight instance.now table.old }
-    requires row { IsRight instance.now key row.items }
+    requires row { IsKept instance.now number row }
     ensures { OnOk result (AreRight instance.now table.new) }
 {
-    table.rows.insert(key, row)?;
+    if let Some(rows) = table.rows.get_mut(number as usize) {
+        rows.push(row)?;
+    }
     Ok(())
+}
+
+// The matches that are kept of the tree, whole or not.
+fn matches_in<'s, 'a>(list: &'s [Rc<Matches<'a>>], whole: bool) -> Option<&'s Rc<Matches<'a>>>
+    ensures { IfSome result (λ ms. IsAmong list.now ms.now × (ms.now.value.whole ≡ whole)) }
+{
+    for matches in list {
+        if matches.whole == whole {
+            return Some(matches);
+        }
+    }
+    None
+}
+
+// The same of the tree of this number.
+fn kept_matches<'s, 'a>(
+    instance: &Instance<'a>,
+    table: &'s CostTable<'a>,
+    number: u64,
+    whole: bool,
+) -> Option<&'s Rc<Matches<'a>>>
+    requires right { AreRight instance.now table.now }
+    ensures { IfSome result (λ ms. HasMatches instance.now number ms.now × (ms.now.value.whole ≡ whole)) }
+{
+    matches_in(table.matches.get(number as usize)?, whole)
 }
 
 // The forms that match a tree. They are found once for all equal trees.
@@ -118,15 +164,12 @@ pub(crate) fn matches_at<'a>(
     ensures whole { IfOk result (λ ms. ms.value.whole ≡ whole) }
     ensures right { OnOk result (AreRight instance.now table.new) }
 {
-    let key = MatchKey {
-        number: first_equal(&table.firsts, number),
-        whole,
-    };
-    if let Some(matches) = table.matches.get(&key) {
+    let first = first_equal(&table.firsts, number);
+    if let Some(matches) = kept_matches(instance, table, first, whole) {
         return Ok(matches.clone()?);
     }
-    let found = matches_of(alloc, instance, tree, key.number, whole)?;
-    keep_matches(alloc, instance, table, key, found)
+    let found = matches_of(alloc, instance, tree, first, whole)?;
+    keep_matches(alloc, instance, table, first, found)
 }
 
 // Keeps the matches of a tree.
@@ -134,17 +177,32 @@ fn keep_matches<'a>(
     alloc: Global,
     instance: &Instance<'a>,
     table: &mut CostTable<'a>,
-    key: MatchKey,
+    number: u64,
     found: Matches<'a>,
 ) -> Result<Rc<Matches<'a>>, NoMemory>
-    requires tree { slice_get (nodes_of instance.now) key.number ≡ Some (tree_term found.tree.now) }
-    requires whole { found.whole ≡ key.whole }
+    requires tree { slice_get (nodes_of instance.now) number ≡ Some (tree_term found.tree.now) }
     requires matches { AreMatches instance.now found }
     requires right { AreRight instance.now table.old }
     ensures value { IfOk result (λ ms. ms.value ≡ found.entry) }
     ensures right { OnOk result (AreRight instance.now table.new) }
 {
     let matches = Rc::new(alloc, found)?;
-    table.matches.insert(key, matches.clone()?)?;
+    put_matches(instance, table, number, matches.clone()?)?;
     Ok(matches)
+}
+
+fn put_matches<'a>(
+    instance: &Instance<'a>,
+    table: &mut CostTable<'a>,
+    number: u64,
+    matches: Rc<Matches<'a>>,
+) -> Result<(), NoMemory>
+    requires right { AreRight instance.now table.old }
+    requires matches { HasMatches instance.now number matches }
+    ensures { OnOk result (AreRight instance.now table.new) }
+{
+    if let Some(list) = table.matches.get_mut(number as usize) {
+        list.push(matches)?;
+    }
+    Ok(())
 }

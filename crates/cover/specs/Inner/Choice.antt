@@ -39,6 +39,10 @@ pub record Fits (stock : Stock) (avoid : ℕ) (ask : Ask) (k : ℕ) (operands : 
   pub order : IsLeastOrder stock avoid operands (Some a)
   pub cut : IsLeastCut stock stored (Some b)
 
+-- the cost of the covers that begin with the form
+abbrev pub fit_cost : Fit → ℕ
+fit_cost f = 1 + f.operands_cost + f.cuts_cost
+
 abbrev pub IsFit : Stock → ℕ → Ask → ℕ → Option Fit → Type 0
 IsFit stock avoid ask k None = IsLeastForm stock avoid ask k None
 IsFit stock avoid ask k (Some f) = Fits stock avoid ask k (open_operands f.operands.items) (open_cuts f.cuts.items) f.operands_cost f.cuts_cost

@@ -1,11 +1,12 @@
 -- The forms that match a tree.
-use Rattle.std.specs.Prelude.{ℕ, ◌<◌, ◌≡◌, true, Bool, List, [], ◌∷◌, ◌++◌, Option, Some, None, IfSome, slice_get, length}
+use Rattle.std.specs.Prelude.{ℕ, ◌<◌, ◌≡◌, true, Bool, List, [], ◌∷◌, ◌++◌, Option, Some, None, IfSome, slice_get, length, if◌then◌else◌, ◌==◌}
 use Rattle.net_model.specs.Terms.{Term, size_of}
 use Rattle.form_model.specs.Trees.{tree_term}
 use Rattle.form_model.specs.Rules.{Rule}
 use Rattle.form_model.specs.Matches.{Found, operand}
 use Rattle.form_model.specs.Covers.{Stock, operands_of, cuts_of}
 use Rattle.tree_grammar.specs.declared.parts.Part.{Part}
+use Rattle.tree_grammar.specs.declared.parts.Part.TheVariants
 use Rattle.tree_grammar.specs.Parts.{sites_of, AreAt}
 use Rattle.cover.specs.declared.table.Instance.{Instance}
 use Rattle.cover.specs.declared.rows.Offer.{Offer}
@@ -40,12 +41,18 @@ pub record IsFormMatch (instance : Instance) (t : Term) (whole : Bool) (m : Form
   pub operands_at : OperandsAt (nodes_of instance) m.operands.items
   pub cuts_at : CutsAt (nodes_of instance) m.cuts.items
 
+-- the entry of the tree of this number from which a match with these parts goes on, as `rest` has it
+abbrev pub rest_at : ℕ → List Part → Option ℕ
+rest_at number (TheVariants.Operand id tree whole at ∷ []) = if at == number then Some id else None
+rest_at number (TheVariants.Cut shape tree at ∷ []) = if at == number then Some 16 else None
+rest_at number _ = None
+
 -- a match of a form that leaves these parts open
-pub record IsOpened (parts : List Part) (size k entry clobbered : ℕ) (m : FormMatch) : Type 0 where
+pub record IsOpened (parts : List Part) (number k entry clobbered : ℕ) (m : FormMatch) : Type 0 where
   pub form : m.form ≡ k
   pub goal : m.goal ≡ entry
   pub clobbers : m.clobbers ≡ clobbered
-  pub start : m.start ≡ rest size true (sites_of parts)
+  pub start : m.start ≡ rest_at number parts
   pub register : IfSome m.start (λ q. (u : Term) (w : Bool) → sites_of parts ≡ operand q u w ∷ [] → q < 16)
   pub operands : open_operands m.operands.items ≡ operands_of (sites_of parts)
   pub cuts : open_cuts m.cuts.items ≡ cuts_of (sites_of parts)

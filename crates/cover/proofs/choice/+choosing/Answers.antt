@@ -3,7 +3,7 @@ use Rattle.std.specs.Prelude.{remove, slice_get}
 use Rattle.std.proofs.lemmas.Option.{slice_get_read}
 use Rattle.std.proofs.lemmas.Result.{IfOk-weaker}
 use Rattle.form_model.specs.Trees.{tree_term}
-use Rattle.form_model.specs.Plans.{use_form, operand_then, plan_of, operands_plan, cuts_plan}
+use Rattle.form_model.specs.Plans.{use_form, operand_then, cut_then, plan_of, operands_plan, cuts_plan}
 use Rattle.form_model.specs.Covers.{Operand}
 use Rattle.form_model.specs.declared.covers.Cover.{Cover}
 use Rattle.cover.specs.Inner.Asks.{operand_ask, with_reg}
@@ -18,8 +18,8 @@ use Rattle.cover.specs.Inner.Matched.{AreMatches}
 use Rattle.cover.specs.Inner.Choice.{matches_ask, NeverBegins, BeginsAt, Starts, StartsCut, IsFirst, IsFirstOrder, IsFirstFrom, IsFirstCuts, AreFirstParts}
 use Rattle.cover.proofs.MatchLemmas.{never_before, some_match, matches_later}
 use Rattle.cover.proofs.NodeLemmas.{input_get, inputs_remove}
-use Rattle.cover.proofs.InputLemmas.{register_ask, register_slot, cut_slot, inputs_at, inputs_without, length_inputs, no_stored, stored_split, stored_first}
-use Rattle.cover.proofs.ChoiceLemmas.{first_by_form, order_exists, first_by_operand, operands_later, empty_cuts}
+use Rattle.cover.proofs.InputLemmas.{register_ask, register_slot, cut_slot, inputs_at, inputs_without, length_inputs, no_stored, stored_split, stored_first, stored_later, no_inputs, tail_is}
+use Rattle.cover.proofs.ChoiceLemmas.{first_by_form, order_exists, first_by_operand, operands_later, empty_first, empty_cuts, first_by_cut}
 use Rattle.cover.proofs.choice.+choosing.Goals as goal
 
 pub choose_entry-choose_among-requires : goal.choose_entry-choose_among-requires
@@ -213,3 +213,31 @@ order_without-returns-clause-first t c =
     let e : open_operands c.deref.result.now ≡ remove (open_operands c.args.ops.now) c.args.i = ap open_operands d ∙ inputs_without c.args.ops.now c.args.i in
     IfOk-weaker c.choose_order.result (λ x. IsFirstOrder (stock_of c.args.instance.now) c.args.avoid (open_operands c.deref.result.now) (operands_plan x)) (λ x. IsFirstOrder (stock_of c.args.instance.now) c.args.avoid (remove (open_operands c.args.ops.now) c.args.i) (operands_plan x))
     (λ x first. subst (λ xs. IsFirstOrder (stock_of c.args.instance.now) c.args.avoid xs (operands_plan x)) e first) c.choose_order.ensures.first
+
+pub choose_order-returns-then-is_empty-clause-first : goal.choose_order-returns-then-is_empty-clause-first
+choose_order-returns-then-is_empty-clause-first t c = empty_first _ _ _ (let n : length c.args.ops.now ≡ 0 = search rules in no_inputs c.args.ops.now n)
+
+pub choose_cuts-choose_cuts-requires : goal.choose_cuts-choose_cuts-requires
+choose_cuts-choose_cuts-requires t c =
+    let some : 0 < length c.args.cuts.now = search rules in
+    let got = slice_get_read _ _ _ _ refl some c.index-cuts-0.is in
+    let e = stored_split c.args.cuts.now c.index-cuts-0.result got in
+    let s = subst (λ l. StartsCut (stock_of c.args.instance.now) l c.args.n c.in_ok-m.m) e c.in_ok-m.ensures.starts in (
+      omega (arith, s.0, s.1, c.decreases),
+      (
+        subst (λ l. IsLeastCut (stock_of c.args.instance.now) (open_cuts l) (Some (c.args.n - c.in_ok-m.m))) (sym (tail_is c.args.cuts.now)) s.3,
+        (subst (CutsAt (nodes_of c.args.instance.now)) (sym (tail_is c.args.cuts.now)) (stored_later (nodes_of c.args.instance.now) c.args.cuts.now c.requires.at), c.in_ok-here.ensures.right),
+      ),
+    )
+
+pub choose_cuts-returns-clause-first : goal.choose_cuts-returns-clause-first
+choose_cuts-returns-clause-first t c =
+    let some : 0 < length c.args.cuts.now = search rules in
+    let got = slice_get_read _ _ _ _ refl some c.index-cuts-0.is in
+    let e = stored_split c.args.cuts.now c.index-cuts-0.result got in
+    let s = subst (λ l. StartsCut (stock_of c.args.instance.now) l c.args.n c.in_ok-m.m) e c.in_ok-m.ensures.starts in
+    let later = subst (λ l. IsFirstCuts (stock_of c.args.instance.now) (open_cuts l) (cuts_plan c.in_ok-later.later)) (tail_is c.args.cuts.now) c.in_ok-later.ensures.first in
+    IfOk-weaker c.cut_first.result (λ x. cuts_plan x ≡ cut_then (plan_of c.in_ok-here.here) (cuts_plan c.in_ok-later.later)) (λ x. IsFirstCuts (stock_of c.args.instance.now) (open_cuts c.args.cuts.now) (cuts_plan x))
+    (λ x is. subst (IsFirstCuts (stock_of c.args.instance.now) (open_cuts c.args.cuts.now)) (sym is)
+    (subst (λ l. IsFirstCuts (stock_of c.args.instance.now) l (cut_then (plan_of c.in_ok-here.here) (cuts_plan c.in_ok-later.later))) (sym e)
+    (first_by_cut (stock_of c.args.instance.now) _ _ c.args.n c.in_ok-m.m _ _ s c.in_ok-here.ensures.first later))) c.cut_first.ensures

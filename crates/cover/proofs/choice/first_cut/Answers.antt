@@ -5,7 +5,7 @@ use Rattle.cover.specs.Inner.Least.{IsLeastCut}
 use Rattle.cover.specs.Inner.Jobs.{stock_of, open_cuts}
 use Rattle.cover.specs.Inner.Choice.{StartsCut}
 use Rattle.cover.proofs.InputLemmas.{stored_split}
-use Rattle.cover.proofs.ChoiceLemmas.{starts_cut}
+use Rattle.cover.proofs.ChoiceLemmas.{some_none, same_some, starts_cut}
 use Rattle.cover.proofs.choice.first_cut.Goals as goal
 
 pub unreachable-requires : goal.unreachable-requires
@@ -14,8 +14,7 @@ unreachable-requires c =
     let got = slice_get_read _ _ _ _ refl some c.index-cuts-0.is in
     let e = stored_split c.args.cuts.now c.index-cuts-0.result got in
     let (m, is, starts) = starts_cut (stock_of c.args.instance.now) (tree_term c.index-cuts-0.result.tree.now) (open_cuts (drop 1 c.args.cuts.now)) c.args.n c.in_ok-m.field-0 (subst (λ l. IsLeastCut (stock_of c.args.instance.now) l (Some c.args.n)) e c.requires.least) c.in_ok-m.ensures.least in
-    let none = c.in_default.is in
-    absurd (cc)
+    some_none is c.in_default.is
 
 pub returns-clause-starts : goal.returns-clause-starts
 returns-clause-starts c =
@@ -23,6 +22,5 @@ returns-clause-starts c =
     let got = slice_get_read _ _ _ _ refl some c.index-cuts-0.is in
     let e = stored_split c.args.cuts.now c.index-cuts-0.result got in
     let (m, is, starts) = starts_cut (stock_of c.args.instance.now) (tree_term c.index-cuts-0.result.tree.now) (open_cuts (drop 1 c.args.cuts.now)) c.args.n c.in_ok-m.field-0 (subst (λ l. IsLeastCut (stock_of c.args.instance.now) l (Some c.args.n)) e c.requires.least) c.in_ok-m.ensures.least in
-    let here = c.in-Some.is in
-    let same : m ≡ c.in-Some.m = cc in
+    let same : m ≡ c.in-Some.m = same_some is c.in-Some.is in
     subst (λ l. StartsCut (stock_of c.args.instance.now) l c.args.n c.in-Some.m) (sym e) (subst (λ j. StartsCut (stock_of c.args.instance.now) (tree_term c.index-cuts-0.result.tree.now ∷ open_cuts (drop 1 c.args.cuts.now)) c.args.n j) same starts)

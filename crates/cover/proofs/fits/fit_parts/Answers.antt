@@ -1,11 +1,15 @@
 use Rattle.std.proofs.Common.{sym, subst}
 use Rattle.cover.specs.Inner.Least.{IsLeastOrder, IsLeastCut}
 use Rattle.cover.specs.Inner.Jobs.{stock_of, nodes_of, open_operands, open_cuts, OperandsAt, CutsAt}
+use Rattle.cover.proofs.FloorLemmas.{floor_none}
 use Rattle.cover.proofs.FitLemmas.{fit_inputs, fit_stored}
 use Rattle.cover.proofs.fits.fit_parts.Goals as goal
 
 pub orders-requires-clause-at : goal.orders-requires-clause-at
 orders-requires-clause-at c = subst (OperandsAt (nodes_of c.args.instance.now)) (sym c.deref.ensures.value) (c.in_ok-operands.ensures.at (nodes_of c.args.instance.now) c.requires.at)
+
+pub orders-requires-clause-floor : goal.orders-requires-clause-floor
+orders-requires-clause-floor c = floor_none (stock_of c.args.instance.now) c.args.avoid (open_operands c.deref.result.now)
 
 pub cuts_cost-requires-clause-at : goal.cuts_cost-requires-clause-at
 cuts_cost-requires-clause-at c = subst (CutsAt (nodes_of c.args.instance.now)) (sym c.deref-2.ensures.value) (c.in_ok-cuts.ensures.at (nodes_of c.args.instance.now) c.requires.at)

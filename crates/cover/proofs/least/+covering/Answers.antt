@@ -1,4 +1,4 @@
-use Rattle.std.proofs.Common.{◌≡◌, ◌<◌, length, drop, arith, rules, refl, sym, ap, ◌∙◌, subst, inl, inr, Option, Some, Vec, vec_len, ℕ}
+use Rattle.std.proofs.Common.{◌≡◌, ◌<◌, ◌-◌, length, drop, arith, rules, refl, sym, ap, ◌∙◌, subst, inl, inr, Option, Some, None, Vec, vec_len, ℕ}
 use Rattle.std.specs.Prelude.{slice_get, remove}
 use Rattle.std.proofs.lemmas.Bool.{OnTrue_at}
 use Rattle.std.proofs.lemmas.Option.{slice_get_read}
@@ -6,6 +6,7 @@ use Rattle.std.proofs.lemmas.Result.{IfOk-weaker}
 use Rattle.std.specs.declared.alloc.Global.{Global}
 use Rattle.form_model.specs.Trees.{tree_term}
 use Rattle.form_model.specs.Covers.{Operand}
+use Rattle.form_model.specs.Plans.{operands_cost}
 use Rattle.cover.specs.Inner.Asks.{operand_ask, operands_size, terms_size, with_reg}
 use Rattle.cover.specs.Inner.Least.{IsLeast, IsLeastOrder, IsLeastAfter, IsLeastFrom, IsLeastCut, IsFloor, IsCostBelow, AtMost, summed}
 use Rattle.cover.specs.Inner.Jobs.{stock_of, nodes_of, open_operand, open_operands, open_cuts, OperandsAt, CutsAt}
@@ -19,9 +20,10 @@ use Rattle.cover.specs.Inner.Matched.{AreMatches}
 use Rattle.cover.proofs.OfferLemmas.{blank_row, look_within, tried_none, tried_more, least_row_of}
 use Rattle.cover.proofs.MatchLemmas.{at_index, at_place, matches_all, match_sizes, offer_clobbers, offer_start, offer_below}
 use Rattle.net_model.specs.Terms.{size_of}
-use Rattle.cover.proofs.LeastLemmas.{cut_none, cut_more, order_more, order_all, order_none, from_parts, from_none, from_last}
+use Rattle.cover.proofs.LeastLemmas.{order_one, other_left, cut_none, cut_more, order_more, order_all, order_none, from_parts, from_none, from_last}
 use Rattle.cover.specs.declared.matches.FormMatch.{FormMatch}
 use Rattle.cover.proofs.FloorLemmas.{floor_none, floor_more}
+use Rattle.cover.proofs.TableLemmas.{same_default}
 use Rattle.cover.proofs.least.+covering.Goals as goal
 
 pub operand_cost-least-requires : goal.operand_cost-least-requires
@@ -122,7 +124,7 @@ pub cost_below-floor_of-requires : goal.cost_below-floor_of-requires
 cost_below-floor_of-requires t c = (omega (arith, c.decreases), (c.requires.at, c.in_ok-b.ensures.right))
 
 pub cost_below-orders-requires : goal.cost_below-orders-requires
-cost_below-orders-requires t c = (omega (arith, c.decreases), (c.requires.at, c.in_ok-floor.ensures.right))
+cost_below-orders-requires t c = (omega (arith, c.decreases), (c.requires.at, (c.in_ok-floor.ensures.floor, c.in_ok-floor.ensures.right)))
 
 pub cost_below-returns-then-is_as_dear-clause-least : goal.cost_below-returns-then-is_as_dear-clause-least
 cost_below-returns-then-is_as_dear-clause-least t c = inr (
@@ -174,6 +176,13 @@ pub orders-loop-i-preserved : goal.orders-loop-i-preserved
 orders-loop-i-preserved t c =
     rw c.lesser_of-best.ensures (let h = order_more (stock_of c.args.instance.now) c.args.avoid (open_operands c.args.ops.now) c.loop-i.i c.loop-i.best c.in_ok-from.from c.loop-i.invariant.reached c.loop-i.invariant.least c.in_ok-from.ensures.least in record { reached = h.0; least = h.1; right = c.in_ok-from.ensures.right })
 
+pub orders-returns-then-is_as_dear-clause-least : goal.orders-returns-then-is_as_dear-clause-least
+orders-returns-then-is_as_dear-clause-least t c =
+    rw c.lesser_of-best.ensures (
+    let h = order_more (stock_of c.args.instance.now) c.args.avoid (open_operands c.args.ops.now) c.loop-i.i c.loop-i.best c.in_ok-from.from c.loop-i.invariant.reached c.loop-i.invariant.least c.in_ok-from.ensures.least in
+    record { reached = h.0; least = λ ps sparing. subst (λ o. AtMost o (operands_cost ps)) c.lesser_of-best.ensures (OnTrue_at c.if-is_as_dear.true c.is_as_dear.ensures (operands_cost ps) (c.requires.floor ps sparing)) }
+    )
+
 pub orders-returns-clause-least : goal.orders-returns-clause-least
 orders-returns-clause-least t c =
     let some : 0 < length c.args.ops.now = search rules in
@@ -222,7 +231,33 @@ orders_after-orders-requires t c =
     let h = size-remove (open_operands c.args.ops.now) c.args.i (open_operand c.index-ops-i.result) get in
     let d : c.deref.result.now ≡ remove c.args.ops.now c.args.i = c.deref.ensures.value ∙ c.in_ok-rest.ensures in
     let e : open_operands c.deref.result.now ≡ remove (open_operands c.args.ops.now) c.args.i = ap open_operands d ∙ inputs_without c.args.ops.now c.args.i in
-    (omega (arith, h, ap operands_size e, size_pos (tree_term c.index-ops-i.result.tree.now), c.decreases), (subst (OperandsAt (nodes_of c.args.instance.now)) (sym d) (inputs_remove (nodes_of c.args.instance.now) c.args.ops.now c.args.i c.requires.at), c.requires.right))
+    (omega (arith, h, ap operands_size e, size_pos (tree_term c.index-ops-i.result.tree.now), c.decreases), (subst (OperandsAt (nodes_of c.args.instance.now)) (sym d) (inputs_remove (nodes_of c.args.instance.now) c.args.ops.now c.args.i c.requires.at), (floor_none (stock_of c.args.instance.now) c.in_ok-later.later (open_operands c.deref.result.now), c.requires.right)))
+
+pub orders_after-operand_cost-requires : goal.orders_after-operand_cost-requires
+orders_after-operand_cost-requires t c =
+    let two : length c.args.ops.now ≡ 2 = search rules in
+    let got : slice_get c.args.ops.now (1 - c.args.i) ≡ Some c.index-ops-i-then-ops-eq2.result = slice_get_read c.args.ops.now (length c.args.ops.now) (1 - c.args.i) _ refl (let lt = c.requires.place in omega (arith, two, lt)) c.index-ops-i-then-ops-eq2.is in
+    let get = inputs_at c.args.ops.now (1 - c.args.i) c.index-ops-i-then-ops-eq2.result got in
+    let h = size-remove (open_operands c.args.ops.now) (1 - c.args.i) (open_operand c.index-ops-i-then-ops-eq2.result) get in
+    (omega (arith, h, c.decreases, rank_le c.in_ok-later.later), (input_get _ _ (1 - c.args.i) _ c.requires.at got, c.requires.right))
+
+pub orders_after-returns-then-ops-eq2-clause-least : goal.orders_after-returns-then-ops-eq2-clause-least
+orders_after-returns-then-ops-eq2-clause-least t c =
+    let two : length c.args.ops.now ≡ 2 = search rules in
+    let n = length_inputs c.args.ops.now in
+    let lt = c.requires.place in
+    let got = slice_get_read _ _ _ _ refl lt c.index-ops-i.is in
+    let get = inputs_at c.args.ops.now c.args.i c.index-ops-i.result got in
+    let got' : slice_get c.args.ops.now (1 - c.args.i) ≡ Some c.index-ops-i-then-ops-eq2.result = slice_get_read c.args.ops.now (length c.args.ops.now) (1 - c.args.i) _ refl (omega (arith, two, lt)) c.index-ops-i-then-ops-eq2.is in
+    let get' = inputs_at c.args.ops.now (1 - c.args.i) c.index-ops-i-then-ops-eq2.result got' in
+    let left = other_left (open_operands c.args.ops.now) c.args.i (open_operand c.index-ops-i-then-ops-eq2.result) (omega (arith, two, n)) (omega (arith, two, lt)) get' in
+    IfOk-weaker c.operand_cost.result (λ o. IsLeast (stock_of c.args.instance.now) c.in_ok-later.later (operand_ask (open_operand c.index-ops-i-then-ops-eq2.result)) o) (λ o. IsLeastAfter (stock_of c.args.instance.now) c.args.avoid (open_operands c.args.ops.now) c.args.i o)
+    (λ o least x here.
+    let same : open_operand c.index-ops-i.result ≡ x = cc in
+    subst (λ (y : Operand). IsLeastOrder (stock_of c.args.instance.now) (with_reg c.args.avoid y.id) (remove (open_operands c.args.ops.now) c.args.i) o) same
+    (subst (λ xs. IsLeastOrder (stock_of c.args.instance.now) (with_reg c.args.avoid c.index-ops-i.result.id) xs o) (sym left)
+    (order_one (stock_of c.args.instance.now) (with_reg c.args.avoid c.index-ops-i.result.id) (open_operand c.index-ops-i-then-ops-eq2.result) o
+    (subst (λ s. IsLeast (stock_of c.args.instance.now) s (operand_ask (open_operand c.index-ops-i-then-ops-eq2.result)) o) c.in_ok-later.ensures least)))) c.operand_cost.ensures.least
 
 pub orders_after-returns-clause-least : goal.orders_after-returns-clause-least
 orders_after-returns-clause-least t c =
@@ -262,3 +297,10 @@ cuts_cost-returns-clause-least t c =
     let parts = cut_more (stock_of c.args.instance.now) (tree_term c.index-cuts-0.result.tree.now) (open_cuts (drop 1 c.args.cuts.now)) c.in_ok-m.m c.in_ok-n.n c.in_ok-m.ensures.least (subst (λ l. IsLeastCut (stock_of c.args.instance.now) (open_cuts l) c.in_ok-n.n) (tail_is c.args.cuts.now) c.in_ok-n.ensures.least) in
     IfOk-weaker c.sum_of.result (λ x. x ≡ summed c.in_ok-m.m c.in_ok-n.n) (λ x. IsLeastCut (stock_of c.args.instance.now) (open_cuts c.args.cuts.now) x)
     (λ o same. subst (λ x. IsLeastCut (stock_of c.args.instance.now) (open_cuts c.args.cuts.now) x) (sym same) (subst (λ xs. IsLeastCut (stock_of c.args.instance.now) xs (summed c.in_ok-m.m c.in_ok-n.n)) (sym e) parts)) c.sum_of.ensures
+
+pub least-returns-clause-least : goal.least-returns-clause-least
+least-returns-clause-least t c =
+    let n : length c.in_ok-costs.costs.items ≡ 17 = search rules in
+    subst (λ o. IsLeast (stock_of c.args.instance.now) c.args.avoid (row_ask (tree_term c.args.tree.now) c.args.whole c.args.slot) o)
+    (same_default c.in_ok-costs.costs.items c.args.slot c.index-cost.result.now None (omega (arith, n, c.requires.slot.within)) c.index-cost.ensures)
+    (c.in_ok-costs.ensures.least c.args.slot c.requires.slot)

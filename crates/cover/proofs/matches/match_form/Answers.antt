@@ -14,8 +14,8 @@ returns c =
     let form : Form = get_or c.args.instance.now.forms.now c.args.k c.index-instance-k.result in
     let got : slice_get c.args.instance.now.forms.now c.args.k ≡ Some form = listed _ _ _ c.requires.form in
     let s = start_of c.args.instance.now form c.args.k c.in-Some.goal (tree_term c.args.tree.now) c.args.whole (destination_at c.destination_of_entry.result) c.in_ok-goal.field-0 c.in_ok-found.field-0 c.in-Some-2.found got c.in_ok-goal.ensures c.in-Some.is c.in_ok-found.ensures.found c.in-Some-2.is c.destination_of_entry.ensures in
-    let at = start_at c.args.instance.now c.args.number c.in-Some.goal (tree_term c.args.tree.now) (destination_at c.destination_of_entry.result) c.in_ok-found.field-0 c.in-Some-2.found c.requires.number c.in_ok-found.ensures.at c.in-Some-2.is c.destination_of_entry.ensures in (
-      form_match c.args.instance.now form c.args.k c.in-Some.goal (tree_term c.args.tree.now) c.args.whole c.args.size c.in-Some-2.found c.deref.result.now c.in_ok-opened.opened s at c.requires.size c.deref.ensures.value c.in_ok-opened.ensures,
+    let at = start_at c.args.number c.in-Some.goal (tree_term c.args.tree.now) (destination_at c.destination_of_entry.result) c.in_ok-found.field-0 c.in-Some-2.found c.in_ok-found.ensures.at c.in-Some-2.is c.destination_of_entry.ensures in (
+      form_match c.args.instance.now form c.args.k c.in-Some.goal (tree_term c.args.tree.now) c.args.whole c.args.number c.in-Some-2.found c.deref.result.now c.in_ok-opened.opened c.requires.number s at c.deref.ensures.value c.in_ok-opened.ensures,
       c.in_ok-opened.ensures.form,
     )
 

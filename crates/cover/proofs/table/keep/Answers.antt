@@ -1,15 +1,13 @@
-use Rattle.std.proofs.Common.{sym, subst}
-use Rattle.cover.specs.Inner.Entries.{EachEntry}
+use Rattle.std.proofs.Common.{refl}
+use Rattle.std.proofs.lemmas.Option.{slice_get_read}
 use Rattle.cover.specs.Inner.Tables.{IsKept}
-use Rattle.cover.proofs.EntryLemmas.{each_added}
-use Rattle.cover.specs.contracts.table.KeyPartialEq.TheImpl.{ghosts as key_eq}
-use Rattle.cover.proofs.TableLemmas.{exact_key}
+use Rattle.cover.proofs.TableLemmas.{kept_push}
 use Rattle.cover.proofs.table.keep.Goals as goal
 
-pub returns : goal.returns
-returns c = record {
+pub returns-in_ok-push : goal.returns-in_ok-push
+returns-in_ok-push c = record {
   firsts = c.requires.right.firsts;
   matches = c.requires.right.matches;
-  rows = subst (EachEntry (IsKept c.args.instance.now)) (sym c.in_ok-insert.ensures.entries)
-      (each_added (IsKept c.args.instance.now) key_eq.eq exact_key c.args.table.now.rows.entries c.args.key c.args.row c.requires.right.rows c.requires.row);
+  rows = kept_push (IsKept c.args.instance.now) c.args.table.now.rows.items c.args.number c.in-Some.rows.now c.push.new.self c.args.row c.requires.right.rows
+      (slice_get_read _ _ _ _ refl c.in-Some.ensures.item.3.0 c.in-Some.ensures.item.1) c.in_ok-push.ensures.items c.requires.row;
 }

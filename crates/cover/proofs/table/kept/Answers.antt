@@ -1,19 +1,14 @@
-use Rattle.std.proofs.Common.{sym, ap, ◌∙◌, arith, ◌≡◌, vec_len, rules}
-use Rattle.std.specs.Option.{option_copied}
-use Rattle.cover.specs.Inner.Tables.{IsRight, IsKept}
-use Rattle.cover.specs.contracts.table.KeyPartialEq.TheImpl.{ghosts as key_eq}
-use Rattle.cover.proofs.TableLemmas.{exact_key, entry_right}
-use Rattle.cover.proofs.EntryLemmas.{each_found}
+use Rattle.std.proofs.Common.{◌≡◌, Some, refl, subst}
+use Rattle.std.specs.Prelude.{slice_get}
+use Rattle.std.proofs.lemmas.Option.{slice_get_read}
+use Rattle.cover.specs.Inner.Tables.{IsAmong}
+use Rattle.cover.proofs.TableLemmas.{entry_right}
 use Rattle.cover.proofs.table.kept.Goals as goal
 
-pub index-requires : goal.index-requires
-index-requires c =
-    let r : IsRight c.args.instance.now c.args.key c.in-Some.row.now.items = each_found (IsKept c.args.instance.now) key_eq.eq exact_key c.args.table.now.rows.entries c.args.key c.in-Some.row.now c.requires.right.rows (sym c.get.ensures.value ∙ ap option_copied c.in-Some.is) in
-    let l = r.len in
-    let v : vec_len c.in-Some.row.now ≡ 17 = search rules in
-    omega (arith, v, c.requires.slot)
-
-pub returns-in-Some : goal.returns-in-Some
-returns-in-Some c =
-    let r : IsRight c.args.instance.now c.args.key c.in-Some.row.now.items = each_found (IsKept c.args.instance.now) key_eq.eq exact_key c.args.table.now.rows.entries c.args.key c.in-Some.row.now c.requires.right.rows (sym c.get.ensures.value ∙ ap option_copied c.in-Some.is) in
-    entry_right c.args.instance.now c.args.key c.in-Some.row.now.items c.args.slot c.index.result.now r c.requires.slot c.index.ensures
+pub returns : goal.returns
+returns c =
+    let (among, whole, avoid) = c.in_ok-row.ensures in
+    let got = slice_get_read _ _ _ _ refl c.in_ok-rows.ensures.lookup.3.0 c.in_ok-rows.ensures.lookup.1 in
+    let there : slice_get c.args.table.now.rows.items c.args.number ≡ Some c.in_ok-rows.rows.now = subst (λ l. slice_get l c.args.number ≡ Some c.in_ok-rows.rows.now) c.deref.ensures.value got in
+    let here : IsAmong c.in_ok-rows.rows.now.items c.in_ok-row.row.now = subst (λ l. IsAmong l c.in_ok-row.row.now) c.deref-2.ensures.value among in
+    entry_right c.args.instance.now c.args.number c.in_ok-row.row.now c.args.whole c.args.avoid c.args.slot c.index.result.now (c.requires.right.rows c.args.number c.in_ok-rows.rows.now c.in_ok-row.row.now there here) whole avoid c.requires.slot c.index.ensures

@@ -1,0 +1,102 @@
+//! Whether the value of a form may take a tree, as far as their operators tell.
+
+ghost use Rattle.std.specs.Prelude.{◌≡◌, ℕ, Bool, Option, None};
+ghost use Rattle.std.specs.Bool.{OnFalse};
+ghost use Rattle.net_model.specs.Terms.{Term, bin, term_of, un};
+ghost use Rattle.form_model.specs.Matches.{Found, matched, read_match, sext_match, shape_match, slice_match, zext_match};
+ghost use Rattle.form_model.specs.Trees.{tree_term};
+
+use form_model::Tree;
+use net_model::Expr;
+use rec_bits::{Op1, Op2};
+use tree_grammar::is_field_shape;
+
+// Whether the tree is a number, which a field shape may show.
+fn is_number(tree: &Tree) -> bool
+    ensures { OnFalse result ((shape : Term) → shape_match shape (tree_term tree.now) ≡ None) }
+{
+    match tree {
+        Tree::Lit { .. } => true,
+        _ => false,
+    }
+}
+
+fn is_read(tree: &Tree) -> bool
+    ensures { OnFalse result ((f : Term → Bool → Option Found) (w : ℕ) → read_match f w (tree_term tree.now) ≡ None) }
+{
+    match tree {
+        Tree::Read(_, _) => true,
+        _ => false,
+    }
+}
+
+fn is_slice(tree: &Tree) -> bool
+    ensures { OnFalse result ((f : Term → Bool → Option Found) (w h l : ℕ) → slice_match f w h l (tree_term tree.now) ≡ None) }
+{
+    match tree {
+        Tree::Slice(_, _, _) => true,
+        _ => false,
+    }
+}
+
+fn is_zext(tree: &Tree) -> bool
+    ensures { OnFalse result ((f : Term → Bool → Option Found) (v w : ℕ) → zext_match f v w (tree_term tree.now) ≡ None) }
+{
+    match tree {
+        Tree::Zext(_, _) => true,
+        _ => false,
+    }
+}
+
+fn is_sext(tree: &Tree) -> bool
+    ensures { OnFalse result ((f : Term → Bool → Option Found) (v w : ℕ) → sext_match f v w (tree_term tree.now) ≡ None) }
+{
+    match tree {
+        Tree::Sext(_, _) => true,
+        _ => false,
+    }
+}
+
+// Whether a form's value may take the tree: an operator of it has to be the tree's too, unless it
+// is of a field shape and the tree is a number. It spares most forms a match.
+#[cycle(taking)]
+pub(crate) fn may_take(value: &Expr, tree: &Tree) -> bool
+    ensures { OnFalse result ((temps : ℕ) (whole : Bool) → matched temps (term_of value.now) (tree_term tree.now) whole ≡ None) }
+{
+    match value {
+        Expr::Word(_) => is_number(tree),
+        Expr::Const { .. } => is_number(tree),
+        Expr::Reg(_, _) => true,
+        Expr::Read(a, _) => is_field_shape(a) || is_read(tree),
+        Expr::Un(op, a) => may_take_one(*op, a, tree),
+        Expr::Bin(op, a, b) => may_take_two(*op, a, b, tree),
+        Expr::Slice(_, _, _) => is_number(tree) || is_slice(tree),
+        Expr::Zext(_, _) => is_number(tree) || is_zext(tree),
+        Expr::Sext(_, _) => is_number(tree) || is_sext(tree),
+        Expr::Cat(_, _) => false,
+        Expr::Select(_, _, _) => false,
+    }
+}
+
+// The same of a value with an operator of one operand.
+#[cycle(taking)]
+fn may_take_one(op: Op1, a: &Expr, tree: &Tree) -> bool
+    ensures { OnFalse result ((temps : ℕ) (whole : Bool) → matched temps (un op (term_of a.now)) (tree_term tree.now) whole ≡ None) }
+{
+    match tree {
+        Tree::Un(o, x) => *o == op && may_take(a, x),
+        _ => false,
+    }
+}
+
+// The same of a value with an operator of two operands.
+#[cycle(taking)]
+fn may_take_two(op: Op2, a: &Expr, b: &Expr, tree: &Tree) -> bool
+    ensures { OnFalse result ((temps : ℕ) (whole : Bool) →
+        matched temps (bin op (term_of a.now) (term_of b.now)) (tree_term tree.now) whole ≡ None) }
+{
+    match tree {
+        Tree::Bin(o, x, y) => *o == op && may_take(a, x) && may_take(b, y),
+        _ => false,
+    }
+}
