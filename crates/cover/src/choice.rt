@@ -253,7 +253,8 @@ fn choose_entry<'a>(
     requires least { IsLeast (stock_of instance.now) avoid (row_ask (tree_term tree.now) whole slot) (Some n) }
     requires number { slice_get (nodes_of instance.now) number ≡ Some (tree_term tree.now) }
     requires right { AreRight instance.now table.old }
-    ensures first { IfOk result (λ c. IsFirst (stock_of instance.now) avoid (row_ask (tree_term tree.now) whole slot) (plan_of c)) }
+    ensures first { IfOk result (λ c.
+        IsFirst (stock_of instance.now) avoid (row_ask (tree_term tree.now) whole slot) (plan_of c)) }
     ensures right { OnOk result (AreRight instance.now table.new) }
 {
     let matches = matches_at(alloc, instance, table, tree, number, whole)?;
@@ -275,7 +276,8 @@ fn choose_among<'a>(
     requires least { IsLeast (stock_of instance.now) avoid (matches_ask matches.now slot) (Some n) }
     requires matches { AreMatches instance.now matches.now }
     requires right { AreRight instance.now table.old }
-    ensures first { IfOk result (λ c. IsFirst (stock_of instance.now) avoid (matches_ask matches.now slot) (plan_of c)) }
+    ensures first { IfOk result (λ c.
+        IsFirst (stock_of instance.now) avoid (matches_ask matches.now slot) (plan_of c)) }
     ensures right { OnOk result (AreRight instance.now table.new) }
 {
     for i in 0..matches.list.len() {
@@ -367,7 +369,8 @@ fn choose_order<'a>(
     requires least { IsLeastOrder (stock_of instance.now) avoid (open_operands ops.now) (Some n) }
     requires at { OperandsAt (nodes_of instance.now) ops.now }
     requires right { AreRight instance.now table.old }
-    ensures first { IfOk result (λ c. IsFirstOrder (stock_of instance.now) avoid (open_operands ops.now) (operands_plan c)) }
+    ensures first { IfOk result (λ c.
+        IsFirstOrder (stock_of instance.now) avoid (open_operands ops.now) (operands_plan c)) }
     ensures right { OnOk result (AreRight instance.now table.new) }
 {
     if ops.is_empty() {
@@ -397,7 +400,8 @@ fn order_from<'a>(
     requires starts { Starts (stock_of instance.now) avoid (open_operands ops.now) n i (Some m) }
     requires at { OperandsAt (nodes_of instance.now) ops.now }
     requires right { AreRight instance.now table.old }
-    ensures first { IfOk result (λ c. IsFirstFrom (stock_of instance.now) avoid (open_operands ops.now) i (operands_plan c)) }
+    ensures first { IfOk result (λ c.
+        IsFirstFrom (stock_of instance.now) avoid (open_operands ops.now) i (operands_plan c)) }
     ensures right { OnOk result (AreRight instance.now table.new) }
 {
     let first = ops[i];

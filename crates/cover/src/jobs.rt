@@ -24,8 +24,8 @@ use tree_grammar::Destination;
 
 // The first cover of least cost of the instance's tree, if there is a cover.
 fn cover_tree(alloc: Global, instance: &Instance) -> Result<Option<TreeCover>, NoMemory>
-    ensures { IfOk result (λ o.
-        IsTreeCover (stock_of instance.now) (root_ask (destination_at instance.now.destination) (tree_term instance.now.tree.now)) o) }
+    ensures { IfOk result (λ o. IsTreeCover (stock_of instance.now)
+        (root_ask (destination_at instance.now.destination) (tree_term instance.now.tree.now)) o) }
 {
     let mut table = new_table(alloc, instance)?;
     cover_by(alloc, instance, &mut table)
@@ -38,8 +38,8 @@ fn cover_by<'a>(
     table: &mut CostTable<'a>,
 ) -> Result<Option<TreeCover>, NoMemory>
     requires right { AreRight instance.now table.old }
-    ensures { IfOk result (λ o.
-        IsTreeCover (stock_of instance.now) (root_ask (destination_at instance.now.destination) (tree_term instance.now.tree.now)) o) }
+    ensures { IfOk result (λ o. IsTreeCover (stock_of instance.now)
+        (root_ask (destination_at instance.now.destination) (tree_term instance.now.tree.now)) o) }
 {
     let want = Want {
         destination: instance.destination,
@@ -80,8 +80,8 @@ fn best_of(
     job: &Job,
     temps: u32,
 ) -> Result<Option<JobCover>, NoMemory>
-    ensures { IfOk result (λ o.
-        IsBest (stock_with forms.now temps) (destination_of job.now.aim) (trees_of job.now.trees.items) (length job.now.trees.items) o) }
+    ensures { IfOk result (λ o. IsBest (stock_with forms.now temps) (destination_of job.now.aim)
+        (trees_of job.now.trees.items) (length job.now.trees.items) o) }
 {
     let mut best = None;
     for j in 0..job.trees.len() {
@@ -137,8 +137,8 @@ fn without_branch(aim: &Aim, c: JobCover) -> JobCover
 /// stands also for a form of a register whose number is 16 or more, and for a cost, a tree or a
 /// setting of a form past 64 bits.
 pub fn cover(alloc: Global, forms: &Forms, job: &Job, temps: u32) -> Result<JobCover, CoverFault>
-    ensures chosen { IfOk result (λ c.
-        IsChosen (stock_with forms.now.list.items temps) (destination_of job.now.aim) (trees_of job.now.trees.items) (choice_of c)) }
+    ensures chosen { IfOk result (λ c. IsChosen (stock_with forms.now.list.items temps)
+        (destination_of job.now.aim) (trees_of job.now.trees.items) (choice_of c)) }
     ensures cost { IfOk result (λ c. c.cost ≡ job_cost (destination_of job.now.aim) (plan_of c.cover)) }
     ensures none { result ≡ Err CoverFault.NoCover →
         HasNoCover (stock_with forms.now.list.items temps) (destination_of job.now.aim) (trees_of job.now.trees.items) }

@@ -37,7 +37,8 @@ pub(crate) fn least<'a>(
     requires slot { IsSlot whole slot }
     requires number { slice_get (nodes_of instance.now) number ≡ Some (tree_term tree.now) }
     requires right { AreRight instance.now table.old }
-    ensures least { IfOk result (λ o. IsLeast (stock_of instance.now) avoid (row_ask (tree_term tree.now) whole slot) o) }
+    ensures least { IfOk result (λ o.
+        IsLeast (stock_of instance.now) avoid (row_ask (tree_term tree.now) whole slot) o) }
     ensures right { OnOk result (AreRight instance.now table.new) }
 {
     let first = first_equal(&table.firsts, number);
@@ -70,7 +71,8 @@ pub(crate) fn operand_cost<'a>(
 ) -> Result<Option<u64>, NoMemory>
     requires number { slice_get (nodes_of instance.now) operand.at ≡ Some (tree_term operand.tree.now) }
     requires right { AreRight instance.now table.old }
-    ensures least { IfOk result (λ o. IsLeast (stock_of instance.now) avoid (operand_ask (open_operand operand.entry)) o) }
+    ensures least { IfOk result (λ o.
+        IsLeast (stock_of instance.now) avoid (operand_ask (open_operand operand.entry)) o) }
     ensures right { OnOk result (AreRight instance.now table.new) }
 {
     let slot = register_of(operand.id)?;

@@ -126,7 +126,8 @@ pub(crate) fn without<'a>(
 // its one part is the whole tree, which alone has the tree's number.
 pub(crate) fn rest_of(parts: &[Part], number: u64) -> Result<Option<u8>, NoMemory>
     ensures is { IfOk result (λ o. o ≡ rest_at number parts.now) }
-    ensures register { IfOk result (λ o. IfSome o (λ q. (t : Term) (w : Bool) → sites_of parts.now ≡ operand q t w ∷ [] → q < 16)) }
+    ensures register { IfOk result (λ o.
+        IfSome o (λ q. (t : Term) (w : Bool) → sites_of parts.now ≡ operand q t w ∷ [] → q < 16)) }
 {
     if parts.len() != 1 {
         return Ok(None);
@@ -136,7 +137,8 @@ pub(crate) fn rest_of(parts: &[Part], number: u64) -> Result<Option<u8>, NoMemor
 
 fn rest_of_one(part: Part, number: u64) -> Result<Option<u8>, NoMemory>
     ensures is { IfOk result (λ o. o ≡ rest_at number (part.entry ∷ [])) }
-    ensures register { IfOk result (λ o. IfSome o (λ q. (t : Term) (w : Bool) → part_of part.entry ∷ [] ≡ operand q t w ∷ [] → q < 16)) }
+    ensures register { IfOk result (λ o. IfSome o (λ q.
+        (t : Term) (w : Bool) → part_of part.entry ∷ [] ≡ operand q t w ∷ [] → q < 16)) }
 {
     match part {
         Part::Operand { id, at, .. } => {

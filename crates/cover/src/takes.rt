@@ -31,7 +31,8 @@ fn is_read(tree: &Tree) -> bool
 }
 
 fn is_slice(tree: &Tree) -> bool
-    ensures { OnFalse result ((f : Term → Bool → Option Found) (w h l : ℕ) → slice_match f w h l (tree_term tree.now) ≡ None) }
+    ensures { OnFalse result ((f : Term → Bool → Option Found) (w h l : ℕ) →
+        slice_match f w h l (tree_term tree.now) ≡ None) }
 {
     match tree {
         Tree::Slice(_, _, _) => true,
@@ -40,7 +41,8 @@ fn is_slice(tree: &Tree) -> bool
 }
 
 fn is_zext(tree: &Tree) -> bool
-    ensures { OnFalse result ((f : Term → Bool → Option Found) (v w : ℕ) → zext_match f v w (tree_term tree.now) ≡ None) }
+    ensures { OnFalse result
+        ((f : Term → Bool → Option Found) (v w : ℕ) → zext_match f v w (tree_term tree.now) ≡ None) }
 {
     match tree {
         Tree::Zext(_, _) => true,
@@ -49,7 +51,8 @@ fn is_zext(tree: &Tree) -> bool
 }
 
 fn is_sext(tree: &Tree) -> bool
-    ensures { OnFalse result ((f : Term → Bool → Option Found) (v w : ℕ) → sext_match f v w (tree_term tree.now) ≡ None) }
+    ensures { OnFalse result
+        ((f : Term → Bool → Option Found) (v w : ℕ) → sext_match f v w (tree_term tree.now) ≡ None) }
 {
     match tree {
         Tree::Sext(_, _) => true,
@@ -61,7 +64,8 @@ fn is_sext(tree: &Tree) -> bool
 // is of a field shape and the tree is a number. It spares most forms a match.
 #[cycle(taking)]
 pub(crate) fn may_take(value: &Expr, tree: &Tree) -> bool
-    ensures { OnFalse result ((temps : ℕ) (whole : Bool) → matched temps (term_of value.now) (tree_term tree.now) whole ≡ None) }
+    ensures { OnFalse result ((temps : ℕ) (whole : Bool) →
+        matched temps (term_of value.now) (tree_term tree.now) whole ≡ None) }
 {
     match value {
         Expr::Word(_) => is_number(tree),
@@ -81,7 +85,8 @@ pub(crate) fn may_take(value: &Expr, tree: &Tree) -> bool
 // The same of a value with an operator of one operand.
 #[cycle(taking)]
 fn may_take_one(op: Op1, a: &Expr, tree: &Tree) -> bool
-    ensures { OnFalse result ((temps : ℕ) (whole : Bool) → matched temps (un op (term_of a.now)) (tree_term tree.now) whole ≡ None) }
+    ensures { OnFalse result ((temps : ℕ) (whole : Bool) →
+        matched temps (un op (term_of a.now)) (tree_term tree.now) whole ≡ None) }
 {
     match tree {
         Tree::Un(o, x) => *o == op && may_take(a, x),

@@ -39,13 +39,15 @@ abbrev mutual
   pub AreSparing : Stock → ℕ → List Operand → Operands → Type 0
   AreSparing stock avoid left no_operands = left ≡ []
   AreSparing stock avoid left (operand_then i p ps) =
-      (o : Operand) × (slice_get left i ≡ Some o) × IsSparing stock avoid (operand_ask o) p × AreSparing stock (with_reg avoid o.id) (remove left i) ps
+      (o : Operand) × (slice_get left i ≡ Some o) × IsSparing stock avoid (operand_ask o) p
+      × AreSparing stock (with_reg avoid o.id) (remove left i) ps
 
   -- each cut has a cover into a temporary cell, which has nothing to avoid
   pub AreStored : Stock → List Term → Cuts → Type 0
   AreStored stock cuts no_cuts = cuts ≡ []
   AreStored stock cuts (cut_then p cs) =
-      (tree : Term) × (later : List Term) × (cuts ≡ tree ∷ later) × IsSparing stock 0 (cut_ask tree) p × AreStored stock later cs
+      (tree : Term) × (later : List Term) × (cuts ≡ tree ∷ later)
+      × IsSparing stock 0 (cut_ask tree) p × AreStored stock later cs
 
 -- ---- sizes
 

@@ -22,21 +22,28 @@ IsTreeCover stock ask (Some t) = IsFirst stock 0 ask (plan_of t.cover) × (t.cos
 abbrev pub better_of : Option JobCover → ℕ → Option TreeCover → Option JobCover
 better_of best j None = best
 better_of None j (Some t) = Some (record { which = j; cover = t.cover; cost = t.cost })
-better_of (Some b) j (Some t) = if nat_lt t.cost b.cost then Some (record { which = j; cover = t.cover; cost = t.cost }) else Some b
+better_of (Some b) j (Some t) =
+    if nat_lt t.cost b.cost then Some (record { which = j; cover = t.cover; cost = t.cost })
+    else Some b
 
 -- a choice is cheaper than another, or costs the same and isn't behind it
 abbrev pub Beats : Choice → Choice → Type 0
 Beats a b = (cost a.plan < cost b.plan) ⊎ ((cost a.plan ≡ cost b.plan) × ((a ≡ b) ⊎ ChoiceBefore a b))
 
-pub record IsBestOne (stock : Stock) (destination : Destination) (trees : List Term) (j : ℕ) (c : JobCover) : Type 0 where
+pub record IsBestOne (stock : Stock) (destination : Destination) (trees : List Term) (j : ℕ)
+    (c : JobCover) : Type 0 where
   pub tree : Term
   pub used : slice_get trees c.which ≡ Some tree
   pub within : c.which < j
   pub sparing : IsSparing stock 0 (root_ask destination tree) (plan_of c.cover)
   pub costs : c.cost ≡ cost (plan_of c.cover)
-  pub beats : (i : ℕ) (t : Term) (q : Plan) → i < j → slice_get trees i ≡ Some t → IsSparing stock 0 (root_ask destination t) q → Beats (choice_of c) (record { which = i; plan = q })
+  pub beats : (i : ℕ) (t : Term) (q : Plan) → i < j → slice_get trees i ≡ Some t →
+      IsSparing stock 0 (root_ask destination t) q →
+      Beats (choice_of c) (record { which = i; plan = q })
 
 -- the chosen cover over the first j trees
 abbrev pub IsBest : Stock → Destination → List Term → ℕ → Option JobCover → Type 0
-IsBest stock destination trees j None = (i : ℕ) (t : Term) (q : Plan) → i < j → slice_get trees i ≡ Some t → IsSparing stock 0 (root_ask destination t) q → ⊥
+IsBest stock destination trees j None =
+    (i : ℕ) (t : Term) (q : Plan) → i < j → slice_get trees i ≡ Some t →
+    IsSparing stock 0 (root_ask destination t) q → ⊥
 IsBest stock destination trees j (Some c) = IsBestOne stock destination trees j c

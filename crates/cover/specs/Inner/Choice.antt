@@ -28,7 +28,8 @@ abbrev pub StandsWant : Instance → Want → Type 0
 StandsWant instance w = Stands (nodes_of instance) w.at (destination_at w.destination) (tree_term w.tree.now)
 
 -- the form at k begins a cover, and these are the parts of its match and their least costs
-pub record Fits (stock : Stock) (avoid : ℕ) (ask : Ask) (k : ℕ) (operands : List Operand) (stored : List Term) (a b : ℕ) : Type 0 where
+pub record Fits (stock : Stock) (avoid : ℕ) (ask : Ask) (k : ℕ) (operands : List Operand)
+    (stored : List Term) (a b : ℕ) : Type 0 where
   pub rule : Rule
   pub found : Found
   pub listed : slice_get stock.rules k ≡ Some rule
@@ -45,26 +46,34 @@ fit_cost f = 1 + f.operands_cost + f.cuts_cost
 
 abbrev pub IsFit : Stock → ℕ → Ask → ℕ → Option Fit → Type 0
 IsFit stock avoid ask k None = IsLeastForm stock avoid ask k None
-IsFit stock avoid ask k (Some f) = Fits stock avoid ask k (open_operands f.operands.items) (open_cuts f.cuts.items) f.operands_cost f.cuts_cost
+IsFit stock avoid ask k (Some f) =
+    Fits stock avoid ask k (open_operands f.operands.items) (open_cuts f.cuts.items) f.operands_cost f.cuts_cost
 
 -- the parts with their costs, where both are known
 abbrev pub FitOf : List OpenOperand → List OpenCut → Option ℕ → Option ℕ → Option Fit → Type 0
 FitOf operands stored a b None = (a ≡ None) ⊎ (b ≡ None)
-FitOf operands stored a b (Some f) = (f.operands.items ≡ operands) × (f.cuts.items ≡ stored) × (a ≡ Some f.operands_cost) × (b ≡ Some f.cuts_cost)
+FitOf operands stored a b (Some f) =
+    (f.operands.items ≡ operands) × (f.cuts.items ≡ stored) × (a ≡ Some f.operands_cost)
+    × (b ≡ Some f.cuts_cost)
 
 -- the same of the parts of a match
 abbrev pub FitsParts : Stock → ℕ → List Operand → List Term → Option Fit → Type 0
 FitsParts stock avoid operands stored o =
-    (is : List OpenOperand) × (ss : List OpenCut) × (a : Option ℕ) × (b : Option ℕ) × (open_operands is ≡ operands) × (open_cuts ss ≡ stored)
+    (is : List OpenOperand) × (ss : List OpenCut) × (a : Option ℕ) × (b : Option ℕ)
+    × (open_operands is ≡ operands) × (open_cuts ss ≡ stored)
     × IsLeastOrder stock avoid (open_operands is) a × IsLeastCut stock (open_cuts ss) b × FitOf is ss a b o
 
 -- no cover of cost n begins with the form at k
 abbrev pub NeverBegins : Stock → ℕ → Ask → ℕ → ℕ → Type 0
-NeverBegins stock avoid ask n k = (ps : Operands) (cs : Cuts) → IsSparing stock avoid ask (use_form k ps cs) → 1 + operands_cost ps + cuts_cost cs ≢ n
+NeverBegins stock avoid ask n k =
+    (ps : Operands) (cs : Cuts) → IsSparing stock avoid ask (use_form k ps cs) →
+    1 + operands_cost ps + cuts_cost cs ≢ n
 
 abbrev pub Begins : Stock → ℕ → Ask → ℕ → ℕ → Option Fit → Type 0
 Begins stock avoid ask n k None = NeverBegins stock avoid ask n k
-Begins stock avoid ask n k (Some f) = Fits stock avoid ask k (open_operands f.operands.items) (open_cuts f.cuts.items) f.operands_cost f.cuts_cost × (1 + f.operands_cost + f.cuts_cost ≡ n)
+Begins stock avoid ask n k (Some f) =
+    Fits stock avoid ask k (open_operands f.operands.items) (open_cuts f.cuts.items) f.operands_cost f.cuts_cost
+    × (1 + f.operands_cost + f.cuts_cost ≡ n)
 
 -- what is asked for an entry of the row of the matches' tree
 abbrev pub matches_ask : Matches → ℕ → Ask
@@ -76,7 +85,8 @@ CostsOf n a b None = (j k : ℕ) → a ≡ Some j → b ≡ Some k → 1 + j + k
 CostsOf n a b (Some c) = (a ≡ Some c.operands) × (b ≡ Some c.cuts) × (1 + c.operands + c.cuts ≡ n)
 
 -- the least costs of the parts of a match, where a form makes n with them
-pub record AreCosts (stock : Stock) (avoid : ℕ) (ops : List Operand) (ts : List Term) (n : ℕ) (o : Option PartCosts) : Type 0 where
+pub record AreCosts (stock : Stock) (avoid : ℕ) (ops : List Operand) (ts : List Term) (n : ℕ)
+    (o : Option PartCosts) : Type 0 where
   pub operands : Option ℕ
   pub cuts : Option ℕ
   pub order : IsLeastOrder stock avoid ops operands
@@ -97,38 +107,49 @@ CostsWithin stock avoid ops ts n o = AreCosts stock avoid ops ts n o ⊎ ((o ≡
 -- the match begins a cover of cost n, and these are the costs of its parts
 abbrev pub BeginsOne : Stock → ℕ → Ask → ℕ → FormMatch → Option PartCosts → Type 0
 BeginsOne stock avoid ask n m None = NeverBegins stock avoid ask n m.form
-BeginsOne stock avoid ask n m (Some c) = Fits stock avoid ask m.form (open_operands m.operands.items) (open_cuts m.cuts.items) c.operands c.cuts × (1 + c.operands + c.cuts ≡ n)
+BeginsOne stock avoid ask n m (Some c) =
+    Fits stock avoid ask m.form (open_operands m.operands.items) (open_cuts m.cuts.items) c.operands c.cuts
+    × (1 + c.operands + c.cuts ≡ n)
 
 abbrev pub BeginsAt : Stock → ℕ → Matches → ℕ → ℕ → ℕ → Option PartCosts → Type 0
-BeginsAt stock avoid ms slot n i o = (m : FormMatch) → slice_get ms.list.items i ≡ Some m → BeginsOne stock avoid (matches_ask ms slot) n m o
+BeginsAt stock avoid ms slot n i o =
+    (m : FormMatch) → slice_get ms.list.items i ≡ Some m →
+    BeginsOne stock avoid (matches_ask ms slot) n m o
 
 -- the operand at i begins an order of cost n, and itself costs m
 abbrev pub Starts : Stock → ℕ → List Operand → ℕ → ℕ → Option ℕ → Type 0
 Starts stock avoid ops n i (Some m) =
-    (o : Operand) × (slice_get ops i ≡ Some o) × (0 < m) × (m ≤ n) × IsLeast stock avoid (operand_ask o) (Some m) × IsLeastOrder stock (with_reg avoid o.id) (remove ops i) (Some (n - m))
+    (o : Operand) × (slice_get ops i ≡ Some o) × (0 < m) × (m ≤ n)
+    × IsLeast stock avoid (operand_ask o) (Some m)
+    × IsLeastOrder stock (with_reg avoid o.id) (remove ops i) (Some (n - m))
 Starts stock avoid ops n i None =
     (p : Plan) (ps : Operands) → AreSparing stock avoid ops (operand_then i p ps) → cost p + operands_cost ps ≢ n
 
 -- the first cut costs m of the n of all
 abbrev pub StartsCut : Stock → List Term → ℕ → ℕ → Type 0
 StartsCut stock [] n m = ⊥
-StartsCut stock (t ∷ ts) n m = (0 < m) × (m ≤ n) × IsLeast stock 0 (cut_ask t) (Some m) × IsLeastCut stock ts (Some (n - m))
+StartsCut stock (t ∷ ts) n m =
+    (0 < m) × (m ≤ n) × IsLeast stock 0 (cut_ask t) (Some m) × IsLeastCut stock ts (Some (n - m))
 
 -- the first among the covers of least cost
 pub record IsFirst (stock : Stock) (avoid : ℕ) (ask : Ask) (p : Plan) : Type 0 where
   pub sparing : IsSparing stock avoid ask p
-  pub first : (q : Plan) → IsSparing stock avoid ask q → (cost p < cost q) ⊎ ((cost p ≡ cost q) × ((p ≡ q) ⊎ IsBefore p q))
+  pub first : (q : Plan) → IsSparing stock avoid ask q →
+      (cost p < cost q) ⊎ ((cost p ≡ cost q) × ((p ≡ q) ⊎ IsBefore p q))
 
 abbrev pub OrderBefore : Operands → Operands → Type 0
 OrderBefore ps qs = IsSooner ps qs ⊎ (SamePlaces ps qs × AreBefore ps qs)
 
 pub record IsFirstOrder (stock : Stock) (avoid : ℕ) (ops : List Operand) (ps : Operands) : Type 0 where
   pub sparing : AreSparing stock avoid ops ps
-  pub first : (qs : Operands) → AreSparing stock avoid ops qs → (operands_cost ps < operands_cost qs) ⊎ ((operands_cost ps ≡ operands_cost qs) × ((ps ≡ qs) ⊎ OrderBefore ps qs))
+  pub first : (qs : Operands) → AreSparing stock avoid ops qs →
+      (operands_cost ps < operands_cost qs)
+      ⊎ ((operands_cost ps ≡ operands_cost qs) × ((ps ≡ qs) ⊎ OrderBefore ps qs))
 
 pub record IsFirstCuts (stock : Stock) (ts : List Term) (cs : Cuts) : Type 0 where
   pub covered : AreStored stock ts cs
-  pub first : (ds : Cuts) → AreStored stock ts ds → (cuts_cost cs < cuts_cost ds) ⊎ ((cuts_cost cs ≡ cuts_cost ds) × ((cs ≡ ds) ⊎ CutsBefore cs ds))
+  pub first : (ds : Cuts) → AreStored stock ts ds →
+      (cuts_cost cs < cuts_cost ds) ⊎ ((cuts_cost cs ≡ cuts_cost ds) × ((cs ≡ ds) ⊎ CutsBefore cs ds))
 
 -- the first cover of the operand at i, and the first of the others, which spare its register
 abbrev pub IsFirstFrom : Stock → ℕ → List Operand → ℕ → Operands → Type 0

@@ -47,7 +47,8 @@ CutsAt nodes (s ∷ ss) = (slice_get nodes s.at ≡ Some (tree_term s.tree.now))
 
 -- the list has one more item where the part is an operand
 abbrev pub HasOperand : Part → List OpenOperand → List OpenOperand → Type 0
-HasOperand (TheVariants.Operand id tree whole at) old new = new ≡ old ++ (record { id = id; tree = tree; whole = whole; at = at } ∷ [])
+HasOperand (TheVariants.Operand id tree whole at) old new =
+    new ≡ old ++ (record { id = id; tree = tree; whole = whole; at = at } ∷ [])
 HasOperand (Cut shape tree at) old new = new ≡ old
 
 abbrev pub HasCut : Part → List OpenCut → List OpenCut → Type 0

@@ -30,7 +30,9 @@ pub record IsLeastOrder (stock : Stock) (avoid : ℕ) (ops : List Operand) (o : 
 
 -- the same of the operands but the one at i, whose register they spare
 abbrev pub IsLeastAfter : Stock → ℕ → List Operand → ℕ → Option ℕ → Type 0
-IsLeastAfter stock avoid ops i o = (x : Operand) → slice_get ops i ≡ Some x → IsLeastOrder stock (with_reg avoid x.id) (remove ops i) o
+IsLeastAfter stock avoid ops i o =
+    (x : Operand) → slice_get ops i ≡ Some x →
+    IsLeastOrder stock (with_reg avoid x.id) (remove ops i) o
 
 -- no order costs less than this; none only where there is no order
 abbrev pub IsFloor : Stock → ℕ → List Operand → Option ℕ → Type 0
@@ -47,27 +49,37 @@ pub record IsLeastCut (stock : Stock) (ts : List Term) (o : Option ℕ) : Type 0
 -- the orders that begin with the operand at i
 abbrev pub FromReached : Stock → ℕ → List Operand → ℕ → Option ℕ → Type 0
 FromReached stock avoid ops i None = Unit {0}
-FromReached stock avoid ops i (Some n) = (p : Plan) × (ps : Operands) × AreSparing stock avoid ops (operand_then i p ps) × (cost p + operands_cost ps ≡ n)
+FromReached stock avoid ops i (Some n) =
+    (p : Plan) × (ps : Operands) × AreSparing stock avoid ops (operand_then i p ps)
+    × (cost p + operands_cost ps ≡ n)
 
 pub record IsLeastFrom (stock : Stock) (avoid : ℕ) (ops : List Operand) (i : ℕ) (o : Option ℕ) : Type 0 where
   pub reached : FromReached stock avoid ops i o
-  pub least : (p : Plan) (ps : Operands) → AreSparing stock avoid ops (operand_then i p ps) → AtMost o (cost p + operands_cost ps)
+  pub least : (p : Plan) (ps : Operands) → AreSparing stock avoid ops (operand_then i p ps) →
+      AtMost o (cost p + operands_cost ps)
 
 abbrev pub FirstsBelow : Stock → ℕ → List Operand → ℕ → Option ℕ → Type 0
-FirstsBelow stock avoid ops n o = (i : ℕ) (p : Plan) (ps : Operands) → i < n → AreSparing stock avoid ops (operand_then i p ps) → AtMost o (cost p + operands_cost ps)
+FirstsBelow stock avoid ops n o =
+    (i : ℕ) (p : Plan) (ps : Operands) → i < n → AreSparing stock avoid ops (operand_then i p ps) →
+    AtMost o (cost p + operands_cost ps)
 
 -- the covers that begin with the form at k
 abbrev pub FormReached : Stock → ℕ → Ask → ℕ → Option ℕ → Type 0
 FormReached stock avoid ask k None = Unit {0}
-FormReached stock avoid ask k (Some n) = (ps : Operands) × (cs : Cuts) × IsSparing stock avoid ask (use_form k ps cs) × (1 + operands_cost ps + cuts_cost cs ≡ n)
+FormReached stock avoid ask k (Some n) =
+    (ps : Operands) × (cs : Cuts) × IsSparing stock avoid ask (use_form k ps cs)
+    × (1 + operands_cost ps + cuts_cost cs ≡ n)
 
 pub record IsLeastForm (stock : Stock) (avoid : ℕ) (ask : Ask) (k : ℕ) (o : Option ℕ) : Type 0 where
   pub reached : FormReached stock avoid ask k o
-  pub least : (ps : Operands) (cs : Cuts) → IsSparing stock avoid ask (use_form k ps cs) → AtMost o (1 + operands_cost ps + cuts_cost cs)
+  pub least : (ps : Operands) (cs : Cuts) → IsSparing stock avoid ask (use_form k ps cs) →
+      AtMost o (1 + operands_cost ps + cuts_cost cs)
 
 -- the covers that begin with one of the first n forms
 abbrev pub FormsBelow : Stock → ℕ → Ask → ℕ → Option ℕ → Type 0
-FormsBelow stock avoid ask n o = (k : ℕ) (ps : Operands) (cs : Cuts) → k < n → IsSparing stock avoid ask (use_form k ps cs) → AtMost o (1 + operands_cost ps + cuts_cost cs)
+FormsBelow stock avoid ask n o =
+    (k : ℕ) (ps : Operands) (cs : Cuts) → k < n → IsSparing stock avoid ask (use_form k ps cs) →
+    AtMost o (1 + operands_cost ps + cuts_cost cs)
 
 -- the lesser of two costs
 abbrev pub lesser : Option ℕ → Option ℕ → Option ℕ
@@ -99,4 +111,5 @@ pub record IsDear (stock : Stock) (avoid : ℕ) (ops : List Operand) (ts : List 
 
 -- the least cost of a form with these parts, or nothing where it isn't less than what is known
 abbrev pub IsCostBelow : Stock → ℕ → List Operand → List Term → Option ℕ → Option ℕ → Type 0
-IsCostBelow stock avoid ops ts known o = IsPartsCost stock avoid ops ts o ⊎ ((o ≡ None) × IsDear stock avoid ops ts known)
+IsCostBelow stock avoid ops ts known o =
+    IsPartsCost stock avoid ops ts o ⊎ ((o ≡ None) × IsDear stock avoid ops ts known)

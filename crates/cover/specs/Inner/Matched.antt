@@ -70,19 +70,26 @@ with_match list (Some m) = list ++ (m ∷ [])
 
 -- the list has the match of the form at k behind it, where there is one
 abbrev pub AddsMatch : Instance → Term → Bool → ℕ → List FormMatch → List FormMatch → Type 0
-AddsMatch instance t whole k old new = (o : Option FormMatch) × MatchesForm instance t whole k o × (new ≡ with_match old o)
+AddsMatch instance t whole k old new =
+    (o : Option FormMatch) × MatchesForm instance t whole k o × (new ≡ with_match old o)
 
 -- the matches of the first n forms, in their order
-pub record AreFirstMatches (instance : Instance) (t : Term) (whole : Bool) (n : ℕ) (list : List FormMatch) : Type 0 where
+pub record AreFirstMatches (instance : Instance) (t : Term) (whole : Bool) (n : ℕ)
+    (list : List FormMatch) : Type 0 where
   pub each : (i : ℕ) (m : FormMatch) → slice_get list i ≡ Some m → IsFormMatch instance t whole m
   pub below : (i : ℕ) (m : FormMatch) → slice_get list i ≡ Some m → m.form < n
-  pub all : (k : ℕ) → k < n → Takes (stock_of instance) t whole k → (i : ℕ) × (m : FormMatch) × (slice_get list i ≡ Some m) × (m.form ≡ k)
-  pub ordered : (i j : ℕ) (m l : FormMatch) → i < j → slice_get list i ≡ Some m → slice_get list j ≡ Some l → m.form < l.form
+  pub all : (k : ℕ) → k < n → Takes (stock_of instance) t whole k →
+      (i : ℕ) × (m : FormMatch) × (slice_get list i ≡ Some m) × (m.form ≡ k)
+  pub ordered : (i j : ℕ) (m l : FormMatch) → i < j → slice_get list i ≡ Some m →
+      slice_get list j ≡ Some l → m.form < l.form
 
 -- the matches of all forms
 abbrev pub AreMatches : Instance → Matches → Type 0
-AreMatches instance ms = AreFirstMatches instance (tree_term ms.tree.now) ms.whole (length instance.forms.now) ms.list.items
+AreMatches instance ms =
+    AreFirstMatches instance (tree_term ms.tree.now) ms.whole (length instance.forms.now) ms.list.items
 
 -- what the match at i gives for a row
 abbrev pub IsOfferAt : Stock → ℕ → Matches → Row → ℕ → Offer → Type 0
-IsOfferAt stock avoid ms row i offer = (m : FormMatch) → slice_get ms.list.items i ≡ Some m → IsOffer stock avoid (tree_term ms.tree.now) ms.whole row m.form offer
+IsOfferAt stock avoid ms row i offer =
+    (m : FormMatch) → slice_get ms.list.items i ≡ Some m →
+    IsOffer stock avoid (tree_term ms.tree.now) ms.whole row m.form offer

@@ -52,7 +52,8 @@ Sound stock avoid tree whole row = (r : ℕ) → IsSlot whole r → Reached stoc
 
 -- each entry is the least
 abbrev pub IsLeastRow : Stock → ℕ → Term → Bool → Row → Type 0
-IsLeastRow stock avoid tree whole row = (r : ℕ) → IsSlot whole r → IsLeast stock avoid (row_ask tree whole r) (entry row r)
+IsLeastRow stock avoid tree whole row =
+    (r : ℕ) → IsSlot whole r → IsLeast stock avoid (row_ask tree whole r) (entry row r)
 
 -- ---- chain rules: forms that go on from another entry of the same row
 
@@ -60,10 +61,12 @@ IsLeastRow stock avoid tree whole row = (r : ℕ) → IsSlot whole r → IsLeast
 pub record IsLift (stock : Stock) (avoid : ℕ) (tree : Term) (whole : Bool) (m : ChainRule) : Type 0 where
   pub start : IsSlot whole m.start
   pub goal : IsSlot whole m.goal
-  pub lift : (p : Plan) → IsSparing stock avoid (row_ask tree whole m.start) p → (q : Plan) × IsSparing stock avoid (row_ask tree whole m.goal) q × (cost q ≡ cost p + 1)
+  pub lift : (p : Plan) → IsSparing stock avoid (row_ask tree whole m.start) p →
+      (q : Plan) × IsSparing stock avoid (row_ask tree whole m.goal) q × (cost q ≡ cost p + 1)
 
 abbrev pub AreLifts : Stock → ℕ → Term → Bool → List ChainRule → Type 0
-AreLifts stock avoid tree whole chains = (i : ℕ) (m : ChainRule) → slice_get chains i ≡ Some m → IsLift stock avoid tree whole m
+AreLifts stock avoid tree whole chains =
+    (i : ℕ) (m : ChainRule) → slice_get chains i ≡ Some m → IsLift stock avoid tree whole m
 
 -- the chain rules stay inside the row
 abbrev pub AreWithin : List ChainRule → Type 0
@@ -73,25 +76,38 @@ AreWithin chains = (i : ℕ) (m : ChainRule) → slice_get chains i ≡ Some m �
 -- cover of its start
 abbrev pub IsMet : Stock → ℕ → Term → Bool → List ChainRule → Row → ℕ → ℕ → Type 0
 IsMet stock avoid tree whole chains row r n =
-    AtMost (entry row r) n ⊎ ((i : ℕ) × (m : ChainRule) × (slice_get chains i ≡ Some m) × (m.goal ≡ r) × (q : Plan) × IsSparing stock avoid (row_ask tree whole m.start) q × (cost q + 1 ≤ n))
+    AtMost (entry row r) n
+    ⊎ ((i : ℕ) × (m : ChainRule) × (slice_get chains i ≡ Some m) × (m.goal ≡ r) × (q : Plan)
+    × IsSparing stock avoid (row_ask tree whole m.start) q × (cost q + 1 ≤ n))
 
 -- what is known of a tree after the first n matches were tried
-pub record IsTried (stock : Stock) (avoid : ℕ) (tree : Term) (whole : Bool) (list : List FormMatch) (n : ℕ) (chains : List ChainRule) (row : Row) : Type 0 where
+pub record IsTried (stock : Stock) (avoid : ℕ) (tree : Term) (whole : Bool) (list : List FormMatch)
+    (n : ℕ) (chains : List ChainRule) (row : Row) : Type 0 where
   pub sound : Sound stock avoid tree whole row
   pub lifts : AreLifts stock avoid tree whole chains
-  pub met : (i : ℕ) (m : FormMatch) (ps : Operands) (cs : Cuts) (r : ℕ) → i < n → slice_get list i ≡ Some m → IsSlot whole r → IsSparing stock avoid (row_ask tree whole r) (use_form m.form ps cs) → IsMet stock avoid tree whole chains row r (cost (use_form m.form ps cs))
+  pub met : (i : ℕ) (m : FormMatch) (ps : Operands) (cs : Cuts) (r : ℕ) → i < n →
+      slice_get list i ≡ Some m → IsSlot whole r →
+      IsSparing stock avoid (row_ask tree whole r) (use_form m.form ps cs) →
+      IsMet stock avoid tree whole chains row r (cost (use_form m.form ps cs))
 
 -- what the form at k gives for a row: no cover that is cheaper than what is known, a chain rule, or
 -- a cost of its entry
 abbrev pub IsOffer : Stock → ℕ → Term → Bool → Row → ℕ → Offer → Type 0
 IsOffer stock avoid tree whole row k Nothing =
-    (ps : Operands) (cs : Cuts) (r : ℕ) → IsSlot whole r → IsSparing stock avoid (row_ask tree whole r) (use_form k ps cs) → AtMost (entry row r) (cost (use_form k ps cs))
+    (ps : Operands) (cs : Cuts) (r : ℕ) → IsSlot whole r →
+    IsSparing stock avoid (row_ask tree whole r) (use_form k ps cs) →
+    AtMost (entry row r) (cost (use_form k ps cs))
 IsOffer stock avoid tree whole row k (Chains m) =
     IsLift stock avoid tree whole m
-    × ((ps : Operands) (cs : Cuts) (r : ℕ) → IsSlot whole r → IsSparing stock avoid (row_ask tree whole r) (use_form k ps cs) → (m.goal ≡ r) × (q : Plan) × IsSparing stock avoid (row_ask tree whole m.start) q × (cost q + 1 ≤ cost (use_form k ps cs)))
+    × ((ps : Operands) (cs : Cuts) (r : ℕ) → IsSlot whole r →
+    IsSparing stock avoid (row_ask tree whole r) (use_form k ps cs) →
+    (m.goal ≡ r) × (q : Plan) × IsSparing stock avoid (row_ask tree whole m.start) q
+    × (cost q + 1 ≤ cost (use_form k ps cs)))
 IsOffer stock avoid tree whole row k (Reaches slot n) =
     IsSlot whole slot × Reached stock avoid (row_ask tree whole slot) (Some n)
-    × ((ps : Operands) (cs : Cuts) (r : ℕ) → IsSlot whole r → IsSparing stock avoid (row_ask tree whole r) (use_form k ps cs) → (slot ≡ r) × (n ≤ cost (use_form k ps cs)))
+    × ((ps : Operands) (cs : Cuts) (r : ℕ) → IsSlot whole r →
+    IsSparing stock avoid (row_ask tree whole r) (use_form k ps cs) →
+    (slot ≡ r) × (n ≤ cost (use_form k ps cs)))
 
 -- what an entry weighs
 abbrev pub weight : Option ℕ → ℕ
@@ -107,12 +123,16 @@ Lower old new = (r n : ℕ) → AtMost (entry old r) n → AtMost (entry new r) 
 
 -- what trying one chain rule does to a row
 abbrev pub Chained : ChainRule → Bool → Row → Row → Type 0
-Chained m true old new = (c : ℕ) × (entry old m.start ≡ Some c) × (c + 1 < 2 ^ 64) × IsBelow (c + 1) (entry old m.goal) × (new ≡ slice_set old m.goal (Some (c + 1)))
+Chained m true old new =
+    (c : ℕ) × (entry old m.start ≡ Some c) × (c + 1 < 2 ^ 64) × IsBelow (c + 1) (entry old m.goal)
+    × (new ≡ slice_set old m.goal (Some (c + 1)))
 Chained m false old new = (new ≡ old) × ((c : ℕ) → entry old m.start ≡ Some c → AtMost (entry old m.goal) (c + 1))
 
 -- none of the first n chain rules makes an entry less
 abbrev pub ChainsBelow : List ChainRule → ℕ → Row → Type 0
-ChainsBelow chains n row = (i : ℕ) (m : ChainRule) (c : ℕ) → i < n → slice_get chains i ≡ Some m → entry row m.start ≡ Some c → AtMost (entry row m.goal) (c + 1)
+ChainsBelow chains n row =
+    (i : ℕ) (m : ChainRule) (c : ℕ) → i < n → slice_get chains i ≡ Some m →
+    entry row m.start ≡ Some c → AtMost (entry row m.goal) (c + 1)
 
 -- some entry has become less, or none has and none can
 abbrev pub Changed : List ChainRule → ℕ → Bool → Row → Row → Type 0
@@ -121,7 +141,10 @@ Changed chains n false old new = (new ≡ old) × ChainsBelow chains n new
 
 -- entries that are those of covers stay so
 abbrev pub Keeps : List ChainRule → Row → Row → Type 0
-Keeps chains old new = (stock : Stock) (avoid : ℕ) (tree : Term) (whole : Bool) → AreLifts stock avoid tree whole chains → Sound stock avoid tree whole old → Sound stock avoid tree whole new
+Keeps chains old new =
+    (stock : Stock) (avoid : ℕ) (tree : Term) (whole : Bool) →
+    AreLifts stock avoid tree whole chains → Sound stock avoid tree whole old →
+    Sound stock avoid tree whole new
 
 -- a row after the first n chain rules were tried
 pub record Swept (chains : List ChainRule) (n : ℕ) (changed : Bool) (old new : Row) : Type 0 where

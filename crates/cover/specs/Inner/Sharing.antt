@@ -29,7 +29,8 @@ root_term nodes (Sext a w) = option_map (λ x. sext x w) (slice_get nodes a)
 
 -- each number has that of an equal tree
 pub record AreFirsts (nodes : List Term) (firsts : List ℕ) : Type 0 where
-  pub equal : (n f : ℕ) (t : Term) → slice_get firsts n ≡ Some f → slice_get nodes n ≡ Some t → slice_get nodes f ≡ Some t
+  pub equal : (n f : ℕ) (t : Term) → slice_get firsts n ≡ Some f → slice_get nodes n ≡ Some t →
+      slice_get nodes f ≡ Some t
 
 -- each number has itself
 abbrev pub AreOwn : List ℕ → Type 0
@@ -46,11 +47,14 @@ pub record Shares (nodes : List Term) (sharing : Sharing) : Type 0 where
 -- the number of a tree that equals the one of number `at`, which has this root
 abbrev pub Rooted : Sharing → Sharing → ℕ → Root → ℕ → Type 0
 Rooted old new at root first =
-    (nodes : List Term) → slice_get nodes at ≡ root_term nodes root → Shares nodes old → Shares nodes new × (slice_get nodes first ≡ slice_get nodes at)
+    (nodes : List Term) → slice_get nodes at ≡ root_term nodes root → Shares nodes old →
+    Shares nodes new × (slice_get nodes first ≡ slice_get nodes at)
 
 -- the number of a tree that equals the one whose subtrees stand from `at` on
 abbrev pub Shared : Sharing → Sharing → ℕ → Term → ℕ → Type 0
-Shared old new at t first = (nodes : List Term) → HoldsSubtrees nodes at t → Shares nodes old → Shares nodes new × (slice_get nodes first ≡ Some t)
+Shared old new at t first =
+    (nodes : List Term) → HoldsSubtrees nodes at t → Shares nodes old →
+    Shares nodes new × (slice_get nodes first ≡ Some t)
 
 -- ---- operands
 
@@ -79,7 +83,8 @@ operand_size (Some t) = size_of t
 -- the numbers are those of the tree's operands
 abbrev pub HaveNumbers : List Term → Term → ℕ → ℕ → Type 0
 HaveNumbers nodes t first second =
-    ((a : Term) → first_of t ≡ Some a → slice_get nodes first ≡ Some a) × ((b : Term) → second_of t ≡ Some b → slice_get nodes second ≡ Some b)
+    ((a : Term) → first_of t ≡ Some a → slice_get nodes first ≡ Some a)
+    × ((b : Term) → second_of t ≡ Some b → slice_get nodes second ≡ Some b)
 
 -- the number of a tree that equals an operand, where there is one
 abbrev pub OperandShared : Sharing → Sharing → ℕ → Option Term → ℕ → Type 0
