@@ -1,3 +1,5 @@
+use Rattle.std.proofs.Common.{arith}
+use Rattle.std.proofs.lemmas.Grind.{common_steps}
 use Rattle.std.proofs.Common.{◌≡◌, ◌<◌, ◌∷◌, length, drop, refl, sym, subst, Some}
 use Rattle.std.proofs.lemmas.Option.{slice_get_read}
 use Rattle.form_model.specs.Trees.{tree_term}
@@ -24,3 +26,6 @@ returns-clause-starts c =
     let (m, is, starts) = starts_cut (stock_of c.args.instance.now) (tree_term c.index-cuts-0.result.tree.now) (open_cuts (drop 1 c.args.cuts.now)) c.args.n c.in_ok-m.field-0 (subst (λ l. IsLeastCut (stock_of c.args.instance.now) l (Some c.args.n)) e c.requires.least) c.in_ok-m.ensures.least in
     let same : m ≡ c.in-Some.m = same_some is c.in-Some.is in
     subst (λ l. StartsCut (stock_of c.args.instance.now) l c.args.n c.in-Some.m) (sym e) (subst (λ j. StartsCut (stock_of c.args.instance.now) (tree_term c.index-cuts-0.result.tree.now ∷ open_cuts (drop 1 c.args.cuts.now)) c.args.n j) same starts)
+
+pub least-requires-clause-number : goal.least-requires-clause-number
+least-requires-clause-number c = grind (arith, common_steps)

@@ -1,3 +1,5 @@
+use Rattle.std.proofs.Common.{arith}
+use Rattle.std.proofs.lemmas.Grind.{elements}
 use Rattle.std.proofs.Common.{◌≡◌, Some, sym, subst, get_or}
 use Rattle.std.specs.Prelude.{slice_get}
 use Rattle.std.proofs.lemmas.Result.{IfOk-weaker}
@@ -27,3 +29,6 @@ returns-clause-fit c =
     (rule_at c.args.instance.now c.args.k form got) c.if-form-avoid-ne0.false
     (want_takes c.args.instance.now form c.args.want.now c.in_ok-found.field-0 c.in-Some.found c.in_ok-found.ensures.found c.in-Some.is)
     (subst (λ l. FitsParts (stock_of c.args.instance.now) c.args.avoid (operands_of (sites_of l)) (cuts_of (sites_of l)) o) c.deref.ensures.value fits)) c.fit_parts.ensures.fit
+
+pub returns-then-form-avoid-ne0-clause-fit : goal.returns-then-form-avoid-ne0-clause-fit
+returns-then-form-avoid-ne0-clause-fit c = grind (arith, elements)
