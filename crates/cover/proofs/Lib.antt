@@ -6,8 +6,6 @@ mod LeastLemmas
 mod OfferLemmas
 mod InputLemmas
 mod TableLemmas
-mod EntryLemmas
-mod SharingLemmas
 mod StartLemmas
 mod ChoiceLemmas
 mod ValueLemmas

@@ -29,9 +29,10 @@ use Rattle.cover.specs.Inner.Rows.{Row, entry, entry_destination, row_ask, IsSlo
 use Rattle.cover.specs.Inner.Jobs.{stock_of, nodes_of, open_operands, open_cuts}
 use Rattle.cover.specs.Inner.Matched.{rest_at, IsOpened, Takes, IsFormMatch, MatchesForm, with_match, AreFirstMatches}
 use Rattle.cover.specs.Inner.Choice.{NeverBegins, CostsOf, CostsWithin, BeginsOne}
-use Rattle.cover.proofs.NodeLemmas.{nodes_hold, whole_number}
+use Rattle.tree_sharing.proofs.NodeLemmas.{nodes_hold}
+use Rattle.cover.proofs.NodeLemmas.{whole_number}
 use Rattle.cover.proofs.SizeLemmas.{picked, rest_small}
-use Rattle.cover.proofs.SharingLemmas.{get_push}
+use Rattle.tree_sharing.proofs.SharingLemmas.{get_push}
 use Rattle.cover.proofs.LeastLemmas.{some_form, both_at_most}
 use Rattle.cover.proofs.OfferLemmas.{row_small, offer_no_spare, offer_chain, offer_form, get_old, get_new}
 use Rattle.cover.proofs.StartLemmas.{Start, rule_at}

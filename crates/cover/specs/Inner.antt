@@ -1,8 +1,6 @@
 -- What no public contract cites: what the functions of the crate tell one another, and what only
 -- proofs speak of.
 pub mod Asks
-pub mod Entries
-pub mod Sharing
 pub mod Least
 pub mod Rows
 pub mod Jobs

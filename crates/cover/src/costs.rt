@@ -1,21 +1,12 @@
 //! Costs: how many forms a cover has.
 
-ghost use Rattle.std.specs.Prelude.{◌≡◌, ◌+◌, ℕ, Some, IfOk};
+ghost use Rattle.std.specs.Prelude.{◌≡◌, ℕ, Some, IfOk};
 ghost use Rattle.std.specs.Bool.{OnTrue, OnFalse};
 ghost use Rattle.cover.specs.Inner.Least.{AtMost, lesser, summed};
 ghost use Rattle.cover.specs.Inner.Rows.{IsBelow};
 
 use rec_bits::NoMemory;
-
-// The sum, or want of memory where no list of steps could be so long.
-pub(crate) fn plus(a: u64, b: u64) -> Result<u64, NoMemory>
-    ensures { IfOk result (λ c. c ≡ a + b) }
-{
-    match a.checked_add(b) {
-        Some(c) => Ok(c),
-        None => Err(NoMemory),
-    }
-}
+use tree_sharing::plus;
 
 // Whether the cost is less than the one that is known.
 pub(crate) fn is_less(n: u64, known: Option<u64>) -> bool

@@ -14,12 +14,12 @@ use crate::costs::{form_cost, is_as_dear, lesser_of, sum_of};
 use crate::matches::{Matches, start_of};
 use crate::parts::{OpenCut, OpenOperand, put_reg, register_of, without};
 use crate::rows::{ChainRule, Offer, close, known_cost, note, offer_of};
-use crate::sharing::first_equal;
 use crate::table::{CostTable, Instance, KeptRow, keep, kept, matches_at};
 use form_model::{RegSet, Tree};
 use rec_bits::NoMemory;
 use smallvec::SmallVec;
 use std::alloc::Global;
+use tree_sharing::first_equal;
 
 // The least cost of the covers of a tree for an entry of its row that write none of the registers
 // to avoid. The tree's row is found once.

@@ -10,12 +10,12 @@ ghost use Rattle.cover.specs.Inner.Matched.{AreMatches};
 ghost use Rattle.cover.specs.Inner.Tables.{AreEmpty, AreRight, HasMatches, IsAmong, IsKept};
 
 use crate::matches::{Matches, matches_of};
-use crate::sharing::{first_equal, first_numbers};
 use form_model::{Form, RegSet, Tree};
 use rec_bits::NoMemory;
 use std::alloc::Global;
 use std::rc::Rc;
 use tree_grammar::Destination;
+use tree_sharing::{first_equal, first_numbers};
 
 /// What is to be covered, and by what: a tree with its destination, the forms, and the number of
 /// temporary cells.
@@ -65,7 +65,7 @@ pub(crate) fn new_table<'a>(
 ) -> Result<CostTable<'a>, NoMemory>
     ensures { IfOk result (λ table. AreRight instance.now table) }
 {
-    let firsts = first_numbers(alloc, instance)?;
+    let firsts = first_numbers(alloc, instance.destination, instance.tree)?;
     let count = firsts.len();
     Ok(CostTable {
         firsts,

@@ -2,9 +2,9 @@
 use Rattle.std.specs.Prelude.{◌≡◌, List, [], ◌∷◌, ◌++◌, map, Some, slice_get}
 use Rattle.net_model.specs.Terms.{Term}
 use Rattle.form_model.specs.Trees.{tree_term}
-use Rattle.form_model.specs.Rules.{Destination, into, cell, stored, temporary, tested, rules_of}
+use Rattle.form_model.specs.Rules.{rules_of}
 use Rattle.form_model.specs.Covers.{Stock, Operand}
-use Rattle.tree_grammar.specs.Numbers.{subtrees}
+use Rattle.tree_sharing.specs.Sharing.{job_nodes}
 use Rattle.tree_grammar.specs.Parts.{destination_at}
 use Rattle.tree_grammar.specs.declared.parts.Part.{Part}
 use Rattle.tree_grammar.specs.declared.parts.Part.TheVariants.{Cut}
@@ -15,14 +15,6 @@ use Rattle.cover.specs.declared.parts.OpenCut.{OpenCut}
 
 abbrev pub stock_of : Instance → Stock
 stock_of s = record { rules = rules_of s.forms.now; temps = s.temps }
-
--- the trees of a destination and a value: the address of a store before its value
-abbrev pub job_nodes : Destination → Term → List Term
-job_nodes (stored address) t = subtrees address ++ subtrees t
-job_nodes (into id) t = subtrees t
-job_nodes (cell address) t = subtrees t
-job_nodes temporary t = subtrees t
-job_nodes tested t = subtrees t
 
 -- the numbered trees of an instance
 abbrev pub nodes_of : Instance → List Term

@@ -9,7 +9,7 @@ use Rattle.cover.specs.declared.table.Instance.{Instance}
 use Rattle.cover.specs.declared.table.KeptRow.{KeptRow}
 use Rattle.cover.specs.declared.table.CostTable.{CostTable}
 use Rattle.cover.specs.declared.matches.Matches.{Matches}
-use Rattle.cover.specs.Inner.Sharing.{AreFirsts}
+use Rattle.tree_sharing.specs.Sharing.{AreFirsts}
 use Rattle.cover.specs.Inner.Rows.{IsLeastRow}
 use Rattle.cover.specs.Inner.Jobs.{stock_of, nodes_of}
 use Rattle.cover.specs.Inner.Matched.{AreMatches}

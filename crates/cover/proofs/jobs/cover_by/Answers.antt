@@ -6,7 +6,7 @@ use Rattle.cover.specs.Inner.Least.{IsLeast}
 use Rattle.cover.specs.Inner.Choice.{IsFirst}
 use Rattle.cover.specs.Inner.Best.{root_ask}
 use Rattle.cover.specs.Inner.Jobs.{stock_of}
-use Rattle.cover.proofs.NodeLemmas.{root_stands}
+use Rattle.tree_sharing.proofs.NodeLemmas.{root_stands}
 use Rattle.cover.proofs.BestLemmas.{first_cost}
 use Rattle.cover.proofs.jobs.cover_by.Goals as goal
 

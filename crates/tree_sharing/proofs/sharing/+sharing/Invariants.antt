@@ -1,8 +1,8 @@
 use Rattle.std.proofs.Common.{◌+◌, ◌*◌}
 use Rattle.net_model.specs.Terms.{size_of}
 use Rattle.form_model.specs.Trees.{tree_term}
-use Rattle.cover.specs.Inner.Sharing.{operand_term, operand_size}
-use Rattle.cover.proofs.sharing.+sharing.Given as goal
+use Rattle.tree_sharing.specs.Inner.Sharing.{operand_term, operand_size}
+use Rattle.tree_sharing.proofs.sharing.+sharing.Given as goal
 
 abbrev pub decreases-share : goal.decreases-share
 decreases-share l = 2 * size_of (tree_term l.tree.now) + 1

@@ -7,10 +7,11 @@ use Rattle.net_model.specs.Terms.{Term, const, read, un, bin, slice, zext, sext,
 use Rattle.form_model.specs.Trees.{tree_term}
 use Rattle.form_model.specs.declared.trees.Tree.{Tree}
 use Rattle.tree_grammar.specs.Numbers.{HoldsSubtrees}
-use Rattle.cover.specs.Inner.Entries.{EachEntry}
-use Rattle.cover.specs.declared.sharing.Root.{Root}
-use Rattle.cover.specs.declared.sharing.Root.TheVariants.{Lit, Read, Un, Bin, Slice, Zext, Sext}
-use Rattle.cover.specs.declared.sharing.Sharing.{Sharing}
+use Rattle.tree_sharing.specs.Sharing.{AreFirsts}
+use Rattle.tree_sharing.specs.Inner.Entries.{EachEntry}
+use Rattle.tree_sharing.specs.declared.sharing.Root.{Root}
+use Rattle.tree_sharing.specs.declared.sharing.Root.TheVariants.{Lit, Read, Un, Bin, Slice, Zext, Sext}
+use Rattle.tree_sharing.specs.declared.sharing.Sharing.{Sharing}
 
 abbrev pub bin_of : Op2 → Option Term → Option Term → Option Term
 bin_of op None b = None
@@ -26,11 +27,6 @@ root_term nodes (Bin op a b) = bin_of op (slice_get nodes a) (slice_get nodes b)
 root_term nodes (Slice a hi lo) = option_map (λ x. slice x hi lo) (slice_get nodes a)
 root_term nodes (Zext a w) = option_map (λ x. zext x w) (slice_get nodes a)
 root_term nodes (Sext a w) = option_map (λ x. sext x w) (slice_get nodes a)
-
--- each number has that of an equal tree
-pub record AreFirsts (nodes : List Term) (firsts : List ℕ) : Type 0 where
-  pub equal : (n f : ℕ) (t : Term) → slice_get firsts n ≡ Some f → slice_get nodes n ≡ Some t →
-      slice_get nodes f ≡ Some t
 
 -- each number has itself
 abbrev pub AreOwn : List ℕ → Type 0

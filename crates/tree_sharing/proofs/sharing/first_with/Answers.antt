@@ -1,11 +1,11 @@
 use Rattle.std.proofs.Common.{refl, sym, ap, ◌∙◌, subst}
 use Rattle.std.specs.Option.{option_copied}
-use Rattle.cover.specs.Inner.Entries.{EachEntry}
-use Rattle.cover.specs.Inner.Sharing.{HasNumber}
-use Rattle.cover.specs.contracts.sharing.RootPartialEq.TheImpl.{ghosts as root_eq}
-use Rattle.cover.proofs.EntryLemmas.{each_found, each_added}
-use Rattle.cover.proofs.SharingLemmas.{exact_root}
-use Rattle.cover.proofs.sharing.first_with.Goals as goal
+use Rattle.tree_sharing.specs.Inner.Entries.{EachEntry}
+use Rattle.tree_sharing.specs.Inner.Sharing.{HasNumber}
+use Rattle.tree_sharing.specs.contracts.sharing.RootPartialEq.TheImpl.{ghosts as root_eq}
+use Rattle.tree_sharing.proofs.EntryLemmas.{each_found, each_added}
+use Rattle.tree_sharing.proofs.SharingLemmas.{exact_root}
+use Rattle.tree_sharing.proofs.sharing.first_with.Goals as goal
 
 pub returns-in-Some : goal.returns-in-Some
 returns-in-Some c = λ nodes here shares.

@@ -3,12 +3,10 @@
 ghost use Rattle.std.specs.Prelude.{◌≡◌, ◌+◌, ℕ, IfOk, OnOk, List, Some, slice_get};
 ghost use Rattle.net_model.specs.Terms.{Term, size_of};
 ghost use Rattle.form_model.specs.Trees.{tree_term};
-ghost use Rattle.cover.specs.Inner.Jobs.{nodes_of};
+ghost use Rattle.tree_sharing.specs.Sharing.{AreFirsts, job_nodes};
 ghost use Rattle.tree_grammar.specs.Parts.{AddressStands, destination_at, value_at};
-ghost use Rattle.cover.specs.Inner.Sharing.{AreFirsts, AreOwn, HaveNumbers, OperandShared, Rooted, Shared, Shares, first_of, operand_size, operand_term, root_term, second_of};
+ghost use Rattle.tree_sharing.specs.Inner.Sharing.{AreOwn, HaveNumbers, OperandShared, Rooted, Shared, Shares, first_of, operand_size, operand_term, root_term, second_of};
 
-use crate::costs::plus;
-use crate::table::Instance;
 use form_model::Tree;
 use indexmap::IndexMap;
 use rec_bits::{NoMemory, Op1, Op2};
@@ -44,6 +42,16 @@ struct Numbered {
     next: u64,
 }
 
+/// The sum, or want of memory where no list could be so long.
+pub fn plus(a: u64, b: u64) -> Result<u64, NoMemory>
+    ensures { IfOk result (λ c. c ≡ a + b) }
+{
+    match a.checked_add(b) {
+        Some(c) => Ok(c),
+        None => Err(NoMemory),
+    }
+}
+
 // Each number below `count` as that of its own subtree.
 fn own_numbers(alloc: Global, count: u64) -> Result<Vec<u64>, NoMemory>
     ensures { IfOk result (λ v. AreOwn v.items) }
@@ -57,7 +65,8 @@ fn own_numbers(alloc: Global, count: u64) -> Result<Vec<u64>, NoMemory>
 
 // Notes that the subtree of number `at` equals that of number `first`.
 fn set_first(firsts: &mut Vec<u64>, at: u64, first: u64)
-    ensures { (nodes : List Term) → slice_get nodes first ≡ slice_get nodes at → AreFirsts nodes firsts.old.items →
+    ensures { (nodes : List Term) → slice_get nodes first ≡ slice_get nodes at →
+        AreFirsts nodes firsts.old.items →
         AreFirsts nodes firsts.new.items }
 {
     let i = at as usize;
@@ -184,31 +193,43 @@ fn share_address(sharing: &mut Sharing, destination: Destination) -> Result<(), 
 
 // Finds the equal ones among all subtrees, of which those of the tree have their numbers from `at`
 // on.
-fn share_all(sharing: &mut Sharing, instance: &Instance, at: u64) -> Result<(), NoMemory>
-    requires { at ≡ value_at (destination_at instance.now.destination) 0 }
-    ensures { OnOk result (Shares (nodes_of instance.now) sharing.old → Shares (nodes_of instance.now) sharing.new) }
+fn share_all(
+    sharing: &mut Sharing,
+    destination: Destination,
+    tree: &Tree,
+    at: u64,
+) -> Result<(), NoMemory>
+    requires { at ≡ value_at (destination_at destination) 0 }
+    ensures { OnOk result (Shares (job_nodes (destination_at destination.entry) (tree_term tree.now)) sharing.old →
+        Shares (job_nodes (destination_at destination.entry) (tree_term tree.now)) sharing.new) }
 {
-    share_address(sharing, instance.destination)?;
-    share(sharing, instance.tree, at)?;
+    share_address(sharing, destination)?;
+    share(sharing, tree, at)?;
     Ok(())
 }
 
-/// For the number of each subtree that of an equal one, which equal subtrees have in common.
-pub(crate) fn first_numbers(alloc: Global, instance: &Instance) -> Result<Vec<u64>, NoMemory>
-    ensures { IfOk result (λ firsts. AreFirsts (nodes_of instance.now) firsts.items) }
+/// For the number of each subtree, of a store's address and then of the tree, that of an equal one,
+/// which equal subtrees have in common.
+pub fn first_numbers(
+    alloc: Global,
+    destination: Destination,
+    tree: &Tree,
+) -> Result<Vec<u64>, NoMemory>
+    ensures { IfOk result (λ firsts.
+        AreFirsts (job_nodes (destination_at destination.entry) (tree_term tree.now)) firsts.items) }
 {
-    let at = address_size(instance.destination)?;
-    let count = plus(at, tree_size(instance.tree)?)?;
+    let at = address_size(destination)?;
+    let count = plus(at, tree_size(tree)?)?;
     let mut sharing = Sharing {
         firsts: own_numbers(alloc, count)?,
         roots: IndexMap::new(alloc),
     };
-    share_all(&mut sharing, instance, at)?;
+    share_all(&mut sharing, destination, tree, at)?;
     Ok(sharing.firsts)
 }
 
 /// The number of the first subtree that equals the one of this number.
-pub(crate) fn first_equal(firsts: &[u64], number: u64) -> u64
+pub fn first_equal(firsts: &[u64], number: u64) -> u64
     ensures { (nodes : List Term) (t : Term) → AreFirsts nodes firsts.now → slice_get nodes number ≡ Some t →
         slice_get nodes result ≡ Some t }
 {

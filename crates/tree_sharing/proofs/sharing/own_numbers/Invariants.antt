@@ -1,6 +1,6 @@
 use Rattle.std.proofs.Common.{◌≡◌, length}
-use Rattle.cover.specs.Inner.Sharing.{AreOwn}
-use Rattle.cover.proofs.sharing.own_numbers.Given as goal
+use Rattle.tree_sharing.specs.Inner.Sharing.{AreOwn}
+use Rattle.tree_sharing.proofs.sharing.own_numbers.Given as goal
 
 abbrev pub invariant-loop-n : goal.invariant-loop-n
 invariant-loop-n l = record {

@@ -15,11 +15,12 @@ use Rattle.form_model.specs.declared.trees.Tree.{Tree}
 use Rattle.form_model.specs.declared.trees.Tree.TheVariants.{Lit as Lit', Read', Un', Bin', Slice', Zext', Sext'}
 use Rattle.tree_grammar.specs.Numbers.{subtrees, HoldsSubtrees}
 use Rattle.tree_grammar.proofs.NumberLemmas.{lists_tail, holds_left, holds_right, holds_here}
-use Rattle.cover.specs.declared.sharing.Root.{Root}
-use Rattle.cover.specs.declared.sharing.Root.TheVariants.{Lit, Read, Un, Bin, Slice, Zext, Sext}
-use Rattle.cover.specs.declared.sharing.Sharing.{Sharing}
-use Rattle.cover.specs.contracts.sharing.RootPartialEq.TheImpl.{ghosts as root_eq}
-use Rattle.cover.specs.Inner.Sharing.{root_term, AreFirsts, AreOwn, Shares, Rooted, Shared, first_of, second_of, operand_size, HaveNumbers, OperandShared}
+use Rattle.tree_sharing.specs.declared.sharing.Root.{Root}
+use Rattle.tree_sharing.specs.declared.sharing.Root.TheVariants.{Lit, Read, Un, Bin, Slice, Zext, Sext}
+use Rattle.tree_sharing.specs.declared.sharing.Sharing.{Sharing}
+use Rattle.tree_sharing.specs.contracts.sharing.RootPartialEq.TheImpl.{ghosts as root_eq}
+use Rattle.tree_sharing.specs.Sharing.{AreFirsts}
+use Rattle.tree_sharing.specs.Inner.Sharing.{root_term, AreOwn, Shares, Rooted, Shared, first_of, second_of, operand_size, HaveNumbers, OperandShared}
 
 -- ---- equal roots are the same
 

@@ -2,7 +2,7 @@
 use Rattle.std.proofs.Common.{◌≡◌, Bool, true, false, cond, List, [], ◌∷◌, Some, if◌then◌else◌, refl, sym, ap, subst, ◌∙◌}
 use Rattle.std.specs.Map.{lookup}
 use Rattle.indexmap.specs.IndexMap.{insert_entry}
-use Rattle.cover.specs.Inner.Entries.{EachEntry}
+use Rattle.tree_sharing.specs.Inner.Entries.{EachEntry}
 
 module _ {K V : Type 0} (P : K → V → Type 0) (eq : K → K → Bool) (exact : (a b : K) → eq a b ≡ true → a ≡ b) where
   pub each_found : (entries : List (K × V)) (key : K) (v : V) → EachEntry P entries → lookup (eq key) entries ≡ Some v → P key v

@@ -1,8 +1,8 @@
 use Rattle.std.proofs.Common.{arith, ap}
 use Rattle.form_model.specs.Trees.{tree_term}
-use Rattle.cover.specs.Inner.Sharing.{operand_term, operand_size}
-use Rattle.cover.proofs.SharingLemmas.{share_more, tree_sizes}
-use Rattle.cover.proofs.sharing.+sharing.Goals as goal
+use Rattle.tree_sharing.specs.Inner.Sharing.{operand_term, operand_size}
+use Rattle.tree_sharing.proofs.SharingLemmas.{share_more, tree_sizes}
+use Rattle.tree_sharing.proofs.sharing.+sharing.Goals as goal
 
 pub share-returns-clause-shared : goal.share-returns-clause-shared
 share-returns-clause-shared t c =

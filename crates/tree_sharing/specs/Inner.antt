@@ -1,0 +1,4 @@
+-- What no public contract cites: what the functions of the crate tell one another, and what only
+-- proofs speak of.
+pub mod Entries
+pub mod Sharing

@@ -1,0 +1,18 @@
+-- The numbered subtrees of a job, and which of them are equal.
+use Rattle.std.specs.Prelude.{ℕ, ◌≡◌, List, ◌++◌, Some, slice_get}
+use Rattle.net_model.specs.Terms.{Term}
+use Rattle.form_model.specs.Rules.{Destination, into, cell, stored, temporary, tested}
+use Rattle.tree_grammar.specs.Numbers.{subtrees}
+
+-- the trees of a destination and a value: the address of a store before its value
+abbrev pub job_nodes : Destination → Term → List Term
+job_nodes (stored address) t = subtrees address ++ subtrees t
+job_nodes (into id) t = subtrees t
+job_nodes (cell address) t = subtrees t
+job_nodes temporary t = subtrees t
+job_nodes tested t = subtrees t
+
+-- each number has that of an equal tree
+pub record AreFirsts (nodes : List Term) (firsts : List ℕ) : Type 0 where
+  pub equal : (n f : ℕ) (t : Term) → slice_get firsts n ≡ Some f → slice_get nodes n ≡ Some t →
+      slice_get nodes f ≡ Some t
