@@ -1,8 +1,8 @@
 //! Which of the subtrees of a job are equal.
 //!
-//! Promise: `first_numbers` gives for the number of each subtree that of an equal one (`AreFirsts`),
-//! and `first_equal` looks one up. The subtrees of a store's address come before those of the tree
-//! (`job_nodes`), each numbered as `tree_grammar` does.
+//! Promise: each number that `first_numbers` gives, and `first_equal` looks up, is that of an equal
+//! subtree (`AreFirsts`). That equal subtrees have one number is speed, of which no clause speaks.
+//! Those of a store's address come first (`job_nodes`), each numbered as `tree_grammar` does.
 //!
 //! Invariant: `Shares` in `specs/Inner/Sharing`: each root that was met has the number of a subtree
 //! with that root. A root names its operands by the numbers of the first subtrees that equal them,
