@@ -3,6 +3,6 @@ mod Ends
 mod Lines
 mod Fronts
 mod Halving
-mod Putting
+pub mod Putting
 mod Seeing
 mod Starting

@@ -2,7 +2,7 @@
 use Rattle.std.proofs.Common.{◌≡◌, ℕ, zero, suc, ◌+◌, ◌<◌, ◌≤◌, List, [], ◌∷◌, ◌++◌, length, take, Option, Some, None, Result, Ok, Err, refl, sym, ap, ◌∙◌, subst, arith, append_assoc, length-append}
 use Rattle.std.proofs.lemmas.List.{append-nil}
 use Rattle.std.specs.Prelude.{IsErr}
-use Rattle.rec_io.specs.Causes.{Rose}
+use Rattle.rec_io.specs.Causes.{count_after}
 use Rattle.rec_io.specs.Sink.{SinkState}
 use Rattle.rec_io.specs.Written.{Takes, TakesPrefix}
 use Rattle.rec_io.proofs.WrittenLemmas.{Takes-append}
@@ -65,6 +65,7 @@ none_left a b whole x left =
     record {
       cause = record { later = omega (arith, left.calm); failed = tt };
       calm = left.calm;
+      failed = tt;
       all = subst (λ (xs : List ℕ). Takes a.written b.written xs) e left.all;
       part = tt;
     }
@@ -74,9 +75,10 @@ pub stops_there : {T U E F : Type 0} (a b c : SinkState) (piece more rest whole 
 stops_there a b c piece more rest whole e f left is puts = record {
   cause = record {
     later = omega (arith, left.calm, puts.cause.later);
-    failed = subst (λ (n : ℕ). Rose n c.faults) left.calm puts.cause.failed;
+    failed = puts.cause.failed ∙ ap count_after left.calm;
   };
   calm = tt;
+  failed = puts.failed;
   all = tt;
   part = prefix_behind a.written b.written c.written left.taken piece more whole left.all puts.part (ap (λ (xs : List ℕ). left.taken ++ xs) (sym is) ∙ left.is);
 }
@@ -92,6 +94,7 @@ pub puts_ok : {T U E F : Type 0} (a b : SinkState) (text whole : List ℕ) (x : 
 puts_ok a b text whole x y e puts = record {
   cause = record { later = puts.cause.later; failed = tt };
   calm = puts.calm;
+  failed = tt;
   all = subst (λ (xs : List ℕ). Takes a.written b.written xs) e puts.all;
   part = tt;
 }
@@ -100,6 +103,7 @@ pub puts_err : {T U E F : Type 0} (a b : SinkState) (text whole : List ℕ) (e :
 puts_err a b text whole e f is puts = record {
   cause = record { later = puts.cause.later; failed = puts.cause.failed };
   calm = tt;
+  failed = puts.failed;
   all = tt;
   part = subst (λ (xs : List ℕ). TakesPrefix a.written b.written xs) is puts.part;
 }

@@ -4,8 +4,8 @@
 //! Promise: `Watch::new` promises what will be written: the text of the checkpoints that the
 //! netlist shows over so many clocks on right code, which without their cycles are the first of the
 //! source, without a clash (`IsTraceText`). `run` puts that text, or a front of it where the sink
-//! fails (`Puts`), and takes no memory. `law_of_ends`: the end mark is reached exactly when the
-//! source ends (`ReachesEnd`, `PassesEnd`).
+//! fails, and nothing after the put that failed (`Puts`); it takes no memory. `law_of_ends`: the end
+//! mark is reached exactly when the source ends (`ReachesEnd`, `PassesEnd`).
 //!
 //! Invariant: a `Watch` keeps `IsWatchable`: a simulator with the image's words, whose clocks up to
 //! the end mark don't clash, and nothing told of the variables. A `LineWriter` has room for the

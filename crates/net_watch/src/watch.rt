@@ -106,8 +106,8 @@ impl<'a> Watch<'a> {
     ///
     /// # Errors
     ///
-    /// `WriteFault` only where the sink's count of faults rose; the sink took a front of the text
-    /// then, and not all of it.
+    /// `WriteFault` where a put failed, behind which nothing more is put: the sink's count of faults
+    /// rose by one, and it took a front of the text, and not all of it.
     pub fn run<S: Sink>(self, sink: &mut S) -> Result<(), WriteFault>
         ensures { Puts (S.state sink.old) (S.state sink.new) self.entry result }
     {

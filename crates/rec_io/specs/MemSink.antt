@@ -1,5 +1,5 @@
 -- An output in memory, some of whose puts fail.
-use Rattle.std.specs.Prelude.{◌≡◌, ◌≢◌, ℕ, ◌-◌, ◌≤◌, ◌⊎◌, List, [], Some, length, min, Contains}
+use Rattle.std.specs.Prelude.{◌≡◌, ◌≢◌, ℕ, false, ◌-◌, ◌≤◌, ◌⊎◌, List, [], Some, length, min, Contains}
 use Rattle.rec_io.specs.Causes.{count_after}
 use Rattle.rec_io.specs.Sink.{SinkState}
 use Rattle.rec_io.specs.declared.mem_sink.MemSink.{MemSink}
@@ -26,11 +26,11 @@ puts_of sink = sink.puts
 
 -- the sink tells what it has taken
 abbrev pub sink_state : MemSink → SinkState
-sink_state sink = record { written = Some (bytes_of sink); faults = sink.faults }
+sink_state sink = record { written = Some (bytes_of sink); faults = sink.faults; failed = sink.failed }
 
 -- a sink before its first put
 pub record IsFresh (step room : ℕ) (fails : List ℕ) (sink : MemSink) : Type 0 where
-  pub empty : sink_state sink ≡ record { written = Some []; faults = 0 }
+  pub empty : sink_state sink ≡ record { written = Some []; faults = 0; failed = false }
   pub unused : puts_of sink ≡ 0
   pub takes : step_of sink ≡ step
   pub holds : room_of sink ≡ room

@@ -1,6 +1,6 @@
 -- What a shelf means, and what its answers say.
-use Rattle.std.specs.Prelude.{◌≡◌, ℕ, ◌<◌, ◌≤◌, Bool, true, false, List, length, Option, Some, IfSome, IsSomeAnd}
-use Rattle.rec_io.specs.Causes.{Rose}
+use Rattle.std.specs.Prelude.{◌≡◌, ℕ, ◌<◌, ◌≤◌, ◌⊎◌, Bool, true, false, List, length, Option, Some, IfSome, IsSomeAnd}
+use Rattle.rec_io.specs.Causes.{count_after}
 use Rattle.rec_io.specs.Files.{Files, file_of}
 use Rattle.rec_io.specs.declared.shelf.Fetch.{Fetch}
 use Rattle.rec_io.specs.declared.shelf.Fetch.TheVariants.{Failed, TooLong, Memory}
@@ -18,25 +18,38 @@ pub record ShelfState : Type 0 where
   -- whether the last fetch failed
   pub failed : Bool
 
+-- of one fetch, or of several, none failed: the last did not, and no fault was counted
+pub record NoneFailed (before now : ShelfState) : Type 0 where
+  pub last : now.failed ≡ false
+  pub count : now.faults ≡ before.faults
+
+-- the last failed, and none before it: one fault was counted
+pub record LastFailed (before now : ShelfState) : Type 0 where
+  pub last : now.failed ≡ true
+  pub count : now.faults ≡ count_after before.faults
+
+-- there was no fetch, or none failed
+abbrev pub NoFetchFailed : ShelfState → ShelfState → Type 0
+NoFetchFailed before now = (now ≡ before) ⊎ NoneFailed before now
+
 -- all of the file was handed out
 pub record IsGot (before now : ShelfState) (name : List ℕ) (limit : ℕ) (bytes : List ℕ) : Type 0 where
   pub asked : now.last ≡ name
-  pub ended : now.failed ≡ false
+  pub none : NoneFailed before now
   pub count : now.taken ≡ length bytes
   pub short : length bytes ≤ limit
   pub file : IfSome before.files (λ files. file_of files name ≡ Some bytes)
 
--- the fetch failed, and the count of faults rose
+-- the file was not read, which is a fault
 pub record IsFailed (before now : ShelfState) (name : List ℕ) : Type 0 where
   pub asked : now.last ≡ name
-  pub failed : now.failed ≡ true
-  pub rose : Rose before.faults now.faults
+  pub fault : LastFailed before now
 
 -- the file is longer than the limit, which the answer names; where the files are told, there is one
 -- of this name
 pub record IsLong (before now : ShelfState) (name : List ℕ) (limit told : ℕ) : Type 0 where
   pub asked : now.last ≡ name
-  pub ended : now.failed ≡ false
+  pub none : NoneFailed before now
   pub bound : told ≡ limit
   pub above : limit < now.taken
   pub file : IfSome before.files (λ files. IsSomeAnd (file_of files name) (λ bytes. limit < length bytes))
@@ -46,4 +59,4 @@ pub record IsLong (before now : ShelfState) (name : List ℕ) (limit told : ℕ)
 abbrev pub IsRefused : ShelfState → ShelfState → List ℕ → ℕ → Fetch → Type 0
 IsRefused before now name limit Failed = IsFailed before now name
 IsRefused before now name limit (TooLong told) = IsLong before now name limit told
-IsRefused before now name limit Memory = now.failed ≡ false
+IsRefused before now name limit Memory = NoneFailed before now

@@ -1,15 +1,17 @@
 //! What `record` meets outside: files by name, one output, and a fake of each in memory.
 //!
-//! Promise: `Shelf::fetch` gives all bytes of a file within a limit, or tells why not; a fault is
-//! told only where the shelf's count of faults rose (`IsGot`, `IsRefused`). `Sink::put` takes a
-//! front of a piece, and fails only where the sink's count rose. `put_all` puts a piece until it
-//! was taken whole (`all`), or tells a fault where a proper front was taken (`part`), and tells
-//! none where no put failed (`calm`). `MemShelf` and `MemSink` fail exactly where they were told
-//! to, or where no file has the name and no room is free, but for want of memory.
+//! Promise: `Shelf::fetch` gives all bytes of a file within a limit, or tells why not (`IsGot`,
+//! `IsRefused`); a fetch that fails counts one fault and no other answer counts any, and each gets
+//! at most `limit` bytes and one (`within`). `Sink::put` takes a front of a piece, or fails and
+//! counts one fault. `put_all` puts a piece until it was taken whole (`all`), or tells a fault where
+//! a proper front was taken (`part`) and nothing was put after the put that failed (`failed`), and
+//! tells none where no put failed (`calm`). `MemShelf` and `MemSink` fail exactly where they were
+//! told to, or where no file has the name and no room is free, but for want of memory.
 //!
-//! Invariant: what a shelf or a sink means is `state`: files or bytes where they are told, and a
-//! count of faults that never falls. An implementation that tells nothing of its bytes, as that of
-//! real files, keeps the same contracts.
+//! Invariant: what a shelf or a sink means is `state`: files or bytes where they are told, a count
+//! of faults that never falls, and whether the last fetch or put failed. By the last two a caller's
+//! contract can say that a fault was the only one and the last: `LastFailed`, `LastPutFailed`. An
+//! implementation that tells nothing of its bytes, as that of real files, keeps the same contracts.
 //!
 //! Files:
 //!

@@ -1,6 +1,6 @@
 //! Files in memory, some of whose fetches fail.
 
-ghost use Rattle.std.specs.Prelude.{◌≡◌, ◌≢◌, ◌⊎◌, ◌^◌, ◌<◌, ◌≤◌, true, length, option_map, IfSome, IfOk, IfErr, OnOk};
+ghost use Rattle.std.specs.Prelude.{◌≡◌, ◌⊎◌, ◌^◌, ◌<◌, ◌≤◌, ◌+◌, true, length, min, option_map, IfSome, IfOk, IfErr};
 ghost use Rattle.rec_io.specs.Causes.{count_after};
 ghost use Rattle.rec_io.specs.Files.{file_of};
 ghost use Rattle.rec_io.specs.MemShelf.{pairs_of, files_of, fails_of, fetches_of, shelf_state, first_state, IsFetchDue};
@@ -68,15 +68,14 @@ impl Shelf for MemShelf {
     ghost state = { shelf_state };
 
     /// As [`Shelf::fetch`]. A fetch fails exactly where its number is listed or no pair has the
-    /// name, unless memory is wanting, and the count of faults rises by one there and in no other
-    /// fetch.
+    /// name, unless memory is wanting. Of a file that is too long it gets `limit` bytes and one.
     fn fetch(&mut self, alloc: Global, name: &str, limit: u64) -> Result<Vec<u8>, Fetch>
         requires { limit < 2 ^ 32 }
 
         // As of every shelf.
         ensures same { files_of self.new ≡ files_of self.old }
         ensures later { (shelf_state self.old).faults ≤ (shelf_state self.new).faults }
-        ensures calm { OnOk result ((shelf_state self.new).faults ≡ (shelf_state self.old).faults) }
+        ensures within { (shelf_state self.new).taken ≤ limit + 1 }
         ensures got { IfOk result (λ bytes.
             IsGot (shelf_state self.old) (shelf_state self.new) name.now limit bytes.items) }
         ensures refused { IfErr result (IsRefused (shelf_state self.old) (shelf_state self.new) name.now limit) }
@@ -86,12 +85,10 @@ impl Shelf for MemShelf {
         ensures fails { fails_of self.new ≡ fails_of self.old }
         ensures due { result ≡ Err Fetch.Failed → IsFetchDue self.old name.now }
         ensures faulty { IsFetchDue self.old name.now → (result ≡ Err Fetch.Failed) ⊎ (result ≡ Err Fetch.Memory) }
-        ensures rise { result ≡ Err Fetch.Failed
-            → (shelf_state self.new).faults ≡ count_after (shelf_state self.old).faults }
-        ensures steady { result ≢ Err Fetch.Failed → (shelf_state self.new).faults ≡ (shelf_state self.old).faults }
         ensures nothing { result ≡ Err Fetch.Failed → (shelf_state self.new).taken ≡ 0 }
         ensures whole { result ≡ Err (Fetch.TooLong limit)
-            → IfSome (file_of (files_of self.old) name.now) (λ bytes. (shelf_state self.new).taken ≡ length bytes) }
+            → IfSome (file_of (files_of self.old) name.now) (λ bytes.
+            (shelf_state self.new).taken ≡ min (length bytes) (limit + 1)) }
     {
         self.fetches = self.fetches.saturating_add(1);
         self.failed = false;
@@ -103,7 +100,7 @@ impl Shelf for MemShelf {
         let Some(bytes) = find(&self.files, name) else {
             return Err(self.fail());
         };
-        self.taken = bytes.len() as u64;
+        self.taken = (bytes.len() as u64).min(limit + 1);
         if self.taken > limit {
             return Err(Fetch::TooLong(limit));
         }

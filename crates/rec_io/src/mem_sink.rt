@@ -1,6 +1,6 @@
 //! An output in memory, some of whose puts fail.
 
-ghost use Rattle.std.specs.Prelude.{◌≡◌, ◌↔◌, ◌<◌, ◌≤◌, length, take, IfOk, OnOk, OnErr, IsErr, vec_len, vec_capacity};
+ghost use Rattle.std.specs.Prelude.{◌≡◌, ◌↔◌, ◌<◌, ◌≤◌, false, true, length, take, IfOk, OnOk, OnErr, IsErr, vec_len, vec_capacity};
 
 use crate::{Sink, WriteFault};
 use rec_bits::NoMemory;
@@ -16,6 +16,7 @@ pub struct MemSink {
     fails: Vec<u64>,
     puts: u64,
     faults: u64,
+    failed: bool,
     ghost within: { vec_len bytes ≤ room },
     ghost reserved: { room ≤ vec_capacity bytes },
     ghost steps: { 1 ≤ step },
@@ -49,6 +50,7 @@ impl MemSink {
             fails,
             puts: 0,
             faults: 0,
+            failed: false,
         })
     }
 
@@ -61,9 +63,10 @@ impl MemSink {
 
     // The last put failed, which is counted.
     fn fault(&mut self) -> WriteFault
-        ensures change { self.new ≡ record self.old { faults = count_after self.old.faults } }
+        ensures change { self.new ≡ record self.old { faults = count_after self.old.faults; failed = true } }
         ensures later { self.old.faults ≤ self.new.faults }
     {
+        self.failed = true;
         self.faults = self.faults.saturating_add(1);
         WriteFault
     }
@@ -77,13 +80,16 @@ impl Sink for MemSink {
     ghost state = { sink_state };
 
     /// As [`Sink::put`]. A put of a piece that isn't empty fails exactly where its number is listed
-    /// or no room is free, and the count of faults rises by one there and in no other put. Every
-    /// other put takes as much of the piece as the step and the free room allow. Takes no memory.
+    /// or no room is free. Every other put takes as much of the piece as the step and the free room
+    /// allow. Takes no memory.
     fn put(&mut self, bytes: &[u8]) -> Result<usize, WriteFault>
         // As of every sink.
         ensures cause { HasCause (sink_state self.old).faults (sink_state self.new).faults result }
         ensures calm { OnOk result ((sink_state self.new).faults ≡ (sink_state self.old).faults) }
+        ensures failed { OnErr result ((sink_state self.new).failed ≡ true) }
+        ensures worked { OnOk result (0 < length bytes.now → (sink_state self.new).failed ≡ false) }
         ensures empty { length bytes.now ≡ 0 → result ≡ Ok 0 }
+        ensures same { length bytes.now ≡ 0 → sink_state self.new ≡ sink_state self.old }
         ensures count { IfOk result (λ count. (count ≤ length bytes.now) × (0 < length bytes.now → 0 < count)) }
         ensures took { IfOk result (λ count.
             Takes (sink_state self.old).written (sink_state self.new).written (take count bytes.now)) }
@@ -93,7 +99,6 @@ impl Sink for MemSink {
         ensures turn { puts_of self.new ≡ count_after (puts_of self.old) }
         ensures due { IsErr result ↔ IsPutDue self.old bytes.now }
         ensures portion { IfOk result (λ count. count ≡ portion_of self.old bytes.now) }
-        ensures rise { OnErr result ((sink_state self.new).faults ≡ count_after (sink_state self.old).faults) }
         ensures step { step_of self.new ≡ step_of self.old }
         ensures room { room_of self.new ≡ room_of self.old }
         ensures fails { fails_of self.new ≡ fails_of self.old }
@@ -110,6 +115,7 @@ impl Sink for MemSink {
             return Err(self.fault());
         }
         let count = bytes.len().min(self.step).min(free);
+        self.failed = false;
         self.bytes.extend_from_slice(&bytes[..count]).unwrap();
         Ok(count)
     }

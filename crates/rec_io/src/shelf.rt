@@ -1,6 +1,6 @@
 //! Files that are asked for by name.
 
-ghost use Rattle.std.specs.Prelude.{◌≡◌, ◌^◌, ◌<◌, ◌≤◌, IfOk, IfErr, OnOk};
+ghost use Rattle.std.specs.Prelude.{◌≡◌, ◌^◌, ◌<◌, ◌≤◌, ◌+◌, IfOk, IfErr};
 ghost use Rattle.rec_io.specs.Shelf.{ShelfState, IsGot, IsRefused};
 ghost use Rattle.rec_io.specs.declared.shelf.Fetch.{Fetch};
 
@@ -11,7 +11,7 @@ use std::alloc::{AllocError, Global};
 #[derive(Clone, Copy, Debug, PartialEq, Eq)]
 pub enum Fetch {
     /// The file could not be read, as where there is none of that name; the shelf's count of faults
-    /// rose.
+    /// rose by one.
     Failed,
     /// The file has more bytes than this limit, which is that of the call.
     TooLong(u64),
@@ -39,17 +39,18 @@ impl From<AllocError> for Fetch {
 ///
 /// A shelf means five things: its files, where it tells them; a count of faults, which never falls
 /// and stays at `u64::MAX` once it is there; the number of bytes that the last fetch got; the name
-/// that it was asked for; and whether it failed. That the count rose means that it is greater than
-/// before, or stands at `u64::MAX`.
+/// that it was asked for; and whether it failed. That the count rose by one means that it is one
+/// more than before, or stands at `u64::MAX`.
 pub trait Shelf {
     ghost state: { Self → ShelfState };
 
-    /// All bytes of the file `name`, if they are at most `limit`, which is below 2^32; the count of
-    /// faults stays as it was then. A fetch leaves the files as they are.
+    /// All bytes of the file `name`, if they are at most `limit`, which is below 2^32. Whatever is
+    /// answered, the fetch leaves the files as they are and gets at most `limit` bytes and one; the
+    /// count of faults rises by one on `Failed`, and stays as it was on every other answer.
     ///
     /// # Errors
     ///
-    /// `Failed` only where the count of faults rose; a file that isn't there is such a fault.
+    /// `Failed` where the file could not be read; a file that isn't there is such a fault.
     /// `TooLong(limit)` where the file has more than `limit` bytes, and then the shelf got more
     /// than `limit` of them. `Memory` for want of memory, after which nothing is said of the name
     /// that was asked for.
@@ -58,7 +59,7 @@ pub trait Shelf {
 
         ensures same { (state self.new).files ≡ (state self.old).files }
         ensures later { (state self.old).faults ≤ (state self.new).faults }
-        ensures calm { OnOk result ((state self.new).faults ≡ (state self.old).faults) }
+        ensures within { (state self.new).taken ≤ limit + 1 }
         ensures got { IfOk result (λ bytes. IsGot (state self.old) (state self.new) name.now limit bytes.items) }
         ensures refused { IfErr result (IsRefused (state self.old) (state self.new) name.now limit) };
 }

@@ -1,5 +1,5 @@
 //! Real files, which tell nothing of their bytes.
-ghost use Rattle.std.specs.Prelude.{◌+◌, ◌^◌, ◌<◌, ◌≤◌, [], None, IfOk, string_bytes, vec_len};
+ghost use Rattle.std.specs.Prelude.{◌≡◌, ◌+◌, ◌^◌, ◌<◌, ◌≤◌, [], None, string_bytes, vec_len};
 ghost use Rattle.std.specs.Option.{option_map_or};
 
 use rec_io::{Fetch, Shelf};
@@ -38,13 +38,13 @@ impl From<io::Error> for ReadError {
     }
 }
 
-// The first bytes of the file, at most one more than the limit.
-fn read_file<R: Files>(rt: &R, alloc: Global, name: &str, limit: u64) -> Result<Vec<u8>, ReadError>
-    requires { limit < 2 ^ 32 }
-    ensures { IfOk result (λ bytes. vec_len bytes ≤ limit + 1) }
+// Reads the first bytes of the file, at most one more than the limit, also where it fails.
+fn read_file<R: Files>(rt: &R, name: &str, limit: u64, bytes: &mut Vec<u8>) -> Result<(), ReadError>
+    requires limit { limit < 2 ^ 32 }
+    requires empty { vec_len bytes.old ≡ 0 }
+    ensures { vec_len bytes.new ≤ limit + 1 }
 {
     let mut file = fs::open(rt, name)?;
-    let mut bytes = Vec::new(alloc);
     let most = limit as usize + 1;
     let mut buffer = [0u8; PIECE];
     'pieces: while bytes.len() < most {
@@ -55,7 +55,7 @@ fn read_file<R: Files>(rt: &R, alloc: Global, name: &str, limit: u64) -> Result<
         }
         bytes.extend_from_slice(&buffer[..count])?;
     }
-    Ok(bytes)
+    Ok(())
 }
 
 impl<'a, R: Files> FileShelf<'a, R> {
@@ -87,14 +87,12 @@ impl<R: Files> Shelf for FileShelf<'_, R> {
             return Err(Fetch::Memory);
         };
         self.last = Some(copy);
-        match read_file(self.rt, alloc, name, limit) {
-            Ok(bytes) => {
-                self.taken = bytes.len() as u64;
-                if self.taken > limit {
-                    return Err(Fetch::TooLong(limit));
-                }
-                Ok(bytes)
-            }
+        let mut bytes = Vec::new(alloc);
+        let read = read_file(self.rt, name, limit, &mut bytes);
+        self.taken = bytes.len() as u64;
+        match read {
+            Ok(()) if self.taken > limit => Err(Fetch::TooLong(limit)),
+            Ok(()) => Ok(bytes),
             Err(ReadError::Memory) => Err(Fetch::Memory),
             Err(ReadError::Failed) => {
                 self.failed = true;

@@ -6,7 +6,8 @@
 //! in `rec_io`, and tell nothing of the bytes.
 //!
 //! Invariant: a shelf here reads at most one byte more than the limit, to tell a file that is too
-//! long; a failed read or write raises the count of faults, and a write of no byte is a fault.
+//! long, also where it fails; a failed read or write raises the count of faults by one, and a write
+//! of no byte is a fault.
 //!
 //! Files:
 //!

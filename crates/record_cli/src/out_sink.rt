@@ -4,22 +4,27 @@ ghost use Rattle.std.specs.Prelude.{None};
 use rec_io::{Sink, WriteFault};
 use std::io::Write;
 
-/// An output, and how often a write to it failed.
+/// An output, how often a write to it failed, and whether the last did.
 #[derive(Drop)]
 pub struct OutSink<W> {
     to: W,
     faults: u64,
+    failed: bool,
 }
 
 impl<W: Write> OutSink<W> {
     /// The sink that writes to this output.
     pub fn new(to: W) -> OutSink<W> {
-        OutSink { to, faults: 0 }
+        OutSink {
+            to,
+            faults: 0,
+            failed: false,
+        }
     }
 }
 
 impl<W: Write> Sink for OutSink<W> {
-    ghost state = { λ sink. record { written = None; faults = sink.faults } };
+    ghost state = { λ sink. record { written = None; faults = sink.faults; failed = sink.failed } };
 
     // A write of no byte is a fault, as an error is.
     fn put(&mut self, bytes: &[u8]) -> Result<usize, WriteFault> {
@@ -27,8 +32,12 @@ impl<W: Write> Sink for OutSink<W> {
             return Ok(0);
         }
         match self.to.write(bytes) {
-            Ok(count) if count > 0 => Ok(count),
+            Ok(count) if count > 0 => {
+                self.failed = false;
+                Ok(count)
+            }
             _ => {
+                self.failed = true;
                 self.faults = self.faults.saturating_add(1);
                 Err(WriteFault)
             }

@@ -6,13 +6,28 @@ use Rattle.std.proofs.lemmas.Slice.Eq.{bytes_eq-Decides}
 use Rattle.std.specs.Str.{bytes_eq}
 use Rattle.std.specs.declared.alloc.Global.{Global}
 use Rattle.std.specs.declared.option.Option.{Option}
+use Rattle.rec_io.specs.Causes.{count_after}
 use Rattle.rec_io.specs.Files.{Files}
-use Rattle.rec_io.specs.Shelf.{ShelfState, IsFailed, IsLong}
+use Rattle.rec_io.specs.Shelf.{ShelfState, IsFailed, IsLong, LastFailed, NoFetchFailed, NoneFailed}
 use Rattle.record_core.specs.Answers.{file_limit, place_from, IsFile, AreFiles, HasFirst}
 use Rattle.record_core.specs.Inner.Fetch.{contents, AreShort, FetchStops}
 use Rattle.record_core.specs.Words.{texts_of, name_in}
 use Rattle.record_core.specs.declared.status.Status.{Status}
 use Rattle.record_core.specs.declared.status.Status.TheVariants.{ReadFault, TooLong}
+
+-- ---- counts of faults, where no fetch has failed before
+
+calm_count : (a b : ShelfState) → NoFetchFailed a b → b.faults ≡ a.faults
+calm_count a b (inl same) = ap (λ (s : ShelfState). s.faults) same
+calm_count a b (inr none) = none.count
+
+pub none_later : (a b c : ShelfState) → NoFetchFailed a b → NoneFailed b c → NoneFailed a c
+none_later a b c calm none = record { last = none.last; count = none.count ∙ calm_count a b calm }
+
+pub last_later : (a b c : ShelfState) → NoFetchFailed a b → LastFailed b c → LastFailed a c
+last_later a b c calm fault = record { last = fault.last; count = fault.count ∙ ap count_after (calm_count a b calm) }
+
+-- ---- names
 
 -- a name that stands in the list is found
 pub place_from-found : (k : ℕ) (names : List (List ℕ)) (i : ℕ) → i < length names → place_from k names (get_or names i []) ≡ None → ⊥
@@ -41,6 +56,8 @@ place_from-first k (name ∷ names) (suc i) p h found =
       | false ↦ λ e. let later = place_from-first (k + 1) names i p (omega arith) e in omega arith
     ] found
 
+-- ---- files
+
 -- the files before an earlier place
 HasFirst-fewer : (files : Option Files) (names : List (List ℕ)) (k i : ℕ) → k ≤ i → HasFirst files names i → HasFirst files names k
 HasFirst-fewer files names zero i h held = ([], tt)
@@ -58,40 +75,48 @@ earlier_files files names i p h place held = let first = place_from-first 0 name
 -- a file that is not read stops the fetches
 pub stops_failed : (names : List (List ℕ)) (name : List ℕ) (before now : ShelfState) (i file : ℕ) → i < length names → name ≡ get_or names i [] → HasFirst before.files names i → place_from 0 names (get_or names i []) ≡ Some file → IsFailed before now name → FetchStops names before now (ReadFault file)
 stops_failed names name before now i file h is held place failed = inr (inl (
-  file,
-  record {
-    rose = failed.rose;
-    failed = failed.failed;
-    place = rw (failed.asked, is) place;
-    earlier = earlier_files before.files names i file h place held;
-  },
-  refl,
+  (
+    file,
+    record {
+      rose = (let count = failed.fault.count in omega arith);
+      failed = failed.fault.last;
+      place = rw (failed.asked, is) place;
+      earlier = earlier_files before.files names i file h place held;
+    },
+    refl,
+  ),
+  failed.fault,
 ))
 
 -- a file that is too long stops the fetches
 pub stops_long : (names : List (List ℕ)) (name : List ℕ) (before now : ShelfState) (i told file : ℕ) → i < length names → name ≡ get_or names i [] → HasFirst before.files names i → place_from 0 names (get_or names i []) ≡ Some file → IsLong before now name file_limit told → FetchStops names before now (TooLong file told)
 stops_long names name before now i told file h is held place long = inr (inr (
-  (file, told),
-  record {
-    bound = long.bound;
-    above = rw long.bound long.above;
-    ended = long.ended;
-    place = rw (long.asked, is) place;
-    earlier = earlier_files before.files names i file h place held;
-    longer = rw (long.asked, long.bound) long.file;
-  },
-  refl,
+  (
+    (file, told),
+    record {
+      bound = long.bound;
+      above = rw long.bound long.above;
+      ended = long.none.last;
+      place = rw (long.asked, is) place;
+      earlier = earlier_files before.files names i file h place held;
+      longer = rw (long.asked, long.bound) long.file;
+    },
+    refl,
+  ),
+  long.none,
 ))
 
 -- what stops the fetches stops those that began earlier
-pub FetchStops-earlier : (names : List (List ℕ)) (first before now : ShelfState) (status : Status) → before.files ≡ first.files → first.faults ≤ before.faults → FetchStops names before now status → FetchStops names first now status
-FetchStops-earlier names first before now status same later (inl memory) = inl memory
-FetchStops-earlier names first before now status same later (inr (inl read)) =
+pub FetchStops-earlier : (names : List (List ℕ)) (first before now : ShelfState) (status : Status) → before.files ≡ first.files → NoFetchFailed first before → FetchStops names before now status → FetchStops names first now status
+FetchStops-earlier names first before now status same calm (inl (is, none)) = inl (is, none_later first before now calm none)
+FetchStops-earlier names first before now status same calm (inr (inl (read, fault))) =
     let why = read.1 in
-    inr (inl (read.0, record { rose = (let rose = why.rose in omega arith); failed = why.failed; place = why.place; earlier = rw same at why.earlier }, read.2))
-FetchStops-earlier names first before now status same later (inr (inr long)) =
+    let last = last_later first before now calm fault in
+    let count = last.count in
+    inr (inl ((read.0, record { rose = omega arith; failed = why.failed; place = why.place; earlier = rw same at why.earlier }, read.2), last))
+FetchStops-earlier names first before now status same calm (inr (inr (long, none))) =
     let why = long.1 in
-    inr (inr (long.0, record { bound = why.bound; above = why.above; ended = why.ended; place = why.place; earlier = rw same at why.earlier; longer = rw same at why.longer }, long.2))
+    inr (inr ((long.0, record { bound = why.bound; above = why.above; ended = why.ended; place = why.place; earlier = rw same at why.earlier; longer = rw same at why.longer }, long.2), none_later first before now calm none))
 
 -- one more file
 AreFiles-append : (files : Option Files) (names contents : List (List ℕ)) (name bytes : List ℕ) → AreFiles files names contents → IsFile files name bytes → AreFiles files (names ++ name ∷ []) (contents ++ bytes ∷ [])

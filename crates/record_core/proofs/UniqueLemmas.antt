@@ -194,7 +194,7 @@ complete_of words before now old new result gives accepted calm = elim gives.put
     | inl memory ↦ inr (whole.0 ∙ memory.0)
     | inr due ↦ inl (whole.0 ∙ accepted gives.due gives.text due)
   ]
-  | inr part ↦ absurd (calm part.1)
+  | inr part ↦ absurd (let count = part.1.count in calm (omega arith))
 ]
 
 -- ---- texts of which nothing is refused

@@ -17,8 +17,8 @@ use Rattle.net_make.specs.Summaries.{IsSummary}
 use Rattle.net_run.specs.Runs.{IsNoImageFile, IsNoMemoryFile, ClashedAt, Clashes, ShowsState}
 use Rattle.rec_io.specs.Causes.{Rose}
 use Rattle.rec_io.specs.Files.{Files, file_of}
-use Rattle.rec_io.specs.Shelf.{ShelfState}
-use Rattle.rec_io.specs.Sink.{SinkState}
+use Rattle.rec_io.specs.Shelf.{ShelfState, LastFailed, NoFetchFailed}
+use Rattle.rec_io.specs.Sink.{SinkState, LastPutFailed}
 use Rattle.rec_io.specs.Written.{Takes, TakesPrefix}
 use Rattle.record_core.specs.Lines.{due_line}
 use Rattle.record_core.specs.Stages.{By, Just, Then}
@@ -182,18 +182,35 @@ MayAnswer words before now status text =
     ((status ≡ Memory) × (text ≡ due_line words [] None Memory))
     ⊎ Answers words before now status text
 
--- the sink took the whole text of the status, or it failed within the text and took a prefix
+-- a file could not be read
+abbrev pub IsReadFault : Status → Type 0
+IsReadFault status = (file : ℕ) × (status ≡ ReadFault file)
+
+-- no fetch failed, or the last did, and none before it, and this status tells it
+abbrev pub FetchesEnd : ShelfState → ShelfState → Status → Type 0
+FetchesEnd before now status = NoFetchFailed before now ⊎ (LastFailed before now × IsReadFault status)
+
+-- the same of the status that is returned, since the output may fail when the line is put
+abbrev pub FetchesTold : ShelfState → ShelfState → Status → Type 0
+FetchesTold before now result =
+    NoFetchFailed before now
+    ⊎ (LastFailed before now × (IsReadFault result ⊎ (result ≡ WriteFault)))
+
+-- the sink took the whole text of the status, or it failed within the text and took a prefix, and
+-- nothing was put after the put that failed
 abbrev pub PutsText : SinkState → SinkState → List ℕ → Status → Status → Type 0
 PutsText before now text status result =
     ((result ≡ status) × Takes before.written now.written text)
-    ⊎ ((result ≡ WriteFault) × Rose before.faults now.faults × TakesPrefix before.written now.written text)
+    ⊎ ((result ≡ WriteFault) × LastPutFailed before now × TakesPrefix before.written now.written text)
 
--- the answer that is due, what the sink took of its text, and the status that is returned
+-- the answer that is due, how the fetches went, what the sink took of its text, and the status that
+-- is returned
 pub record IsAnswer (words : List (List ℕ)) (before now : ShelfState) (old new : SinkState)
     (result : Status) : Type 0 where
   pub due : Status
   pub text : List ℕ
   pub answer : MayAnswer words before now due text
+  pub fetches : FetchesEnd before now due
   pub put : PutsText old new text due result
 
 -- two answers that images made for one task have: what is answered of one of them, and that the

@@ -3,3 +3,4 @@
 pub mod Fetch
 pub mod Statuses
 pub mod Putting
+pub mod Refusals

@@ -1,5 +1,5 @@
 -- The line of each fault.
-use Rattle.std.specs.Prelude.{◌≡◌, ◌⊎◌, ℕ, ◌+◌, List, [], ◌∷◌, Option, None, codes, slice_index_or}
+use Rattle.std.specs.Prelude.{ℕ, ◌+◌, List, [], ◌∷◌, Option, None, codes, slice_index_or}
 use Rattle.std.specs.Fmt.{decimal}
 use Rattle.std.specs.List.{concat}
 use Rattle.record_core.specs.NetLines.{net_line, name_place, name_from}
@@ -51,8 +51,3 @@ name_offset bus _ = None
 -- that clashes
 abbrev pub due_line : List (List ℕ) → List ℕ → Option ℕ → Status → List ℕ
 due_line words net bus status = status_line words (name_from net (name_offset bus status)) status
-
--- of a refusal with its line: of this status, with the line that is due, or of want of memory
-abbrev pub IsRefusal : List (List ℕ) → List ℕ → Option ℕ → Status → Status → List ℕ → Type 0
-IsRefusal words net bus status refused line =
-    (refused ≡ Memory) ⊎ ((refused ≡ status) × (line ≡ due_line words net bus status))

@@ -2,6 +2,7 @@
 use Rattle.std.specs.Prelude.{ℕ, ◌≤◌, ◌&&◌, nat_le, List, [], ◌∷◌, Some, None, drop, map, option_map, take, String, string_bytes, codes, slice_index_or, if◌then◌else◌}
 use Rattle.std.specs.declared.alloc.Global.{Global}
 use Rattle.std.specs.declared.option.Option.{Option}
+use Rattle.std.specs.Option.{option_map_or}
 use Rattle.std.specs.Str.{bytes_eq}
 use Rattle.text_lines.specs.Fields.{number_of}
 use Rattle.record_core.specs.declared.words.Command.{Command}
@@ -58,6 +59,10 @@ file_count Extract = 1
 file_count (Run clocks) = 3
 file_count (Go clocks) = 3
 file_count (Make number) = 0
+
+-- how many files the words ask for
+abbrev pub files_asked : List (List ℕ) → ℕ
+files_asked words = option_map_or file_count (command_of words) 0
 
 -- the names of the command's files, in their order: they are the words after the first
 abbrev pub names_of : Command → List (List ℕ) → List (List ℕ)

@@ -1,56 +1,24 @@
 //! The call of the program.
-ghost use Rattle.std.specs.Prelude.{◌≡◌, ◌≢◌, ◌⊎◌, ◌≤◌, Some, IfOk, IfErr, IsSome, OnOk, string_bytes};
+ghost use Rattle.std.specs.Prelude.{◌≡◌, ◌≢◌, ◌⊎◌, ◌≤◌, Some, IfOk, IfErr, IsSome, OnOk};
 ghost use Rattle.rec_io.specs.Causes.{Rose};
-ghost use Rattle.record_core.specs.Answers.{TextAnswers, Answers, PutsText, IsAnswer, IsExact, IsAccepted, CanCompile, Wrote, netlist_in};
+ghost use Rattle.rec_io.specs.Shelf.{NoFetchFailed};
+ghost use Rattle.record_core.specs.Answers.{FetchesTold, IsAnswer, IsExact, IsAccepted, CanCompile, Wrote, netlist_in};
 ghost use Rattle.record_core.specs.Inner.Fetch.{contents, AreShort};
-ghost use Rattle.record_core.specs.Lines.{due_line, IsRefusal};
+ghost use Rattle.record_core.specs.Lines.{due_line};
 ghost use Rattle.record_core.specs.Inner.Putting.{PutsAnswer, PutsDone};
-ghost use Rattle.record_core.specs.Words.{CommandFits, command_of, names_of, texts_of};
+ghost use Rattle.record_core.specs.Inner.Refusals.{IsRefusal, RefusesText, RefusesWords};
+ghost use Rattle.record_core.specs.Words.{CommandFits, command_of, files_asked, names_of, texts_of};
 ghost use Rattle.record_core.specs.declared.words.Command.{Command};
 ghost use Rattle.record_core.specs.declared.status.Status.{Status};
 
 use crate::Status;
 use crate::commands::{file, put_command};
 use crate::fetch::fetch_all;
-use crate::line::{fault_line, name_from, name_offset};
+use crate::refusal::{Refusal, refused};
 use crate::stop::Stop;
 use crate::words::{Command, command_of};
-use rec_io::{Shelf, Sink, WriteFault, put_all};
+use rec_io::{Shelf, Sink, WriteFault};
 use std::alloc::Global;
-
-const MEMORY_LINE: &[u8] = b"error memory\n";
-
-// Why nothing else is written, with its line.
-#[derive(Drop)]
-struct Refusal {
-    status: Status,
-    line: String,
-}
-
-// The refusal of this status, with its line from the words and the netlist's text. `bus` is the
-// place of the name of a bus that clashes.
-fn refused(alloc: Global, words: &[String], net: &[u8], bus: Option<u64>, status: Status) -> Refusal
-    ensures { IsRefusal (texts_of words.now) net.now bus status result.status (string_bytes result.line) }
-{
-    let name = name_from(net, name_offset(bus, status));
-    match fault_line(alloc, words, name, status) {
-        Ok(line) => Refusal { status, line },
-        Err(_) => Refusal {
-            status: Status::Memory,
-            line: String::new(alloc),
-        },
-    }
-}
-
-// Want of memory, whose line is not made.
-fn memory_refusal(alloc: Global) -> Refusal
-    ensures { result.status ≡ Status.Memory }
-{
-    Refusal {
-        status: Status::Memory,
-        line: String::new(alloc),
-    }
-}
 
 // The refusal of a command over these files.
 fn command_refused(
@@ -60,13 +28,12 @@ fn command_refused(
     files: &[Vec<u8>],
     stop: Stop,
 ) -> Refusal
-    ensures { IsRefusal (texts_of words.now) (netlist_in command (contents files.now)) stop.bus
-        stop.status result.status (string_bytes result.line) }
+    ensures { IsRefusal (texts_of words.now) (netlist_in command (contents files.now)) stop.bus stop.status result }
 {
     match command {
         Command::Make(number) => match job_gen::netlist(alloc, u64::from(number)) {
             Ok(net) => refused(alloc, words, &net, stop.bus, stop.status),
-            Err(_) => memory_refusal(alloc),
+            Err(_) => Refusal::Memory,
         },
         _ => refused(alloc, words, file(files, 0), stop.bus, stop.status),
     }
@@ -86,10 +53,8 @@ fn put_for<S: Sink>(
     ensures done { IfOk result (PutsDone
         (due_line (texts_of words.now) (netlist_in command (contents files.now))) command
         (contents files.now) (S.state out.old) (S.state out.new)) }
-    ensures refused { IfErr result (λ refusal. (refusal.status ≡ Status.Memory)
-        ⊎ TextAnswers (due_line (texts_of words.now) (netlist_in command (contents files.now)))
-        command (contents files.now) refusal.status (string_bytes refusal.line)) }
-    ensures other { IfErr result (λ refusal. refusal.status ≢ Status.Done) }
+    ensures refused { IfErr result (RefusesText (texts_of words.now)
+        (due_line (texts_of words.now) (netlist_in command (contents files.now))) command (contents files.now)) }
     ensures still { IfErr result (λ _. S.state out.new ≡ S.state out.old) }
 {
     match put_command(alloc, command, files, out) {
@@ -108,13 +73,11 @@ fn decide<F: Shelf, S: Sink>(
 ) -> Result<Result<(), WriteFault>, Refusal>
     ensures later { (F.state shelf.old).faults ≤ (F.state shelf.new).faults }
     ensures same { (F.state shelf.new).files ≡ (F.state shelf.old).files }
-    ensures calm { OnOk result ((F.state shelf.new).faults ≡ (F.state shelf.old).faults) }
+    ensures unasked { files_asked (texts_of words.now) ≡ 0 → F.state shelf.new ≡ F.state shelf.old }
+    ensures calm { OnOk result (NoFetchFailed (F.state shelf.old) (F.state shelf.new)) }
     ensures done { IfOk result (PutsAnswer (texts_of words.now) (F.state shelf.old)
         (F.state shelf.new) (S.state out.old) (S.state out.new)) }
-    ensures refused { IfErr result (λ refusal. (refusal.status ≡ Status.Memory)
-        ⊎ Answers (texts_of words.now) (F.state shelf.old) (F.state shelf.new) refusal.status
-        (string_bytes refusal.line)) }
-    ensures other { IfErr result (λ refusal. refusal.status ≢ Status.Done) }
+    ensures refused { IfErr result (RefusesWords (texts_of words.now) (F.state shelf.old) (F.state shelf.new)) }
     ensures still { IfErr result (λ _. S.state out.new ≡ S.state out.old) }
 {
     let Some(command) = command_of(words) else {
@@ -126,24 +89,12 @@ fn decide<F: Shelf, S: Sink>(
     }
 }
 
-// Puts the text of this status. No put failed where another status than `WriteFault` is answered.
-fn put_text<S: Sink>(out: &mut S, text: &[u8], status: Status) -> Status
-    ensures later { (S.state out.old).faults ≤ (S.state out.new).faults }
-    ensures calm { result ≢ Status.WriteFault → (S.state out.new).faults ≡ (S.state out.old).faults }
-    ensures puts { PutsText (S.state out.old) (S.state out.new) text.now status result }
-{
-    match put_all(out, text) {
-        Ok(()) => status,
-        Err(_) => Status::WriteFault,
-    }
-}
-
-// Decides, and puts the text that is due.
+// Decides, and puts the line of a refusal.
 fn answer<F: Shelf, S: Sink>(alloc: Global, words: &[String], shelf: &mut F, out: &mut S) -> Status
     ensures shelf_later { (F.state shelf.old).faults ≤ (F.state shelf.new).faults }
     ensures shelf_same { (F.state shelf.new).files ≡ (F.state shelf.old).files }
+    ensures shelf_unasked { files_asked (texts_of words.now) ≡ 0 → F.state shelf.new ≡ F.state shelf.old }
     ensures sink_later { (S.state out.old).faults ≤ (S.state out.new).faults }
-    ensures shelf_calm { result ≡ Status.Done → (F.state shelf.new).faults ≡ (F.state shelf.old).faults }
     ensures sink_calm { result ≢ Status.WriteFault → (S.state out.new).faults ≡ (S.state out.old).faults }
     ensures gives { IsAnswer (texts_of words.now) (F.state shelf.old) (F.state shelf.new)
         (S.state out.old) (S.state out.new) result }
@@ -151,10 +102,10 @@ fn answer<F: Shelf, S: Sink>(alloc: Global, words: &[String], shelf: &mut F, out
     match decide(alloc, words, shelf, out) {
         Ok(Ok(())) => Status::Done,
         Ok(Err(_)) => Status::WriteFault,
-        Err(refusal) if refusal.status == Status::Memory => {
-            put_text(out, MEMORY_LINE, Status::Memory)
-        }
-        Err(refusal) => put_text(out, refusal.line.as_bytes(), refusal.status),
+        Err(refusal) => match refusal.put(words, out) {
+            Ok(()) => refusal.status(),
+            Err(_) => Status::WriteFault,
+        },
     }
 }
 
@@ -164,8 +115,9 @@ fn answer<F: Shelf, S: Sink>(alloc: Global, words: &[String], shelf: &mut F, out
 /// CYCLES`, `go NET SRC MEM CYCLES` or `make N`, where NET, SRC, IMG and MEM are names of files,
 /// CYCLES is a decimal number from 0 to 1,000,000, and N one from 1 to 1,000. On `Done` the output
 /// took the whole text: an image, the patterns of a netlist, a state, checkpoints, or a summary. On
-/// `WriteFault` it took a prefix of the text that was due, and on every other status the line of
-/// the fault. Want of memory may be answered anywhere.
+/// `WriteFault` it took a prefix of the text that was due, and nothing after the put that failed; on
+/// every other status it took the line of the fault. Want of memory may be answered anywhere, but
+/// where a file could not be read.
 pub fn record_call<F: Shelf, S: Sink>(
     alloc: Global,
     words: &Vec<String>,
@@ -174,15 +126,16 @@ pub fn record_call<F: Shelf, S: Sink>(
 ) -> Status
     ensures shelf_later { (F.state shelf.old).faults ≤ (F.state shelf.new).faults }
     ensures shelf_same { (F.state shelf.new).files ≡ (F.state shelf.old).files }
+    ensures shelf_unasked { files_asked (texts_of words.now.items) ≡ 0 → F.state shelf.new ≡ F.state shelf.old }
     ensures sink_later { (S.state out.old).faults ≤ (S.state out.new).faults }
 
-    // No fault is swallowed: on `Done` neither count of faults has changed, and on no status but
-    // `WriteFault` has the output's.
-    ensures shelf_calm { result ≡ Status.Done → (F.state shelf.new).faults ≡ (F.state shelf.old).faults }
+    // No fault is swallowed: where a fetch fails it is the last, and `ReadFault` is answered, or
+    // `WriteFault` where the output fails too; on no status but `WriteFault` has a put failed.
+    ensures shelf_calm { FetchesTold (F.state shelf.old) (F.state shelf.new) result }
     ensures sink_calm { result ≢ Status.WriteFault → (S.state out.new).faults ≡ (S.state out.old).faults }
 
     // What is due is the first refusal that applies, with its line, or `Done` and the text, or want
-    // of memory.
+    // of memory. Nothing is put after a put that failed.
     ensures gives { IsAnswer (texts_of words.now.items) (F.state shelf.old) (F.state shelf.new)
         (S.state out.old) (S.state out.new) result }
 

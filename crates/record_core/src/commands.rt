@@ -27,8 +27,8 @@ pub fn file(files: &[Vec<u8>], place: usize) -> &[u8]
     }
 }
 
-// Puts a whole text.
-fn put<S: Sink>(out: &mut S, text: &[u8]) -> Result<(), WriteFault>
+/// Puts a whole text.
+pub fn put<S: Sink>(out: &mut S, text: &[u8]) -> Result<(), WriteFault>
     ensures { Puts (S.state out.old) (S.state out.new) text.now result }
 {
     put_all(out, text)

@@ -1,5 +1,6 @@
 //! The files of a command.
 ghost use Rattle.std.specs.Prelude.{◌≡◌, ◌⊎◌, ◌<◌, ◌≤◌, [], Some, IfSome, IfOk, IfErr, OnOk, length, map, slice_index_or};
+ghost use Rattle.rec_io.specs.Shelf.{NoFetchFailed, NoneFailed};
 ghost use Rattle.record_core.specs.Answers.{place_from, IsFile, AreFiles, HasFirst};
 ghost use Rattle.record_core.specs.Inner.Fetch.{contents, FetchStops, FetchPasses, FetchesPass};
 ghost use Rattle.record_core.specs.Words.{texts_of, name_in};
@@ -48,9 +49,9 @@ fn fetch_one<F: Shelf>(
     requires earlier { HasFirst (F.state shelf.old).files (texts_of names.now) index }
     ensures files { (F.state shelf.new).files ≡ (F.state shelf.old).files }
     ensures later { (F.state shelf.old).faults ≤ (F.state shelf.new).faults }
+    ensures calm { OnOk result (NoneFailed (F.state shelf.old) (F.state shelf.new)) }
     ensures ok { IfOk result (λ bytes. IsFile (F.state shelf.old).files (name_in names.now index) bytes.items) }
     ensures passed { OnOk result (FetchPasses (F.state shelf.new)) }
-    ensures calm { OnOk result ((F.state shelf.new).faults ≡ (F.state shelf.old).faults) }
     ensures stopped { IfErr result (FetchStops (texts_of names.now) (F.state shelf.old) (F.state shelf.new)) }
 {
     let name = names[index].as_str();
@@ -67,7 +68,8 @@ fn fetch_one<F: Shelf>(
     }
 }
 
-/// All files in their order, before any of them is read. No fetch failed then.
+/// All files in their order, before any of them is read; none is asked for after a fetch that
+/// failed.
 pub fn fetch_all<F: Shelf>(
     alloc: Global,
     names: &[String],
@@ -76,9 +78,10 @@ pub fn fetch_all<F: Shelf>(
     requires few { length names.now ≤ 8 }
     ensures later { (F.state shelf.old).faults ≤ (F.state shelf.new).faults }
     ensures files { (F.state shelf.new).files ≡ (F.state shelf.old).files }
+    ensures unasked { length names.now ≡ 0 → F.state shelf.new ≡ F.state shelf.old }
+    ensures calm { OnOk result (NoFetchFailed (F.state shelf.old) (F.state shelf.new)) }
     ensures ok { IfOk result (λ got. AreFiles (F.state shelf.old).files (texts_of names.now) (contents got.items)) }
     ensures passed { OnOk result (FetchesPass (texts_of names.now) (F.state shelf.new)) }
-    ensures calm { OnOk result ((F.state shelf.new).faults ≡ (F.state shelf.old).faults) }
     ensures stopped { IfErr result (FetchStops (texts_of names.now) (F.state shelf.old) (F.state shelf.new)) }
 {
     let mut got = Vec::new(alloc);

@@ -3,7 +3,9 @@
 //! Promise: of `record_call`. `wrote`: on `Done` the sink took in this call the text of the command
 //! for its files, as of `compile` that of an image which is right code (`Wrote`). `gives`: what is
 //! answered is the first refusal that applies, with its line, or `Done`, or want of memory
-//! (`IsAnswer`). `shelf_calm`, `sink_calm`: no fault of a file or of the output is swallowed.
+//! (`IsAnswer`). `shelf_calm`, `sink_calm`: no fault of a file or of the output is swallowed; a fetch
+//! or a put that fails is the last, and a fetch that fails never ends as want of memory.
+//! `shelf_unasked`: where the words ask for no file, none is fetched.
 //! `exactly`, `complete`, `compiles`: where the files are told, nothing is answered but what
 //! applies, want of memory, or a fault of the sink (`IsExact`, `IsAccepted`, `CanCompile`).
 //! `Status::code` is the exit status.
@@ -19,10 +21,11 @@
 //! - `compile`, `extract`, `run`, `go`, `make`: one command each.
 //! - `commands`: the arm of each command, and its text put.
 //! - `line`: the lines of the faults.
+//! - `refusal`: why nothing else is written, with its line, and how that is put.
 //! - `call`: `record_call`.
 //! - `specs/`, cited by public contracts: `Answers` (what is answered, and what is written),
 //!   `Stages`, `Words`, `Watching`, `Status`, `Lines`, `NetLines` and `SrcLines`. `specs/Inner/`:
-//!   `Fetch`, `Putting`, `Statuses`, for the functions here.
+//!   `Fetch`, `Putting`, `Refusals`, `Statuses`, for the functions here.
 //! - `proofs/`: `WroteLemmas`, `AnswerLemmas`, `UniqueLemmas` and `StageLemmas` for the call, one
 //!   file a command, `FetchLemmas`, `NameLemmas`.
 #![tactic(auto)]
@@ -35,6 +38,7 @@ mod fetch;
 mod go;
 mod line;
 mod make;
+mod refusal;
 mod run;
 mod status;
 mod stop;

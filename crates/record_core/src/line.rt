@@ -11,8 +11,8 @@ use net_model::{NetFault, NetKind, Role};
 use src_model::{SrcFault, SrcKind};
 use std::alloc::{AllocError, Global};
 
-// The word that names this file.
-fn file_name(words: &[String], file: u8) -> &str
+/// The word that names this file.
+pub fn file_name(words: &[String], file: u8) -> &str
     ensures { result.now ≡ name_of_file (texts_of words.now) file }
 {
     match words.get(file as usize + 1) {

@@ -1,5 +1,5 @@
 -- What is put of the text that is due.
-use Rattle.std.specs.Prelude.{◌≡◌, ◌⊎◌, ℕ, List, Option, Result}
+use Rattle.std.specs.Prelude.{ℕ, List, Option, Result}
 use Rattle.rec_io.specs.Shelf.{ShelfState}
 use Rattle.rec_io.specs.Sink.{SinkState}
 use Rattle.rec_io.specs.declared.sink.WriteFault.{WriteFault}

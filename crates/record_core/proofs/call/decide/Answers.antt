@@ -1,13 +1,14 @@
-use Rattle.std.proofs.Common.{◌≡◌, List, [], None, ℕ, ◌+◌, ◌-◌, take, drop, ap, sym, ◌∙◌, arith, inl, inr, string_bytes}
+use Rattle.std.proofs.Common.{◌≡◌, List, ℕ, ◌+◌, ◌-◌, take, drop, ap, sym, ◌∙◌, arith, inl, inr}
 use Rattle.std.proofs.lemmas.Result.{IfOk-weaker, IfErr-weaker}
 use Rattle.std.specs.Prelude.{String}
 use Rattle.std.specs.declared.alloc.Global.{Global}
 use Rattle.record_core.specs.declared.words.Command.{Command}
 use Rattle.record_core.specs.Inner.Fetch.{contents, FetchesPass}
-use Rattle.record_core.specs.Answers.{Answers, AreFiles}
+use Rattle.record_core.specs.Answers.{AreFiles}
+use Rattle.record_core.specs.Inner.Refusals.{status_of, text_of}
 use Rattle.record_core.specs.Words.{texts_of, file_count, names_of}
 use Rattle.record_core.specs.declared.status.Status.TheVariants.{Done}
-use Rattle.record_core.proofs.AnswerLemmas.{answers_fetched, answers_stopped, refused_by}
+use Rattle.record_core.proofs.AnswerLemmas.{answers_fetched, answers_stopped}
 use Rattle.record_core.proofs.FetchLemmas.{files_short}
 use Rattle.record_core.proofs.WordLemmas.{names_from}
 use Rattle.record_core.proofs.call.decide.Goals as goal
@@ -49,11 +50,14 @@ returns-in-Ok-clause-refused g c =
     let passes : FetchesPass names now = c.in-Ok.ensures.passed in
     let held : AreFiles before.files names (contents c.in-Ok.files.items) = c.in-Ok.ensures.ok in
     IfErr-weaker c.put_for.result _ _
-    (λ refusal why. elim why [
-      | inl memory ↦ inl memory
-      | inr answers ↦ inr (answers_fetched (texts_of words) command before now (sym c.in-Some.ensures.command) (rw are at passes) (contents c.in-Ok.files.items) (rw are at held) refusal.status (string_bytes refusal.line)
-          (rw c.deref.ensures.value at answers))
-    ])
+    (λ refusal why. record {
+      answer = elim why [
+        | inl memory ↦ inl memory
+        | inr answers ↦ inr (answers_fetched (texts_of words) command before now (sym c.in-Some.ensures.command) (rw are at passes) (contents c.in-Ok.files.items) (rw are at held) (status_of refusal) (text_of (texts_of words) refusal)
+            (rw c.deref.ensures.value at answers))
+      ];
+      fetches = inl c.in-Ok.ensures.calm;
+    })
     c.put_for.ensures.refused
 
 pub returns-in-Err-clause-refused : goal.returns-in-Err-clause-refused
@@ -63,5 +67,6 @@ returns-in-Err-clause-refused g c =
     let before = g.F.Shelf.state c.args.shelf.now in
     let now = g.F.Shelf.state c.fetch_all.new.shelf in
     let are = names_are command words c.file_count.result c.file_count.ensures.count in
-    refused_by (Answers (texts_of words) before now) (texts_of words) [] None c.in-Err.status c.refused-in-Err.result.status _ c.refused-in-Err.ensures
-    (answers_stopped (texts_of words) command before now (sym c.in-Some.ensures.command) c.in-Err.status (rw are at c.in-Err.ensures.stopped))
+    let made = c.refused-in-Err.ensures in
+    answers_stopped (texts_of words) command before now (sym c.in-Some.ensures.command) c.in-Err.status c.refused-in-Err.result
+    (rw are at c.in-Err.ensures.stopped) made.line made.read

@@ -1,7 +1,11 @@
 use Rattle.record_core.specs.Words.{texts_of}
+use Rattle.record_core.proofs.AnswerLemmas.{told_of}
 use Rattle.record_core.proofs.UniqueLemmas.{exact_of, complete_of, compiled_of}
 use Rattle.record_core.proofs.WroteLemmas.{wrote_of}
 use Rattle.record_core.proofs.call.record_call.Goals as goal
+
+pub returns-clause-shelf_calm : goal.returns-clause-shelf_calm
+returns-clause-shelf_calm g c = told_of (texts_of c.args.words.now.items) (g.F.Shelf.state c.args.shelf.now) (g.F.Shelf.state c.answer.new.shelf) (g.S.Sink.state c.args.out.now) (g.S.Sink.state c.answer.new.out) c.answer.result (rw c.deref.ensures.value at c.answer.ensures.gives)
 
 pub returns-clause-exactly : goal.returns-clause-exactly
 returns-clause-exactly g c = exact_of (texts_of c.args.words.now.items) (g.F.Shelf.state c.args.shelf.now) (g.F.Shelf.state c.answer.new.shelf) (g.S.Sink.state c.args.out.now) (g.S.Sink.state c.answer.new.out) c.answer.result (rw c.deref.ensures.value at c.answer.ensures.gives)

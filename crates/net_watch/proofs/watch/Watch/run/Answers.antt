@@ -18,7 +18,7 @@ returns g c =
     ∙ ap (λ text. trace_lines inside.writer.vars.now (zeros inside.writer.vars.now) trace ++ text) (c.last_line.ensures ∙ ap last_line c.in_ok-ended.ensures.ended)
     ∙ c.self.view_is)
     c.in_ok-ended.ensures.puts
-    (record { cause = put.cause; calm = put.calm; all = put.all; part = put.part })
+    (record { cause = put.cause; calm = put.calm; failed = put.failed; all = put.all; part = put.part })
 
 pub returns-in_err-ended : goal.returns-in_err-ended
 returns-in_err-ended g c =

@@ -1,4 +1,4 @@
-use Rattle.std.proofs.Common.{rules, refl, inr}
+use Rattle.std.proofs.Common.{rules, refl, inr, arith}
 use Rattle.std.proofs.lemmas.Result.{err_from_is_err_and}
 use Rattle.rec_io.proofs.mem_shelf.MemShelfShelf.fetch.Goals as goal
 
@@ -9,15 +9,13 @@ returns-in_err-from_str c =
     rw (p.1, p.2) (record {
       same = refl;
       later = search rules;
-      calm = tt;
+      within = omega arith;
       got = tt;
-      refused = refl;
+      refused = record { last = refl; count = refl };
       turn = search rules;
       fails = refl;
       due = λ e. absurd cc;
       faulty = λ due. inr refl;
-      rise = λ e. absurd cc;
-      steady = λ other. refl;
       nothing = λ e. absurd cc;
       whole = λ e. absurd cc;
     })
@@ -28,15 +26,13 @@ returns-in_err-to_vec c =
     rw (p.1, p.2) (record {
       same = refl;
       later = search rules;
-      calm = tt;
+      within = omega arith;
       got = tt;
-      refused = refl;
+      refused = record { last = refl; count = refl };
       turn = search rules;
       fails = refl;
       due = λ e. absurd cc;
       faulty = λ due. inr refl;
-      rise = λ e. absurd cc;
-      steady = λ other. refl;
       nothing = λ e. absurd cc;
       whole = λ e. absurd cc;
     })

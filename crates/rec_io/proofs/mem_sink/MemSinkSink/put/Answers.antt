@@ -7,14 +7,16 @@ pub returns : goal.returns
 returns c = record {
   cause = search rules;
   calm = refl;
+  failed = tt;
+  worked = λ some. refl;
   empty = λ none. ap (λ n. Ok n) (omega arith);
+  same = λ none. absurd (grind (arith, common_steps));
   count = (omega arith, λ some. grind (arith, common_steps));
   took = grind (arith, common_steps);
   nothing = tt;
   turn = search rules;
   due = grind (arith, common_steps);
   portion = omega arith;
-  rise = tt;
   step = refl;
   room = refl;
   fails = refl;
