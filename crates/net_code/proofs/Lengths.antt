@@ -20,6 +20,7 @@ use Rattle.right_code.proofs.Tasks.{AreTests, tests_get}
 use Rattle.net_code.specs.Inner.Coded.{IsBlockCode}
 use Rattle.net_code.specs.Inner.Places.{blocks_before}
 use Rattle.net_code.proofs.Making.{sizes, sizes_at}
+use Rattle.net_code.proofs.Packing.{groups_few}
 use Rattle.net_code.specs.declared.blocks.PackedBlock.{PackedBlock}
 use Rattle.net_code.proofs.Sizes.{place_cost, run_cost, run_more, sizes_within}
 
@@ -128,7 +129,7 @@ module _ (stock : Stock) where
         (let r = code.runs at n lt block in
         let size = sizes_at blocks (blocks_before flow at) in
         let long = r.least.long in
-        let few = r.few in
+        let few = groups_few r.packing in
         let cost = block_long flow at n in
         omega (arith, size, long, few, cost)))
         (λ at tree one none lt place.
@@ -137,7 +138,7 @@ module _ (stock : Stock) where
         let k = code.tests at tree one none lt place t.work c.0 t.at c.1 in
         let size = sizes_at blocks (blocks_before flow at) in
         let long = k.packed.least.long in
-        let few = k.packed.few in
+        let few = groups_few k.packed.packing in
         let steps = job_long t.work c.0 (covered tree t.work c.0 t.at c.1) in
         let cost = cost_at works choices tree t.work c.0 t.at c.1 in
         omega (arith, size, long, few, steps, cost)))

@@ -1,6 +1,10 @@
--- A packing has no more groups than steps, and its words' lists ascend.
-use Rattle.std.proofs.Common.{◌≡◌, ℕ, suc, ◌+◌, ◌-◌, ◌≤◌, List, [], ◌∷◌, ◌++◌, length, refl, ap, arith, length-append}
+-- Each group of a packing has a step, so there are no more groups than steps; and its words' lists
+-- ascend.
+use Rattle.std.proofs.Common.{ℕ, suc, ◌-◌, ◌≤◌, List, [], ◌∷◌, ◌++◌, length, arith, length-append, subst, sym}
+use Rattle.std.proofs.lemmas.List.Sorted.{length_permutation}
 use Rattle.std.specs.List.{AllByRecursion}
+use Rattle.net_model.specs.declared.hardware.Netlist.{Netlist}
+use Rattle.net_model.specs.Patterns.{Pattern}
 use Rattle.code_model.specs.declared.image.Word.{Word}
 use Rattle.code_model.specs.ImageFits.{AscendFrom}
 use Rattle.form_model.specs.declared.forms.Step.{Step}
@@ -8,29 +12,37 @@ use Rattle.form_model.specs.Effects.{Operation}
 use Rattle.form_model.specs.Live.{Regs, singles}
 use Rattle.branch_fix.specs.declared.laid.Item.{Item}
 use Rattle.compaction.specs.Chosen.{Packs, ends, merges, moves, stays}
-use Rattle.right_code.specs.Words.{ListItems}
+use Rattle.compaction.specs.Packing.{all_steps}
+use Rattle.right_code.specs.Words.{EachHasStep, IsPackingOf, ListItems}
 
--- as many groups of one step as steps
-pub singles_long : (xs : List Step) → length (singles xs) ≡ length xs
-singles_long [] = refl
-singles_long (x ∷ xs) = ap suc (singles_long xs)
+-- a group for each step has it
+pub singles_some : (xs : List Step) → EachHasStep (singles xs)
+singles_some [] = tt
+singles_some (x ∷ xs) = (omega arith, singles_some xs)
 
--- groups become fewer where neighbours are merged, and never more
-pub packs_few : {A : Type 0} (m : A → Operation) (fits : ℕ → List A → Regs → Type 0) (after : Regs) (pair : ℕ) (gs result : List (List A)) → Packs m fits after pair gs result → length result ≤ length gs
-packs_few m fits after pair gs result (ends p xs r few same) = let e = ap (λ (z : List (List _)). length z) same in omega (arith, e)
-packs_few m fits after pair gs result (merges p xs r front g h back split place merge rest) =
-    let few = packs_few m fits after (p - 1) (front ++ (g ++ h) ∷ back) r rest in
-    let e = ap (λ (z : List (List _)). length z) split in
-    let a = length-append front (g ∷ h ∷ back) in
-    let b = length-append front ((g ++ h) ∷ back) in
-    omega (arith, few, e, a, b)
-packs_few m fits after pair gs result (moves p xs r front g a x b back split place unmerged movable first rest) =
-    let few = packs_few m fits after (p - 1) (front ++ (g ++ x ∷ []) ∷ (a ++ b) ∷ back) r rest in
-    let e = ap (λ (z : List (List _)). length z) split in
-    let c = length-append front (g ∷ (a ++ x ∷ b) ∷ back) in
-    let d = length-append front ((g ++ x ∷ []) ∷ (a ++ b) ∷ back) in
-    omega (arith, few, e, c, d)
-packs_few m fits after pair gs result (stays p xs r front g h back split place settled rest) = packs_few m fits after (suc p) xs r rest
+-- the last groups are others that have steps
+others_some : (front old new : List (List Step)) → (EachHasStep old → EachHasStep new) → EachHasStep (front ++ old) → EachHasStep (front ++ new)
+others_some [] old new f h = f h
+others_some (g ∷ front) old new f h = (h.0, others_some front old new f h.1)
+
+-- groups that are merged keep their steps, and no group gives its last step away
+pub packs_some : (m : Step → Operation) (fits : ℕ → List Step → Regs → Type 0) (after : Regs) (pair : ℕ) (gs result : List (List Step)) → EachHasStep gs → Packs m fits after pair gs result → EachHasStep result
+packs_some m fits after pair gs result some (ends p xs r few same) = subst EachHasStep (sym same) some
+packs_some m fits after pair gs result some (merges p xs r front g h back split place merge rest) =
+    packs_some m fits after (p - 1) (front ++ (g ++ h) ∷ back) r
+    (others_some front (g ∷ h ∷ back) ((g ++ h) ∷ back) (λ s. (omega (arith, s.0, length-append g h), s.1.1)) (subst EachHasStep split some)) rest
+packs_some m fits after pair gs result some (moves p xs r front g a x b back split place unmerged movable first rest) =
+    packs_some m fits after (p - 1) (front ++ (g ++ x ∷ []) ∷ (a ++ b) ∷ back) r
+    (others_some front (g ∷ (a ++ x ∷ b) ∷ back) ((g ++ x ∷ []) ∷ (a ++ b) ∷ back) (λ s. (omega (arith, s.0, length-append g (x ∷ [])), (movable.other, s.1.1))) (subst EachHasStep split some)) rest
+packs_some m fits after pair gs result some (stays p xs r front g h back split place settled rest) = packs_some m fits after (suc p) xs r some rest
+
+-- so there are no more groups than steps
+few_groups : (groups : List (List Step)) → EachHasStep groups → length groups ≤ length (all_steps groups)
+few_groups [] some = omega arith
+few_groups (g ∷ groups) some = omega (arith, some.0, few_groups groups some.1, length-append g (all_steps groups))
+
+pub groups_few : {netlist : Netlist} {patterns : List Pattern} {steps : List Step} {after : Regs} {groups : List (List Step)} → IsPackingOf netlist patterns steps after groups → length groups ≤ length steps
+groups_few {netlist} {patterns} {steps} {after} {groups} packing = omega (arith, few_groups groups packing.some, length_permutation steps (all_steps groups) packing.holds)
 
 -- lists of patterns ascend
 pub lists_ascend : (groups : ℕ → List (List Step)) (items : List Item) (words : List Word) → ListItems groups items words → AllByRecursion (λ (word : Word). AscendFrom 0 word.patterns) words

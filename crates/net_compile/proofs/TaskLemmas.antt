@@ -132,10 +132,10 @@ module _ (net src : List ℕ) where
   -- ---- what they leave
 
   pub room_of_code : (out : List ℕ) → IsCompiled net src out → TaskHolds net src HasRoom
-  room_of_code out = weaker (IsCode out) HasRoom (λ task x. x.room)
+  room_of_code out = weaker (IsCode out) HasRoom (λ task x. x.right.room)
 
   pub reached_of_code : (out : List ℕ) → IsCompiled net src out → TaskHolds net src IsReached
-  reached_of_code out = weaker (IsCode out) IsReached (λ task x. x.reached)
+  reached_of_code out = weaker (IsCode out) IsReached (λ task x. x.right.reached)
 
 -- ---- from what was read to the texts
 

@@ -23,20 +23,25 @@ pub record IsDataFull (need have : ℕ) (task : Task) : Type 0 where
 pub record HasRoom (task : Task) : Type 0 where
   pub room : need_of task.width task.listing ≤ memory_size task.netlist.storages
 
--- an image that is right code, and whose text is read as it is
+-- an image that is right code for a task whose netlist holds it: the memory has room for the
+-- program, jumps reach as far as its code may be long, the image is made for the task and traces
+-- the program, and it fits the netlist, whose code has no fewer words
 pub record IsRightFor (image : Image) (task : Task) : Type 0 where
   pub room : HasRoom task
   pub reached : IsReached task
   pub right : IsRightImage task image
   pub fits : IsFitting (limits_of task.netlist) image
 
--- bytes that are read as an image that is right code
-pub record IsCode (out : List ℕ) (task : Task) : Type 0 where
-  pub room : HasRoom task
-  pub reached : IsReached task
+-- there is such an image
+pub record HasRightCode (task : Task) : Type 0 where
   pub image : Image
+  pub right : IsRightFor image task
+
+-- bytes that are read as such an image
+pub record IsCode (out : List ℕ) (task : Task) : Type 0 where
+  pub image : Image
+  pub right : IsRightFor image task
   pub read : IsImageText (limits_of task.netlist) out image
-  pub right : IsRightImage task image
 
 -- whatever image is made for it, nothing is refused: it has room, a step, a jump, covers of all
 -- trees, and the bound of its words is within the reach of the jumps and within the code

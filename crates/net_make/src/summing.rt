@@ -2,9 +2,8 @@
 
 ghost use Rattle.std.specs.Prelude.{IfOk};
 ghost use Rattle.net_model.specs.CheckedRules.{KeepsRules};
-ghost use Rattle.code_model.specs.ImageFits.{IsFitting, limits_of};
-ghost use Rattle.right_code.specs.Images.{IsRightImage};
 ghost use Rattle.right_code.specs.Tasks.{read_task};
+ghost use Rattle.net_compile.specs.Code.{IsRightFor};
 ghost use Rattle.net_make.specs.Summing.{ShowsSummary};
 
 use crate::counting::count_checkpoints;
@@ -28,8 +27,7 @@ pub(crate) fn summarize(
     image: &Image,
 ) -> Result<Vec<u8>, NoMemory>
     requires rules { KeepsRules checked.now.netlist checked.now.order }
-    requires right { IsRightImage (read_task checked.now typed.now) image.now }
-    requires fits { IsFitting (limits_of checked.now.netlist) image.now }
+    requires image { IsRightFor image.now (read_task checked.now typed.now) }
     ensures { IfOk result (λ text. ShowsSummary number (read_task checked.now typed.now) image.now text.items) }
 {
     let checkpoints = count_checkpoints(alloc, typed, MOST)?;

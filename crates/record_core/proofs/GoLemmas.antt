@@ -1,7 +1,7 @@
 -- What `go` answers for three texts.
 use Rattle.std.proofs.Common.{◌≡◌, ◌⊎◌, ℕ, List, inl, inr, refl}
 use Rattle.net_compile.proofs.TaskLemmas.{holds_of_read, together, weaker}
-use Rattle.net_compile.specs.Code.{HasRoom, IsRightFor}
+use Rattle.net_compile.specs.Code.{HasRightCode, HasRoom}
 use Rattle.net_compile.specs.Compiled.{IsCompileFault}
 use Rattle.net_compile.specs.Read.{IsCompiledTo}
 use Rattle.net_compile.specs.Tasks.{TaskHolds}
@@ -16,7 +16,7 @@ use Rattle.record_core.specs.Answers.{CodeAnswers, GoAnswers, WatchAnswers}
 use Rattle.record_core.specs.Inner.Putting.{IsMemoryStatus}
 use Rattle.record_core.specs.Stages.{By}
 use Rattle.record_core.specs.Inner.Statuses.{compile_status}
-use Rattle.record_core.specs.Watching.{HasRightImage, IsWatched, LacksMemory}
+use Rattle.record_core.specs.Watching.{IsWatched, LacksMemory}
 use Rattle.record_core.specs.declared.status.Status.{Status}
 use Rattle.record_core.specs.declared.status.Status.TheVariants.{Done, Usage, ReadFault, TooLong, WriteFault, NetText, Net, SrcText, Src, NoStep, NoJump, NoCover, DataFull, NoReach, ImageFull, Memory, ImageText, MemText, Clash}
 
@@ -49,8 +49,8 @@ module _ (line : Status → List ℕ) (net src memory : List ℕ) (clocks : ℕ)
     later : (status : Status) (text : List ℕ) → WatchAnswers line net src memory clocks status text → GoAnswers line net src memory clocks status text
     later = answers_later line net src (WatchAnswers line net src memory clocks) (holds HasRoom from.image.room) (holds IsReached from.image.reached)
 
-    image : TaskHolds net src HasRightImage
-    image = holds HasRightImage (record { image = program.image; right = from.image.right })
+    image : TaskHolds net src HasRightCode
+    image = holds HasRightCode (record { image = program.image; right = from.image })
 
     pub answers_watched : (text : List ℕ) → IsWatched memory clocks text (read_task program.checked program.typed) → GoAnswers line net src memory clocks Done text
     answers_watched text watched =

@@ -8,7 +8,7 @@ use Rattle.net_extract.specs.Extracts.{BreaksAnyRule, IsExtracted}
 use Rattle.src_parser.specs.Texts.{IsNoSrcText}
 use Rattle.right_code.specs.Covered.{HasBareTree}
 use Rattle.net_code.specs.Refusals.{IsBeyondReach, IsJumpless, IsStepless, IsImageTooLong as HasLongImage}
-use Rattle.net_compile.specs.Code.{IsDataFull, IsWithin}
+use Rattle.net_compile.specs.Code.{HasRightCode, IsDataFull, IsWithin}
 use Rattle.net_compile.specs.Compiled.{IsCompiled, BreaksSrc}
 use Rattle.net_compile.specs.Tasks.{TaskHolds}
 use Rattle.job_gen.specs.NetText.{net_text as job_netlist}
@@ -22,7 +22,7 @@ use Rattle.rec_io.specs.Sink.{SinkState, LastPutFailed}
 use Rattle.rec_io.specs.Written.{Takes, TakesPrefix}
 use Rattle.record_core.specs.Lines.{due_line}
 use Rattle.record_core.specs.Stages.{By, Just, Then}
-use Rattle.record_core.specs.Watching.{HasRightImage, IsWatched, LacksMemory}
+use Rattle.record_core.specs.Watching.{IsWatched, LacksMemory}
 use Rattle.record_core.specs.Words.{command_of, names_of}
 use Rattle.record_core.specs.declared.words.Command.{Command}
 use Rattle.record_core.specs.declared.words.Command.TheVariants.{Compile, Extract, Run, Go, Make}
@@ -70,8 +70,8 @@ pub record IsFileTooLong (names : List (List ℕ)) (before now : ShelfState) (at
   pub longer : IfSome before.files (λ all. IsSomeAnd (file_of all now.last) (λ bytes. at.1 < length bytes))
 
 -- how the making of the code ends: there is an image made for the task that is too long, or there
--- is one that is right code, and the later stages answer. Images made for one task may differ in
--- length, so both may apply
+-- is one that is right code and that the netlist holds, and the later stages answer. Images made
+-- for one task may differ in length, so both may apply
 abbrev pub CodeEnds : (Status → List ℕ) → List ℕ → List ℕ → (Status → List ℕ → Type 0) → Status → List ℕ → Type 0
 CodeEnds line net src Later status text =
     ((len : ℕ) × (size : ℕ) × (bound : ℕ) × TaskHolds net src (HasLongImage len size bound)
@@ -121,10 +121,10 @@ RunAnswers line net image memory clocks =
     RunEnds line net image memory clocks))))
 
 -- what `go` answers once there is an image: its checkpoints from the state that the memory text
--- says
+-- says; of an image that is too long nothing is shown, and no memory text is looked at
 abbrev pub WatchAnswers : (Status → List ℕ) → List ℕ → List ℕ → List ℕ → ℕ → Status → List ℕ → Type 0
 WatchAnswers line net src memory clocks status text =
-    TaskHolds net src HasRightImage
+    TaskHolds net src HasRightCode
     × Then line (By MemText (λ (at : ℕ). TaskHolds net src (LacksMemory memory at)))
     (λ status text. (status ≡ Done) × TaskHolds net src (IsWatched memory clocks text)) status text
 

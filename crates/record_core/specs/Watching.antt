@@ -4,24 +4,19 @@ use Rattle.net_model.specs.MemoryText.{IsMemoryFault, IsMemoryText}
 use Rattle.net_model.specs.declared.states.State.{State}
 use Rattle.src_model.specs.Trace.{strace}
 use Rattle.code_model.specs.declared.image.Image.{Image}
-use Rattle.right_code.specs.Images.{IsRightImage}
 use Rattle.right_code.specs.Tasks.{Task}
+use Rattle.net_compile.specs.Code.{IsRightFor}
 use Rattle.net_watch.specs.Watched.{IsTraceText}
-
--- there is an image that is right code for the task
-pub record HasRightImage (task : Task) : Type 0 where
-  pub image : Image
-  pub right : IsRightImage task image
 
 -- the bytes are no memory text for its netlist, which shows at this offset
 pub record LacksMemory (memory : List ℕ) (at : ℕ) (task : Task) : Type 0 where
   pub none : IsMemoryFault task.netlist memory at
 
 -- these are the checkpoints that the netlist shows over so many clocks on the words of an image
--- that is right code, from the state that the memory text says
+-- that is right code and that it holds, from the state that the memory text says
 pub record IsWatched (memory : List ℕ) (clocks : ℕ) (out : List ℕ) (task : Task) : Type 0 where
   pub start : State
   pub said : IsMemoryText task.netlist memory start
   pub image : Image
-  pub right : IsRightImage task image
+  pub right : IsRightFor image task
   pub trace : IsTraceText task.netlist image task.listing.vars (strace task.width task.listing) start clocks out

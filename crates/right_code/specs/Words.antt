@@ -1,7 +1,7 @@
 -- The groups and the words of blocks, and the words that stand in an image in the order of its
 -- layout.
-use Rattle.std.specs.Prelude.{ℕ, ◌+◌, ◌≡◌, List, [], ◌∷◌, slice_index, IsPermutation}
-use Rattle.std.specs.List.{slice_index_or}
+use Rattle.std.specs.Prelude.{ℕ, ◌+◌, ◌≤◌, ◌≡◌, List, [], ◌∷◌, length, slice_index, IsPermutation}
+use Rattle.std.specs.List.{AllByRecursion, slice_index_or}
 use Rattle.net_model.specs.declared.hardware.Netlist.{Netlist}
 use Rattle.net_model.specs.Patterns.{Pattern}
 use Rattle.code_model.specs.declared.image.Word.{Word}
@@ -18,12 +18,17 @@ use Rattle.branch_fix.specs.declared.laid.Item.TheVariants.{Group, Jump}
 
 -- ---- the groups of a block
 
+-- each group has a step, so that a block without steps has no group
+abbrev pub EachHasStep : List (List Step) → Type 0
+EachHasStep groups = AllByRecursion (λ (group : List Step). 1 ≤ length group) groups
+
 -- groups that the steps of a block are packed into, where these registers are live behind the
--- block: they hold the steps, each as often; any words that fit the groups leave what the steps
--- leave one after the other; no two neighbours may be merged, and no step may move to the group
--- before
+-- block: each has a step, and together they hold the steps, each as often; any words that fit the
+-- groups leave what the steps leave one after the other; no two neighbours may be merged, and no
+-- step may move to the group before
 pub record IsPackingOf (netlist : Netlist) (patterns : List Pattern) (steps : List Step)
     (after : Regs) (groups : List (List Step)) : Type 0 where
+  pub some : EachHasStep groups
   pub holds : IsPermutation steps (all_steps groups)
   pub means : MeansSteps netlist (operation_of patterns) after steps groups
   pub packed : IsPacked (operation_of patterns) (fits_over netlist (operation_of patterns)) after groups

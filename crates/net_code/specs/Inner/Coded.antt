@@ -1,5 +1,5 @@
 -- The groups and the words of a program's blocks and tests, as far as they are made.
-use Rattle.std.specs.Prelude.{ℕ, ◌<◌, ◌≤◌, ◌≡◌, List, [], ◌∷◌, Some, length, slice_get, slice_index_or}
+use Rattle.std.specs.Prelude.{ℕ, ◌<◌, ◌≡◌, List, [], ◌∷◌, Some, length, slice_get, slice_index_or}
 use Rattle.code_model.specs.declared.image.Word.{Word}
 use Rattle.form_model.specs.Effects.{operation_of}
 use Rattle.word_fit.specs.Fits.{FitsJump}
@@ -43,13 +43,11 @@ abbrev pub groups_at : List PackedBlock → ℕ → List (List Step)
 groups_at blocks block = (block_at blocks block).groups
 
 -- steps are packed into the groups of a block, behind which these registers are live, and each
--- group has its word; there are no more groups than steps, and no group has two steps of one
--- pattern
+-- group has its word
 pub record IsPackedBlock (netlist : Netlist) (patterns : List Pattern) (steps : List Step)
     (after : Regs) (block : PackedBlock) : Type 0 where
   pub packing : IsPackingOf netlist patterns steps after block.groups
   pub least : AreGroupWords netlist patterns block.groups after block.words
-  pub few : length block.groups ≤ length steps
 
 -- the block of a test's operands, and its branch: the place of its form and the setting of its
 -- condition's bits

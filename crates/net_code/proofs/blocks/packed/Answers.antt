@@ -1,13 +1,13 @@
 use Rattle.bit_bdd.proofs.CallerLemmas.{extends_trans}
 use Rattle.std.proofs.lemmas.Result.{IfOk-from_err}
-use Rattle.std.proofs.Common.{◌≤◌, ℕ, List, arith, length, subst}
+use Rattle.std.proofs.Common.{List, subst}
 use Rattle.form_model.specs.declared.forms.Step.{Step}
 use Rattle.form_model.specs.Live.{regs_of, singles}
 use Rattle.word_fit.specs.Fits.{fits_over}
 use Rattle.word_fit.specs.Steps.{step_operation}
 use Rattle.right_code.specs.Words.{AreGroupWords}
 use Rattle.net_code.specs.Inner.Covering.{machine_netlist, machine_patterns}
-use Rattle.net_code.proofs.Packing.{packs_few, singles_long}
+use Rattle.net_code.proofs.Packing.{packs_some, singles_some}
 use Rattle.net_code.proofs.blocks.packed.Goals as goal
 
 pub returns-clause-packed : goal.returns-clause-packed
@@ -15,14 +15,13 @@ returns-clause-packed c =
     let machine = c.args.machine.now in
     let operation = step_operation machine.pool.now machine.patterns.now in
     let made = c.in_ok-groups.ensures in
-    let few = packs_few operation (fits_over (machine_netlist machine) operation) (regs_of c.args.after) 0 (singles c.args.steps.now) c.in_ok-groups.groups made.chosen in
-    let long = singles_long c.args.steps.now in
+    let some =
+    packs_some operation (fits_over (machine_netlist machine) operation) (regs_of c.args.after) 0 (singles c.args.steps.now) c.in_ok-groups.groups (singles_some c.args.steps.now) made.chosen in
     record {
-      packing = record { holds = made.steps; means = made.meaning; packed = made.packed };
+      packing = record { some = some; holds = made.steps; means = made.meaning; packed = made.packed };
       least =
           subst (λ (groups : List (List Step)). AreGroupWords (machine_netlist machine) (machine_patterns machine) groups (regs_of c.args.after) c.in_ok-words.words) c.as_slice.ensures
           c.in_ok-words.ensures.least;
-      few = omega (arith, few, long);
     }
 
 pub returns-in_err-groups-clause-once : goal.returns-in_err-groups-clause-once

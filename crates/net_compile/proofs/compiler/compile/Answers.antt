@@ -14,4 +14,4 @@ returns-clause-right c =
     let made = c.in_ok-compiled.ensures.compiled in
     let program = c.in_ok-compiled.compiled in
     holds_of_read c.args.net.now c.args.src.now program.checked program.typed made.net_file made.width made.src_file (IsCode c.in_ok-text.text.items)
-    (record { room = made.image.room; reached = made.image.reached; image = program.image; read = c.in_ok-text.ensures; right = made.image.right })
+    (record { image = program.image; right = made.image; read = c.in_ok-text.ensures })

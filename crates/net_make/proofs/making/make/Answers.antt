@@ -8,11 +8,8 @@ use Rattle.net_make.proofs.making.make.Goals as goal
 pub summarize-requires-clause-rules : goal.summarize-requires-clause-rules
 summarize-requires-clause-rules c = c.in_ok-made.ensures.compiled.net_file.netlist.rules
 
-pub summarize-requires-clause-right : goal.summarize-requires-clause-right
-summarize-requires-clause-right c = c.in_ok-made.ensures.compiled.image.right
-
-pub summarize-requires-clause-fits : goal.summarize-requires-clause-fits
-summarize-requires-clause-fits c = c.in_ok-made.ensures.compiled.image.fits
+pub summarize-requires-clause-image : goal.summarize-requires-clause-image
+summarize-requires-clause-image c = c.in_ok-made.ensures.compiled.image
 
 pub returns-clause-summary : goal.returns-clause-summary
 returns-clause-summary c =
