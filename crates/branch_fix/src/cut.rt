@@ -147,10 +147,7 @@ fn tests_at(place: Flow) -> usize
     ensures value { result ≡ place_tests (Some place) }
     ensures few { result ≤ 1 }
 {
-    match place {
-        Flow::Test { .. } => 1,
-        _ => 0,
-    }
+    usize::from(matches!(place, Flow::Test { .. }))
 }
 
 // How many blocks there are with some more. Want of memory where they are more than can be

@@ -1,10 +1,10 @@
-use Rattle.std.proofs.Common.{arith, ◌+◌, ◌<◌, ◌≡◌, ◌∙◌, sym, ap, length, drop, get_or}
+use Rattle.std.proofs.Common.{arith, ◌+◌, ◌<◌, ◌∙◌, sym, length, drop, get_or}
 use Rattle.std.proofs.lemmas.List.{drop_more}
 use Rattle.std.proofs.lemmas.Option.{slice_get-get_or}
 use Rattle.form_model.specs.declared.flow.Flow.{Flow}
 use Rattle.form_model.specs.declared.flow.Flow.TheVariants.{Assign}
 use Rattle.form_model.specs.Rules.{rules_of}
-use Rattle.branch_fix.specs.Parts.{blocks_before, parts_of, tests_before}
+use Rattle.branch_fix.specs.Parts.{parts_of}
 use Rattle.branch_fix.proofs.Laying.{made_more, blocks_next, tests_next}
 use Rattle.branch_fix.proofs.cut.parts.Goals as goal
 
