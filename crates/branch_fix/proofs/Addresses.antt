@@ -1,6 +1,8 @@
 -- The addresses of parts, and the marks there.
-use Rattle.std.proofs.Common.{ℕ, zero, suc, ◌≡◌, ◌≤◌, ◌<◌, ◌+◌, ◌==◌, Bool, true, false, if◌then◌else◌, List, [], ◌∷◌, length, Option, Some, None, refl, sym, ◌∙◌, ap, subst, arith, slice_get, slice_index, eqb-true, eq-eqb, ◌⊎◌, inl, inr}
+use Rattle.std.proofs.Common.{ℕ, zero, suc, ◌≡◌, ◌≤◌, ◌<◌, ◌+◌, ◌==◌, Bool, true, false, if◌then◌else◌, List, [], ◌∷◌, ◌++◌, length, map, Option, Some, None, refl, sym, ◌∙◌, ap, subst, arith, slice_get, slice_index, eqb-true, eq-eqb, ◌⊎◌, inl, inr}
+use Rattle.std.specs.List.{range_with_len}
 use Rattle.std.proofs.lemmas.Bool.{ne_eqb}
+use Rattle.std.proofs.lemmas.List.FromFn.{get_or-map-range_with_len, map-range_with_len_more}
 use Rattle.src_model.specs.declared.checkpoint.Checkpoint.{Checkpoint}
 use Rattle.src_model.specs.declared.checkpoint.Checkpoint.TheVariants.{At, End as TheEnd}
 use Rattle.code_model.specs.Places.{label_at}
@@ -33,15 +35,16 @@ address_first [] = refl
 address_first (q ∷ parts) = refl
 
 -- the list of addresses has them
-pub starts_at : (at : ℕ) (parts : List Part) (k : ℕ) → k ≤ length parts → slice_index (starts at parts) k ≡ at + address parts k
-starts_at at [] zero le = omega arith
-starts_at at [] (suc k) le = absurd (omega arith)
-starts_at at (p ∷ parts) zero le = omega arith
-starts_at at (p ∷ parts) (suc k) le = let h = starts_at (at + room p) parts k (omega arith) in omega (arith, h)
+pub address_is : (parts : List Part) (k : ℕ) → k ≤ length parts → slice_index (starts parts) k ≡ address parts k
+address_is parts k le = get_or-map-range_with_len (address parts) 0 (length parts + 1) k k 0 (omega arith) (omega arith)
 
--- the code's list of addresses, from the first one on
-pub address_is : (parts : List Part) (k : ℕ) → k ≤ length parts → slice_index (starts 0 parts) k ≡ address parts k
-address_is parts k le = let h = starts_at 0 parts k le in omega (arith, h)
+-- one address more
+pub starts_more : (parts : List Part) (k a : ℕ) (addresses new : List ℕ) → addresses ≡ map (address parts) (range_with_len 0 k) → a ≡ address parts k
+    → new ≡ addresses ++ a ∷ [] → new ≡ map (address parts) (range_with_len 0 (k + 1))
+starts_more parts k a addresses new made here n = n ∙ (λ j. made j ++ here j ∷ []) ∙ sym (map-range_with_len_more (address parts) 0 k k (omega arith))
+
+pub address_more : (parts : List Part) (k a r : ℕ) (p : Part) → slice_get parts k ≡ Some p → a ≡ address parts k → r ≡ room p → a + r ≡ address parts (k + 1)
+address_more parts k a r p e here is = let n = address_next parts k p e in omega (arith, n, here, is)
 
 -- ---- marks
 

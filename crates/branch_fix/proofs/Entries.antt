@@ -1,9 +1,21 @@
 -- The places that something enters, marked one after the other.
 use Rattle.std.proofs.Common.{ℕ, zero, suc, ◌≡◌, ◌<◌, ◌==◌, Bool, true, false, ◌||◌, List, [], ◌∷◌, length, replicate, Some, refl, sym, ◌∙◌, ap, subst, arith, slice_get, slice_set, get_or, ◌≤◌, eqb-true, eq-eqb}
+use Rattle.std.proofs.lemmas.List.{length-replicate}
+use Rattle.std.proofs.Math.ListN.{length-set}
+use Rattle.std.proofs.lemmas.List.FromFn.{fill_by_all, get_or-map-range_with_len, length-map-range_with_len}
 use Rattle.form_model.specs.declared.flow.Flow.{Flow}
 use Rattle.form_model.specs.declared.flow.Flow.TheVariants.{Assign, Test, Jump, End}
 use Rattle.src_trees.specs.Blocks.{is_entered}
-use Rattle.branch_fix.specs.Entered.{marked}
+use Rattle.branch_fix.specs.Entered.{entered_places}
+
+-- a table in which the places that the first of a flow's items enter are set, one after the other
+abbrev pub marked : List Flow → List Bool → List Bool
+marked [] entered = entered
+marked (Assign tree ∷ rest) entered = marked rest entered
+marked (Test tree when_one when_zero ∷ rest) entered =
+    marked rest (slice_set (slice_set entered when_one true) when_zero true)
+marked (Jump to ∷ rest) entered = marked rest (slice_set entered to true)
+marked (End ∷ rest) entered = marked rest entered
 
 set_here : (e : List Bool) (k : ℕ) (x : Bool) → slice_get e k ≡ Some x → slice_get (slice_set e k true) k ≡ Some true
 set_here [] k x h = absurd (cc h)
@@ -58,26 +70,29 @@ or_false : (b : Bool) → (b || false) ≡ b
 or_false true = refl
 or_false false = refl
 
--- a place of the flow
-pub entered_at : (flow : List Flow) (entered : List Bool) (k : ℕ) → k < length flow → entered ≡ marked flow (replicate (length flow) false)
-    → slice_get entered k ≡ Some (is_entered flow k)
-entered_at flow entered k lt e =
-    ap (λ xs. slice_get xs k) e ∙ marked_get flow (replicate (length flow) false) k false (replicate_get (length flow) k lt) ∙ ap (λ y. Some y) (or_false (is_entered flow k))
-
 get_is : (xs : List Bool) (k : ℕ) (x d : Bool) → slice_get xs k ≡ Some x → get_or xs k d ≡ x
 get_is [] k x d h = absurd (cc h)
 get_is (y ∷ xs) zero x d h = cc h
 get_is (y ∷ xs) (suc k) x d h = get_is xs k x d h
 
-get_within : (xs : List Bool) (k : ℕ) (x : Bool) → slice_get xs k ≡ Some x → k < length xs
-get_within [] k x h = absurd (cc h)
-get_within (y ∷ xs) zero x h = omega arith
-get_within (y ∷ xs) (suc k) x h = let r = get_within xs k x h in omega (arith, r)
+marked_length : (flow : List Flow) (e : List Bool) → length (marked flow e) ≡ length e
+marked_length [] e = refl
+marked_length (Assign tree ∷ rest) e = marked_length rest e
+marked_length (Test tree a b ∷ rest) e = marked_length rest (slice_set (slice_set e a true) b true) ∙ length-set (slice_set e a true) b true ∙ length-set e a true
+marked_length (Jump to ∷ rest) e = marked_length rest (slice_set e to true) ∙ length-set e to true
+marked_length (End ∷ rest) e = marked_length rest e
 
-pub was_some : (flow : List Flow) (entered : List Bool) (k : ℕ) (x : Bool) → k < length flow → entered ≡ marked flow (replicate (length flow) false)
+-- all of them are set in the end
+pub marked_all : (flow : List Flow) → marked flow (replicate (length flow) false) ≡ entered_places flow
+marked_all flow = fill_by_all (is_entered flow) (marked flow (replicate (length flow) false)) (length flow) false (marked_length flow (replicate (length flow) false) ∙ length-replicate (length flow) false)
+    (λ k lt. get_is (marked flow (replicate (length flow) false)) k (is_entered flow k) false
+    (marked_get flow (replicate (length flow) false) k false (replicate_get (length flow) k lt) ∙ ap (λ y. Some y) (or_false (is_entered flow k))))
+
+-- a place of the flow
+pub was_some : (flow : List Flow) (entered : List Bool) (k : ℕ) (x : Bool) → k < length flow → entered ≡ entered_places flow
     → ((d : Bool) → x ≡ get_or entered k d) → x ≡ is_entered flow k
-was_some flow entered k x lt e h = h false ∙ get_is entered k (is_entered flow k) false (entered_at flow entered k lt e)
+was_some flow entered k x lt e h = h false ∙ ap (λ xs. get_or xs k false) e ∙ get_or-map-range_with_len (is_entered flow) 0 (length flow) k k false lt (omega arith)
 
-pub was_none : {A : Type 0} (flow : List Flow) (entered : List Bool) (k : ℕ) → k < length flow → entered ≡ marked flow (replicate (length flow) false)
+pub was_none : {A : Type 0} (flow : List Flow) (entered : List Bool) (k : ℕ) → k < length flow → entered ≡ entered_places flow
     → length entered ≤ k → A
-was_none flow entered k lt e h = let l = get_within entered k (is_entered flow k) (entered_at flow entered k lt e) in absurd (omega arith)
+was_none flow entered k lt e h = let l = ap length e ∙ length-map-range_with_len (is_entered flow) 0 (length flow) in absurd (omega (arith, l))

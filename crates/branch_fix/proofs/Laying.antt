@@ -1,6 +1,6 @@
 -- The parts that a flow is laid out in: they fit it, also when branches are widened, and their
 -- words are at most the bound.
-use Rattle.std.proofs.Common.{ℕ, zero, suc, ◌≡◌, ◌≤◌, ◌+◌, Bool, true, false, if◌then◌else◌, List, [], ◌∷◌, ◌++◌, length, refl, sym, ◌∙◌, ap, subst, arith, slice_get, slice_index, drop, append_assoc}
+use Rattle.std.proofs.Common.{ℕ, zero, suc, ◌≡◌, ◌≤◌, ◌+◌, Bool, true, false, if◌then◌else◌, List, [], ◌∷◌, ◌++◌, length, refl, sym, ◌∙◌, ap, subst, arith, slice_get, slice_index, drop, append_assoc, add-one, Option, Some}
 use Rattle.form_model.specs.declared.flow.Flow.{Flow}
 use Rattle.form_model.specs.declared.flow.Flow.TheVariants.{Assign, Test as Tested, Jump as Jumped, End as Ended}
 use Rattle.form_model.specs.Rules.{Rule}
@@ -8,7 +8,7 @@ use Rattle.src_trees.specs.Blocks.{continues}
 use Rattle.branch_fix.specs.declared.part.Fork.{Fork}
 use Rattle.branch_fix.specs.declared.part.Part.{Part}
 use Rattle.branch_fix.specs.declared.part.Part.TheVariants.{Block, Inner, Test, Jump, End}
-use Rattle.branch_fix.specs.Parts.{rule_at_one, branch_or_zero, fork_to, fork_of, part_for, blocks_in, tests_in, parts_from, parts_of, branch_words, room, starts, address, FitsPart, PartsFit, total}
+use Rattle.branch_fix.specs.Parts.{rule_at_one, branch_or_zero, fork_to, fork_of, place_blocks, place_tests, blocks_before, tests_before, part_for, place_part, parts_from, parts_of, branch_words, room, starts, address, FitsPart, PartsFit, total}
 use Rattle.branch_fix.specs.Rounds.{widened, widened_part, widened_from, round, rounds, IsFixpoint}
 use Rattle.branch_fix.specs.Bounds.{control_words, sum_of}
 
@@ -23,20 +23,22 @@ fork_fits rules flow tree block words branch at one none = by (rule_at_one (slic
     by true e = (refl, refl, sym (ap (λ b. if b then one else none) e), sym (ap (λ b. if b then none else one) e))
     by false e = (refl, refl, sym (ap (λ b. if b then one else none) e), sym (ap (λ b. if b then none else one) e))
 
-pub parts_fit : (rules : List Rule) (flow : List Flow) (sizes : List ℕ) (forks : List (ℕ × ℕ)) (rest : List Flow) (at block test : ℕ)
-    → PartsFit rules flow at rest (parts_from rules flow sizes forks rest at block test)
-parts_fit rules flow sizes forks [] at block test = tt
-parts_fit rules flow sizes forks (Assign tree ∷ rest) at block test = by (continues flow at) refl (parts_fit rules flow sizes forks rest (at + 1) block test) (parts_fit rules flow sizes forks rest (at + 1) (block + 1) test)
+part_fits : (rules : List Rule) (flow : List Flow) (sizes : List ℕ) (forks : List (ℕ × ℕ)) (f : Flow) (at block test : ℕ)
+    → FitsPart rules flow at f (part_for rules flow sizes forks f at block test)
+part_fits rules flow sizes forks (Assign tree) at block test = by (continues flow at) refl
   where
-    by : (c : Bool) → continues flow at ≡ c → PartsFit rules flow (at + 1) rest (parts_from rules flow sizes forks rest (at + 1) block test)
-        → PartsFit rules flow (at + 1) rest (parts_from rules flow sizes forks rest (at + 1) (block + 1) test)
-        → PartsFit rules flow at (Assign tree ∷ rest) (if c then Inner ∷ parts_from rules flow sizes forks rest (at + 1) block test else Block block (slice_index sizes block) ∷ parts_from rules flow sizes forks rest (at + 1) (block + 1) test)
-    by true e x y = (e, x)
-    by false e x y = (e, y)
-parts_fit rules flow sizes forks (Tested tree one none ∷ rest) at block test =
-    (fork_fits rules flow tree block (slice_index sizes block) (branch_or_zero (slice_get forks test)) at one none, parts_fit rules flow sizes forks rest (at + 1) (block + 1) (test + 1))
-parts_fit rules flow sizes forks (Jumped to ∷ rest) at block test = (refl, parts_fit rules flow sizes forks rest (at + 1) block test)
-parts_fit rules flow sizes forks (Ended ∷ rest) at block test = (tt, parts_fit rules flow sizes forks rest (at + 1) block test)
+    by : (c : Bool) → continues flow at ≡ c → FitsPart rules flow at (Assign tree) (if c then Inner else Block block (slice_index sizes block))
+    by true e = e
+    by false e = e
+part_fits rules flow sizes forks (Tested tree one none) at block test = fork_fits rules flow tree block (slice_index sizes block) (branch_or_zero (slice_get forks test)) at one none
+part_fits rules flow sizes forks (Jumped to) at block test = refl
+part_fits rules flow sizes forks Ended at block test = tt
+
+pub parts_fit : (rules : List Rule) (flow : List Flow) (sizes : List ℕ) (forks : List (ℕ × ℕ)) (rest : List Flow) (at : ℕ)
+    → PartsFit rules flow at rest (parts_from rules flow sizes forks rest at)
+parts_fit rules flow sizes forks [] at = tt
+parts_fit rules flow sizes forks (f ∷ rest) at =
+    (part_fits rules flow sizes forks f at (blocks_before flow at) (tests_before flow at), parts_fit rules flow sizes forks rest (at + 1))
 
 widened_fit : (rules : List Rule) (flow : List Flow) (addresses : List ℕ) (at : ℕ) (rest : List Flow) (parts : List Part) (a : ℕ)
     → PartsFit rules flow at rest parts → PartsFit rules flow at rest (widened_from rules addresses a parts)
@@ -61,12 +63,12 @@ widened_fit rules flow addresses at (f ∷ rest) (p ∷ parts) a h = (by f p h.0
 pub rounds_fit : (rules : List Rule) (flow : List Flow) (n : ℕ) (parts : List Part) → PartsFit rules flow 0 flow parts
     → PartsFit rules flow 0 flow (rounds rules n parts)
 rounds_fit rules flow zero parts h = h
-rounds_fit rules flow (suc n) parts h = rounds_fit rules flow n (round rules parts) (widened_fit rules flow (starts 0 parts) 0 flow parts 0 h)
+rounds_fit rules flow (suc n) parts h = rounds_fit rules flow n (round rules parts) (widened_fit rules flow (starts parts) 0 flow parts 0 h)
 
 -- the parts that rounds settle on fit the flow
 pub settled_fit : (rules : List Rule) (flow : List Flow) (sizes : List ℕ) (forks : List (ℕ × ℕ)) (parts : List Part)
     → IsFixpoint rules (parts_of rules flow sizes forks) parts → PartsFit rules flow 0 flow parts
-settled_fit rules flow sizes forks parts s = subst (PartsFit rules flow 0 flow) (sym s.made) (rounds_fit rules flow s.count (parts_of rules flow sizes forks) (parts_fit rules flow sizes forks flow 0 0 0))
+settled_fit rules flow sizes forks parts s = subst (PartsFit rules flow 0 flow) (sym s.made) (rounds_fit rules flow s.count (parts_of rules flow sizes forks) (parts_fit rules flow sizes forks flow 0))
 
 -- ---- how many words there are
 
@@ -135,23 +137,36 @@ fork_words rules tree block words branch at one none parts = by (rule_at_one (sl
     by true = refl
     by false = refl
 
-pub blocks_le : (rules : List Rule) (flow : List Flow) (sizes : List ℕ) (forks : List (ℕ × ℕ)) (rest : List Flow) (at block test : ℕ)
-    → block_words (parts_from rules flow sizes forks rest at block test) ≤ sum_of (drop block sizes)
-blocks_le rules flow sizes forks [] at block test = omega arith
-blocks_le rules flow sizes forks (Assign tree ∷ rest) at block test = by (continues flow at) (blocks_le rules flow sizes forks rest (at + 1) block test) (blocks_le rules flow sizes forks rest (at + 1) (block + 1) test)
-  where
-    by : (c : Bool) → block_words (parts_from rules flow sizes forks rest (at + 1) block test) ≤ sum_of (drop block sizes)
-        → block_words (parts_from rules flow sizes forks rest (at + 1) (block + 1) test) ≤ sum_of (drop (block + 1) sizes)
-        → block_words (if c then Inner ∷ parts_from rules flow sizes forks rest (at + 1) block test else Block block (slice_index sizes block) ∷ parts_from rules flow sizes forks rest (at + 1) (block + 1) test) ≤ sum_of (drop block sizes)
-    by true x y = x
-    by false x y = let d = sum_drop sizes block in omega (arith, y, d)
-blocks_le rules flow sizes forks (Tested tree one none ∷ rest) at block test =
-    let y = blocks_le rules flow sizes forks rest (at + 1) (block + 1) (test + 1) in
-    let d = sum_drop sizes block in
-    let w = fork_words rules tree block (slice_index sizes block) (branch_or_zero (slice_get forks test)) at one none (parts_from rules flow sizes forks rest (at + 1) (block + 1) (test + 1)) in
-    omega (arith, y, d, w)
-blocks_le rules flow sizes forks (Jumped to ∷ rest) at block test = blocks_le rules flow sizes forks rest (at + 1) block test
-blocks_le rules flow sizes forks (Ended ∷ rest) at block test = blocks_le rules flow sizes forks rest (at + 1) block test
+-- the blocks up to a place, and one more place
+pub blocks_next : (flow : List Flow) (at : ℕ) (f : Flow) → slice_get flow at ≡ Some f → blocks_before flow (at + 1) ≡ blocks_before flow at + place_blocks (Some f) (continues flow at)
+blocks_next flow at f here = ap (blocks_before flow) (add-one at) ∙ ap (λ (o : Option Flow). blocks_before flow at + place_blocks o (continues flow at)) here
+
+pub tests_next : (flow : List Flow) (at : ℕ) (f : Flow) → slice_get flow at ≡ Some f → tests_before flow (at + 1) ≡ tests_before flow at + place_tests (Some f)
+tests_next flow at f here = ap (tests_before flow) (add-one at) ∙ ap (λ (o : Option Flow). tests_before flow at + place_tests o) here
+
+module _ (rules : List Rule) (flow : List Flow) (sizes : List ℕ) (forks : List (ℕ × ℕ)) where
+  one_le : (f : Flow) (at N : ℕ) (parts : List Part) → N ≡ blocks_before flow at + place_blocks (Some f) (continues flow at)
+      → block_words parts ≤ sum_of (drop N sizes) → block_words (place_part rules flow sizes forks f at ∷ parts) ≤ sum_of (drop (blocks_before flow at) sizes)
+  one_le (Assign tree) at N parts next le = by (continues flow at) next
+    where
+      by : (c : Bool) → N ≡ blocks_before flow at + (if c then 0 else 1) → block_words ((if c then Inner else Block (blocks_before flow at) (slice_index sizes (blocks_before flow at))) ∷ parts) ≤ sum_of (drop (blocks_before flow at) sizes)
+      by true e = let z = ap (λ k. sum_of (drop k sizes)) (let y : N ≡ blocks_before flow at = omega arith in y) in omega (arith, z, le)
+      by false e = let z = ap (λ k. sum_of (drop k sizes)) e in let d = sum_drop sizes (blocks_before flow at) in omega (arith, z, d, le)
+  one_le (Tested tree one none) at N parts next le =
+      let z = ap (λ k. sum_of (drop k sizes)) next in
+      let d = sum_drop sizes (blocks_before flow at) in
+      let w = fork_words rules tree (blocks_before flow at) (slice_index sizes (blocks_before flow at)) (branch_or_zero (slice_get forks (tests_before flow at))) at one none parts in
+      omega (arith, z, d, w, le)
+  one_le (Jumped to) at N parts next le = let z = ap (λ k. sum_of (drop k sizes)) (let y : N ≡ blocks_before flow at = omega arith in y) in omega (arith, z, le)
+  one_le Ended at N parts next le = let z = ap (λ k. sum_of (drop k sizes)) (let y : N ≡ blocks_before flow at = omega arith in y) in omega (arith, z, le)
+
+  blocks_le : (rest : List Flow) (at : ℕ) → ((j : ℕ) → slice_get rest j ≡ slice_get flow (at + j))
+      → block_words (parts_from rules flow sizes forks rest at) ≤ sum_of (drop (blocks_before flow at) sizes)
+  blocks_le [] at stand = omega arith
+  blocks_le (f ∷ rest) at stand =
+      let here : slice_get flow at ≡ Some f = ap (slice_get flow) (let z : at ≡ at + 0 = omega arith in z) ∙ sym (stand 0) in
+      one_le f at (blocks_before flow (at + 1)) (parts_from rules flow sizes forks rest (at + 1)) (blocks_next flow at f here)
+      (blocks_le rest (at + 1) (λ j. stand (suc j) ∙ ap (slice_get flow) (let z : at + suc j ≡ at + 1 + j = omega arith in z)))
 
 widened_words : (rules : List Rule) (addresses : List ℕ) (a : ℕ) (parts : List Part)
     → block_words (widened_from rules addresses a parts) ≡ block_words parts
@@ -164,61 +179,29 @@ widened_words rules addresses a (End ∷ parts) = widened_words rules addresses 
 
 rounds_words : (rules : List Rule) (n : ℕ) (parts : List Part) → block_words (rounds rules n parts) ≡ block_words parts
 rounds_words rules zero parts = refl
-rounds_words rules (suc n) parts = rounds_words rules n (round rules parts) ∙ widened_words rules (starts 0 parts) 0 parts
+rounds_words rules (suc n) parts = rounds_words rules n (round rules parts) ∙ widened_words rules (starts parts) 0 parts
 
 -- after any rounds the words are at most the bound
 pub laid_le : (rules : List Rule) (flow : List Flow) (sizes : List ℕ) (forks : List (ℕ × ℕ)) (n : ℕ)
     → total (rounds rules n (parts_of rules flow sizes forks)) ≤ sum_of sizes + control_words flow
 laid_le rules flow sizes forks n =
-    let f = rounds_fit rules flow n (parts_of rules flow sizes forks) (parts_fit rules flow sizes forks flow 0 0 0) in
+    let f = rounds_fit rules flow n (parts_of rules flow sizes forks) (parts_fit rules flow sizes forks flow 0) in
     let t = total_le rules flow 0 flow (rounds rules n (parts_of rules flow sizes forks)) f in
     let w = rounds_words rules n (parts_of rules flow sizes forks) in
-    let b = blocks_le rules flow sizes forks flow 0 0 0 in
+    let b = blocks_le rules flow sizes forks flow 0 (λ j. ap (slice_get flow) (let z : j ≡ 0 + j = omega arith in z)) in
     omega (arith, t, w, b)
 
 -- ---- the parts, one after the other
 
-pub parts_step : (rules : List Rule) (flow : List Flow) (sizes : List ℕ) (forks : List (ℕ × ℕ)) (f : Flow) (rest : List Flow) (at block test : ℕ)
-    → parts_from rules flow sizes forks (f ∷ rest) at block test
-    ≡ part_for rules flow sizes forks f at block test ∷ parts_from rules flow sizes forks rest (at + 1) (block + blocks_in (part_for rules flow sizes forks f at block test)) (test + tests_in (part_for rules flow sizes forks f at block test))
-parts_step rules flow sizes forks (Assign tree) rest at block test = by (continues flow at)
-  where
-    by : (c : Bool)
-        → (if c then Inner ∷ parts_from rules flow sizes forks rest (at + 1) block test else Block block (slice_index sizes block) ∷ parts_from rules flow sizes forks rest (at + 1) (block + 1) test)
-        ≡ (if c then Inner else Block block (slice_index sizes block))
-        ∷ parts_from rules flow sizes forks rest (at + 1) (block + blocks_in (if c then Inner else Block block (slice_index sizes block))) (test + tests_in (if c then Inner else Block block (slice_index sizes block)))
-    by true = let b : block ≡ block + 0 = omega arith in let t : test ≡ test + 0 = omega arith in (λ j. Inner ∷ parts_from rules flow sizes forks rest (at + 1) (b j) (t j))
-    by false = let t : test ≡ test + 0 = omega arith in (λ j. Block block (slice_index sizes block) ∷ parts_from rules flow sizes forks rest (at + 1) (block + 1) (t j))
-parts_step rules flow sizes forks (Tested tree one none) rest at block test = by (rule_at_one (slice_get rules (branch_or_zero (slice_get forks test)).0))
-  where
-    branch : ℕ × ℕ
-    branch = branch_or_zero (slice_get forks test)
-
-    by : (w : Bool)
-        → (if w then fork_to tree block (slice_index sizes block) (branch_or_zero (slice_get forks test)).0 (branch_or_zero (slice_get forks test)).1 at one none else fork_to tree block (slice_index sizes block) (branch_or_zero (slice_get forks test)).0 (branch_or_zero (slice_get forks test)).1 at none one)
-        ∷ parts_from rules flow sizes forks rest (at + 1) (block + 1) (test + 1)
-        ≡ (if w then fork_to tree block (slice_index sizes block) (branch_or_zero (slice_get forks test)).0 (branch_or_zero (slice_get forks test)).1 at one none else fork_to tree block (slice_index sizes block) (branch_or_zero (slice_get forks test)).0 (branch_or_zero (slice_get forks test)).1 at none one)
-        ∷ parts_from rules flow sizes forks rest (at + 1)
-        (block + blocks_in (if w then fork_to tree block (slice_index sizes block) (branch_or_zero (slice_get forks test)).0 (branch_or_zero (slice_get forks test)).1 at one none else fork_to tree block (slice_index sizes block) (branch_or_zero (slice_get forks test)).0 (branch_or_zero (slice_get forks test)).1 at none one))
-        (test + tests_in (if w then fork_to tree block (slice_index sizes block) (branch_or_zero (slice_get forks test)).0 (branch_or_zero (slice_get forks test)).1 at one none else fork_to tree block (slice_index sizes block) (branch_or_zero (slice_get forks test)).0 (branch_or_zero (slice_get forks test)).1 at none one))
-    by true = refl
-    by false = refl
-parts_step rules flow sizes forks (Jumped to) rest at block test =
-    let b : block ≡ block + 0 = omega arith in let t : test ≡ test + 0 = omega arith in (λ j. Jump to ∷ parts_from rules flow sizes forks rest (at + 1) (b j) (t j))
-parts_step rules flow sizes forks Ended rest at block test =
-    let b : block ≡ block + 0 = omega arith in let t : test ≡ test + 0 = omega arith in (λ j. End ∷ parts_from rules flow sizes forks rest (at + 1) (b j) (t j))
-
 -- one part more
-pub made_more : (rules : List Rule) (flow : List Flow) (sizes : List ℕ) (forks : List (ℕ × ℕ)) (f : Flow) (left rest : List Flow) (at block test more t : ℕ) (parts new whole : List Part) (part : Part)
-    → left ≡ f ∷ rest → part ≡ part_for rules flow sizes forks f at block test → new ≡ parts ++ part ∷ [] → more ≡ block + blocks_in part
-    → t ≡ tests_in part
-    → parts ++ parts_from rules flow sizes forks left at block test ≡ whole
-    → new ++ parts_from rules flow sizes forks rest (at + 1) more (test + t) ≡ whole
-made_more rules flow sizes forks f left rest at block test more t parts new whole part is p n em et h =
-    let pe : part ≡ part_for rules flow sizes forks f at block test = p in
-    (λ j. n j ++ parts_from rules flow sizes forks rest (at + 1) ((em ∙ ap (λ x. block + blocks_in x) pe) j) (test + (et ∙ ap tests_in pe) j))
+pub made_more : (rules : List Rule) (flow : List Flow) (sizes : List ℕ) (forks : List (ℕ × ℕ)) (f : Flow) (left rest : List Flow) (at block test : ℕ) (parts new whole : List Part) (part : Part)
+    → left ≡ f ∷ rest → part ≡ part_for rules flow sizes forks f at block test → block ≡ blocks_before flow at → test ≡ tests_before flow at
+    → new ≡ parts ++ part ∷ [] → parts ++ parts_from rules flow sizes forks left at ≡ whole
+    → new ++ parts_from rules flow sizes forks rest (at + 1) ≡ whole
+made_more rules flow sizes forks f left rest at block test parts new whole part is p b t n h =
+    let pe : part ≡ place_part rules flow sizes forks f at = p ∙ (λ j. part_for rules flow sizes forks f at (b j) (t j)) in
+    ap (λ xs. xs ++ parts_from rules flow sizes forks rest (at + 1)) n
     ∙ append_assoc parts (part ∷ []) _
-    ∙ (λ j. parts ++ (pe j ∷ parts_from rules flow sizes forks rest (at + 1) (block + blocks_in (part_for rules flow sizes forks f at block test)) (test + tests_in (part_for rules flow sizes forks f at block test))))
-    ∙ ap (λ xs. parts ++ xs) (sym (parts_step rules flow sizes forks f rest at block test))
-    ∙ ap (λ l. parts ++ parts_from rules flow sizes forks l at block test) (sym is)
+    ∙ ap (λ (x : Part). parts ++ (x ∷ parts_from rules flow sizes forks rest (at + 1))) pe
+    ∙ ap (λ l. parts ++ parts_from rules flow sizes forks l at) (sym is)
     ∙ h

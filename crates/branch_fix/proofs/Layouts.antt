@@ -42,15 +42,15 @@ full o forms list parts slice len r l s e t b lt =
 pub laid_by : (o : Outline) (laid : Laid) (forms list : List Form) (parts slice other : List Part) (len : ℕ) → o.rules ≡ rules_of forms → list ≡ forms
     → IsFixpoint (rules_of list) (parts_of (rules_of list) o.flow o.sizes o.branches) parts
     → slice ≡ parts → len ≡ total slice → other ≡ parts → sum_of o.sizes + control_words o.flow ≤ o.bound → o.bound ≤ o.reach → len ≤ o.words
-    → laid.items ≡ items_from (rules_of list) (jump_form (rules_of list) o.reach) (starts 0 other) 0 other → laid.marks ≡ marks_from 0 other
+    → laid.items ≡ items_from (rules_of list) (jump_form (rules_of list) o.reach) (starts other) 0 other → laid.marks ≡ marks_from 0 other
     → IsLaid o laid
 laid_by o laid forms list parts slice other len r l s e t same b reach le items marks =
     let q : ArePartsOf o parts = same_rules o forms list parts r l s in
     let m = settled_le o.rules o.flow o.sizes o.branches parts q in
     let n : len ≡ total parts = t ∙ ap total e in
     let rules : rules_of list ≡ o.rules = ap rules_of l ∙ sym r in
-    let are : laid.items ≡ items_from o.rules (jump_form o.rules o.reach) (starts 0 parts) 0 parts = items ∙ (λ j. items_from (rules j) (jump_form (rules j) o.reach) (starts 0 (same j)) 0 (same j)) in
-    let long : length laid.items ≡ total parts = ap length are ∙ items_length o.rules (jump_form o.rules o.reach) (starts 0 parts) 0 parts in
+    let are : laid.items ≡ items_from o.rules (jump_form o.rules o.reach) (starts parts) 0 parts = items ∙ (λ j. items_from (rules j) (jump_form (rules j) o.reach) (starts (same j)) 0 (same j)) in
+    let long : length laid.items ≡ total parts = ap length are ∙ items_length o.rules (jump_form o.rules o.reach) (starts parts) 0 parts in
     let own : laid.marks ≡ marks_from 0 parts = marks ∙ ap (marks_from 0) same in
     let marked : AreMarked o.flow (total parts) (marks_from 0 parts) = are_marked o.rules o.flow parts (settled_fit o.rules o.flow o.sizes o.branches parts q) in
     record {

@@ -89,16 +89,16 @@ pub last_round : (rules : List Rule) (first parts next : List Part) (m n : ℕ) 
 last_round rules first parts next m n r e p q same = record {
   count = r.count;
   made = r.made;
-  still = same_long rules (starts 0 parts) 0 parts (let a = ap long_tests e in omega (arith, a, p, q, same));
+  still = same_long rules (starts parts) 0 parts (let a = ap long_tests e in omega (arith, a, p, q, same));
 }
 
 pub falls : (rules : List Rule) (parts next : List Part) (m n : ℕ) → next ≡ round rules parts → m ≡ long_tests next → n ≡ long_tests parts
     → (m ≡ n → ⊥) → length next - long_tests next < length parts - long_tests parts
 falls rules parts next m n e p q ne =
     let a = ap long_tests e in
-    let b = more_long rules (starts 0 parts) 0 parts in
+    let b = more_long rules (starts parts) 0 parts in
     let c = ap length e in
-    let d = widened_length rules (starts 0 parts) 0 parts in
+    let d = widened_length rules (starts parts) 0 parts in
     let f = long_few next in
     omega (arith, a, b, c, d, f)
 
@@ -136,8 +136,8 @@ still_shows rules addresses parts k f e still short =
 -- a test that is not three words shows its distance
 pub settled_shows : (rules : List Rule) (first parts : List Part) (k : ℕ) (f : Fork) → IsFixpoint rules first parts → slice_get parts k ≡ Some (Test f)
     → f.long ≡ false
-    → rule_shows (slice_get rules f.form) (address parts k + f.words) (slice_index (starts 0 parts) f.to) ≡ true
-settled_shows rules first parts k f s e short = still_shows rules (starts 0 parts) parts k f e s.still short
+    → rule_shows (slice_get rules f.form) (address parts k + f.words) (slice_index (starts parts) f.to) ≡ true
+settled_shows rules first parts k f s e short = still_shows rules (starts parts) parts k f e s.still short
 
 -- ---- the parts that rounds settle on are one list
 

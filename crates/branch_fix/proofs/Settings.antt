@@ -1,7 +1,7 @@
 -- The bits that the layout gives a target mean that target.
-use Rattle.std.proofs.Common.{ℕ, ◌≡◌, ◌≤◌, ◌<◌, ◌+◌, ◌-◌, ◌*◌, ◌/◌, ◌%◌, ◌^◌, ◌==◌, Bool, true, false, if◌then◌else◌, nat_lt, Some, None, refl, sym, ◌∙◌, ap, subst, arith, eqb-true, Option, is_some, unwrap_or}
+use Rattle.std.proofs.Common.{ℕ, ◌≡◌, ◌≤◌, ◌<◌, ◌+◌, ◌-◌, ◌*◌, ◌/◌, ◌%◌, ◌^◌, ◌==◌, Bool, true, false, if◌then◌else◌, nat_lt, min, Some, None, refl, sym, ◌∙◌, ap, subst, arith, eqb-true, Option, is_some, unwrap_or}
 use Rattle.std.proofs.lemmas.Bool.Decides.{nat_tests}
-use Rattle.std.proofs.lemmas.Nat.{pow_pos, pow-add}
+use Rattle.std.proofs.lemmas.Nat.{pow_pos, mod_below}
 use Rattle.std.proofs.Math.Nat.{mod-eq_of_lt, add-mul-mod_self_left, mul-div_cancel}
 use Rattle.rec_bits.specs.Operators.{slice_of, sext_of as extended_of}
 use Rattle.net_model.specs.declared.states.State.{State}
@@ -10,8 +10,8 @@ use Rattle.net_model.specs.Meaning.{mean}
 use Rattle.form_model.specs.Shapes.{then_some, field_setting, shape_setting, shows}
 use Rattle.form_model.specs.Rules.{Rule, absolute, relative}
 use Rattle.branch_fix.specs.Items.{jump_step, target_setting}
-use Rattle.branch_fix.specs.Rounds.{distance, target_shows}
-use Rattle.branch_fix.proofs.Distances.{mod_low}
+use Rattle.branch_fix.specs.Rounds.{difference, distance, target_shows}
+use Rattle.branch_fix.proofs.Distances.{split}
 
 given_is : (t : Bool) (n b : ℕ) → then_some t n ≡ Some b → (t ≡ true) × (n ≡ b)
 given_is true n b e = (refl, cc)
@@ -68,22 +68,25 @@ setting_means (select c x y) s v b e = absurd (cc e)
 
 -- ---- a relative branch
 
-split : (x m : ℕ) → 0 < m → x ≡ x % m + m * (x / m)
-split x m lt = omega arith
-
 mod_inside : (a x p : ℕ) → 0 < p → (a + x % p) % p ≡ (a + x) % p
 mod_inside a x p lt =
     let e : a + x ≡ a + x % p + p * (x / p) = (let s = split x p lt in omega (arith, s)) in
     sym (ap (λ n. n % p) e ∙ add-mul-mod_self_left (a + x % p) p (x / p))
 
+rounded : (p from to : ℕ) → 0 < p → from + (to + (p - from % p)) ≡ to + p * (from / p + 1)
+rounded p from to some =
+    let s = split from p some in
+    let r = mod_below from p some in
+    omega (arith, s, r)
+
 -- so many words on from an address is the place that lies so far behind it
-pub distance_leads : (width from to : ℕ) → width ≤ 64 → from ≤ 2 ^ 64 → to < 2 ^ width → (from + distance width from to) % 2 ^ width ≡ to
-distance_leads width from to le few lt =
-    let z : width + (64 - width) ≡ 64 = omega arith in
-    let e : 2 ^ width * 2 ^ (64 - width) ≡ 2 ^ 64 = sym (pow-add 2 width (64 - width)) ∙ ap (λ n. 2 ^ n) z in
-    let s : from + (to + (2 ^ 64 - from)) ≡ to + 2 ^ width * 2 ^ (64 - width) = omega (arith, e) in
-    ap (λ n. (from + n) % 2 ^ width) (mod_low (to + (2 ^ 64 - from)) width le)
-    ∙ mod_inside from (to + (2 ^ 64 - from)) (2 ^ width) (pow_pos width) ∙ ap (λ n. n % 2 ^ width) s ∙ add-mul-mod_self_left to (2 ^ width) (2 ^ (64 - width)) ∙ mod-eq_of_lt lt
+pub distance_leads : (width from to : ℕ) → width ≤ 64 → to < 2 ^ width → (from + distance width from to) % 2 ^ width ≡ to
+distance_leads width from to le lt =
+    let m : min width 64 ≡ width = omega arith in
+    ap (λ n. (from + difference n from to) % 2 ^ width) m
+    ∙ mod_inside from (to + (2 ^ width - from % 2 ^ width)) (2 ^ width) (pow_pos width)
+    ∙ ap (λ n. n % 2 ^ width) (rounded (2 ^ width) from to (pow_pos width))
+    ∙ add-mul-mod_self_left to (2 ^ width) (from / 2 ^ width + 1) ∙ mod-eq_of_lt lt
 
 -- ---- the bits of a target
 
@@ -101,10 +104,10 @@ pub absolute_leads : (shape : Term) (s : State) (from to : ℕ) (long : Bool) �
     → mean shape s (target_setting (absolute shape) from to long) ≡ to
 absolute_leads shape s from to long e = shown_means shape s to e
 
-pub relative_leads : (shape : Term) (s : State) (from to : ℕ) → term_width shape ≤ 64 → from ≤ 2 ^ 64 → to < 2 ^ term_width shape →
+pub relative_leads : (shape : Term) (s : State) (from to : ℕ) → term_width shape ≤ 64 → to < 2 ^ term_width shape →
     target_shows (relative shape) from to ≡ true → (from + mean shape s (target_setting (relative shape) from to false)) % 2 ^ term_width shape ≡ to
-relative_leads shape s from to narrow few within e =
-    ap (λ n. (from + n) % 2 ^ term_width shape) (shown_means shape s (distance (term_width shape) from to) e) ∙ distance_leads (term_width shape) from to narrow few within
+relative_leads shape s from to narrow within e =
+    ap (λ n. (from + n) % 2 ^ term_width shape) (shown_means shape s (distance (term_width shape) from to) e) ∙ distance_leads (term_width shape) from to narrow within
 
 pub long_leads : (shape : Term) (s : State) (from to : ℕ) → shows shape 2 ≡ true → mean shape s (target_setting (relative shape) from to true) ≡ 2
 long_leads shape s from to e = shown_means shape s 2 e

@@ -1,12 +1,9 @@
--- The places of a flow that a test or a jump goes to, marked one after the other.
-use Rattle.std.specs.Prelude.{true, Bool, List, [], ◌∷◌, slice_set}
+-- Which places of a flow are entered, as a table.
+use Rattle.std.specs.Prelude.{Bool, List, length, map}
+use Rattle.std.specs.List.{range_with_len}
 use Rattle.form_model.specs.declared.flow.Flow.{Flow}
-use Rattle.form_model.specs.declared.flow.Flow.TheVariants.{Assign, Test, Jump, End}
+use Rattle.src_trees.specs.Blocks.{is_entered}
 
-abbrev pub marked : List Flow → List Bool → List Bool
-marked [] entered = entered
-marked (Assign tree ∷ rest) entered = marked rest entered
-marked (Test tree when_one when_zero ∷ rest) entered =
-    marked rest (slice_set (slice_set entered when_one true) when_zero true)
-marked (Jump to ∷ rest) entered = marked rest (slice_set entered to true)
-marked (End ∷ rest) entered = marked rest entered
+-- for each place whether a test or a jump goes there
+abbrev pub entered_places : List Flow → List Bool
+entered_places flow = map (is_entered flow) (range_with_len 0 (length flow))

@@ -45,7 +45,7 @@ ArePartsOf o parts = IsFixpoint o.rules (parts_of o.rules o.flow o.sizes o.branc
 pub record IsLaid (o : Outline) (laid : Laid) : Type 0 where
   pub parts : List Part
   pub settled : ArePartsOf o parts
-  pub items : laid.items ≡ items_from o.rules (jump_form o.rules o.reach) (starts 0 parts) 0 parts
+  pub items : laid.items ≡ items_from o.rules (jump_form o.rules o.reach) (starts parts) 0 parts
   pub long : length laid.items ≡ total parts
   pub marks : laid.marks ≡ marks_from 0 parts
   pub marked : AreMarked o.flow (length laid.items) laid.marks

@@ -1,6 +1,7 @@
 -- The parts of a flow: what stands at each of its places, how many words that is, and where these
 -- stand.
-use Rattle.std.specs.Prelude.{ℕ, zero, suc, ◌+◌, ◌==◌, ◌≡◌, Bool, true, false, if◌then◌else◌, List, [], ◌∷◌, ◌++◌, Option, Some, None, slice_get, slice_index}
+use Rattle.std.specs.Prelude.{ℕ, zero, suc, ◌+◌, ◌==◌, ◌≡◌, Bool, true, false, if◌then◌else◌, List, [], ◌∷◌, ◌++◌, length, map, Option, Some, None, slice_get, slice_index}
+use Rattle.std.specs.List.{range_with_len}
 use Rattle.code_model.specs.declared.image.Mark.{Mark}
 use Rattle.form_model.specs.declared.flow.Flow.{Flow}
 use Rattle.form_model.specs.declared.flow.Flow.TheVariants.{Assign, Test as Tested, Jump as Jumped, End as Ended}
@@ -46,24 +47,35 @@ fork_of rules tree block words branch at when_one when_zero =
     if rule_at_one (slice_get rules branch.0) then fork_to tree block words branch.0 branch.1 at when_one when_zero
     else fork_to tree block words branch.0 branch.1 at when_zero when_one
 
--- the parts of the rest of a flow, from a place on, with so many blocks and tests before it
-abbrev pub parts_from : List Rule → List Flow → List ℕ → List (ℕ × ℕ) → List Flow → ℕ → ℕ → ℕ → List Part
-parts_from rules flow sizes forks [] at block test = []
-parts_from rules flow sizes forks (Assign tree ∷ rest) at block test =
-    if continues flow at then Inner ∷ parts_from rules flow sizes forks rest (at + 1) block test
-    else Block block (slice_index sizes block) ∷ parts_from rules flow sizes forks rest (at + 1) (block + 1) test
-parts_from rules flow sizes forks (Tested tree when_one when_zero ∷ rest) at block test =
-    fork_of rules tree block (slice_index sizes block) (branch_or_zero (slice_get forks test)) at when_one when_zero
-    ∷ parts_from rules flow sizes forks rest (at + 1) (block + 1) (test + 1)
-parts_from rules flow sizes forks (Jumped to ∷ rest) at block test =
-    Jump to ∷ parts_from rules flow sizes forks rest (at + 1) block test
-parts_from rules flow sizes forks (Ended ∷ rest) at block test =
-    End ∷ parts_from rules flow sizes forks rest (at + 1) block test
+-- ---- blocks and tests are numbered in the order of the flow
 
-abbrev pub parts_of : List Rule → List Flow → List ℕ → List (ℕ × ℕ) → List Part
-parts_of rules flow sizes forks = parts_from rules flow sizes forks flow 0 0 0
+-- how many blocks begin at a place, a test's operands' among them, where it is told whether the
+-- place continues the block before it
+abbrev pub place_blocks : Option Flow → Bool → ℕ
+place_blocks None continued = 0
+place_blocks (Some (Assign tree)) continued = if continued then 0 else 1
+place_blocks (Some (Tested tree when_one when_zero)) continued = 1
+place_blocks (Some (Jumped to)) continued = 0
+place_blocks (Some Ended) continued = 0
 
--- the same, part by part
+abbrev pub place_tests : Option Flow → ℕ
+place_tests None = 0
+place_tests (Some (Assign tree)) = 0
+place_tests (Some (Tested tree when_one when_zero)) = 1
+place_tests (Some (Jumped to)) = 0
+place_tests (Some Ended) = 0
+
+abbrev pub blocks_before : List Flow → ℕ → ℕ
+blocks_before flow zero = 0
+blocks_before flow (suc at) = blocks_before flow at + place_blocks (slice_get flow at) (continues flow at)
+
+abbrev pub tests_before : List Flow → ℕ → ℕ
+tests_before flow zero = 0
+tests_before flow (suc at) = tests_before flow at + place_tests (slice_get flow at)
+
+-- ---- parts
+
+-- the part of a place, with so many blocks and tests before it
 abbrev pub part_for : List Rule → List Flow → List ℕ → List (ℕ × ℕ) → Flow → ℕ → ℕ → ℕ → Part
 part_for rules flow sizes forks (Assign tree) at block test =
     if continues flow at then Inner else Block block (slice_index sizes block)
@@ -72,19 +84,18 @@ part_for rules flow sizes forks (Tested tree when_one when_zero) at block test =
 part_for rules flow sizes forks (Jumped to) at block test = Jump to
 part_for rules flow sizes forks Ended at block test = End
 
-abbrev pub blocks_in : Part → ℕ
-blocks_in (Block block words) = 1
-blocks_in (Test f) = 1
-blocks_in Inner = 0
-blocks_in (Jump to) = 0
-blocks_in End = 0
+abbrev pub place_part : List Rule → List Flow → List ℕ → List (ℕ × ℕ) → Flow → ℕ → Part
+place_part rules flow sizes forks f at =
+    part_for rules flow sizes forks f at (blocks_before flow at) (tests_before flow at)
 
-abbrev pub tests_in : Part → ℕ
-tests_in (Test f) = 1
-tests_in (Block block words) = 0
-tests_in Inner = 0
-tests_in (Jump to) = 0
-tests_in End = 0
+-- those of the places from one on, and of all
+abbrev pub parts_from : List Rule → List Flow → List ℕ → List (ℕ × ℕ) → List Flow → ℕ → List Part
+parts_from rules flow sizes forks [] at = []
+parts_from rules flow sizes forks (f ∷ rest) at =
+    place_part rules flow sizes forks f at ∷ parts_from rules flow sizes forks rest (at + 1)
+
+abbrev pub parts_of : List Rule → List Flow → List ℕ → List (ℕ × ℕ) → List Part
+parts_of rules flow sizes forks = parts_from rules flow sizes forks flow 0
 
 -- ---- words and addresses
 
@@ -100,16 +111,15 @@ room (Test f) = f.words + branch_words f.next f.long
 room (Jump to) = 1
 room End = 1
 
--- the addresses of all places, and of the end behind them
-abbrev pub starts : ℕ → List Part → List ℕ
-starts address [] = address ∷ []
-starts address (p ∷ parts) = address ∷ starts (address + room p) parts
-
--- the address of a place
+-- the address of a place: the words of all parts before it
 abbrev pub address : List Part → ℕ → ℕ
 address [] at = 0
 address (p ∷ parts) zero = 0
 address (p ∷ parts) (suc at) = room p + address parts at
+
+-- the addresses of all places, and of the end behind them
+abbrev pub starts : List Part → List ℕ
+starts parts = map (address parts) (range_with_len 0 (length parts + 1))
 
 -- the number of words
 abbrev pub total : List Part → ℕ

@@ -1,5 +1,5 @@
 -- Relative branches that don't show their distance become three words, in rounds.
-use Rattle.std.specs.Prelude.{ℕ, zero, suc, ◌+◌, ◌-◌, ◌%◌, ◌^◌, ◌≡◌, Bool, true, false, not, ◌||◌, if◌then◌else◌, List, [], ◌∷◌, Option, Some, None, slice_get, slice_index}
+use Rattle.std.specs.Prelude.{ℕ, zero, suc, ◌+◌, ◌-◌, ◌%◌, ◌^◌, ◌≡◌, min, Bool, true, false, not, ◌||◌, if◌then◌else◌, List, [], ◌∷◌, Option, Some, None, slice_get, slice_index}
 use Rattle.net_model.specs.Terms.{term_width}
 use Rattle.form_model.specs.Shapes.{shows}
 use Rattle.form_model.specs.Rules.{Rule, BranchTarget, absolute, relative, Kind, branches}
@@ -8,10 +8,14 @@ use Rattle.branch_fix.specs.declared.part.Part.{Part}
 use Rattle.branch_fix.specs.declared.part.Part.TheVariants.{Block, Inner, Test, Jump, End}
 use Rattle.branch_fix.specs.Parts.{room, starts}
 
--- how far one address lies behind another: of their difference, which wraps round in 64 bits, so
--- many low bits
+-- the difference of two numbers, modulo a width
+abbrev pub difference : ℕ → ℕ → ℕ → ℕ
+difference width from to = (to + (2 ^ width - from % 2 ^ width)) % 2 ^ width
+
+-- how far one address lies behind another: their difference, modulo the program counter's width. A
+-- width past 64 counts as 64, since no address has more bits
 abbrev pub distance : ℕ → ℕ → ℕ → ℕ
-distance width from to = ((to + (2 ^ 64 - from)) % 2 ^ 64) % 2 ^ width
+distance width from to = difference (min width 64) from to
 
 -- whether a branch form shows its target; an absolute one shows each address that is reached
 abbrev pub target_shows : BranchTarget → ℕ → ℕ → Bool
@@ -47,7 +51,7 @@ widened_from rules addresses at (p ∷ parts) =
     widened_part rules addresses at p ∷ widened_from rules addresses (at + room p) parts
 
 abbrev pub round : List Rule → List Part → List Part
-round rules parts = widened_from rules (starts 0 parts) 0 parts
+round rules parts = widened_from rules (starts parts) 0 parts
 
 abbrev pub rounds : List Rule → ℕ → List Part → List Part
 rounds rules zero parts = parts

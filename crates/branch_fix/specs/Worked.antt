@@ -46,7 +46,7 @@ branch_rule target = record {
 -- the words of a flow whose branches go so: one for the test, five for the block
 abbrev laid : BranchTarget → ℕ → List Item
 laid target n = items_from (branch_rule target ∷ jump_rule ∷ []) (jump_form (branch_rule target ∷ jump_rule ∷ []) 256)
-    (starts 0 (rounds (branch_rule target ∷ jump_rule ∷ []) n
+    (starts (rounds (branch_rule target ∷ jump_rule ∷ []) n
     (parts_of (branch_rule target ∷ jump_rule ∷ []) flow (1 ∷ 5 ∷ []) ((0, 0) ∷ [])))) 0
     (rounds (branch_rule target ∷ jump_rule ∷ []) n
     (parts_of (branch_rule target ∷ jump_rule ∷ []) flow (1 ∷ 5 ∷ []) ((0, 0) ∷ [])))
@@ -110,7 +110,7 @@ abbrev forked_laid : BranchTarget → List Item
 forked_laid target =
     items_from (branch_rule target ∷ jump_rule ∷ [])
     (jump_form (branch_rule target ∷ jump_rule ∷ []) 256)
-    (starts 0 (rounds (branch_rule target ∷ jump_rule ∷ []) 1
+    (starts (rounds (branch_rule target ∷ jump_rule ∷ []) 1
     (parts_of (branch_rule target ∷ jump_rule ∷ []) forked (1 ∷ 1 ∷ []) ((0, 0) ∷ [])))) 0
     (rounds (branch_rule target ∷ jump_rule ∷ []) 1
     (parts_of (branch_rule target ∷ jump_rule ∷ []) forked (1 ∷ 1 ∷ []) ((0, 0) ∷ [])))
@@ -124,9 +124,16 @@ forked_near : forked_laid (relative narrow)
     ≡ Group 0 0 ∷ to_word 1 2 ∷ to_word 2 5 ∷ Group 1 0 ∷ to_word 2 5 ∷ to_word 2 5 ∷ []
 forked_near = refl
 
--- a distance wraps round: from 5 to 3 in eight bits
+-- a distance forwards, and one that wraps round: from 5 to 3 in eight bits
+forwards : distance 8 3 5 ≡ 2
+forwards = refl
+
 backwards : distance 8 5 3 ≡ 254
 backwards = refl
+
+-- an address that is past the width counts by its low bits
+past_width : distance 8 261 3 ≡ 254
+past_width = refl
 
 -- two assignments are a block, and so are the two in the body of a loop
 abbrev longer : List Flow

@@ -1,9 +1,8 @@
 //! Which places of a flow begin a block.
 
-ghost use Rattle.std.specs.Prelude.{◌≡◌, ◌<◌, IfOk, length, true, false, slice_get, slice_set};
-ghost use Rattle.std.proofs.Common.{replicate};
+ghost use Rattle.std.specs.Prelude.{◌≡◌, ◌<◌, IfOk, length, true, slice_get, slice_set};
 ghost use Rattle.src_trees.specs.Blocks.{continues, is_entered, is_assign};
-ghost use Rattle.branch_fix.specs.Entered.{marked};
+ghost use Rattle.branch_fix.specs.Entered.{entered_places};
 
 use form_model::Flow;
 use rec_bits::NoMemory;
@@ -18,9 +17,9 @@ fn enter(entered: &mut [bool], at: u32)
     }
 }
 
-/// Which places of a flow a test or a jump goes to.
+/// For each place of a flow whether a test or a jump goes there.
 pub fn entered(alloc: Global, flow: &[Flow]) -> Result<Vec<bool>, NoMemory>
-    ensures { IfOk result (λ entered. entered.items ≡ marked flow.now (replicate (length flow.now) false)) }
+    ensures { IfOk result (λ entered. entered.items ≡ entered_places flow.now) }
 {
     let mut entered = Vec::new(alloc);
     for _item in flow {
@@ -55,7 +54,7 @@ fn is_assign(flow: &[Flow], at: usize) -> bool
 
 fn was_entered(flow: &[Flow], entered: &[bool], at: usize) -> bool
     requires at { at < length flow.now }
-    requires entered { entered.now ≡ marked flow.now (replicate (length flow.now) false) }
+    requires entered { entered.now ≡ entered_places flow.now }
     ensures { result ≡ is_entered flow.now at }
 {
     match entered.get(at) {
@@ -67,7 +66,7 @@ fn was_entered(flow: &[Flow], entered: &[bool], at: usize) -> bool
 /// Whether a place continues the block of the place before it.
 pub fn continues(flow: &[Flow], entered: &[bool], at: usize) -> bool
     requires at { at < length flow.now }
-    requires entered { entered.now ≡ marked flow.now (replicate (length flow.now) false) }
+    requires entered { entered.now ≡ entered_places flow.now }
     ensures { result ≡ continues flow.now at }
 {
     at > 0 && is_assign(flow, at - 1) && is_assign(flow, at) && !was_entered(flow, entered, at)

@@ -1,10 +1,10 @@
 //! The parts of a flow.
 
-ghost use Rattle.std.specs.Prelude.{◌≡◌, ◌+◌, ◌<◌, ◌≤◌, ◌==◌, ◌^◌, IfOk, MatchOption, None, Some, length, false, slice_index, slice_get};
-ghost use Rattle.std.proofs.Common.{replicate};
+ghost use Rattle.std.specs.Prelude.{◌≡◌, ◌+◌, ◌<◌, ◌≤◌, ◌==◌, ◌^◌, IfOk, MatchOption, None, Some, length, slice_index, slice_get};
 ghost use Rattle.form_model.specs.Rules.{rule_of, rules_of};
-ghost use Rattle.branch_fix.specs.Entered.{marked};
-ghost use Rattle.branch_fix.specs.Parts.{rule_at_one, branch_or_zero, fork_of, part_for, parts_of, blocks_in, tests_in};
+ghost use Rattle.src_trees.specs.Blocks.{continues};
+ghost use Rattle.branch_fix.specs.Entered.{entered_places};
+ghost use Rattle.branch_fix.specs.Parts.{rule_at_one, branch_or_zero, fork_of, part_for, parts_of, place_blocks, place_tests};
 
 use crate::begun::{continues, entered};
 use crate::part::{Fork, Part};
@@ -97,7 +97,7 @@ fn part_for(
     test: usize,
 ) -> Part
     requires at { at < length flow.now }
-    requires entered { entered.now ≡ marked flow.now (replicate (length flow.now) false) }
+    requires entered { entered.now ≡ entered_places flow.now }
     ensures { result ≡ part_for (rules_of forms.now) flow.now sizes.now branches.now place at block test }
 {
     match place {
@@ -130,31 +130,32 @@ fn part_for(
     }
 }
 
-fn blocks_in(part: Part) -> u32
-    ensures { result ≡ blocks_in part }
+// How many blocks begin at a flow's place.
+fn blocks_at(flow: &[Flow], entered: &[bool], place: Flow, at: usize) -> u32
+    requires at { at < length flow.now }
+    requires entered { entered.now ≡ entered_places flow.now }
+    ensures { result ≡ place_blocks (Some place) (continues flow.now at) }
 {
-    match part {
-        Part::Block { .. } | Part::Test(_) => 1,
-        _ => 0,
+    match place {
+        Flow::Assign(_) => u32::from(!continues(flow, entered, at)),
+        Flow::Test { .. } => 1,
+        Flow::Jump(_) | Flow::End => 0,
     }
 }
 
-fn tests_in(part: Part) -> usize
-    ensures value { result ≡ tests_in part }
+fn tests_at(place: Flow) -> usize
+    ensures value { result ≡ place_tests (Some place) }
     ensures few { result ≤ 1 }
 {
-    match part {
-        Part::Test(_) => 1,
-        _ => 0,
-    }
+    usize::from(matches!(place, Flow::Test { .. }))
 }
 
-// How many blocks there are up to a part, with so many before it. Want of memory where they are
-// more than can be numbered.
-fn blocks_up_to(block: u32, part: Part) -> Result<u32, NoMemory>
-    ensures { IfOk result (λ n. n ≡ block + blocks_in part) }
+// How many blocks there are with some more. Want of memory where they are more than can be
+// numbered.
+fn more_blocks(block: u32, more: u32) -> Result<u32, NoMemory>
+    ensures { IfOk result (λ n. n ≡ block + more) }
 {
-    match block.checked_add(blocks_in(part)) {
+    match block.checked_add(more) {
         Some(n) => Ok(n),
         None => Err(NoMemory),
     }
@@ -180,8 +181,8 @@ pub fn parts(
             forms, flow, &entered, sizes, branches, *place, at, block, test,
         );
         parts.push(part)?;
-        block = blocks_up_to(block, part)?;
-        test += tests_in(part);
+        block = more_blocks(block, blocks_at(flow, &entered, *place, at))?;
+        test += tests_at(*place);
     }
     Ok(parts)
 }

@@ -28,7 +28,7 @@ ghost use Rattle.branch_fix.specs.declared.part.Part.TheVariants.{Test};
 ghost use Rattle.branch_fix.specs.Parts.{address, parts_of, starts, total, PartsFit};
 ghost use Rattle.branch_fix.specs.Rounds.{rule_shows, target_shows, IsFixpoint};
 ghost use Rattle.branch_fix.specs.Items.{jump_step, target_setting};
-ghost use Rattle.branch_fix.specs.Bounds.{bound_of, control_words, program_bound, sum_of};
+ghost use Rattle.branch_fix.specs.Bounds.{bound_of, control_words, sum_of};
 ghost use Rattle.branch_fix.specs.Costs.{block_costs, SizesWithin};
 ghost use Rattle.branch_fix.specs.Made.{IsMade};
 
@@ -59,16 +59,14 @@ pub fn law_of_parts()
         PartsFit rules flow 0 flow parts }
     ensures shown { (rules : List Rule) (first parts : List Part) (k : ℕ) (f : Fork) →
         IsFixpoint rules first parts → slice_get parts k ≡ Some (Test f) → f.long ≡ false →
-        rule_shows (slice_get rules f.form) (address parts k + f.words) (slice_index (starts 0 parts) f.to) ≡ true }
+        rule_shows (slice_get rules f.form) (address parts k + f.words) (slice_index (starts parts) f.to) ≡ true }
     ensures addresses { (parts : List Part) (k : ℕ) → k ≤ length parts →
-        slice_index (starts 0 parts) k ≡ address parts k }
+        slice_index (starts parts) k ≡ address parts k }
 {}
 
-/// The bound of a program's flow is the program's own, and blocks that have no more words than they
-/// cost keep to it.
+/// Blocks that have no more words than they cost keep to the bound of their flow.
 pub fn law_of_bounds()
-    ensures program { (l : Listing) (costs : List ℕ) → bound_of (program_flow l) costs ≡ program_bound l costs }
-    ensures blocks { (l : Listing) (costs sizes : List ℕ) →
+    ensures { (l : Listing) (costs sizes : List ℕ) →
         length costs ≡ statements_in (acts_of l.body) →
         SizesWithin sizes (block_costs (program_flow l) costs (program_flow l) 0) →
         sum_of sizes + control_words (program_flow l) ≤ bound_of (program_flow l) costs }
@@ -82,7 +80,7 @@ pub fn law_of_targets()
     ensures absolute { (shape : Term) (s : State) (from to : ℕ) (long : Bool) → shows shape to ≡ true →
         mean shape s (target_setting (absolute shape) from to long) ≡ to }
     ensures relative { (shape : Term) (s : State) (from to : ℕ) → term_width shape ≤ 64 →
-        from ≤ 2 ^ 64 → to < 2 ^ term_width shape → target_shows (relative shape) from to ≡ true →
+        to < 2 ^ term_width shape → target_shows (relative shape) from to ≡ true →
         (from + mean shape s (target_setting (relative shape) from to false)) % 2 ^ term_width shape ≡ to }
     ensures long { (shape : Term) (s : State) (from to : ℕ) → shows shape 2 ≡ true →
         mean shape s (target_setting (relative shape) from to true) ≡ 2 }

@@ -25,7 +25,7 @@ use std::alloc::Global;
 fn lay(alloc: Global, forms: &[Form], reach: u64, parts: &[Part]) -> Result<Laid, NoMemory>
     requires { total parts.now < 2 ^ 64 }
     ensures items { IfOk result (λ laid. laid.items
-        ≡ items_from (rules_of forms.now) (jump_form (rules_of forms.now) reach) (starts 0 parts.now) 0 parts.now) }
+        ≡ items_from (rules_of forms.now) (jump_form (rules_of forms.now) reach) (starts parts.now) 0 parts.now) }
     ensures marks { IfOk result (λ laid. laid.marks ≡ marks_from 0 parts.now) }
 {
     let jump = jump_form(forms, reach);

@@ -48,7 +48,7 @@ pub fn total(parts: &[Part]) -> u64
 /// The addresses of parts, and of the end behind them.
 pub fn starts(alloc: Global, parts: &[Part]) -> Result<Items<u64>, NoMemory>
     requires { total parts.now < 2 ^ 64 }
-    ensures { IfOk result (λ addresses. addresses ≡ starts 0 parts.now) }
+    ensures { IfOk result (λ addresses. addresses ≡ starts parts.now) }
 {
     let mut addresses = Items::new(alloc);
     let mut address = 0;

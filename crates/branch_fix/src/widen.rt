@@ -15,7 +15,7 @@ use rec_bits::{Items, NoMemory};
 use std::alloc::Global;
 use tree_grammar::{expr_width, low_bits, setting_of};
 
-/// How far one address lies behind another, in as many bits as the shape has.
+/// How far one address lies behind another, modulo the shape's width.
 pub fn distance(shape: &Expr, from: u64, to: u64) -> u64
     ensures { result ≡ distance (term_width (term_of shape.now)) from to }
 {

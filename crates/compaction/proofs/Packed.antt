@@ -111,9 +111,9 @@ module _ {A : Type 0} (m : A → Operation) (fits : ℕ → List A → Regs → 
   turn_moved front g a b x back u v c p =
       let d : EachDiffers m (g ∷ (a ++ x ∷ b) ∷ back) = differ_tail front (g ∷ (a ++ x ∷ b) ∷ back) p.differ in
       turn_back front (g ∷ (a ++ x ∷ b) ∷ back) ((g ++ x ∷ []) ∷ (a ++ b) ∷ back)
-      (same_behind m (g ∷ (a ++ x ∷ b) ∷ []) ((g ++ x ∷ []) ∷ (a ++ b) ∷ []) back (same_moved m g a b x (differ_at m a b x d.1.0) c.apart c.unread))
+      (same_behind m (g ∷ (a ++ x ∷ b) ∷ []) ((g ++ x ∷ []) ∷ (a ++ b) ∷ []) back (same_moved m g a b x (differ_at m a b x d.1.0) c.free.apart c.free.unread))
       (c.first, (c.second, (words_tail front (g ∷ (a ++ x ∷ b) ∷ back) p.words).1.1))
-      (differ_more m g x d.0 c.free, (differ_less m a b x d.1.0, d.1.1))
+      (differ_more m g x d.0 c.free.own, (differ_less m a b x d.1.0, d.1.1))
       (omega (arith, length-append g (x ∷ []), length-append a (x ∷ b), length-append a b))
       (omega (arith, length-append a (x ∷ b), length-append a b))
       (omega arith)

@@ -141,7 +141,7 @@ module _ {A : Type 0} (m : A → Operation) (fits : ℕ → List A → Regs → 
       let eh : h ≡ a ++ x ∷ b = step_split h c.index x c.moved.at in
       ap (λ z. live_before m (g ∷ z ∷ back) after) eh
       ∙ (same_behind m (g ∷ (a ++ x ∷ b) ∷ []) ((g ++ x ∷ []) ∷ (a ++ b) ∷ []) back
-      (same_moved m g a b x (differ_at m a b x (subst (λ z. all_differ m z ≡ true) eh d)) c.moved.movable.apart c.moved.movable.unread)).live after
+      (same_moved m g a b x (differ_at m a b x (subst (λ z. all_differ m z ≡ true) eh d)) c.moved.movable.free.apart c.moved.movable.free.unread)).live after
       ∙ ap (λ z. live_before m (z ∷ (a ++ b) ∷ back) after) (sym c.moved.first_is) ∙ ap (λ z. live_before m (more ∷ z ∷ back) after) (sym c.moved.second_is)
 
   -- the destinations within the second group differ

@@ -29,11 +29,11 @@ crowded c = (let few : 3 ≤ 2 = c.word.1 in absurd (omega (arith, few)))
 
 -- a read may leave a group in which nobody reads its register
 moved : Movable as_is fits_two (stores 2 ∷ []) (fetches 3) (loads ∷ []) no_regs
-moved = record { other = lit≤ tt; free = refl; apart = refl; unread = refl; first = (0, lit≤ tt); second = (0, lit≤ tt) }
+moved = record { free = record { other = lit≤ tt; own = refl; apart = refl; unread = refl }; first = (0, lit≤ tt); second = (0, lit≤ tt) }
 
 -- and not one in which its register is stored
 read_there : Movable as_is fits_two (fetches 3 ∷ []) loads (stores 2 ∷ []) no_regs → ⊥
-read_there c = true≢false c.unread
+read_there c = true≢false c.free.unread
 
 -- two neighbours that may be merged aren't packed
 unpacked : IsPacked as_is fits_two no_regs ((stores 2 ∷ []) ∷ (fetches 3 ∷ []) ∷ []) → ⊥
@@ -44,7 +44,7 @@ settled : IsSettled as_is fits_two (stores 2 ∷ []) (fetches 2 ∷ []) no_regs
 settled = record { unmergeable = met; unmovable = alone }
   where
     alone : (i : ℕ) (x : Operation) → slice_get (fetches 2 ∷ []) i ≡ Some x → Movable as_is fits_two (stores 2 ∷ []) x (remove (fetches 2 ∷ []) i) no_regs → ⊥
-    alone zero x e c = (let none : 1 ≤ 0 = c.other in absurd (omega (arith, none)))
+    alone zero x e c = (let none : 1 ≤ 0 = c.free.other in absurd (omega (arith, none)))
     alone (suc i) x e c = cc
 
 -- the packing of a store and a read beside it, and of those that meet

@@ -51,15 +51,20 @@ pub record Mergeable {A : Type 0} (m : A → Operation) (fits : ℕ → List A �
   pub apart : reads_across m g h ≡ false
   pub word : (w : ℕ) × fits w (g ++ h) live
 
--- a step may move from a group to the group g before it, where it leaves `rest` behind, which isn't
--- empty: its destination is none of g's, it reads none of them, no step of the rest reads its own,
--- and some word fits g with it and some the rest, with the registers that are live then
-pub record Movable {A : Type 0} (m : A → Operation) (fits : ℕ → List A → Regs → Type 0) (g : List A)
-    (x : A) (rest : List A) (live : Regs) : Type 0 where
+-- a step is free to move from a group to the group g before it, where it leaves `rest` behind,
+-- which isn't empty: its destination is none of g's, it reads none of them, and no step of the rest
+-- reads its own
+pub record IsFree {A : Type 0} (m : A → Operation) (g : List A) (x : A) (rest : List A) : Type 0 where
   pub other : 1 ≤ length rest
-  pub free : shares_destination m (m x) g ≡ false
+  pub own : shares_destination m (m x) g ≡ false
   pub apart : reads_from m (m x) g ≡ false
   pub unread : is_read_by m (m x) rest ≡ false
+
+-- it may move where it is free to, and some word fits g with it and some the rest, with the
+-- registers that are live then
+pub record Movable {A : Type 0} (m : A → Operation) (fits : ℕ → List A → Regs → Type 0) (g : List A)
+    (x : A) (rest : List A) (live : Regs) : Type 0 where
+  pub free : IsFree m g x rest
   pub first : (w : ℕ) × fits w (g ++ x ∷ []) (live_before m (rest ∷ []) live)
   pub second : (w : ℕ) × fits w rest live
 

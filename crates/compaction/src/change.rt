@@ -5,7 +5,7 @@ ghost use Rattle.bit_bdd.specs.Diagrams.{Extends};
 ghost use Rattle.form_model.specs.declared.forms.Step.{Step as TheStep};
 ghost use Rattle.form_model.specs.Live.{regs_of};
 ghost use Rattle.compaction.specs.Inner.Machines.{CanMerge, CanMove, Changes, HasWord, IsReadyFor, HasTables, Moves, MovesAt, operation_in};
-ghost use Rattle.compaction.specs.Inner.Turns.{IsFree};
+ghost use Rattle.compaction.specs.Packing.{IsFree};
 
 use crate::copies::{added, joined};
 use crate::depends::{all_differ, is_read_by_either, reads_across, reads_from, shares_destination};

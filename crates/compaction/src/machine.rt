@@ -1,12 +1,12 @@
 //! A netlist with its patterns, and what their expressions read.
 
-ghost use Rattle.std.specs.Prelude.{◌≡◌, ◌<◌, false, length, IfOk};
-ghost use Rattle.std.specs.List.{slice_index_or};
+ghost use Rattle.std.specs.Prelude.{◌≡◌, ◌<◌, length, IfOk};
 ghost use Rattle.net_model.specs.Occurs.{has_read, move_has_read};
 ghost use Rattle.sym_expr.specs.Pools.{term_at};
 ghost use Rattle.compaction.specs.Inner.Machines.{AreReaders, HasTables, operation_in};
 
 use form_model::{RegSet, Step};
+use live_sets::flag_at;
 use net_model::Checked;
 use rec_bits::{Items, NoMemory};
 use std::alloc::Global;
@@ -23,16 +23,6 @@ pub(crate) struct Machine<'a> {
     pub registers: &'a [RegSet],
     /// And whether it reads the memory.
     pub memory: &'a [bool],
-}
-
-// The flag at an index, and false past the end.
-fn flag_at(flags: &[bool], id: ExprId) -> bool
-    ensures { result ≡ slice_index_or flags.now id false }
-{
-    match flags.get(id as usize) {
-        Some(flag) => *flag,
-        None => false,
-    }
 }
 
 // Whether an expression reads the memory, from whether its parts do.

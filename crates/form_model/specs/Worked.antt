@@ -144,6 +144,37 @@ to_computed = refl
 to_number : taken 1 store (stored (const 8 9)) sum false ≡ found 9 (operand 1 sum false ∷ [])
 to_number = refl
 
+-- M[AR] := ACC, whose address is in register 2: it stores at any address, which goes into that
+-- register, be it computed or a number
+abbrev store_through : Rule
+store_through = record {
+  pattern = 8;
+  goal = into_memory;
+  addr = Some (reg 2 8);
+  value = reg 1 16;
+  fields = 255;
+  clobbers = 5;
+}
+
+through_computed : taken 1 store_through (stored (read (const 8 1) 8)) sum false
+    ≡ found 0 (operand 2 (read (const 8 1) 8) false ∷ operand 1 sum false ∷ [])
+through_computed = refl
+
+through_number : taken 1 store_through (stored (const 8 9)) sum false
+    ≡ found 0 (operand 2 (const 8 9) false ∷ operand 1 sum false ∷ [])
+through_number = refl
+
+-- a cell and a temporary cell have no address tree, and it takes neither
+no_cell : taken 1 store_through (cell 2) sum false ≡ None
+no_cell = refl
+
+no_temporary : taken 1 store_through temporary sum false ≡ None
+no_temporary = refl
+
+-- nor an address of another width
+other_address : taken 1 store_through (stored (const 16 9)) sum false ≡ None
+other_address = refl
+
 -- no memory form takes a test, nor a form for a register what goes into another
 no_test : taken 1 store tested sum true ≡ None
 no_test = refl

@@ -20,7 +20,8 @@
 //!   `Live` (what steps do and read, and live registers). `Worked` has shapes and matches,
 //!   computed.
 //! - `proofs/`: `FieldLaws` and `ShapeLaws` carry the law of shapes, `TreeLaws` that of trees;
-//!   `Zips` is for lists in two orders, in the crates above.
+//!   `Zips` is for lists in two orders, in the crates above. `WorkedCovers` is a worked choice
+//!   between the two trees of a test.
 #![tactic(auto)]
 
 mod covers;

@@ -33,5 +33,5 @@ mod steps;
 pub use between::{live, live_between, live_with};
 pub use laws::law_of_lists;
 pub use locations::Location;
-pub use reads::reads_table;
+pub use reads::{flag_at, reads_table};
 pub use steps::{shares, touches};

@@ -57,8 +57,8 @@ pub fn reads_table(alloc: Global, pool: &Pool) -> Result<Items<RegSet>, NoMemory
     Ok(sets)
 }
 
-// The flag at an index, and false past the end.
-pub(crate) fn flag_at(flags: &[bool], id: ExprId) -> bool
+/// What a table tells of an expression, and false of one past its end.
+pub fn flag_at(flags: &[bool], id: ExprId) -> bool
     ensures { result ≡ slice_index_or flags.now id false }
 {
     match flags.get(id as usize) {

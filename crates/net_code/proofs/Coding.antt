@@ -10,12 +10,11 @@ use Rattle.form_model.specs.declared.flow.Flow.{Flow}
 use Rattle.form_model.specs.declared.flow.Flow.TheVariants.{Assign, Test, Jump, End}
 use Rattle.src_trees.specs.Blocks.{IsAssignBlock, continues, is_assign, jobs_at}
 use Rattle.src_trees.specs.Lowered.{Work}
-use Rattle.branch_fix.specs.Parts.{branch_or_zero}
+use Rattle.branch_fix.specs.Parts.{branch_or_zero, blocks_before, place_blocks, place_tests, tests_before}
 use Rattle.right_code.specs.Images.{choices_at}
 use Rattle.right_code.specs.Jobs.{jobs_steps}
 use Rattle.net_code.specs.declared.blocks.PackedBlock.{PackedBlock}
 use Rattle.net_code.specs.Inner.Coded.{IsBlockCode, IsPackedBlock, IsTestCode, block_at, no_block}
-use Rattle.net_code.specs.Inner.Places.{blocks_before, place_blocks, place_tests, tests_before}
 
 -- ---- lists
 

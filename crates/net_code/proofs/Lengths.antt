@@ -18,7 +18,7 @@ use Rattle.right_code.specs.Images.{choice_at, choices_of, choices_at}
 use Rattle.right_code.specs.Jobs.{IsCovered, job_steps, jobs_steps, tree_or_none}
 use Rattle.right_code.proofs.Tasks.{AreTests, tests_get}
 use Rattle.net_code.specs.Inner.Coded.{IsBlockCode}
-use Rattle.net_code.specs.Inner.Places.{blocks_before}
+use Rattle.branch_fix.specs.Parts.{blocks_before}
 use Rattle.net_code.proofs.Making.{sizes, sizes_at}
 use Rattle.net_code.proofs.Packing.{groups_few}
 use Rattle.net_code.specs.declared.blocks.PackedBlock.{PackedBlock}

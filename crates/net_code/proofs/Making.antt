@@ -14,13 +14,12 @@ use Rattle.branch_fix.specs.declared.laid.Item.{Item}
 use Rattle.branch_fix.specs.declared.part.Fork.{Fork}
 use Rattle.branch_fix.specs.declared.part.Part.{Part}
 use Rattle.branch_fix.specs.declared.part.Part.TheVariants.{Block, Inner, Test, Jump, End}
-use Rattle.branch_fix.specs.Parts.{fork_to, branch_or_zero, part_for, parts_of, rule_at_one}
+use Rattle.branch_fix.specs.Parts.{fork_to, branch_or_zero, part_for, parts_of, rule_at_one, blocks_before, tests_before}
 use Rattle.branch_fix.specs.Rounds.{IsFixpoint}
 use Rattle.right_code.specs.Images.{AreBlockWords, AreTestWords, IsBranchOf, choices_at}
 use Rattle.right_code.specs.Words.{IsItemWord, ListItems, StandItems}
 use Rattle.net_code.specs.declared.blocks.PackedBlock.{PackedBlock}
 use Rattle.net_code.specs.Inner.Coded.{AreItemWords, IsBlockCode, groups_at, words_at}
-use Rattle.net_code.specs.Inner.Places.{blocks_before, tests_before}
 use Rattle.net_code.proofs.Places.{settled_part, shortened}
 
 -- ---- words in their order

@@ -4,7 +4,7 @@ use Rattle.form_model.specs.declared.flow.Flow.{Flow}
 use Rattle.form_model.specs.declared.flow.Flow.TheVariants.{Assign, Test, Jump, End}
 use Rattle.src_trees.specs.Blocks.{IsAssignBlock, continues, is_assign, is_entered}
 use Rattle.branch_fix.specs.Costs.{SizesWithin, block_costs, joined}
-use Rattle.net_code.specs.Inner.Places.{blocks_before, place_blocks}
+use Rattle.branch_fix.specs.Parts.{blocks_before, place_blocks}
 use Rattle.net_code.proofs.Coding.{block_counted}
 
 -- ---- lists

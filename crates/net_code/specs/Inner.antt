@@ -4,7 +4,6 @@ pub mod Coded
 pub mod Covering
 pub mod Imaged
 pub mod Memories
-pub mod Places
 pub mod Registers
 pub mod Uncovered
 pub mod Views

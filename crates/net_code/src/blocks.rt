@@ -1,10 +1,9 @@
 //! The blocks of a program and of its tests, packed.
 
 ghost use Rattle.std.specs.Prelude.{◌≡◌, ◌<◌, ◌≤◌, ◌+◌, ℕ, IfOk, OnOk, OnErr, Some, false, length, slice_get, true};
-ghost use Rattle.std.proofs.Common.{replicate};
 ghost use Rattle.std.specs.List.{AllByRecursion};
 ghost use Rattle.bit_bdd.specs.Diagrams.{Extends};
-ghost use Rattle.branch_fix.specs.Entered.{marked};
+ghost use Rattle.branch_fix.specs.Entered.{entered_places};
 ghost use Rattle.cover.specs.Best.{choice_of};
 ghost use Rattle.form_model.specs.Live.{no_regs, regs_of, singles};
 ghost use Rattle.block_words.specs.Words.{HaveWords};
@@ -169,7 +168,7 @@ fn push_run(
     requires within { at < length program.now.flow.now }
     requires begins { continues program.now.flow.now at ≡ false }
     requires assigns { is_assign (slice_get program.now.flow.now at) ≡ true }
-    requires entered { entered.now ≡ marked program.now.flow.now (replicate (length program.now.flow.now) false) }
+    requires entered { entered.now ≡ entered_places program.now.flow.now }
     requires once { AllByRecursion IsOnce code.old.blocks.items }
     requires code { IsBlockCode (machine_netlist machine.now) (machine_patterns machine.now)
         (stock_of program.now) program.now.flow.now (works_in program.now) (choices_in program.now)
@@ -234,7 +233,7 @@ fn push_code(
     requires ready { IsReady (machine_netlist machine.now) book.old machine.now.pool.now machine.now.patterns.now }
     requires covering { IsCovered machine.now program.now }
     requires within { at < length program.now.flow.now }
-    requires entered { entered.now ≡ marked program.now.flow.now (replicate (length program.now.flow.now) false) }
+    requires entered { entered.now ≡ entered_places program.now.flow.now }
     requires once { AllByRecursion IsOnce code.old.blocks.items }
     requires code { IsBlockCode (machine_netlist machine.now) (machine_patterns machine.now)
         (stock_of program.now) program.now.flow.now (works_in program.now) (choices_in program.now)

@@ -23,8 +23,8 @@
 //! - `words`: the words of the layout's items, with their lists.
 //! - `image`: the layout, the bound, and `image_of`.
 //! - `specs/`: `Refusals`, cited by public contracts with `right_code/specs`. `specs/Inner/`: what
-//!   goes with the code: `Covering`, `Coded`, `Imaged`, `Views`, `Places`, `Uncovered`,
-//!   `Registers`, `Memories`.
+//!   goes with the code: `Covering`, `Coded`, `Imaged`, `Views`, `Uncovered`, `Registers`,
+//!   `Memories`.
 //! - `proofs/`: `Whole` and `Making` put the image together, `Coding`, `Packing` and `Stepping` its
 //!   blocks; `Lengths` and `Sizes` for the bound, `NeededForms` and `FormLemmas` for refusals;
 //!   `Fitting`, `Frames`, `Built` and `Listing` for the task.

@@ -1,8 +1,7 @@
 //! The steps of blocks and of tests.
 
 ghost use Rattle.std.specs.Prelude.{◌≡◌, ◌<◌, ◌≤◌, ◌+◌, ◌++◌, IfOk, OnOk, IfSome, Some, length, slice_get, true, false};
-ghost use Rattle.std.proofs.Common.{replicate};
-ghost use Rattle.branch_fix.specs.Entered.{marked};
+ghost use Rattle.branch_fix.specs.Entered.{entered_places};
 ghost use Rattle.src_trees.specs.Blocks.{IsAssignBlock, continues, is_assign, job_at, job_list, jobs_at};
 ghost use Rattle.right_code.specs.Images.{choice_at, choices_of, choices_at};
 ghost use Rattle.right_code.specs.Jobs.{jobs_steps};
@@ -102,7 +101,7 @@ pub(crate) fn block_length(flow: &[Flow], entered: &[bool], at: usize) -> usize
     requires within { at < length flow.now }
     requires begins { continues flow.now at ≡ false }
     requires assigns { is_assign (slice_get flow.now at) ≡ true }
-    requires entered { entered.now ≡ marked flow.now (replicate (length flow.now) false) }
+    requires entered { entered.now ≡ entered_places flow.now }
     ensures block { IsAssignBlock flow.now at result }
     ensures within { at + result ≤ length flow.now }
 {

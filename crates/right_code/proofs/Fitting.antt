@@ -185,9 +185,9 @@ pub code_fits : (netlist : Netlist) (patterns : List Pattern) (stock : Stock) (i
 code_fits netlist patterns stock image flow jobs parts reach tests laid some =
     let fit : PartsFit stock.rules flow 0 flow parts = settled_fit stock.rules flow laid.layout.sizes laid.layout.settings parts laid.layout.settled in
     let n = laid.long in
-    let items = items_length stock.rules (jump_form stock.rules reach) (starts 0 parts) 0 parts in
-    all_fit netlist patterns laid.words (words_of image) (items_from stock.rules (jump_form stock.rules reach) (starts 0 parts) 0 parts)
-    (items_fit netlist patterns laid.words stock.rules (jump_form stock.rules reach) (starts 0 parts) 0 parts (λ k p e. by fit k p e)) laid.stand (n ∙ sym (items_length stock.rules (jump_form stock.rules reach) (starts 0 parts) 0 parts)) (omega (arith, n, items, some))
+    let items = items_length stock.rules (jump_form stock.rules reach) (starts parts) 0 parts in
+    all_fit netlist patterns laid.words (words_of image) (items_from stock.rules (jump_form stock.rules reach) (starts parts) 0 parts)
+    (items_fit netlist patterns laid.words stock.rules (jump_form stock.rules reach) (starts parts) 0 parts (λ k p e. by fit k p e)) laid.stand (n ∙ sym (items_length stock.rules (jump_form stock.rules reach) (starts parts) 0 parts)) (omega (arith, n, items, some))
   where
     by : PartsFit stock.rules flow 0 flow parts → (k : ℕ) (p : Part) → slice_get parts k ≡ Some p → PartFits netlist patterns laid.words p
     by fit k (Block block size) e = let b = block_at stock.rules flow parts k block size fit e in let r = laid.blocks k b.0 block size b.1 e in least_fit netlist patterns laid.words block r.groups r.live size r.least r.long

@@ -10,13 +10,12 @@ use Rattle.form_model.specs.Rules.{Rule, BranchTarget, absolute, relative, branc
 use Rattle.src_trees.specs.Lowered.{holds_at_one}
 use Rattle.src_trees.specs.Blocks.{continues}
 use Rattle.src_trees.specs.Flows.{places_for, places_in, places_else, else_entry, asked, flow_of, flow_in, flow_else, program_flow}
-use Rattle.branch_fix.specs.Parts.{rule_at_one, fork_to, branch_or_zero, part_for, parts_from, parts_of, room, starts, blocks_in, tests_in, FitsPart, PartsFit}
+use Rattle.branch_fix.specs.Parts.{rule_at_one, fork_to, branch_or_zero, blocks_before, tests_before, part_for, place_part, parts_from, parts_of, room, starts, FitsPart, PartsFit}
 use Rattle.branch_fix.specs.Rounds.{kind_shows, rule_shows, widened, widened_from, round, rounds}
 use Rattle.branch_fix.specs.declared.part.Fork.{Fork}
 use Rattle.branch_fix.specs.declared.part.Part.{Part}
 use Rattle.branch_fix.specs.declared.part.Part.TheVariants.{Block, Inner, Test, Jump, End}
 use Rattle.branch_fix.proofs.Addresses.{part_at, fit_length}
-use Rattle.branch_fix.proofs.Laying.{parts_step}
 use Rattle.right_code.proofs.Coded.{there}
 
 -- ---- targets
@@ -169,13 +168,12 @@ new_short rules flow sizes forks (Tested tree one none) at block test f e = by (
 new_short rules flow sizes forks (Jumped to) at block test f e = absurd (cc e)
 new_short rules flow sizes forks Ended at block test f e = absurd (cc e)
 
-all_short : (rules : List Rule) (flow : List Flow) (sizes : List ℕ) (forks : List (ℕ × ℕ)) (rest : List Flow) (at block test k : ℕ) (f : Fork) → slice_get (parts_from rules flow sizes forks rest at block test) k ≡ Some (Test f) → f.long ≡ false
-all_short rules flow sizes forks [] at block test k f e = absurd (cc e)
-all_short rules flow sizes forks (g ∷ rest) at block test k f e =
-    by k (part_for rules flow sizes forks g at block test) (parts_from rules flow sizes forks rest (at + 1) (block + blocks_in (part_for rules flow sizes forks g at block test)) (test + tests_in (part_for rules flow sizes forks g at block test)))
-    (new_short rules flow sizes forks g at block test f)
-    (λ n. all_short rules flow sizes forks rest (at + 1) (block + blocks_in (part_for rules flow sizes forks g at block test)) (test + tests_in (part_for rules flow sizes forks g at block test)) n f)
-    (ap (λ ps. slice_get ps k) (sym (parts_step rules flow sizes forks g rest at block test)) ∙ e)
+all_short : (rules : List Rule) (flow : List Flow) (sizes : List ℕ) (forks : List (ℕ × ℕ)) (rest : List Flow) (at k : ℕ) (f : Fork) → slice_get (parts_from rules flow sizes forks rest at) k ≡ Some (Test f) → f.long ≡ false
+all_short rules flow sizes forks [] at k f e = absurd (cc e)
+all_short rules flow sizes forks (g ∷ rest) at k f e =
+    by k (place_part rules flow sizes forks g at) (parts_from rules flow sizes forks rest (at + 1))
+    (new_short rules flow sizes forks g at (blocks_before flow at) (tests_before flow at) f)
+    (λ n. all_short rules flow sizes forks rest (at + 1) n f) e
   where
     one : (x y : Part) → Some x ≡ Some y → x ≡ y
     one x y e = cc
@@ -207,10 +205,10 @@ test_from rules addresses at (p ∷ parts) (suc k) g e =
 
 round_wide : (rules : List Rule) (parts : List Part) → AreWide rules parts → AreWide rules (round rules parts)
 round_wide rules parts w at g turn when_one way e form goal long =
-    let f = test_from rules (starts 0 parts) 0 parts at g e in
+    let f = test_from rules (starts parts) 0 parts at g e in
     let same : slice_get rules f.old.form ≡ Some turn = ap (λ (x : Fork). slice_get rules x.form) (sym f.is) ∙ form in
-    let was : (f.old.long || not (rule_shows (slice_get rules f.old.form) (f.place + f.old.words) (slice_index (starts 0 parts) f.old.to))) ≡ true = ap (λ (x : Fork). x.long) (sym f.is) ∙ long in
-    by way goal f.old same (f.place + f.old.words) (slice_index (starts 0 parts) f.old.to) was (w at f.old turn when_one way f.at same goal)
+    let was : (f.old.long || not (rule_shows (slice_get rules f.old.form) (f.place + f.old.words) (slice_index (starts parts) f.old.to))) ≡ true = ap (λ (x : Fork). x.long) (sym f.is) ∙ long in
+    by way goal f.old same (f.place + f.old.words) (slice_index (starts parts) f.old.to) was (w at f.old turn when_one way f.at same goal)
   where
     plain : (l b : Bool) → b ≡ true → (l || not b) ≡ true → l ≡ true
     plain true b s e = refl
@@ -226,7 +224,7 @@ rounds_wide rules zero parts w = w
 rounds_wide rules (suc n) parts w = rounds_wide rules n (round rules parts) (round_wide rules parts w)
 
 pub settled_wide : (rules : List Rule) (flow : List Flow) (sizes : List ℕ) (forks : List (ℕ × ℕ)) (n : ℕ) → AreWide rules (rounds rules n (parts_of rules flow sizes forks))
-settled_wide rules flow sizes forks n = rounds_wide rules n (parts_of rules flow sizes forks) (λ at f turn when_one way e form goal long. absurd (clash f.long (all_short rules flow sizes forks flow 0 0 0 at f e) long))
+settled_wide rules flow sizes forks n = rounds_wide rules n (parts_of rules flow sizes forks) (λ at f turn when_one way e form goal long. absurd (clash f.long (all_short rules flow sizes forks flow 0 at f e) long))
   where
     clash : (b : Bool) → b ≡ false → b ≡ true → ⊥
     clash b p q = cc

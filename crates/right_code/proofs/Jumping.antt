@@ -135,11 +135,11 @@ module _ (netlist : Netlist) (order : List ℕ) (keeps : KeepsRules netlist orde
 
   module _ (flow : List Flow) (parts : List Part) (end : ℕ) (f : IsFlow flow end) (upto : Upto end flow) (layout : IsLayout stock.rules flow parts reach) where
     -- a jump to a place
-    to_place : (k : ℕ) → k < length parts → HasWord (jump_step (jump_form stock.rules reach) (slice_index (starts 0 parts) k))
+    to_place : (k : ℕ) → k < length parts → HasWord (jump_step (jump_form stock.rules reach) (slice_index (starts parts) k))
     to_place k lt = subst (λ n. HasWord (jump_step (jump_form stock.rules reach) n)) (sym (address_is parts k (omega (arith, lt)))) (jump_word (address parts k) (near netlist order keeps patterns stock reach turns flow parts end f upto layout k lt))
 
     behind_have : (next long : Bool) (to other : ℕ) → to < length parts → other < length parts
-        → ItemsHave (behind (jump_form stock.rules reach) next long (slice_index (starts 0 parts) to) (slice_index (starts 0 parts) other))
+        → ItemsHave (behind (jump_form stock.rules reach) next long (slice_index (starts parts) to) (slice_index (starts parts) other))
     behind_have next true to other lt low = (to_place other low, (to_place to lt, tt))
     behind_have true false to other lt low = tt
     behind_have false false to other lt low = (to_place other low, tt)
@@ -152,7 +152,7 @@ module _ (netlist : Netlist) (order : List ℕ) (keeps : KeepsRules netlist orde
       pub form : slice_get stock.rules g.form ≡ Some (plan_rule stock plan)
       pub setting : g.setting ≡ branch_setting stock tree plan
 
-    branch_word : (at : ℕ) (g : Fork) → slice_get parts at ≡ Some (Test g) → IsAsked g → HasWord (branch_step (slice_get stock.rules g.form) g.setting (address parts at + g.words) (slice_index (starts 0 parts) g.to) g.long)
+    branch_word : (at : ℕ) (g : Fork) → slice_get parts at ≡ Some (Test g) → IsAsked g → HasWord (branch_step (slice_get stock.rules g.form) g.setting (address parts at + g.words) (slice_index (starts parts) g.to) g.long)
     branch_word at g e asked =
         let setting : ℕ = branch_setting stock asked.tree asked.plan in
         let s : IsBranchStep netlist order keeps patterns stock reach turns flow parts end f upto layout setting asked.plan g (address parts at + g.words) (address parts g.to) =
@@ -166,7 +166,7 @@ module _ (netlist : Netlist) (order : List ℕ) (keeps : KeepsRules netlist orde
         (branch_fields s.when_one form.condition form.target form.step setting s.bits own bits))
 
     part_have : ((at : ℕ) (g : Fork) → slice_get parts at ≡ Some (Test g) → IsAsked g) → (k : ℕ) (p : Part) → slice_get parts k ≡ Some p
-        → ItemsHave (part_items stock.rules (jump_form stock.rules reach) (starts 0 parts) (address parts k) p)
+        → ItemsHave (part_items stock.rules (jump_form stock.rules reach) (starts parts) (address parts k) p)
     part_have asked k (Block block words) e = groups_have block 0 words
     part_have asked k Inner e = tt
     part_have asked k (Test g) e =
@@ -177,8 +177,8 @@ module _ (netlist : Netlist) (order : List ℕ) (keeps : KeepsRules netlist orde
 
     -- each jump and branch word of the layout
     pub layout_words : ((at : ℕ) (g : Fork) → slice_get parts at ≡ Some (Test g) → IsAsked g) → (k : ℕ) (step : Step)
-        → slice_get (items_from stock.rules (jump_form stock.rules reach) (starts 0 parts) 0 parts) k ≡ Some (Word step) → HasWord step
+        → slice_get (items_from stock.rules (jump_form stock.rules reach) (starts parts) 0 parts) k ≡ Some (Word step) → HasWord step
     layout_words asked k step e =
-        have_get (items_from stock.rules (jump_form stock.rules reach) (starts 0 parts) 0 parts) k step
-        (items_have stock.rules (jump_form stock.rules reach) (starts 0 parts) 0 parts
-        (λ n p a h z. subst (λ m. ItemsHave (part_items stock.rules (jump_form stock.rules reach) (starts 0 parts) m p)) (let y : address parts n ≡ a = omega (arith, z) in y) (part_have asked n p h))) e
+        have_get (items_from stock.rules (jump_form stock.rules reach) (starts parts) 0 parts) k step
+        (items_have stock.rules (jump_form stock.rules reach) (starts parts) 0 parts
+        (λ n p a h z. subst (λ m. ItemsHave (part_items stock.rules (jump_form stock.rules reach) (starts parts) m p)) (let y : address parts n ≡ a = omega (arith, z) in y) (part_have asked n p h))) e

@@ -96,7 +96,7 @@ module _ (netlist : Netlist) (order : List ℕ) (keeps : KeepsRules netlist orde
       pub goal : (plan_rule stock plan).goal ≡ branches when_one way
       pub bits : ℕ
       pub shown : IsTargetShown netlist way from to g.long bits
-      pub step : branch_step (slice_get stock.rules g.form) g.setting from (slice_index (starts 0 parts) g.to) g.long ≡ record { pattern = (plan_rule stock plan).pattern; setting = bit_or setting bits }
+      pub step : branch_step (slice_get stock.rules g.form) g.setting from (slice_index (starts parts) g.to) g.long ≡ record { pattern = (plan_rule stock plan).pattern; setting = bit_or setting bits }
 
     pub branch_step_is : (at : ℕ) (g : Fork) → slice_get parts at ≡ Some (Test g) → (tree : Term) (plan : Plan) (setting : ℕ) → IsOrderly stock tested tree true plan → slice_get stock.rules g.form ≡ Some (plan_rule stock plan) → g.setting ≡ setting
         → IsBranchStep setting plan g (address parts at + g.words) (address parts g.to)
@@ -108,16 +108,16 @@ module _ (netlist : Netlist) (order : List ℕ) (keeps : KeepsRules netlist orde
         let way : BranchTarget = goal.1 in
         let is : rule.goal ≡ branches goal.0 way = goal.2 in
         let in_to = (ways at g e).0 in
-        let to_is : slice_index (starts 0 parts) g.to ≡ to = address_is parts g.to (omega (arith, in_to)) in
+        let to_is : slice_index (starts parts) g.to ≡ to = address_is parts g.to (omega (arith, in_to)) in
         let still : g.long ≡ false → target_shows way from to ≡ true =
-        (λ z. sym (ap (λ o. rule_shows o from (slice_index (starts 0 parts) g.to)) form ∙ ap (λ n. kind_shows rule.goal from n) to_is ∙ ap (λ k. kind_shows k from to) is)
-        ∙ still_shows stock.rules (starts 0 parts) parts at g e layout.settled.still z) in
+        (λ z. sym (ap (λ o. rule_shows o from (slice_index (starts parts) g.to)) form ∙ ap (λ n. kind_shows rule.goal from n) to_is ∙ ap (λ k. kind_shows k from to) is)
+        ∙ still_shows stock.rules (starts parts) parts at g e layout.settled.still z) in
         record {
           when_one = goal.0;
           way = way;
           goal = is;
           bits = target_setting way from to g.long;
           shown = shown_way netlist reach way g.long from to (turns.reaches g.form rule goal.0 way form is) (near g.to in_to) (counted g.to in_to) (wide at g rule goal.0 way e form is) still;
-          step = ap (λ o. branch_step o g.setting from (slice_index (starts 0 parts) g.to) g.long) form ∙ ap (λ n. branch_step (Some rule) g.setting from n g.long) to_is
+          step = ap (λ o. branch_step o g.setting from (slice_index (starts parts) g.to) g.long) form ∙ ap (λ n. branch_step (Some rule) g.setting from n g.long) to_is
               ∙ ap (λ n. branch_step (Some rule) n from to g.long) asked ∙ ap (λ k. record { pattern = rule.pattern; setting = bit_or setting (kind_setting k from to g.long) }) is;
         }

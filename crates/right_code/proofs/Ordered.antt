@@ -69,8 +69,8 @@ module _ (netlist : Netlist) (order : List ℕ) (keeps : KeepsRules netlist orde
 
   module _ (flow : List Flow) (jobs : List Work) (parts : List Part) (end : ℕ) (f : IsFlow flow end) (upto : Upto end flow) (laid : IsLaidCode netlist patterns stock image flow jobs parts reach) where
     stands : (k : ℕ) (p : Part) → slice_get parts k ≡ Some p
-        → StandItems netlist patterns laid.words (words_of image) (address parts k) (part_items stock.rules (jump_form stock.rules reach) (starts 0 parts) (address parts k) p)
-    stands k p e = part_stands netlist patterns laid.words (words_of image) stock.rules (jump_form stock.rules reach) (starts 0 parts) 0 parts k p (address parts k) e (omega arith) laid.stand
+        → StandItems netlist patterns laid.words (words_of image) (address parts k) (part_items stock.rules (jump_form stock.rules reach) (starts parts) (address parts k) p)
+    stands k p e = part_stands netlist patterns laid.words (words_of image) stock.rules (jump_form stock.rules reach) (starts parts) 0 parts k p (address parts k) e (omega arith) laid.stand
 
     fork_made : (at : ℕ) (g : Fork) → slice_get parts at ≡ Some (Test g) → (job : Work) → IsForkReady netlist patterns stock job (laid.words g.block) g
         → IsForkMade netlist patterns stock image job (rule_at_one (slice_get stock.rules g.form)) g (address parts at) (address parts g.to) (address parts g.other)
@@ -83,10 +83,10 @@ module _ (netlist : Netlist) (order : List ℕ) (keeps : KeepsRules netlist orde
         branch_step_is netlist order keeps patterns stock reach turns flow parts end f upto laid.layout at g e r.covered.covers.tree r.choice.plan setting r.covered.covers.orderly r.form r.setting in
         let in_to = (ways netlist order keeps patterns stock reach turns flow parts end f upto laid.layout at g e).0 in
         let in_other = (ways netlist order keeps patterns stock reach turns flow parts end f upto laid.layout at g e).1 in
-        let to_is : slice_index (starts 0 parts) g.to ≡ address parts g.to = address_is parts g.to (omega (arith, in_to)) in
-        let other_is : slice_index (starts 0 parts) g.other ≡ address parts g.other = address_is parts g.other (omega (arith, in_other)) in
+        let to_is : slice_index (starts parts) g.to ≡ address parts g.to = address_is parts g.to (omega (arith, in_to)) in
+        let other_is : slice_index (starts parts) g.other ≡ address parts g.other = address_is parts g.other (omega (arith, in_other)) in
         let s = stand_split netlist patterns laid.words (words_of image) (groups g.block 0 g.words) _ a from (ap (λ n. a + n) (sym (groups_length g.block 0 g.words))) (stands at (Test g) e) in
-        let word : FitsJump netlist (image_word image from) (operation_of patterns (branch_step (slice_get stock.rules g.form) g.setting from (slice_index (starts 0 parts) g.to) g.long)) = s.1.0.is in
+        let word : FitsJump netlist (image_word image from) (operation_of patterns (branch_step (slice_get stock.rules g.form) g.setting from (slice_index (starts parts) g.to) g.long)) = s.1.0.is in
         subst (λ b. IsForkMade netlist patterns stock image job b g a (address parts g.to) (address parts g.other)) (sym (ap rule_at_one r.form ∙ ap kind_at_one step.goal)) (record {
           choice = r.choice;
           operands = record {
@@ -108,7 +108,7 @@ module _ (netlist : Netlist) (order : List ℕ) (keeps : KeepsRules netlist orde
           word = subst (λ x. FitsJump netlist (image_word image from) (operation_of patterns x)) step.step word;
           behind = behind_made laid.words g.next g.long from (address parts g.to) (address parts g.other) (near netlist order keeps patterns stock reach turns flow parts end f upto laid.layout g.to in_to) (near netlist order keeps patterns stock reach turns flow parts end f upto laid.layout g.other in_other)
               (subst (λ n. StandItems netlist patterns laid.words (words_of image) (from + 1) (behind (jump_form stock.rules reach) g.next g.long (address parts g.to) n)) other_is
-              (subst (λ n. StandItems netlist patterns laid.words (words_of image) (from + 1) (behind (jump_form stock.rules reach) g.next g.long n (slice_index (starts 0 parts) g.other))) to_is s.1.1));
+              (subst (λ n. StandItems netlist patterns laid.words (words_of image) (from + 1) (behind (jump_form stock.rules reach) g.next g.long n (slice_index (starts parts) g.other))) to_is s.1.1));
         })
 
     block_made : (at n block size : ℕ) → slice_get parts at ≡ Some (Block block size) → (works : List Work) → IsBlockReady netlist patterns stock works (laid.words block) size

@@ -142,7 +142,7 @@ module _ (order : List ℕ) (task : Task) (checked : IsChecked order task) where
       -- and each jump and branch of a layout
       pub jump_words_of : (parts : List Part) → IsLayout rules (program_flow task.listing) parts reach
           → ((at : ℕ) (f : Fork) → slice_get parts at ≡ Some (Test f) → (job : Work) → slice_get (task_works task) f.tree ≡ Some job → (choice : Choice) → slice_get choices f.tree ≡ Some choice → IsBranchOf (task_stock rules task) job choice f)
-          → (k : ℕ) (step : Step) → slice_get (items_from rules (jump_form rules reach) (starts 0 parts) 0 parts) k ≡ Some (Jump step) → (word : ℕ) × FitsJump task.netlist word (operation_of patterns step)
+          → (k : ℕ) (step : Step) → slice_get (items_from rules (jump_form rules reach) (starts parts) 0 parts) k ≡ Some (Jump step) → (word : ℕ) × FitsJump task.netlist word (operation_of patterns step)
       jump_words_of parts layout branch k step e =
           layout_words task.netlist order checked.netlist some patterns known reach (task_stock rules task) forms (turns (some_reach parts layout)) (program_flow task.listing) parts (places_in (acts_of task.listing.body))
           (program_is_flow task.listing) (program_upto task.listing) layout asked k step e

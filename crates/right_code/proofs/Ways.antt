@@ -35,7 +35,7 @@ module _ (netlist : Netlist) where
   far shape from to false bits w h few at le lt = record {
     v = distance (term_width shape) from to;
     shown = h.1;
-    leads = ap (λ n. (from + distance n from to) % 2 ^ counter_width netlist) w ∙ distance_leads (counter_width netlist) from to few le h.0;
+    leads = ap (λ n. (from + distance n from to) % 2 ^ counter_width netlist) w ∙ distance_leads (counter_width netlist) from to few h.0;
   }
 
   relative_bits : (shape e : Term) (b : ℕ) → (e ≡ bin Add (reg (counter_of netlist.codes) (counter_width netlist)) shape) ⊎ (e ≡ bin Add shape (reg (counter_of netlist.codes) (counter_width netlist)))

@@ -115,7 +115,7 @@ pub record IsMadeFor (task : Task) (image : Image) : Type 0 where
   -- these words, and the jump and branch words between them, are all words of the image, in the
   -- order of the flow
   pub stand : StandItems task.netlist patterns words (words_of image) 0
-      (items_from rules (jump_form rules reach) (starts 0 parts) 0 parts)
+      (items_from rules (jump_form rules reach) (starts parts) 0 parts)
   pub long : length (words_of image) ≡ total parts
   -- each test has one mark with its tree's number, at the first word of its code, and the last word
   -- has that of the end
@@ -124,7 +124,7 @@ pub record IsMadeFor (task : Task) (image : Image) : Type 0 where
   -- there are no more words than the bound
   pub most : length (words_of image) ≤ program_bound task.listing (job_costs (task_works task) choices)
   -- each word lists the patterns of its group's steps, or that of its jump or branch
-  pub lists : ListItems groups (items_from rules (jump_form rules reach) (starts 0 parts) 0 parts) image.words
+  pub lists : ListItems groups (items_from rules (jump_form rules reach) (starts parts) 0 parts) image.words
 
 -- right code: an image made for the task, which traces the program
 pub record IsRightImage (task : Task) (image : Image) : Type 0 where

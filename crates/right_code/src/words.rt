@@ -69,6 +69,6 @@ pub fn law_of_jump_words()
         (choice : Choice) → slice_get choices f.tree ≡ Some choice →
         IsBranchOf (task_stock rules task) job choice f) →
         (k : ℕ) (step : Step) →
-        slice_get (items_from rules (jump_form rules reach) (starts 0 parts) 0 parts) k ≡ Some (Jump step) →
+        slice_get (items_from rules (jump_form rules reach) (starts parts) 0 parts) k ≡ Some (Jump step) →
         (word : ℕ) × FitsJump task.netlist word (operation_of patterns step) }
 {}

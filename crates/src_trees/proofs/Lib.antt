@@ -10,3 +10,4 @@ pub mod LowerLemmas
 pub mod LowerCases
 pub mod Plain
 pub mod Behind
+pub mod Nodes

@@ -55,6 +55,41 @@ abbrev pub most_temps : ℕ → List Work → ℕ
 most_temps bits [] = 0
 most_temps bits (work ∷ later) = max (trees_temps bits work.destination work.trees) (most_temps bits later)
 
+-- ---- nodes
+
+-- the nodes of a tree; a read at a number is one
+abbrev pub node_size : Term → ℕ
+node_size (word w) = 1
+node_size (reg r w) = 1
+node_size (const w v) = 1
+node_size (read a w) = if is_number a then 1 else 1 + node_size a
+node_size (un o a) = 1 + node_size a
+node_size (bin o a b) = 1 + node_size a + node_size b
+node_size (slice a hi lo) = 1 + node_size a
+node_size (cat a b) = 1 + node_size a + node_size b
+node_size (zext a w) = 1 + node_size a
+node_size (sext a w) = 1 + node_size a
+node_size (select c a b) = 1 + node_size c + node_size a + node_size b
+
+-- those of a tree of a job with this destination: a store is a node, with both trees below it
+abbrev pub tree_nodes : Destination → Term → ℕ
+tree_nodes (stored address) t = 1 + node_size address + node_size t
+tree_nodes (into id) t = node_size t
+tree_nodes (cell address) t = node_size t
+tree_nodes temporary t = node_size t
+tree_nodes tested t = node_size t
+
+-- the greatest count over all trees of a job, and over all jobs
+abbrev pub trees_nodes : Destination → List Term → ℕ
+trees_nodes destination [] = 0
+trees_nodes destination (t ∷ trees) = max (tree_nodes destination t) (trees_nodes destination trees)
+
+abbrev pub most_nodes : List Work → ℕ
+most_nodes [] = 0
+most_nodes (work ∷ later) = max (trees_nodes work.destination work.trees) (most_nodes later)
+
+-- ---- sizes
+
 -- the leaves and operators of a tree of a job
 abbrev pub tree_size : Destination → Term → ℕ
 tree_size (stored address) t = size_of address + size_of t

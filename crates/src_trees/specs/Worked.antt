@@ -6,13 +6,13 @@ use Rattle.src_model.specs.declared.program.Cmp.TheVariants.{Eq, Ne, Lt, Le}
 use Rattle.src_model.specs.Written.{Shape, num, plain, element, bin as bin_of, sext as sext_of, low, Phrase, Act, assign, choice, while, count, without, otherwise, acts_of, Listing}
 use Rattle.form_model.specs.declared.flow.Flow.TheVariants.{Assign, Test, Jump, End}
 use Rattle.form_model.specs.Rules.{cell, stored, tested}
-use Rattle.src_model.specs.Rules.{temp_count}
+use Rattle.src_model.specs.Rules.{node_count, temp_count}
 use Rattle.src_trees.specs.Lowered.{MemoryMap, computed_address, tree_of, assign_work, test_work}
 use Rattle.src_trees.specs.Flows.{asked, program_flow, program_works}
 use Rattle.src_trees.specs.Seen.{memory_map, tree_value}
 use Rattle.src_trees.specs.Doing.{done, AllAre}
 use Rattle.src_trees.specs.Blocks.{continues}
-use Rattle.src_trees.specs.Measures.{most_temps}
+use Rattle.src_trees.specs.Measures.{most_nodes, most_temps}
 
 abbrev phrase : Shape → Phrase
 phrase shape = record { at = 0; shape = shape }
@@ -90,6 +90,20 @@ nested_temps = refl
 
 nested_count : temp_count 16 nested ≡ 4
 nested_count = refl
+
+-- with the store, its address and what is read; a test for equality has one more, for the counter
+nested_nodes : most_nodes (program_works (memory_map 16 8 3 nested.vars) nested) ≡ 7
+nested_nodes = refl
+
+nested_node_count : node_count nested ≡ 7
+nested_node_count = refl
+
+-- a test for equality has its second tree counted, too
+counted_nodes : most_nodes (program_works (memory_map 16 8 3 counted.vars) counted) ≡ 5
+counted_nodes = refl
+
+counted_node_count : node_count counted ≡ 5
+counted_node_count = refl
 
 -- an address as wide as a cell is the sum itself
 abbrev wide : MemoryMap

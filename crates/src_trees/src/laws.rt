@@ -2,14 +2,14 @@
 //! variables of a program stand behind so many temporary cells, in cells of `bits` bits with
 //! addresses of `addr` bits.
 
-ghost use Rattle.std.specs.Prelude.{ℕ, ◌≡◌, ◌≤◌, ◌+◌, List, Some, None};
+ghost use Rattle.std.specs.Prelude.{ℕ, ◌≡◌, ◌≤◌, ◌<◌, ◌+◌, List, Some, None};
 ghost use Rattle.rec_bits.specs.Operators.{bit_of};
 ghost use Rattle.net_model.specs.declared.hardware.Netlist.{Netlist};
 ghost use Rattle.net_model.specs.Control.{IsSound};
 ghost use Rattle.net_model.specs.Nets.{memory_size, memory_width};
 ghost use Rattle.src_model.specs.declared.program.Var.{Var as Declared};
 ghost use Rattle.src_model.specs.Written.{Shape, Phrase, Place, Test, Listing, acts_of};
-ghost use Rattle.src_model.specs.Rules.{first_fault, temp_count};
+ghost use Rattle.src_model.specs.Rules.{first_fault, node_count, temp_count};
 ghost use Rattle.src_model.specs.Meaning.{shape_value, cell_of, cell_count, assigned, holds};
 ghost use Rattle.src_model.specs.Trace.{strace};
 ghost use Rattle.code_model.specs.declared.image.Image.{Image};
@@ -20,7 +20,7 @@ ghost use Rattle.src_trees.specs.Lowered.{tree_of, assign_work, test_work, answe
 ghost use Rattle.src_trees.specs.Flows.{places_in, program_flow, program_works};
 ghost use Rattle.src_trees.specs.Seen.{memory_map, seen_store, tree_value, ReadsCells, InReach, HasCellRoom, CanRead, CanAssign, CanTest};
 ghost use Rattle.src_trees.specs.Doing.{destination_cell, done, Lies, AllAre};
-ghost use Rattle.src_trees.specs.Measures.{most_temps, AllSmall};
+ghost use Rattle.src_trees.specs.Measures.{most_nodes, most_temps, AllSmall};
 ghost use Rattle.src_trees.specs.Placed.{IsPlaced};
 
 /// The tree of an expression has the expression's value in the store that the memory holds, and
@@ -82,6 +82,16 @@ pub fn law_of_temps()
         InReach bits addr temps listing.vars →
         AllSmall bits (temp_count bits listing) 510
         (program_works (memory_map bits addr temps listing.vars) listing) }
+{}
+
+/// The nodes that a program has at most in a tree, as its rules count them, are the greatest count
+/// over the trees of its jobs, both trees of a test for equality among them, where addresses are
+/// narrower than words; where they are as wide, no address needs a slice, and trees may have fewer.
+pub fn law_of_nodes()
+    ensures count { (bits addr temps : ℕ) (listing : Listing) → addr < bits →
+        node_count listing ≡ most_nodes (program_works (memory_map bits addr temps listing.vars) listing) }
+    ensures most { (bits addr temps : ℕ) (listing : Listing) →
+        most_nodes (program_works (memory_map bits addr temps listing.vars) listing) ≤ node_count listing }
 {}
 
 /// An image whose words do what the flow of a program says, each block, test and jump at its

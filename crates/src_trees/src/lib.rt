@@ -5,9 +5,9 @@
 //! at the places of its layout (`flow`: `program_flow`, `jobs`: `program_works`). The laws: the
 //! tree of an expression has its value in the store that the memory holds (`law_of_trees`), the job
 //! of an assignment changes that store as the assignment does (`law_of_assignments`), each tree of
-//! a test decides it (`law_of_tests`), the temporary cells are the greatest count over the trees
-//! (`law_of_temps`), and words that do what the flow says trace the program (`law_of_flow`:
-//! `IsPlaced`).
+//! a test decides it (`law_of_tests`), the temporary cells and the nodes that the rules count are the
+//! greatest counts over the trees (`law_of_temps`, `law_of_nodes`), and words that do what the flow
+//! says trace the program (`law_of_flow`: `IsPlaced`).
 //!
 //! Invariant: a `DataMemory` has cells and addresses of 1 to 64 bits. The flow of a statement is
 //! made for the place at which it stands, so its targets are final once it is appended; jobs are
@@ -25,7 +25,7 @@
 //!   computed. `specs/Inner/`: `Lowering` and `Near`, which go with the lowering.
 //! - `proofs/`: `Standing` carries the law of flow, by induction over statements with a list of
 //!   pending assignments; `Meant`, `Done`, `Values` and `Behind` the laws of trees and jobs,
-//!   `Measured` and `Temps` that of temporary cells; `LowerLemmas` and `LowerCases` the lowering.
+//!   `Measured`, `Temps` and `Nodes` those of counts; `LowerLemmas` and `LowerCases` the lowering.
 #![tactic(auto)]
 
 mod flow;
@@ -35,4 +35,6 @@ mod memory;
 mod trees;
 
 pub use flow::lower;
-pub use laws::{law_of_assignments, law_of_flow, law_of_temps, law_of_tests, law_of_trees};
+pub use laws::{
+    law_of_assignments, law_of_flow, law_of_nodes, law_of_temps, law_of_tests, law_of_trees,
+};

@@ -1,24 +1,16 @@
 -- What the packer keeps while it changes a list of groups.
-use Rattle.std.specs.Prelude.{◌≡◌, ℕ, ◌+◌, ◌-◌, ◌*◌, ◌<◌, ◌≤◌, zero, suc, false, List, [], ◌∷◌, ◌++◌, length, slice_get, remove, Some, IsPermutation}
+use Rattle.std.specs.Prelude.{◌≡◌, ℕ, ◌+◌, ◌-◌, ◌*◌, ◌<◌, zero, suc, List, [], ◌∷◌, ◌++◌, length, slice_get, remove, Some, IsPermutation}
 use Rattle.net_model.specs.declared.states.State.{State}
 use Rattle.form_model.specs.declared.forms.Step.{Step}
 use Rattle.form_model.specs.Effects.{Operation, groups_effect}
 use Rattle.form_model.specs.Live.{Regs, live_before}
 use Rattle.word_fit.specs.Groups.{AllHaveWords}
-use Rattle.compaction.specs.Packing.{EachDiffers, IsPacked, IsSettled, Mergeable, Movable, all_steps, is_read_by, reads_from, shares_destination}
+use Rattle.compaction.specs.Packing.{EachDiffers, IsPacked, IsSettled, Mergeable, Movable, all_steps}
 use Rattle.compaction.specs.Chosen.{Packs}
 use Rattle.compaction.specs.declared.change.Change.{Change}
 use Rattle.compaction.specs.declared.change.Change.TheVariants.{Merged, Moved, Settled}
 
 -- ---- changes
-
--- a step may move from a group to the group g before it, but for the words: `rest` is what it
--- leaves behind
-pub record IsFree {A : Type 0} (m : A → Operation) (g : List A) (x : A) (rest : List A) : Type 0 where
-  pub other : 1 ≤ length rest
-  pub free : shares_destination m (m x) g ≡ false
-  pub apart : reads_from m (m x) g ≡ false
-  pub unread : is_read_by m (m x) rest ≡ false
 
 -- the step of h at a place moves to g
 pub record IsMovedAt {A : Type 0} (m : A → Operation) (fits : ℕ → List A → Regs → Type 0)

@@ -17,14 +17,13 @@ use Rattle.form_model.specs.declared.flow.Flow.TheVariants.{Test}
 use Rattle.src_trees.specs.Blocks.{IsAssignBlock, jobs_at}
 use Rattle.src_trees.specs.Lowered.{Work}
 use Rattle.emit_seq.specs.Spares.{wanted}
-use Rattle.branch_fix.specs.Parts.{branch_or_zero}
+use Rattle.branch_fix.specs.Parts.{branch_or_zero, blocks_before, tests_before}
 use Rattle.right_code.specs.Forks.{plan_rule}
 use Rattle.right_code.specs.Images.{choices_at}
 use Rattle.right_code.specs.Jobs.{job_steps, jobs_steps, tree_used}
 use Rattle.right_code.specs.Words.{AreGroupWords, IsItemWord, IsPackingOf, item_steps}
 use Rattle.compaction.specs.Lists.{EachHasPatternsOnce, IsPatternList}
 use Rattle.net_code.specs.declared.blocks.PackedBlock.{PackedBlock}
-use Rattle.net_code.specs.Inner.Places.{blocks_before, tests_before}
 
 -- ---- blocks
 

@@ -91,7 +91,7 @@ pub record IsLaidCode (netlist : Netlist) (patterns : List Pattern) (stock : Sto
   pub marks : image.marks ≡ marks_from 0 parts
   pub words : ℕ → List ℕ
   pub stand : StandItems netlist patterns words (words_of image) 0
-      (items_from stock.rules (jump_form stock.rules reach) (starts 0 parts) 0 parts)
+      (items_from stock.rules (jump_form stock.rules reach) (starts parts) 0 parts)
   pub long : length (words_of image) ≡ total parts
   pub blocks : (at n block size : ℕ) → IsAssignBlock flow at n →
       slice_get parts at ≡ Some (Block block size) →

@@ -1,5 +1,5 @@
 use Rattle.std.proofs.Common.{◌≡◌, length, replicate, drop, false}
-use Rattle.branch_fix.specs.Entered.{marked}
+use Rattle.branch_fix.proofs.Entries.{marked}
 use Rattle.branch_fix.proofs.begun.entered.Given as goal
 
 abbrev pub invariant-loop-item : goal.invariant-loop-item
