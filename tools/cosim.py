@@ -150,8 +150,8 @@ class Maker:
         self.items.append(f'module M{name} ({", ".join(ports)}) {{ {" ".join(equations)} }}')
         for copy in range(self.pick.randint(1, 2)):
             register = self.fitted(*self.pick.choice(list(self.registers.items())), inputs['a'])
-            links = f'a = {self.pick.choice(["add", "xor"])}({register}, {self.value(inputs["a"], 2)}), b = {self.value(inputs["b"], 2)}, word = {self.control(inputs["word"], 1)}'
-            self.items.append(f'part {name}{copy} : M{name} ({links});')
+            links = [f'a = {self.pick.choice(["add", "xor"])}({register}, {self.value(inputs["a"], 2)})', f'b = {self.value(inputs["b"], 2)}']
+            self.items.append(f'part {name}{copy} : M{name} ({", ".join(links)}, word = {self.control(inputs["word"], 1)});')
             self.known += [(f'{name}{copy}.{output}', width) for output, width in outputs.items()]
 
     def pure(self, width, depth=2):
@@ -177,7 +177,8 @@ class Maker:
             when = f' when {self.control(1)}' if self.pick.random() < 0.7 else ''
             self.items.append(f'register {name} : {width} in {self.value(width)}{when};')
         step = f'add(PC, 1#{self.counter_width})'
-        counter = self.pick.choice([step, self.value(self.counter_width), f'case {self.control(1)} {{ 0: {step}; 1: {self.value(self.counter_width)}; }}'])
+        turn = self.value(self.counter_width)
+        counter = self.pick.choice([step, turn, f'case {self.control(1)} {{ 0: {step}; 1: {turn}; }}'])
         self.items.append(f'register PC : {self.counter_width} in {counter};')
         when = f' when {self.control(1)}' if self.pick.random() < 0.7 else ''
         self.items.append(f'memory M : {self.cell_width} size {self.cells} addr {self.address_width} write {self.value(self.cell_width)} '

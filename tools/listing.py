@@ -3,13 +3,13 @@
 
 Usage: listing.py BINARY NET.rtn PROGRAM.src [--check LISTING]
 
-BINARY is run as `compile` and `extract`. Above stand the cells of the variables. Each statement has its line in the program, its tree's number and
-cost, and its words: their address, with a * where the tree's test has its mark, the word in hexadecimal, and the wanted transfers, with the numbers in
-the word's fields in place of the slices, and behind them the variable of a cell that is read or written at a number. A `for` stands three times: where
-its counter is set, at its test, and where it is stepped. A jump stands at the end of the statement before it.
+BINARY is run as `compile` and `extract`. Above stand the cells of the variables. Each statement has its line in the program, its tree's number
+and cost, and its words: their address, with a * where the image has a mark, the word in hexadecimal, and the wanted transfers, each in a line, with
+the numbers in the word's fields in place of the slices, and behind them the variable of a cell that is read or written at a number. A `for` stands
+three times: where its counter is set, at its test, and where it is stepped. A jump stands at the end of the statement before it.
 
-An assignment ends with the word that writes its variable, a test with its branches. Where a step was packed ahead into a word of the statement before,
-it stands there: so a statement may have fewer words than its cost, or none. The last lines have the sums.
+An assignment ends with the word that writes its variable, a test with its branches. Where a step was packed ahead into a word of the statement
+before, it stands there. The last line has the sums.
 
 With --check nothing is written where LISTING is this listing; else what differs is, and the exit status is 1. It is also 1 where the program or
 the netlist is refused, and 2 where the words are none of these.
@@ -17,6 +17,7 @@ the netlist is refused, and 2 where the words are none of these.
 import difflib
 import pathlib
 import re
+import signal
 import subprocess
 import sys
 
@@ -89,7 +90,11 @@ class Netlist:
 
     def shown(self, number, word):
         """A transfer with the numbers that the word's fields have."""
-        text = re.sub(rf'slice\({self.code},(\d+),(\d+)\)', lambda found: str(word >> int(found[2]) & (2 << int(found[1]) - int(found[2])) - 1), self.transfers[number])
+        def field(found):
+            high, low = map(int, found.groups())
+            return str(word >> low & (2 << high - low) - 1)
+
+        text = re.sub(rf'slice\({self.code},(\d+),(\d+)\)', field, self.transfers[number])
         text = re.sub(r'zext\((\d+),\d+\)', r'\1', text)
         return re.sub(rf'\b{self.code}\b', str(word), text)
 
@@ -112,7 +117,8 @@ class Listing:
         self.places = [(name, int(at), int(length)) for name, at, length in re.findall(r'^place (\w+) (\d+) (\d+)$', image, re.M)]
         self.costs = list(map(int, re.findall(r'^tree \d+ (\d+)$', image, re.M)))
         self.marks = {int(at): label for at, label in re.findall(r'^mark (\d+) (\w+)$', image, re.M)}
-        self.words = [(word, [] if numbers == '-' else list(map(int, numbers.split(',')))) for word, numbers in re.findall(r'^word \d+ (\w+) (\S+)$', image, re.M)]
+        words = re.findall(r'^word \d+ (\w+) (\S+)$', image, re.M)
+        self.words = [(word, [] if numbers == '-' else list(map(int, numbers.split(',')))) for word, numbers in words]
         self.names = {at + k: f'{name}[{k}]' if length > 1 else name for name, at, length in self.places for k in range(length)}
         self.end = []
         self.spread()
@@ -138,8 +144,8 @@ class Listing:
         for at, word, texts in rows:
             head = f'{"*" if at in self.marks else " "}{at:5}  {word}'
             for text in texts or ['']:
-                cells = [int(one) for pair in re.findall(rf'{self.netlist.memory}\[(\d+)\]|read\({self.netlist.memory},(\d+)\)', text) for one in pair if one]
-                names = ', '.join(self.names.get(cell, f'temporary {cell}') for cell in cells)
+                cells = re.findall(rf'\b{self.netlist.memory}(?:\[|,)(\d+)[\])]', text)
+                names = ', '.join(self.names.get(int(cell), f'temporary {cell}') for cell in cells)
                 yield f'{head}  {text:44}  {names}'.rstrip()
                 head = ' ' * len(head)
 
@@ -196,4 +202,5 @@ def main():
 
 
 if __name__ == '__main__':
+    signal.signal(signal.SIGPIPE, signal.SIG_DFL)
     main()

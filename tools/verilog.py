@@ -16,13 +16,15 @@ or is another one's, gets a number behind it. The ports are
 
 With an image, the module `bench` follows. It holds the words, sets the registers and cells from the memory text, and clocks the processor N times, or
 until the program counter stands at the end mark and 1,000,000 times at most. It writes the state as `record run` does, or the line of a
-clash. With +vcd it writes the waves of all nets, and under `variables` those of the cells that the image's `place` lines name.
+clash. With +vcd it writes the waves of all nets under `core`, those of the cells that the image's `place` lines name under `variables`, and beside
+them `cycle` and `at_mark`, which is 1 where the program counter stands at a mark. A cycle is 10 ns; its edge comes at 5 of them.
 
 The netlist is taken to break no rule (docs/RTN.md), and the texts to fit it: `record run NET IMAGE MEMORY 0` says so. The exit status is 0, 1 where a
 text is none (one line says why), or 2 where the words are others.
 """
 import pathlib
 import re
+import signal
 import sys
 
 from rtn import UNARY, WIRING, Fault, Reader
@@ -289,22 +291,24 @@ class Processor:
             self.scope.assign('clash', '{' + ', '.join(clashes) + '}' if len(clashes) > 1 else clashes[0])
         yield from [f'module {self.name} (', ',\n'.join(heads), ');', f'  reg {span(width)}{memory} [0:{size - 1}];']
         yield from [*self.scope.wires, *parts, *self.scope.assigns]
-        yield from ['  always @(posedge clk)', f'    if (reset) {self.counter()} <= 0;', '    else begin', *(f'      {line}' for line in edges), '    end']
+        yield from ['  always @(posedge clk)', f'    if (reset) {self.counter()} <= 0;', '    else begin']
+        yield from [*(f'      {line}' for line in edges), '    end']
         yield from ['endmodule', '']
         for item in self.of_kind('module'):
             yield from self.module(*item[1:])
 
 
 class Image:
-    """An image text: the words, the places of the variables, and the address of the end mark or None."""
+    """An image text: the words, the places of the variables, the addresses of the marks, and that of the end mark or None."""
 
     def __init__(self, text):
         if not re.match(r'image \d+ \d+\n', text) or not text.endswith('\ndone\n'):
             raise Fault('no image text')
         self.words = re.findall(r'^word \d+ ([0-9a-f]+) ', text, re.M)
         self.places = [(name, int(at), int(length)) for name, at, length in re.findall(r'^place (\w+) (\d+) (\d+)$', text, re.M)]
-        end = re.search(r'^mark (\d+) end$', text, re.M)
-        self.end = end and int(end[1])
+        marks = re.findall(r'^mark (\d+) (\w+)$', text, re.M)
+        self.marks = [int(at) for at, _ in marks]
+        self.end = next((int(at) for at, label in marks if label == 'end'), None)
 
 
 class Bench:
@@ -367,18 +371,21 @@ class Bench:
         counter = self.processor.counter()
         counter_width = next(own_width for own, own_width, *_ in self.processor.registers if own == counter)
         words, end = self.image.words, self.image.end
-        yield from ['`timescale 1ns / 1ns', 'module bench;', '  reg clk, reset;', f'  reg {span(width)}words [0:{max(len(words), 1) - 1}];']
+        yield from ['module bench;', '  reg clk, reset;', f'  reg {span(width)}words [0:{max(len(words), 1) - 1}];']
         yield from ['  integer k, cycle, cycles;', '  reg [8191:0] file;', f'  wire {span(counter_width)}counter;']
         yield f"  wire {span(width)}word = counter < {counter_width + 32}'d{len(words)} ? words[counter] : {width}'d0;"
+        yield f"  wire at_mark = {' || '.join(f'counter == {mark}' for mark in self.image.marks) or 0};"
         pins = ['.clk(clk)', '.reset(reset)', f'.{code}(word)', f'.{counter}(counter)']
         if self.processor.buses:
             yield f'  wire {span(len(self.processor.buses))}clash;'
             pins.append('.clash(clash)')
         yield f'  {self.processor.name} core ({", ".join(pins)});'
         yield from ['  variables variables();'] if self.image.places else []
-        yield from ['  initial begin : clocks', "    clk = 1'd0;", "    reset = 1'd0;", *(f"    words[{k}] = {width}'h{word};" for k, word in enumerate(words))]
+        yield from ['  initial begin : clocks', "    clk = 1'd0;", "    reset = 1'd0;"]
+        yield from [f"    words[{k}] = {width}'h{word};" for k, word in enumerate(words)]
         yield from self.start()
-        yield from ['    if ($value$plusargs("vcd=%s", file)) begin', '      $dumpfile(file);', '      $dumpvars(0, bench);', '    end']
+        seen = 'clk, cycle, at_mark, core' + ', variables' * bool(self.image.places)
+        yield from ['    if ($value$plusargs("vcd=%s", file)) begin', '      $dumpfile(file);', f'      $dumpvars(0, {seen});', '    end']
         yield f'    if (!$value$plusargs("cycles=%d", cycles)) cycles = {-1 if end is not None else LONGEST};'
         going = f'cycles < 0 ? cycle < {LONGEST} && counter != {end} : cycle < cycles' if end is not None else 'cycle < cycles'
         yield from ['    #1;', f'    for (cycle = 0; {going}; cycle = cycle + 1) begin', *self.clashes()]
@@ -392,7 +399,7 @@ def verilog(netlist, title, image=None, memory=''):
     processor = Processor(Reader(netlist).items(), re.sub(r'\W|^(?=\d)', '_', title) or 'netlist')
     lines = list(processor.lines())
     if image is not None:
-        lines += Bench(processor, Image(image), memory).lines()
+        lines = ['`timescale 1ns / 1ns', *lines, *Bench(processor, Image(image), memory).lines()]
     return '\n'.join(lines)
 
 
@@ -410,4 +417,5 @@ def main():
 
 
 if __name__ == '__main__':
+    signal.signal(signal.SIGPIPE, signal.SIG_DFL)
     main()
