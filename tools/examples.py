@@ -11,6 +11,9 @@ and held against the same results. A line is printed for each:
     dot xy: 18 words, 23 unpacked, 104 cycles
     dot xy by hand: 6 words, 19 cycles
     dot a16: error no cover 3
+    dot xy: dot.xy.lst
+
+The last are the listings examples/PROGRAM.PROCESSOR.lst, which have to be what tools/listing.py writes.
 
 `words` is the length of the image, `cycles` the clocks until the program counter stands at the end mark. `unpacked` is how many words it were with
 one step in each: the costs of the image's lines `tree`, and its jump and branch words, which are those whose list has a pattern of the program
@@ -23,9 +26,11 @@ import re
 import subprocess
 import sys
 
+from listing import listed
+
 FOLDER = pathlib.Path(__file__).resolve().parent.parent / 'examples'
 LONGEST = 1_000_000
-PROCESSORS = ['a16', 'f16', 'xy', 'dsp', 'r16']
+PROCESSORS = ['a16', 'f16', 'xy', 'dsp', 'r16', 'c10w', 'adsp', 'rr4']
 
 
 def signed(word):
@@ -63,6 +68,32 @@ def fly(v):
     return result
 
 
+def crc8(v):
+    """By polynomials over bits: the rest of the message times x^8 by x^8 + x^2 + x + 1."""
+    rest = int.from_bytes(bytes(v['m']), 'big') << 8
+    while rest.bit_length() > 8:
+        rest ^= 0x107 << rest.bit_length() - 9
+    return {'crc': [rest]}
+
+
+def fir16(v):
+    return {'y': [sum(product(v['h'][k], v['x'][n + 3 - k]) for k in range(4)) for n in range(8)]}
+
+
+def biquad(v):
+    b0, b1, b2, a1, a2 = (v[name][0] for name in ('b0', 'b1', 'b2', 'a1', 'a2'))
+    result, w1, w2 = [], 0, 0
+    for x in v['x']:
+        w = x - product(a1, w1) - product(a2, w2) & 0xffff
+        result.append(product(b0, w) + product(b1, w1) + product(b2, w2))
+        w1, w2 = w, w1
+    return {'y': result}
+
+
+def matvec(v):
+    return {'y': [sum(a * b for a, b in zip(v['a'][4 * i:], v['v'])) for i in range(4)]}
+
+
 def wht(v):
     a, b, c, d = v['x']
     return {'x': [a + b + c + d, a - b + c - d, a + b - c - d, a - b - c + d]}
@@ -70,10 +101,15 @@ def wht(v):
 
 # Each program, what it has to leave, and the first tree that the forms of a processor don't cover, for the processors that can't run it.
 PROGRAMS = {
-    'dot': (dot, {'a16': 3, 'f16': 3, 'r16': 3}),
+    'dot': (dot, {'a16': 3, 'f16': 3, 'r16': 3, 'adsp': 3}),
+    'dotl': (dot, {'a16': 3, 'f16': 3, 'xy': 3, 'dsp': 3, 'r16': 3, 'rr4': 3}),
     'fir': (fir, {'a16': 5, 'dsp': 5, 'r16': 5}),
+    'fir16': (fir16, {'a16': 5, 'dsp': 5, 'r16': 5}),
+    'biquad': (biquad, {'a16': 4, 'f16': 4, 'dsp': 4, 'r16': 4}),
+    'matvec': (matvec, {'a16': 5, 'f16': 5, 'r16': 5, 'adsp': 5}),
     'crc': (crc, {'a16': 2, 'f16': 2}),
-    'sort': (sort, {'a16': 5, 'f16': 5, 'dsp': 5}),
+    'crc8': (crc8, {'a16': 3, 'f16': 3}),
+    'sort': (sort, {'a16': 5, 'f16': 5, 'dsp': 5, 'c10w': 5}),
     'fly': (fly, {'a16': 2, 'dsp': 2, 'r16': 2}),
     'wht': (wht, {}),
 }
@@ -112,7 +148,7 @@ def compiled(binary, netlist, source, memory):
 
 def by_hand(binary, netlist, image, memory):
     """What an image leaves in the memory, and the first cycle at its end mark, where it stays."""
-    counter = re.search(r'^code .* at (\w+);', netlist.read_text(), re.M)[1]
+    counter = counter_of(netlist)
     end = re.search(r'^mark (\d+) end$', image.read_text(), re.M)[1]
 
     def state(cycles):
@@ -133,9 +169,12 @@ def by_hand(binary, netlist, image, memory):
     return (cells_of(state(late)), late) if ended(late + 1) else ({}, None)
 
 
-def unpacked(image, patterns):
+def counter_of(netlist):
+    return re.search(r'^code .* at (\w+);', netlist.read_text(), re.M)[1]
+
+
+def unpacked(image, patterns, counter):
     """How many words an image were with one step in each."""
-    counter = re.search(r'^0 (\w+) := ', patterns, re.M)[1]
     jumps = {number for number, name in re.findall(r'^(\d+) (\w+) := ', patterns, re.M) if name == counter}
     lists = re.findall(r'^word \d+ \w+ (\S+)$', image, re.M)
     costs = re.findall(r'^tree \d+ (\d+)$', image, re.M)
@@ -166,7 +205,7 @@ def examples(binary):
             expected = {key: [value & 0xffff for value in values] for key, values in result(variables(places, start)).items()}
             cells, cycles = compiled(binary, netlist, source, memory)
             left = {key: [cells.get((key, k), 0) for k in range(length)] for key, (_, length) in places.items()}
-            row = [program, name, first.split()[2], unpacked(image, patterns[name]), cycles]
+            row = [program, name, first.split()[2], unpacked(image, patterns[name], counter_of(netlist)), cycles]
             yield f'{program} {name}: {row[2]} words, {row[3]} unpacked, {cycles} cycles', wrong(expected, left, cycles), row
             hand = FOLDER / f'{program}.{name}.hand.img'
             if hand.exists():
@@ -187,6 +226,12 @@ def main():
         if fault or not table:
             print(line + fault, flush=True)
         rows += [row] if row else []
+    for path in sorted(FOLDER.glob('*.lst')):
+        program, name, _ = path.name.split('.')
+        differs = listed(binary, FOLDER / f'{name}.rtn', FOLDER / f'{program}.src') != path.read_text()
+        faults += differs
+        if differs or not table:
+            print(f'{program} {name}: {path.name}{", but the listing is another one" if differs else ""}')
     if table:
         print('| program | processor | words | unpacked | cycles | by hand: words | cycles |\n|---|---|---|---|---|---|---|')
         for row in rows:
