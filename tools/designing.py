@@ -93,8 +93,8 @@ def cases():
     yield example('grow', *subtract), dot, (24, 159)
     yield example('pack'), dot, (23, 151)
     yield example('pack', ('I[15:8]', 'I[7:0]')), dot, (25, 167)
-    behind = ('else: read(M, X);', 'else: read(M, slice(add(X, zext(g, 16)), 7, 0));'), ('X : 8 in A[7:0]', 'X : 16 in A'), ('else: X; }', 'else: X[7:0]; }')
-    yield example('pack', *behind), dot, (20, 127)
+    behind = 'else: read(M, X);', 'else: read(M, slice(add(X, zext(g, 16)), 7, 0));'
+    yield example('pack', behind, ('X : 8 in A[7:0]', 'X : 16 in A'), ('else: X; }', 'else: X[7:0]; }')), dot, (20, 127)
     yield example('pack', ('else: read(M, X);', 'else: read(M, add(X, g));')), dot, 'error no cover 3'
     yield from [(WIDE, MOVE, 'error no cover 0'), (WIDE, SUM, 'error no cover 0'), (WIDE, 'var a, b; b = low(sext(a, 32), 16);', 3)]
     yield WIDE, 'var s, a; s = low(sext(s, 32) + sext(a, 32), 16);', 4
@@ -104,13 +104,15 @@ def cases():
     yield netlist(JUMP, ROWS + '14: add(A, P[30:15]);', FRACTION), FRACTIONS, 'error no cover 0'
     yield netlist(ALL.replace('lts(A, 0#16)', 'A[15]'), ROWS), BELOW, 'error no cover 0'
     yield from [(netlist(ALL, ROWS), LESS, 'error no cover 0'), (less_than(12, 'f'), LESS, 'error no cover 0'), (less_than(20, 'I[19:12]'), LESS, 6)]
-    yield from [(example('grow'), ROW.replace('INDEX', 'i * 4 + j'), 37), (netlist(ALL, **INDEXED), ROW.replace('INDEX', 'i * 4 + j'), 'error no cover 5')]
+    yield example('grow'), ROW.replace('INDEX', 'i * 4 + j'), 37
+    yield netlist(ALL, **INDEXED), ROW.replace('INDEX', 'i * 4 + j'), 'error no cover 5'
     yield example('grow'), ROW.replace('INDEX', 'i + i + i + i + j'), 37
     yield example('grow'), ROW.replace('INDEX', '(i << 2) + j'), 'error source S4 Index 71'
     yield from [(two_registers('S'), TOTAL, 'error no cover 2'), (two_registers('I[12]'), TOTAL, 18)]
     yield UNDRIVEN, 'var a; a = 0;', 2
     for value, *words in (('zext(I[7:0], 16)', 25, 45, 59, 47), ('I[15:0]', 27, 49, 62, 51),
-                          ('case mod { 1: zext(I[7:0], 16); else: I[15:0]; }', 27, 49, 62, 51), ('case mod { 1: sext(I[7:0], 16); else: I[15:0]; }', 25)):
+                          ('case mod { 1: zext(I[7:0], 16); else: I[15:0]; }', 27, 49, 62, 51),
+                          ('case mod { 1: sext(I[7:0], 16); else: I[15:0]; }', 25)):
         for name, count in zip(('dotl', 'fir16', 'sort', 'crc8'), words):
             yield immediate(value), (FOLDER / f'{name}.src').read_text(), count
 

@@ -320,7 +320,7 @@ class Bench:
     def variables(self):
         """The cells of the variables by their names, for the waves."""
         array, width, size = self.processor.memory[0][:3]
-        names = Names()
+        names = Names('bench')
         yield 'module variables;'
         for name, at, length in self.image.places:
             for k in range(min(length, size - at)):
@@ -382,7 +382,7 @@ class Bench:
         yield f'  {self.processor.name} core ({", ".join(pins)});'
         yield from ['  variables variables();'] if self.image.places else []
         yield from ['  initial begin : clocks', "    clk = 1'd0;", "    reset = 1'd0;"]
-        yield from [f"    words[{k}] = {width}'h{word};" for k, word in enumerate(words)]
+        yield from [f"    words[{k}] = {width}'h{word[-(-(-width // 4)):]};" for k, word in enumerate(words)]
         yield from self.start()
         seen = 'clk, cycle, at_mark, core' + ', variables' * bool(self.image.places)
         yield from ['    if ($value$plusargs("vcd=%s", file)) begin', '      $dumpfile(file);', f'      $dumpvars(0, {seen});', '    end']
