@@ -5,9 +5,9 @@
 //! exactly (`laid`: `IsLaid`), or tells that the bound is beyond the reach of jumps, and then that
 //! the words are more than there is room for (`refused`: `IsLayFault`). `bound` gives the bound of
 //! a flow (`bound_of`). The laws: an image whose words stand for a flow's parts traces the program
-//! (`law_of_layouts`: `IsMade`), the rounds settle on one list of parts (`law_of_parts`), the bound
-//! is the program's own (`law_of_bounds`), and target bits lead to their targets
-//! (`law_of_targets`).
+//! (`law_of_layouts`: `IsMade`), the rounds settle on one list of parts (`law_of_parts`), blocks of
+//! no more words than they cost keep to the bound (`law_of_bounds`), and target bits lead to their
+//! targets (`law_of_targets`).
 //!
 //! Invariant: a part stands for each place of the flow, so places and parts have one numbering. A
 //! branch that became three words stays so, hence the number of long tests rises in each round but

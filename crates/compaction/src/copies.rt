@@ -1,6 +1,6 @@
 //! Groups made of others.
 
-ghost use Rattle.std.specs.Prelude.{◌≡◌, [], ◌∷◌, ◌++◌, IfOk, OnOk};
+ghost use Rattle.std.specs.Prelude.{◌≡◌, [], ◌∷◌, ◌++◌, IfOk};
 ghost use Rattle.form_model.specs.Live.{singles};
 
 use form_model::Step;
@@ -8,32 +8,20 @@ use rec_bits::{Items, NoMemory};
 use std::alloc::Global;
 use word_fit::Group;
 
-// Adds the steps at the end of the group.
-fn extend(group: &mut Group, steps: &[Step]) -> Result<(), NoMemory>
-    ensures { OnOk result (group.new ≡ group.old ++ steps.now) }
-{
-    for step in steps {
-        group.push(*step)?;
-    }
-    Ok(())
-}
-
 /// The steps of both groups.
 pub(crate) fn joined(alloc: Global, first: &[Step], second: &[Step]) -> Result<Group, NoMemory>
     ensures { IfOk result (λ both. both ≡ first.now ++ second.now) }
 {
-    let mut both = Items::new(alloc);
-    extend(&mut both, first)?;
-    extend(&mut both, second)?;
-    Ok(both)
+    let mut both = Vec::from_slice(alloc, first)?;
+    both.extend_from_slice(second)?;
+    Ok(Items::from_vec(both))
 }
 
 /// The group with one more step.
 pub(crate) fn added(alloc: Global, group: &[Step], step: Step) -> Result<Group, NoMemory>
     ensures { IfOk result (λ more. more ≡ group.now ++ step ∷ []) }
 {
-    let mut more = Items::new(alloc);
-    extend(&mut more, group)?;
+    let mut more = Items::from_slice(alloc, group)?;
     more.push(step)?;
     Ok(more)
 }

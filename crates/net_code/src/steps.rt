@@ -14,24 +14,14 @@ use form_model::{Flow, Step};
 use rec_bits::{Items, NoMemory};
 use std::alloc::Global;
 
-// Adds steps behind others.
-fn append(steps: &mut Items<Step>, more: &[Step]) -> Result<(), NoMemory>
-    ensures { OnOk result (steps.new ≡ steps.old ++ more.now) }
-{
-    for step in more {
-        steps.push(*step)?;
-    }
-    Ok(())
-}
-
 // Adds the steps of the job of this number, which are none where there is none.
 fn push_job(
     alloc: Global,
     program: &CoveredProgram<'_>,
     tree: u32,
-    steps: &mut Items<Step>,
+    steps: &mut Vec<Step>,
 ) -> Result<(), NoMemory>
-    ensures { OnOk result (steps.new ≡ steps.old
+    ensures { OnOk result (steps.new.items ≡ steps.old.items
         ++ jobs_steps (stock_of program.now) (job_list (slice_get (works_in program.now) tree))
         (choices_of (slice_get (choices_in program.now) tree))) }
 {
@@ -49,7 +39,7 @@ fn push_job(
         &chosen.cover,
         program.temps,
     )?;
-    append(steps, emitted.steps.as_slice())?;
+    steps.extend_from_slice(emitted.steps.as_slice())?;
     Ok(())
 }
 
@@ -59,9 +49,9 @@ fn push_place(
     alloc: Global,
     program: &CoveredProgram<'_>,
     at: usize,
-    steps: &mut Items<Step>,
+    steps: &mut Vec<Step>,
 ) -> Result<(), NoMemory>
-    ensures { OnOk result (steps.new ≡ steps.old
+    ensures { OnOk result (steps.new.items ≡ steps.old.items
         ++ jobs_steps (stock_of program.now)
         (job_at (works_in program.now) (slice_get program.now.flow.now at))
         (choice_at (choices_in program.now) (slice_get program.now.flow.now at))) }
@@ -89,11 +79,11 @@ pub(crate) fn block_steps(
         (jobs_at program.now.flow.now (works_in program.now) at count)
         (choices_at program.now.flow.now (choices_in program.now) at count)) }
 {
-    let mut steps = Items::new(alloc);
+    let mut steps = Vec::new(alloc);
     for k in 0..count {
         push_place(alloc, program, at + k, &mut steps)?;
     }
-    Ok(steps)
+    Ok(Items::from_vec(steps))
 }
 
 /// How many places the block has that begins at this place.

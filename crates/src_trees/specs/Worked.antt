@@ -91,7 +91,7 @@ nested_temps = refl
 nested_count : temp_count 16 nested ≡ 4
 nested_count = refl
 
--- with the store, its address and what is read; a test for equality has one more, for the counter
+-- x[a] < 5: the comparison, the read with the four nodes of its address, and the number
 nested_nodes : most_nodes (program_works (memory_map 16 8 3 nested.vars) nested) ≡ 7
 nested_nodes = refl
 

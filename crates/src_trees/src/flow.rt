@@ -45,23 +45,13 @@ fn asked(cmp: Cmp, tree: u32, on_true: u32, on_false: u32) -> Flow
     }
 }
 
-// Adds the places of a flow to another.
-fn append(flow: &mut Items<Flow>, more: &[Flow]) -> Result<(), NoMemory>
-    ensures { OnOk result (flow.new ≡ flow.old ++ more.now) }
-{
-    for f in more {
-        flow.push(*f)?;
-    }
-    Ok(())
-}
-
 // A test with what stands behind it, up to a jump.
-fn tested(alloc: Global, test: Flow, inner: &[Flow], back: u32) -> Result<Items<Flow>, NoMemory>
-    ensures { IfOk result (λ flow. flow ≡ test ∷ (inner.now ++ JumpTo back ∷ [])) }
+fn tested(alloc: Global, test: Flow, inner: &[Flow], back: u32) -> Result<Vec<Flow>, NoMemory>
+    ensures { IfOk result (λ flow. flow.items ≡ test ∷ (inner.now ++ JumpTo back ∷ [])) }
 {
-    let mut flow = Items::new(alloc);
+    let mut flow = Vec::new(alloc);
     flow.push(test)?;
-    append(&mut flow, inner)?;
+    flow.extend_from_slice(inner)?;
     flow.push(Flow::Jump(back))?;
     Ok(flow)
 }
@@ -79,7 +69,8 @@ fn while_flow(
         ≡ asked cmp tree (at + 1) (at + 1 + length inner.now + 1) ∷ (inner.now ++ JumpTo at ∷ [])) }
 {
     let test = asked(cmp, tree, at + 1, at + 1 + inner.len() as u32 + 1);
-    tested(alloc, test, inner, at)
+    let flow = tested(alloc, test, inner, at)?;
+    Ok(Items::from_vec(flow))
 }
 
 // The flow of an `if` without an else part.
@@ -94,10 +85,10 @@ fn if_flow(
     ensures { IfOk result (λ flow. flow ≡ asked cmp tree (at + 1) (at + 1 + length taken.now) ∷ (taken.now ++ [])) }
 {
     let test = asked(cmp, tree, at + 1, at + 1 + taken.len() as u32);
-    let mut flow = Items::new(alloc);
+    let mut flow = Vec::new(alloc);
     flow.push(test)?;
-    append(&mut flow, taken)?;
-    Ok(flow)
+    flow.extend_from_slice(taken)?;
+    Ok(Items::from_vec(flow))
 }
 
 // The flow of an `if` with an else part.
@@ -117,8 +108,8 @@ fn else_flow(
     let over = at + 1 + taken.len() as u32 + 1;
     let test = asked(cmp, tree, at + 1, over);
     let mut flow = tested(alloc, test, taken, over + other.len() as u32)?;
-    append(&mut flow, other)?;
-    Ok(flow)
+    flow.extend_from_slice(other)?;
+    Ok(Items::from_vec(flow))
 }
 
 // The flow of a `for` whose start stands at `at`, from that of its body; the start's tree and the
@@ -136,13 +127,13 @@ fn for_flow(
         ∷ (asked Ne (tree + 1) (at + 2) (at + 2 + length inner.now + 2)
         ∷ (inner.now ++ AssignAt step ∷ (JumpTo (at + 1) ∷ [])))) }
 {
-    let mut flow = Items::new(alloc);
+    let mut flow = Vec::new(alloc);
     flow.push(Flow::Assign(tree))?;
     flow.push(asked(Cmp::Ne, tree + 1, at + 2, at + 2 + inner.len() as u32 + 2))?;
-    append(&mut flow, inner)?;
+    flow.extend_from_slice(inner)?;
     flow.push(Flow::Assign(step))?;
     flow.push(Flow::Jump(at + 1))?;
-    Ok(flow)
+    Ok(Items::from_vec(flow))
 }
 
 // Adds a job, and gives its number.
@@ -310,14 +301,14 @@ fn lower_block(
     requires plain { ArePlain memory.now.word memory.now.places (acts_of (map act_of block.now)) }
     ensures { IfOk result (AreLowered memory.now (acts_of (map act_of block.now)) at jobs.old jobs.new) }
 {
-    let mut flow = Items::new(alloc);
+    let mut flow = Vec::new(alloc);
     let mut place = at;
     for statement in block {
         let more = lower_statement(alloc, memory, jobs, statement, place)?;
-        append(&mut flow, more.as_slice())?;
+        flow.extend_from_slice(more.as_slice())?;
         place += more.len() as u32;
     }
-    Ok(flow)
+    Ok(Items::from_vec(flow))
 }
 
 /// The flow and the jobs of a program whose variables stand at the places of its layout, for

@@ -7,4 +7,4 @@ use Rattle.net_code.proofs.steps.block_steps.Given as goal
 
 abbrev pub invariant-loop-k : goal.invariant-loop-k
 invariant-loop-k l =
-    l.steps ≡ jobs_steps (stock_of l.program) (jobs_at l.program.flow.now (works_in l.program) l.at l.k) (choices_at l.program.flow.now (choices_in l.program) l.at l.k)
+    l.steps.items ≡ jobs_steps (stock_of l.program) (jobs_at l.program.flow.now (works_in l.program) l.at l.k) (choices_at l.program.flow.now (choices_in l.program) l.at l.k)

@@ -11,13 +11,13 @@ use Rattle.net_code.proofs.steps.push_job.Goals as goal
 pub returns-in_default : goal.returns-in_default
 returns-in_default c =
     let program = c.args.program.now in
-    jobless (stock_of program) (works_in program) (choices_in program) c.args.tree c.args.steps.now
+    jobless (stock_of program) (works_in program) (choices_in program) c.args.tree c.args.steps.now.items
     (omega (arith, length-map program.jobs.now work_of, c.in_default.ensures.lookup.3))
 
 pub returns-in_default-get : goal.returns-in_default-get
 returns-in_default-get c =
     let program = c.args.program.now in
-    coverless (stock_of program) (works_in program) (choices_in program) c.args.tree c.args.steps.now
+    coverless (stock_of program) (works_in program) (choices_in program) c.args.tree c.args.steps.now.items
     (omega (arith, length-map program.covers.now choice_of, c.in_default-get.ensures.lookup.3))
 
 pub returns : goal.returns
@@ -26,8 +26,8 @@ returns c =
     let job = c.in-Some.ensures.lookup in
     let chosen = c.in-Some-get.ensures.lookup in
     let emitted = c.in_ok-emitted.ensures in
-    c.in_ok-append.ensures
-    ∙ ap (λ (steps : List Step). c.args.steps.now ++ steps)
+    c.in_ok-extend_from_slice.ensures.items
+    ∙ ap (λ (steps : List Step). c.args.steps.now.items ++ steps)
     (c.as_slice.ensures
     ∙ covered_steps (stock_of program) (works_in program) (choices_in program) c.args.tree (work_of c.in-Some.job.now) (choice_of c.in-Some-get.chosen.now) emitted.tree c.in_ok-emitted.emitted.steps
     (mapped_get work_of program.jobs.now c.args.tree c.in-Some.job.now job.3.0 job.1)

@@ -11,7 +11,7 @@ use Rattle.net_code.proofs.steps.push_place.Goals as goal
 pub returns-in_default : goal.returns-in_default
 returns-in_default c =
     let program = c.args.program.now in
-    placeless (stock_of program) (works_in program) (choices_in program) program.flow.now c.args.at c.args.steps.now c.in_default.ensures.lookup.3
+    placeless (stock_of program) (works_in program) (choices_in program) program.flow.now c.args.at c.args.steps.now.items c.in_default.ensures.lookup.3
 
 pub returns-in-Assign : goal.returns-in-Assign
 returns-in-Assign c =
@@ -19,7 +19,7 @@ returns-in-Assign c =
     let place = c.in-Some.ensures.lookup in
     let has : slice_get program.flow.now c.args.at ≡ Some c.in-Some.place.now = slice_get_read program.flow.now (length program.flow.now) c.args.at c.in-Some.place.now refl place.3.0 place.1 in
     let is = c.in-Assign.is in
-    subst (λ (o : Option Flow). OnOk c.push_job.result (c.push_job.new.steps ≡ c.args.steps.now ++ jobs_steps (stock_of program) (job_at (works_in program) o) (choice_at (choices_in program) o)))
+    subst (λ (o : Option Flow). OnOk c.push_job.result (c.push_job.new.steps.items ≡ c.args.steps.now.items ++ jobs_steps (stock_of program) (job_at (works_in program) o) (choice_at (choices_in program) o)))
     (sym (has ∙ ap (λ (f : Flow). Some f) is)) c.push_job.ensures
 
 pub returns-in_default-place : goal.returns-in_default-place
@@ -28,4 +28,4 @@ returns-in_default-place c =
     let place = c.in-Some.ensures.lookup in
     let has : slice_get program.flow.now c.args.at ≡ Some c.in-Some.place.now = slice_get_read program.flow.now (length program.flow.now) c.args.at c.in-Some.place.now refl place.3.0 place.1 in
     let none = c.in_default-place.not-Assign in
-    unassigned (stock_of program) (works_in program) (choices_in program) (slice_get program.flow.now c.args.at) c.in-Some.place.now c.args.steps.now has none
+    unassigned (stock_of program) (works_in program) (choices_in program) (slice_get program.flow.now c.args.at) c.in-Some.place.now c.args.steps.now.items has none

@@ -207,8 +207,8 @@ lower_block-loop-statement-preserved t c =
     let s = ap (λ l. statements_in (block_acts l)) is in
     let less = c.loop-statement.invariant.less in
     record {
-      flow = flow_on m left rest c.statement-item.result is c.loop-statement.place c.len.result c.loop-statement.jobs c.lower_statement.new.jobs c.in_ok-more.more c.in_ok-more.ensures c.len.ensures c.loop-statement.flow c.append.new.flow c.as_slice.result.now
-          (flow_in (block_acts c.args.block.now) (length c.args.jobs.now) c.args.at) c.in_ok-append.ensures c.as_slice.ensures c.loop-statement.invariant.flow;
+      flow = flow_on m left rest c.statement-item.result is c.loop-statement.place c.len.result c.loop-statement.jobs c.lower_statement.new.jobs c.in_ok-more.more c.in_ok-more.ensures c.len.ensures c.loop-statement.flow.items c.extend_from_slice.new.self.items c.as_slice.result.now
+          (flow_in (block_acts c.args.block.now) (length c.args.jobs.now) c.args.at) c.in_ok-extend_from_slice.ensures.items c.as_slice.ensures c.loop-statement.invariant.flow;
       jobs = jobs_on m left rest c.statement-item.result is c.loop-statement.place c.len.result c.loop-statement.jobs c.lower_statement.new.jobs c.in_ok-more.more c.in_ok-more.ensures c.len.ensures (works_of c.args.jobs.now ++ works_in m (block_acts c.args.block.now))
           c.loop-statement.invariant.jobs;
       ready = ready_on m left rest c.statement-item.result is c.loop-statement.place c.len.result c.loop-statement.jobs c.lower_statement.new.jobs c.in_ok-more.more c.in_ok-more.ensures c.len.ensures c.loop-statement.invariant.ready;
@@ -279,5 +279,5 @@ lower_for-returns-in_err-step t c = IfOk-from_err c.from_residual-in_err-step.re
 pub lower_block-returns-in_err-more : goal.lower_block-returns-in_err-more
 lower_block-returns-in_err-more t c = IfOk-from_err c.from_residual.result _ c.from_residual.ensures.0
 
-pub lower_block-returns-in_err-append : goal.lower_block-returns-in_err-append
-lower_block-returns-in_err-append t c = IfOk-from_err c.from_residual-in_err-append.result _ c.from_residual-in_err-append.ensures.0
+pub lower_block-returns-in_err-extend_from_slice : goal.lower_block-returns-in_err-extend_from_slice
+lower_block-returns-in_err-extend_from_slice t c = IfOk-from_err c.from_residual-in_err-extend_from_slice.result _ c.from_residual-in_err-extend_from_slice.ensures.0

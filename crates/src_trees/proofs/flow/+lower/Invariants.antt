@@ -27,7 +27,7 @@ decreases-lower_for l = 3 * (3 + statements_in (acts_of (map act_of l.body.now))
 
 abbrev pub invariant-lower_block-loop-statement : goal.invariant-lower_block-loop-statement
 invariant-lower_block-loop-statement l = record {
-  flow : l.flow ++ flow_in (acts_of (map act_of (drop l.statement-index l.block))) (length l.jobs) l.place ≡ flow_in (acts_of (map act_of l.block)) (length l.initial.jobs) l.at;
+  flow : l.flow.items ++ flow_in (acts_of (map act_of (drop l.statement-index l.block))) (length l.jobs) l.place ≡ flow_in (acts_of (map act_of l.block)) (length l.initial.jobs) l.at;
   jobs : works_of l.jobs ++ works_in l.memory (acts_of (map act_of (drop l.statement-index l.block))) ≡ works_of l.initial.jobs ++ works_in l.memory (acts_of (map act_of l.block));
   ready : IsReady l.place l.jobs (statements_in (acts_of (map act_of (drop l.statement-index l.block))));
   plain : ArePlain l.memory.word l.memory.places (acts_of (map act_of (drop l.statement-index l.block)));
