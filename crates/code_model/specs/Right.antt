@@ -48,7 +48,8 @@ pub record Stays (netlist : Netlist) (image : Image) (s : State) (n : ℕ) : Typ
   pub same : store_in image last ≡ store_in image s
 
 -- the image's trace is that of a source, whose first m checkpoints from a store are given: from
--- every start state, for every m, and from each state at the end mark on nothing changes
+-- every start state, for every m; and from each state at the end mark on no clock clashes and the
+-- store stays
 pub record TracesRight (netlist : Netlist) (image : Image) (trace : List ℕ → ℕ → List Passed) : Type 0 where
   pub shows : (s : State) → IsAt netlist 0 s → (m : ℕ) → ShowsSource netlist image trace s m
   pub stays : (s t : State) → IsAt netlist 0 s → (k : ℕ) → run netlist (words_of image) s k ≡ Reached t →

@@ -5,7 +5,7 @@
 //! and the bits and the greatest number of words of a netlist's code. All else here is definitions:
 //! an image is right code where it `IsLaidOut` and `TracesRight`, which says of every start state
 //! and every m that the clocked netlist shows the first m checkpoints of a source, in time and
-//! without a clash, and that nothing changes after the end.
+//! without a clash, and that from the end on no clock clashes and the variables' cells stay.
 //!
 //! Files:
 //!
@@ -14,11 +14,9 @@
 //! - `specs/`, cited by public contracts in the crates above: `Places` and `Layout` (words, labels,
 //!   and where variables stand), `Machine` (what is seen at marks), `Right` (right code),
 //!   `ImageText`, `ImageFits` and `ImageLines` (the text of an image, and which bytes are one),
-//!   `Words` (words that jump), `Flow`. The source is a parameter of `Right`: the trace of the
-//!   language stands in `src_model`. `specs/Inner/`: `Flow`, what carries a trace from place to
-//!   place, for proofs.
-//! - `Flow` among these has `Reaches`, which the definition of placed words needs; the rest of it,
-//!   `Follows` above all, is what carries a proof from state to state.
+//!   `Words` (words that jump), `Flow` (states that are reached without a mark on the way). The
+//!   source is a parameter of `Right`: the trace of the language stands in `src_model`.
+//! - `specs/Inner/`: `Flow`, whose `Follows` carries a proof from state to state.
 //! - `proofs/`: `Tracing`, `Heads` and `Flowing` from `Follows` to traces; `Ending`, `Fixed`,
 //!   `Stores`.
 #![tactic(auto)]

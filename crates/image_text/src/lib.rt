@@ -3,7 +3,7 @@
 //! Promise: `write` gives the text of an image (`image_text` of `code_model/specs/ImageText`).
 //! `read` takes bytes just where they are what is written of an image that fits the netlist's code,
 //! as that image alone (`found`, `only`: `IsImageText`), and otherwise tells the first line with
-//! which no such text can go on (`refused`: `IsRefusal`). `law_of_again`: what is written of an
+//! which no such text can go on (`refused`: `IsImageRefusal`). `law_of_again`: what is written of an
 //! image that fits is read as that image.
 //!
 //! Invariant: a `Front` is what the lines so far say, and is the front of the text of some image

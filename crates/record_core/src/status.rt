@@ -49,7 +49,7 @@ pub enum Status {
     ImageText(u64),
     /// The file is no memory text for the netlist; the offset at which that shows.
     MemText(u64),
-    /// Two drivers of the bus of this number differ in this clock cycle.
+    /// Two drivers of the bus of this number are enabled in this clock cycle, of equal values too.
     Clash { cycle: u64, bus: u32 },
 }
 
