@@ -9,7 +9,7 @@ use Rattle.form_model.specs.declared.flow.Flow.TheVariants.{Assign, Test, Jump, 
 use Rattle.src_trees.specs.Lowered.{holds_at_one}
 use Rattle.src_trees.specs.Flows.{places_for, places_in, else_entry, asked, flow_of, flow_in, flow_else, program_flow}
 use Rattle.src_trees.specs.Blocks.{continues}
-use Rattle.branch_fix.specs.Bounds.{sum_of, control_words, bound_of}
+use Rattle.branch_fix.specs.Bounds.{control_of, control_in, control_else, program_bound, sum_of, control_words, bound_of}
 use Rattle.branch_fix.specs.Costs.{joined, block_costs, SizesWithin}
 
 -- the costs of all trees of a flow
@@ -163,3 +163,59 @@ bound_is l costs sizes e w =
     let c = program_costs l costs e in
     let s = within_sum sizes (block_costs (program_flow l) costs (program_flow l) 0) w in
     omega (arith, c, s)
+
+-- ---- the bound by the statements of a program
+
+control_append : (xs ys : List Flow) → control_words (xs ++ ys) ≡ control_words xs + control_words ys
+control_append [] ys = omega arith
+control_append (Assign tree ∷ xs) ys = control_append xs ys
+control_append (Test tree one none ∷ xs) ys = let h = control_append xs ys in omega (arith, h)
+control_append (Jump to ∷ xs) ys = let h = control_append xs ys in omega (arith, h)
+control_append (End ∷ xs) ys = let h = control_append xs ys in omega (arith, h)
+
+asked_control : (cmp : Cmp) (tree yes_to no_to : ℕ) (rest : List Flow) → control_words (asked cmp tree yes_to no_to ∷ rest) ≡ 3 + control_words rest
+asked_control cmp tree yes_to no_to rest = by (holds_at_one cmp)
+  where
+    by : (b : Bool) → control_words ((if b then Test tree yes_to no_to else Test tree no_to yes_to) ∷ rest) ≡ 3 + control_words rest
+    by true = refl
+    by false = refl
+
+mutual
+  act_control : (a : Act) (tree at : ℕ) → control_words (flow_of a tree at) ≡ control_of a
+  act_control (assign place e) tree at = refl
+  act_control (choice test taken other) tree at =
+      let q = asked_control test.cmp tree (at + 1) (else_entry other (at + 1 + places_in taken)) (flow_in taken (tree + 1) (at + 1) ++ flow_else other (tree + 1 + statements_in taken) (at + 1 + places_in taken)) in
+      let p = control_append (flow_in taken (tree + 1) (at + 1)) (flow_else other (tree + 1 + statements_in taken) (at + 1 + places_in taken)) in
+      let t = acts_control taken (tree + 1) (at + 1) in
+      let o = else_control other (tree + 1 + statements_in taken) (at + 1 + places_in taken) in
+      omega (arith, q, p, t, o)
+  act_control (while test body) tree at =
+      let q = asked_control test.cmp tree (at + 1) (at + 1 + places_in body + 1) (flow_in body (tree + 1) (at + 1) ++ Jump at ∷ []) in
+      let p = control_append (flow_in body (tree + 1) (at + 1)) (Jump at ∷ []) in
+      let t = acts_control body (tree + 1) (at + 1) in
+      omega (arith, q, p, t)
+  act_control (count counter from_at from to body) tree at =
+      let back : List Flow = Assign (tree + 2 + statements_in body) ∷ (Jump (at + 1) ∷ []) in
+      let q = asked_control Ne (tree + 1) (at + 2) (at + 2 + places_in body + 2) (flow_in body (tree + 2) (at + 2) ++ back) in
+      let p = control_append (flow_in body (tree + 2) (at + 2)) back in
+      let t = acts_control body (tree + 2) (at + 2) in
+      omega (arith, q, p, t)
+
+  acts_control : (list : Acts) (tree at : ℕ) → control_words (flow_in list tree at) ≡ control_in list
+  acts_control no_acts tree at = refl
+  acts_control (act a rest) tree at =
+      let p = control_append (flow_of a tree at) (flow_in rest (tree + statements a) (at + places_for a)) in
+      let t = act_control a tree at in
+      let o = acts_control rest (tree + statements a) (at + places_for a) in
+      omega (arith, p, t, o)
+
+  else_control : (o : Otherwise) (tree at : ℕ) → control_words (flow_else o tree at) ≡ control_else o
+  else_control without tree at = refl
+  else_control (otherwise body) tree at = let h = acts_control body tree (at + 1) in omega (arith, h)
+
+-- the bound of a program's flow is that of its statements
+pub program_words : (l : Listing) (costs : List ℕ) → bound_of (program_flow l) costs ≡ program_bound l costs
+program_words l costs =
+    let p = control_append (flow_in (acts_of l.body) 0 0) (End ∷ []) in
+    let t = acts_control (acts_of l.body) 0 0 in
+    omega (arith, p, t)

@@ -1,9 +1,8 @@
 -- How many words a program has at most.
 use Rattle.std.specs.Prelude.{ℕ, ◌+◌, List, [], ◌∷◌}
-use Rattle.src_model.specs.Written.{Listing}
+use Rattle.src_model.specs.Written.{Act, assign, choice, while, count, Acts, no_acts, act, Otherwise, without, otherwise, Listing, acts_of}
 use Rattle.form_model.specs.declared.flow.Flow.{Flow}
 use Rattle.form_model.specs.declared.flow.Flow.TheVariants.{Assign, Test, Jump, End}
-use Rattle.src_trees.specs.Flows.{program_flow}
 
 abbrev pub sum_of : List ℕ → ℕ
 sum_of [] = 0
@@ -22,6 +21,26 @@ control_words (End ∷ rest) = 1 + control_words rest
 abbrev pub bound_of : List Flow → List ℕ → ℕ
 bound_of flow costs = sum_of costs + control_words flow
 
--- the bound of a program's words
+-- ---- the same of a program as it is written
+
+-- three words for each test, one for the jump back of each loop, and one for each `if` with an else
+-- part
+
+abbrev mutual
+  pub control_of : Act → ℕ
+  control_of (assign place e) = 0
+  control_of (choice test taken other) = 3 + control_in taken + control_else other
+  control_of (while test body) = 3 + control_in body + 1
+  control_of (count counter at from to body) = 3 + control_in body + 1
+
+  pub control_in : Acts → ℕ
+  control_in no_acts = 0
+  control_in (act a rest) = control_of a + control_in rest
+
+  pub control_else : Otherwise → ℕ
+  control_else without = 0
+  control_else (otherwise body) = 1 + control_in body
+
+-- the bound of a program's words: the costs of all its trees, those words, and the end
 abbrev pub program_bound : Listing → List ℕ → ℕ
-program_bound l costs = bound_of (program_flow l) costs
+program_bound l costs = sum_of costs + control_in (acts_of l.body) + 1

@@ -28,7 +28,7 @@ ghost use Rattle.branch_fix.specs.declared.part.Part.TheVariants.{Test};
 ghost use Rattle.branch_fix.specs.Parts.{address, parts_of, starts, total, PartsFit};
 ghost use Rattle.branch_fix.specs.Rounds.{rule_shows, target_shows, IsFixpoint};
 ghost use Rattle.branch_fix.specs.Items.{jump_step, target_setting};
-ghost use Rattle.branch_fix.specs.Bounds.{bound_of, control_words, sum_of};
+ghost use Rattle.branch_fix.specs.Bounds.{bound_of, control_words, program_bound, sum_of};
 ghost use Rattle.branch_fix.specs.Costs.{block_costs, SizesWithin};
 ghost use Rattle.branch_fix.specs.Made.{IsMade};
 
@@ -64,9 +64,11 @@ pub fn law_of_parts()
         slice_index (starts parts) k ≡ address parts k }
 {}
 
-/// Blocks that have no more words than they cost keep to the bound of their flow.
+/// The bound of a program's flow is the program's own, and blocks that have no more words than they
+/// cost keep to it.
 pub fn law_of_bounds()
-    ensures { (l : Listing) (costs sizes : List ℕ) →
+    ensures program { (l : Listing) (costs : List ℕ) → bound_of (program_flow l) costs ≡ program_bound l costs }
+    ensures blocks { (l : Listing) (costs sizes : List ℕ) →
         length costs ≡ statements_in (acts_of l.body) →
         SizesWithin sizes (block_costs (program_flow l) costs (program_flow l) 0) →
         sum_of sizes + control_words (program_flow l) ≤ bound_of (program_flow l) costs }

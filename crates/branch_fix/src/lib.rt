@@ -5,9 +5,9 @@
 //! exactly (`laid`: `IsLaid`), or tells that the bound is beyond the reach of jumps, and then that
 //! the words are more than there is room for (`refused`: `IsLayFault`). `bound` gives the bound of
 //! a flow (`bound_of`). The laws: an image whose words stand for a flow's parts traces the program
-//! (`law_of_layouts`: `IsMade`), the rounds settle on one list of parts (`law_of_parts`), blocks of
-//! no more words than they cost keep to the bound (`law_of_bounds`), and target bits lead to their
-//! targets (`law_of_targets`).
+//! (`law_of_layouts`: `IsMade`), the rounds settle on one list of parts (`law_of_parts`), the bound
+//! is the program's own (`law_of_bounds`), and target bits lead to their targets
+//! (`law_of_targets`).
 //!
 //! Invariant: a part stands for each place of the flow, so places and parts have one numbering. A
 //! branch that became three words stays so, hence the number of long tests rises in each round but
@@ -25,8 +25,10 @@
 //! - `bounds`: the most words that a program has.
 //! - `fault`, `layout`: why code was not laid out, and `lay_out`.
 //! - `laws`: the laws above.
-//! - `specs/`: what is cited by public contracts, here and in `right_code`; `Worked` is computed.
-//!   `specs/Inner/`: `Flowing`, for proofs.
+//! - `specs/`, cited by public contracts here and in `right_code`: `Parts` (what stands at the places
+//!   of a flow, with addresses), `Rounds`, `Items` (the words), `Bounds`, `Costs` (of blocks),
+//!   `Marked`, `Laid` (what `lay_out` answers), `Made` (words that stand for parts), `Entered`;
+//!   `Worked` is computed. `specs/Inner/`: `Flowing`, for proofs.
 //! - `proofs/`: `Placing` carries the law of layouts, `Layouts` and `Laying` the call, `Rounds`,
 //!   `Costs`, `Settings` the other laws.
 #![tactic(auto)]

@@ -18,8 +18,8 @@
 //! - `steps`: what steps read and write of one another.
 //! - `between`: live registers, from the last group to the first.
 //! - `laws`: `law_of_lists`.
-//! - `specs/`: `Listed`, and of `Reading` `AreReads`, are cited by public contracts; the rest of
-//!   `Reading` mirrors a loop.
+//! - `specs/`, cited by public contracts: `Listed` (a table of a netlist's patterns whose ids are a
+//!   pool's), `Reading` (the registers that expressions read, and whether they may see a write).
 //! - `proofs/`: `Kept` and `Slices` for live registers, `Bits` for sets.
 #![tactic(auto)]
 

@@ -36,7 +36,7 @@ use Rattle.branch_fix.specs.Laid.{IsLaid, Outline}
 use Rattle.branch_fix.specs.declared.laid.Item.{Item}
 use Rattle.branch_fix.specs.declared.laid.Item.TheVariants.{Group, Jump}
 use Rattle.branch_fix.specs.declared.laid.Laid.{Laid}
-use Rattle.branch_fix.proofs.Costs.{bound_is}
+use Rattle.branch_fix.proofs.Costs.{bound_is, program_words}
 use Rattle.branch_fix.proofs.Shapes.{program_is_flow}
 use Rattle.right_code.specs.Bounded.{HasBound}
 use Rattle.right_code.specs.Covered.{AllChosen, IsFirstBare, job_costs, numbered}
@@ -107,7 +107,7 @@ module _ (machine : Machine) (program : CoveredProgram) (task : Task) (c : IsCov
 
   -- the bound is the task's
   pub bound_there : bound_of program.flow.now (map (λ (j : JobCover). j.cost) program.covers.now) ≡ program_bound task.listing (job_costs (task_works task) (choices_in program))
-  bound_there = (λ j. bound_of (c.flow j) (costs_are j))
+  bound_there = (λ j. bound_of (c.flow j) (costs_are j)) ∙ program_words task.listing (job_costs (task_works task) (choices_in program))
 
   module _ (blocks : List PackedBlock) (branches : List (ℕ × ℕ))
       (code : IsBlockCode (machine_netlist machine) patterns (stock_of program) program.flow.now (works_in program) (choices_in program) (length program.flow.now) blocks branches) where
