@@ -1,9 +1,11 @@
 //! Compiled code: its words, where the variables stand, and which addresses are marked.
 
-ghost use Rattle.std.specs.Prelude.{◌≡◌};
+ghost use Rattle.std.specs.Prelude.{◌≡◌, IfOk};
 ghost use Rattle.code_model.specs.ImageText.{bytes_of};
+ghost use Rattle.code_model.specs.Places.{words_of};
 
-use rec_bits::{Items, Name};
+use rec_bits::{Items, Name, NoMemory};
+use std::alloc::Global;
 
 /// The cells of a variable: `len` of them from `address` on.
 #[derive(Drop)]
@@ -55,4 +57,15 @@ pub struct Image {
     pub costs: Items<(u32, u32)>,
     pub marks: Items<Mark>,
     pub words: Items<Word>,
+}
+
+/// The instruction words of an image alone, from address 0 on.
+pub fn words_of(alloc: Global, image: &Image) -> Result<Items<u64>, NoMemory>
+    ensures { IfOk result (λ words. words ≡ words_of image.now) }
+{
+    let mut words = Items::new(alloc);
+    for word in image.words.as_slice() {
+        words.push(word.word)?;
+    }
+    Ok(words)
 }

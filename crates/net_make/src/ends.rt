@@ -10,10 +10,10 @@ ghost use Rattle.code_model.specs.Places.{words_of};
 ghost use Rattle.net_make.specs.Stops.{IsAtEnd, RunsOn, StandsAt, StopsAt};
 
 use crate::marks::end_address;
-use code_model::Image;
+use code_model::{Image, words_of};
 use cycle_sim::{Clocked, Sim};
 use net_model::{Checked, State};
-use rec_bits::{Items, NoMemory, ParseFault};
+use rec_bits::{NoMemory, ParseFault};
 use state_text::read_state;
 use std::alloc::Global;
 
@@ -35,17 +35,6 @@ fn clock_to(sim: &mut Sim<'_>, address: Option<u64>, most: u32) -> u32
         }
     }
     most
-}
-
-// The words of an image.
-fn words_of(alloc: Global, image: &Image) -> Result<Items<u64>, NoMemory>
-    ensures { IfOk result (λ words. words ≡ words_of image.now) }
-{
-    let mut words = Items::new(alloc);
-    for word in image.words.as_slice() {
-        words.push(word.word)?;
-    }
-    Ok(words)
 }
 
 // The state that the empty memory text sets.

@@ -4,7 +4,6 @@ ghost use Rattle.std.specs.Prelude.{◌≡◌, ◌<◌, ◌^◌, IfOk, IfErr, le
 ghost use Rattle.std.specs.List.{AllByRecursion};
 ghost use Rattle.net_model.specs.NetFaults.{name_at};
 ghost use Rattle.net_model.specs.Widths.{IsState, WordFits};
-ghost use Rattle.code_model.specs.Places.{words_of};
 ghost use Rattle.code_model.specs.ImageFits.{limits_of};
 ghost use Rattle.code_model.specs.ImageLines.{IsImageText};
 ghost use Rattle.state_text.specs.Settings.{IsStartState};
@@ -14,7 +13,7 @@ ghost use Rattle.net_run.specs.Inner.Runs.{IsEndFault, IsEndText, IsImageFault, 
 ghost use Rattle.net_run.specs.declared.machine.RunFault.{RunFault};
 
 use crate::clocks::{Clash, clock_all};
-use code_model::Image;
+use code_model::{Image, words_of};
 use cycle_sim::Sim;
 use net_front::{NetRefusal, read_net};
 use net_model::{Checked, NetFault, State};
@@ -112,17 +111,6 @@ fn start_of(alloc: Global, bytes: &[u8], checked: &Checked) -> Result<State, Run
 {
     let state = state_text::read_state(alloc, bytes, checked).map_err(memory_fault)?;
     Ok(state)
-}
-
-// The words of an image.
-fn words_of(alloc: Global, image: &Image) -> Result<Items<u64>, NoMemory>
-    ensures { IfOk result (λ words. words ≡ words_of image.now) }
-{
-    let mut words = Items::new(alloc);
-    for word in image.words.as_slice() {
-        words.push(word.word)?;
-    }
-    Ok(words)
 }
 
 // The words of the image that the bytes are.

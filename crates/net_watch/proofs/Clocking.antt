@@ -12,8 +12,7 @@ use Rattle.code_model.specs.Machine.{Traced, Shows, after_clock, label_in, mtrac
 use Rattle.rec_io.specs.Sink.{SinkState}
 use Rattle.net_watch.specs.Puts.{Puts}
 use Rattle.net_watch.specs.Inner.Scenes.{IsScene}
-use Rattle.net_watch.specs.Traces.{trace_ends, trace_lines}
-use Rattle.net_watch.specs.Inner.Traces.{IsNext, IsShown, ends_at, line_at, store_after_line}
+use Rattle.net_watch.specs.Inner.Traces.{IsNext, IsShown, ends_at, line_at, store_after_line, trace_ends, trace_lines}
 use Rattle.net_watch.proofs.Putting.{IsLeft, goes_last, less_left, puts_failed, puts_ok, stops_there}
 use Rattle.net_watch.proofs.Seeing.{EndsHere, GoesOn, clock_shown, ends_here, goes_on, last_here}
 

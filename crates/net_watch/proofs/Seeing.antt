@@ -8,8 +8,7 @@ use Rattle.src_model.specs.declared.checkpoint.Checkpoint.TheVariants.{At, End}
 use Rattle.src_model.specs.declared.program.Var.{Var as Declared}
 use Rattle.code_model.specs.Machine.{Traced, Shows, Clashes, after_clock, with_checkpoint}
 use Rattle.checkpoint_text.specs.Texts.{checkpoint_line, trace_entry}
-use Rattle.net_watch.specs.Traces.{trace_ends, trace_lines}
-use Rattle.net_watch.specs.Inner.Traces.{IsNext, IsShown, ends_at, line_at, store_after_line}
+use Rattle.net_watch.specs.Inner.Traces.{IsNext, IsShown, ends_at, line_at, store_after_line, trace_ends, trace_lines}
 
 module _ (vars : List Declared) (last : List ℕ) where
   -- the lines are that of the state, and those of what comes later

@@ -21,11 +21,11 @@ use Rattle.code_model.specs.Places.{Apart, cells_at, cells_of, places_from, word
 use Rattle.code_model.specs.Right.{IsLaidOut}
 use Rattle.code_model.proofs.Stores.{cells_in_row}
 use Rattle.cycle_sim.specs.Shown.{Shown}
-use Rattle.checkpoint_text.specs.Texts.{store_from}
+use Rattle.checkpoint_text.specs.Texts.{checkpoint_text, store_from}
 use Rattle.src_model.specs.Meaning.{zeros}
 use Rattle.net_watch.specs.Inner.Ready.{IsWatchable}
 use Rattle.net_watch.specs.Inner.Scenes.{IsScene}
-use Rattle.net_watch.specs.Traces.{trace_text}
+use Rattle.net_watch.specs.Traces.{entries_of}
 use Rattle.net_watch.specs.Inner.Traces.{IsShown}
 use Rattle.net_watch.specs.Watched.{IsTraceText}
 use Rattle.net_watch.proofs.Fronts.{ShowsFirst}
@@ -80,16 +80,16 @@ is_shown trace entries e = subst IsShown (sym e) tt
 
 module _ (netlist : Netlist) (image : Image) (trace : List ℕ → ℕ → List Passed) (start : State) (clocks : ℕ) (first : ShowsFirst netlist image trace start clocks)
     (sim : Shown) (vars named : List Declared) (same_netlist : sim.netlist ≡ netlist) (same_state : sim.state ≡ start) (same_vars : named ≡ vars) where
-  pub told_of : IsTraceText netlist image vars trace start clocks (trace_text named (mtrace sim.netlist image sim.state 0 clocks))
+  pub told_of : IsTraceText netlist image vars trace start clocks (checkpoint_text named (entries_of (mtrace sim.netlist image sim.state 0 clocks)))
   told_of = record {
     entries = first.entries;
     traced = first.traced;
     passed = first.passed;
     text_is =
-        ap (λ (vs : List Declared). trace_text vs (mtrace sim.netlist image sim.state 0 clocks)) same_vars
-        ∙ ap (λ (n : Netlist). trace_text vars (mtrace n image sim.state 0 clocks)) same_netlist
-        ∙ ap (λ (s : State). trace_text vars (mtrace netlist image s 0 clocks)) same_state
-        ∙ ap (trace_text vars) first.traced;
+        ap (λ (vs : List Declared). checkpoint_text vs (entries_of (mtrace sim.netlist image sim.state 0 clocks))) same_vars
+        ∙ ap (λ (n : Netlist). checkpoint_text vars (entries_of (mtrace n image sim.state 0 clocks))) same_netlist
+        ∙ ap (λ (s : State). checkpoint_text vars (entries_of (mtrace netlist image s 0 clocks))) same_state
+        ∙ ap (λ trace. checkpoint_text vars (entries_of trace)) first.traced;
   }
 
   pub ready : (address : ℕ) (last_cells : List ℕ) → sim.words ≡ words_of image → address ≡ image.temps → last_cells ≡ zeros vars → IsState netlist start → IsScene netlist image vars image.temps → IsWatchable sim image named address last_cells clocks

@@ -18,8 +18,8 @@
 //! - `watching`: clocks, and what is seen between them.
 //! - `watch`: `Watch`, as callers see it.
 //! - `laws`: `law_of_ends`.
-//! - `specs/`, cited by public contracts: `Watched`, `Puts`, `Ends`, and `Traces`, the text of a
-//!   trace. `specs/Inner/`: `Traces`, `Ready` and `Scenes`, for the loop and the invariant.
+//! - `specs/`, cited by public contracts: `Watched`, `Puts`, `Ends`, and `Traces`, what is shown of
+//!   a trace. `specs/Inner/`: `Traces`, `Ready` and `Scenes`, for the loop and the invariant.
 //! - `proofs/`: `Fronts` and `Starting` carry `new`, `Clocking`, `Seeing`, `Lines`, `Halving` and
 //!   `Putting` carry `run`, `Ends` the law.
 #![tactic(auto)]

@@ -8,7 +8,6 @@ ghost use Rattle.src_model.specs.Written.{listing_of};
 ghost use Rattle.code_model.specs.ImageFits.{IsFitting, limits_of};
 ghost use Rattle.code_model.specs.Layout.{variables_of};
 ghost use Rattle.code_model.specs.Machine.{IsAt};
-ghost use Rattle.code_model.specs.Places.{words_of};
 ghost use Rattle.code_model.specs.Right.{IsLaidOut, TracesRight};
 ghost use Rattle.checkpoint_text.specs.Texts.{last_line};
 ghost use Rattle.net_watch.specs.Puts.{Puts};
@@ -16,10 +15,10 @@ ghost use Rattle.net_watch.specs.Watched.{IsTraceText};
 
 use crate::watching::write_lines;
 use crate::writer::LineWriter;
-use code_model::Image;
+use code_model::{Image, words_of};
 use cycle_sim::Sim;
 use net_model::{Checked, State};
-use rec_bits::{Items, NoMemory};
+use rec_bits::NoMemory;
 use rec_io::{Sink, WriteFault, put_all};
 use src_model::Typed;
 use std::alloc::Global;
@@ -39,26 +38,16 @@ impl<'a> Model for Watch<'a> {
     ghost use Rattle.std.specs.Prelude.{ℕ, List};
     ghost use Rattle.code_model.specs.Machine.{mtrace};
     ghost use Rattle.net_watch.specs.Inner.Ready.{IsWatchable};
-    ghost use Rattle.net_watch.specs.Traces.{trace_text};
+    ghost use Rattle.checkpoint_text.specs.Texts.{checkpoint_text};
+    ghost use Rattle.net_watch.specs.Traces.{entries_of};
 
     ghost Value = { List ℕ };
 
-    ghost view = { λ watch. trace_text watch.writer.vars.now
-        (mtrace watch.sim.netlist watch.image.now watch.sim.state 0 watch.clocks) };
+    ghost view = { λ watch. checkpoint_text watch.writer.vars.now
+        (entries_of (mtrace watch.sim.netlist watch.image.now watch.sim.state 0 watch.clocks)) };
 
     ghost invariant = { λ watch. IsWatchable watch.sim watch.image.now watch.writer.vars.now
         watch.writer.address watch.writer.last_cells watch.clocks };
-}
-
-// The words of an image.
-fn words_of(alloc: Global, image: &Image) -> Result<Items<u64>, NoMemory>
-    ensures { IfOk result (λ words. words ≡ words_of image.now) }
-{
-    let mut words = Items::new(alloc);
-    for word in image.words.as_slice() {
-        words.push(word.word)?;
-    }
-    Ok(words)
 }
 
 fn last_line(ended: bool) -> &'static [u8]

@@ -7,8 +7,7 @@ ghost use Rattle.code_model.specs.Machine.{label_in, mtrace, store_in};
 ghost use Rattle.code_model.specs.Places.{words_of};
 ghost use Rattle.net_watch.specs.Puts.{Puts};
 ghost use Rattle.net_watch.specs.Inner.Scenes.{IsScene};
-ghost use Rattle.net_watch.specs.Traces.{trace_ends, trace_lines};
-ghost use Rattle.net_watch.specs.Inner.Traces.{IsNext, IsShown, ends_at, line_at, store_after_line};
+ghost use Rattle.net_watch.specs.Inner.Traces.{IsNext, IsShown, ends_at, line_at, store_after_line, trace_ends, trace_lines};
 
 use crate::marks::label_at;
 use crate::writer::LineWriter;

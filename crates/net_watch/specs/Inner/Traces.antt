@@ -1,12 +1,21 @@
--- The text of a trace, and what a single state adds to it.
+-- What of a text is a trace's, and what a single state adds to it.
 use Rattle.std.specs.Prelude.{ℕ, Bool, false, List, [], Option, Some, None}
 use Rattle.net_model.specs.Clock.{Outcome, Next, Clash}
 use Rattle.src_model.specs.declared.checkpoint.Checkpoint.{Checkpoint}
 use Rattle.src_model.specs.declared.program.Var.{Var as Declared}
 use Rattle.code_model.specs.Machine.{Traced, Shows, Clashes}
-use Rattle.checkpoint_text.specs.Texts.{checkpoint_line, trace_entry, is_end}
+use Rattle.checkpoint_text.specs.Texts.{checkpoint_line, checkpoint_lines, has_end, trace_entry, is_end}
+use Rattle.net_watch.specs.Traces.{entries_of}
 
 -- ---- traces
+
+-- the lines of its checkpoints, the first relative to this store
+abbrev pub trace_lines : List Declared → List ℕ → Traced → List ℕ
+trace_lines vars before trace = checkpoint_lines vars before (entries_of trace)
+
+-- whether the end is seen
+abbrev pub trace_ends : Traced → Bool
+trace_ends trace = has_end (entries_of trace)
 
 -- no clock before the end mark clashes
 abbrev pub IsShown : Traced → Type 0

@@ -3,8 +3,7 @@ use Rattle.net_model.specs.Widths.{IsState}
 use Rattle.code_model.specs.Machine.{mtrace}
 use Rattle.code_model.specs.Places.{words_of}
 use Rattle.net_watch.specs.Inner.Scenes.{IsScene}
-use Rattle.net_watch.specs.Traces.{trace_ends, trace_lines}
-use Rattle.net_watch.specs.Inner.Traces.{IsShown}
+use Rattle.net_watch.specs.Inner.Traces.{IsShown, trace_ends, trace_lines}
 use Rattle.net_watch.proofs.Putting.{IsLeft}
 use Rattle.net_watch.proofs.watching.write_lines.Given as goal
 

@@ -3,7 +3,7 @@ use Rattle.rec_io.specs.declared.sink.WriteFault.{WriteFault}
 use Rattle.code_model.specs.Machine.{mtrace}
 use Rattle.checkpoint_text.specs.Texts.{last_line}
 use Rattle.src_model.specs.Meaning.{zeros}
-use Rattle.net_watch.specs.Traces.{trace_ends, trace_lines}
+use Rattle.net_watch.specs.Inner.Traces.{trace_ends, trace_lines}
 use Rattle.net_watch.proofs.Putting.{all_left, puts_failed, puts_then, stops_there}
 use Rattle.net_watch.proofs.watch.Watch.run.Goals as goal
 
