@@ -33,7 +33,7 @@ packs_some m fits after pair gs result some (merges p xs r front g h back split 
     (others_some front (g ∷ h ∷ back) ((g ++ h) ∷ back) (λ s. (omega (arith, s.0, length-append g h), s.1.1)) (subst EachHasStep split some)) rest
 packs_some m fits after pair gs result some (moves p xs r front g a x b back split place unmerged movable first rest) =
     packs_some m fits after (p - 1) (front ++ (g ++ x ∷ []) ∷ (a ++ b) ∷ back) r
-    (others_some front (g ∷ (a ++ x ∷ b) ∷ back) ((g ++ x ∷ []) ∷ (a ++ b) ∷ back) (λ s. (omega (arith, s.0, length-append g (x ∷ [])), (movable.other, s.1.1))) (subst EachHasStep split some)) rest
+    (others_some front (g ∷ (a ++ x ∷ b) ∷ back) ((g ++ x ∷ []) ∷ (a ++ b) ∷ back) (λ s. (omega (arith, s.0, length-append g (x ∷ [])), (movable.free.other, s.1.1))) (subst EachHasStep split some)) rest
 packs_some m fits after pair gs result some (stays p xs r front g h back split place settled rest) = packs_some m fits after (suc p) xs r some rest
 
 -- so there are no more groups than steps

@@ -1,10 +1,11 @@
 //! The compiler: from the texts of a netlist and a program to that of an image.
 //!
 //! Promise: `compile` gives bytes that the grammar of images reads as an image which is right code
-//! for exactly the program on exactly the netlist of the two texts (`right`: `IsCompiled`).
-//! `read_compiled` gives that image with the netlist and the program (`compiled`: `IsCompiledTo`).
-//! Each refusal comes only where it is the first that applies; where one text is written none
-//! applies, unless another image made for the task is too long (`refused`: `IsCompileFault`).
+//! for exactly the program on exactly the netlist of the two texts, and which that netlist holds
+//! (`right`: `IsCompiled`); so none of the refusals applies there, unless another image made for
+//! the task is too long. `read_compiled` gives that image with the netlist and the program
+//! (`compiled`: `IsCompiledTo`). Each refusal comes only where it is the first that applies
+//! (`refused`: `IsCompileFault`).
 //!
 //! Files:
 //!
