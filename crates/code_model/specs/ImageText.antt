@@ -1,9 +1,8 @@
 -- The text of an image.
-use Rattle.std.specs.Prelude.{ℕ, ◌+◌, ◌-◌, ◌/◌, List, [], ◌∷◌, ◌++◌, codes, drop, length, Option, Some, None}
+use Rattle.std.specs.Prelude.{ℕ, ◌+◌, List, [], ◌∷◌, ◌++◌, codes, length, Option, Some, None}
 use Rattle.std.specs.List.{concat, flat_map}
-use Rattle.std.specs.Int.{w64, to_be_bytes}
 use Rattle.std.specs.Fmt.{decimal}
-use Rattle.hex.specs.Hex.{encode_lower}
+use Rattle.text_lines.specs.Digits.{bytes_of, hex_of}
 use Rattle.code_model.specs.declared.image.Image.{Image}
 use Rattle.code_model.specs.declared.image.Mark.{Mark}
 use Rattle.code_model.specs.declared.image.Place.{Place}
@@ -32,14 +31,6 @@ label_text None = codes "end"
 
 abbrev pub mark_line : Mark → List ℕ
 mark_line mark = concat (codes "mark " ∷ decimal mark.address ∷ codes " " ∷ label_text mark.label ∷ codes "\n" ∷ [])
-
--- how many bytes so many bits fill
-abbrev pub bytes_of : ℕ → ℕ
-bytes_of bits = (bits + 7) / 8
-
--- the last bytes of a word in hexadecimal digits, the highest first
-abbrev pub hex_of : ℕ → ℕ → List ℕ
-hex_of bytes word = encode_lower (drop (8 - bytes) (to_be_bytes w64 word))
 
 -- the wanted patterns with commas between, and - where there is none
 abbrev pub after_comma : ℕ → List ℕ

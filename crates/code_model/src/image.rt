@@ -1,7 +1,6 @@
 //! Compiled code: its words, where the variables stand, and which addresses are marked.
 
 ghost use Rattle.std.specs.Prelude.{◌≡◌, IfOk};
-ghost use Rattle.code_model.specs.ImageText.{bytes_of};
 ghost use Rattle.code_model.specs.Places.{words_of};
 
 use rec_bits::{Items, Name, NoMemory};
@@ -37,13 +36,6 @@ pub struct Mark {
 pub struct Word {
     pub word: u64,
     pub patterns: Items<u32>,
-}
-
-/// How many bytes a word of so many bits fills.
-pub fn bytes_of(bits: u8) -> usize
-    ensures { result ≡ bytes_of bits }
-{
-    (usize::from(bits) + 7) / 8
 }
 
 /// An image: the bits of a word, the number of temporary cells, the variables' places in order of

@@ -1,12 +1,12 @@
 //! Images of code, and in `specs/` what a netlist that is clocked on one shows and when it is
 //! right.
 //!
-//! Promise: `bytes_of`, `words_of` and `Limits::of` give what `specs/` defines: how many bytes a
-//! word fills, the instruction words of an image, and the bits and the greatest number of words of
-//! a netlist's code. All else here is definitions: an image is right code where it `IsLaidOut` and
-//! `TracesRight`, which says of every start state and every m that the clocked netlist shows the
-//! first m checkpoints of a source, in time and without a clash, and that from the end on no clock
-//! clashes and the variables' cells stay.
+//! Promise: `words_of` and `Limits::of` give what `specs/` defines: the instruction words of an
+//! image, and the bits and the greatest number of words of a netlist's code. All else here is
+//! definitions: an image is right code where it `IsLaidOut` and `TracesRight`, which says of every
+//! start state and every m that the clocked netlist shows the first m checkpoints of a source, in
+//! time and without a clash, and that from the end on no clock clashes and the variables' cells
+//! stay.
 //!
 //! Files:
 //!
@@ -25,5 +25,5 @@
 mod image;
 mod limits;
 
-pub use image::{Image, Mark, Place, Places, Word, bytes_of, words_of};
+pub use image::{Image, Mark, Place, Places, Word, words_of};
 pub use limits::Limits;

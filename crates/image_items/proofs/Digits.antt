@@ -11,7 +11,7 @@ use Rattle.std.specs.Int.{w64, to_be_bytes, from_be_bytes}
 use Rattle.hex.specs.Hex.{encode_lower, encode_with, decode_sized, lower_digits, IsBytes}
 use Rattle.hex.specs.declared.error.FromHexError.{FromHexError}
 use Rattle.hex.proofs.HexLemmas.{decode_sized-encode_lower, decode_sized-ok, decode_sized-twice, decode_of-ok}
-use Rattle.code_model.specs.ImageText.{hex_of}
+use Rattle.text_lines.specs.Digits.{hex_of}
 use Rattle.text_lines.proofs.Parts.{Avoids}
 use Rattle.image_items.specs.Reading.{of_digits, word_in}
 

@@ -2,7 +2,8 @@
 use Rattle.std.proofs.Common.{◌≡◌, ℕ, ◌<◌, ◌^◌, List, [], ◌∷◌, ◌++◌, refl, sym, ap, ◌∙◌, append_assoc, arith}
 use Rattle.std.specs.Prelude.{codes}
 use Rattle.std.specs.Fmt.{decimal}
-use Rattle.code_model.specs.ImageText.{numbers_text, label_text, hex_of}
+use Rattle.code_model.specs.ImageText.{numbers_text, label_text}
+use Rattle.text_lines.specs.Digits.{hex_of}
 use Rattle.text_lines.proofs.Parts.{Avoids, IsLine, avoids-append}
 use Rattle.text_lines.proofs.Numbers.{avoids-decimal, avoids-name}
 use Rattle.image_items.specs.declared.item.Item.{Item}

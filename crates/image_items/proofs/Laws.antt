@@ -12,7 +12,8 @@ use Rattle.code_model.specs.declared.image.Mark.{Mark}
 use Rattle.code_model.specs.declared.image.Place.{Place}
 use Rattle.code_model.specs.declared.image.Word.{Word}
 use Rattle.code_model.specs.ImageFits.{AscendFrom, LabelFits, PlaceFits, MarkFits}
-use Rattle.code_model.specs.ImageText.{after_comma, numbers_text, label_text, hex_of, place_line, cost_line, mark_line, word_line}
+use Rattle.code_model.specs.ImageText.{after_comma, numbers_text, label_text, place_line, cost_line, mark_line, word_line}
+use Rattle.text_lines.specs.Digits.{hex_of}
 use Rattle.text_lines.specs.Fields.{parts_at, number_of, is_name, ◌>>=◌, only_front, line_end}
 use Rattle.lexing.specs.Bytes.{is_digit}
 use Rattle.text_lines.specs.Lines.{longer_line}

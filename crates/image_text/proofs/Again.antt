@@ -6,7 +6,8 @@ use Rattle.std.specs.Fmt.{decimal}
 use Rattle.std.specs.List.{AllByRecursion, concat, flat_map}
 use Rattle.code_model.specs.declared.image.Image.{Image}
 use Rattle.code_model.specs.declared.image.Word.{Word}
-use Rattle.code_model.specs.ImageText.{bytes_of, place_line, cost_line, mark_line, word_line, word_lines, image_text}
+use Rattle.code_model.specs.ImageText.{place_line, cost_line, mark_line, word_line, word_lines, image_text}
+use Rattle.text_lines.specs.Digits.{bytes_of}
 use Rattle.text_lines.specs.Lines.{lines_of}
 use Rattle.text_lines.proofs.Parts.{IsLine, lines-joined}
 use Rattle.image_items.specs.declared.item.Item.{Item}

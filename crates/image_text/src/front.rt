@@ -3,7 +3,7 @@
 ghost use Rattle.std.specs.Prelude.{◌≡◌, ◌≤◌, IfOk, None};
 ghost use Rattle.image_text.specs.Inner.Fronts.{may_follow, last_mark, with_size, with_place, with_cost, with_mark, with_word, whole, opened, with_item, after_nothing, after_size, step, step_line};
 
-use code_model::{Image, Limits, Mark, Place, Word, bytes_of};
+use code_model::{Image, Limits, Mark, Place, Word};
 use image_items::{Item, item_of};
 use rec_bits::{Items, NoMemory, mask};
 use std::alloc::Global;

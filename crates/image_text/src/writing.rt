@@ -2,9 +2,10 @@
 
 ghost use Rattle.std.specs.Prelude.{◌≡◌, ◌++◌, ◌≤◌, ℕ, IfOk, OnOk, string_bytes};
 ghost use Rattle.std.specs.List.{flat_map};
-ghost use Rattle.code_model.specs.ImageText.{image_head, place_line, cost_line, mark_line, hex_of, after_comma, numbers_text, word_line, word_lines, image_text};
+ghost use Rattle.code_model.specs.ImageText.{image_head, place_line, cost_line, mark_line, after_comma, numbers_text, word_line, word_lines, image_text};
+ghost use Rattle.text_lines.specs.Digits.{hex_of};
 
-use code_model::{Image, Mark, Place, Word, bytes_of};
+use code_model::{Image, Mark, Place, Word};
 use rec_bits::NoMemory;
 use std::alloc::Global;
 

@@ -4,7 +4,7 @@ use Rattle.std.specs.List.{slice_index_or, zip}
 use Rattle.std.proofs.lemmas.List.{append-nil, drop_all, length-map}
 use Rattle.std.proofs.Math.Seq.{drop-cons}
 use Rattle.bit_bdd.specs.Diagrams.{Diagrams}
-use Rattle.code_model.specs.ImageText.{bytes_of}
+use Rattle.text_lines.specs.Digits.{bytes_of}
 use Rattle.net_model.specs.declared.hardware.Netlist.{Netlist}
 use Rattle.net_model.specs.CheckedRules.{KeepsRules}
 use Rattle.net_model.specs.Patterns.{Pattern}

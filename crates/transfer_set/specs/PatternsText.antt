@@ -3,7 +3,7 @@ use Rattle.std.specs.Prelude.{◌≡◌, ℕ, ◌+◌, ◌^◌, ◌<◌, ◌≤�
 use Rattle.std.specs.Fmt.{decimal}
 use Rattle.std.specs.List.{concat, zip}
 use Rattle.bit_bdd.specs.Diagrams.{Diagrams, has_word}
-use Rattle.code_model.specs.ImageText.{bytes_of, hex_of}
+use Rattle.text_lines.specs.Digits.{bytes_of, hex_of}
 use Rattle.net_model.specs.declared.hardware.Netlist.{Netlist}
 use Rattle.net_model.specs.Patterns.{IsWordOf, Pattern}
 use Rattle.net_model.specs.Texts.{move_text}

@@ -1,7 +1,7 @@
 //! The text of patterns.
 
 ghost use Rattle.std.specs.Prelude.{◌≡◌, ◌≤◌, ◌++◌, All, List, length, IfOk, OnOk};
-ghost use Rattle.code_model.specs.ImageText.{bytes_of, hex_of};
+ghost use Rattle.text_lines.specs.Digits.{bytes_of, hex_of};
 ghost use Rattle.net_model.specs.Nets.{word_width};
 ghost use Rattle.sym_expr.specs.declared.pool.Node.{Node};
 ghost use Rattle.transfer_set.specs.PatternsText.{AreLines, IsLeastOf, IsLine, IsPatternsText, line_text, text_of};
@@ -12,10 +12,10 @@ ghost use Rattle.transfer_set.specs.Tables.{AreSets, IsRow};
 use crate::row::Row;
 use crate::texts::{add_bytes, add_number};
 use bit_bdd::{Book, SetId};
-use code_model::bytes_of;
 use net_model::Checked;
 use rec_bits::NoMemory;
 use std::alloc::Global;
+use text_lines::bytes_of;
 
 // The bytes of the widest word.
 const WORD_BYTES: usize = 8;

@@ -2,7 +2,7 @@
 use Rattle.std.specs.Prelude.{ℕ, ◌+◌, List, [], ◌∷◌, ◌++◌, length, map}
 use Rattle.code_model.specs.declared.image.Image.{Image}
 use Rattle.code_model.specs.declared.image.Word.{Word}
-use Rattle.code_model.specs.ImageText.{bytes_of}
+use Rattle.text_lines.specs.Digits.{bytes_of}
 use Rattle.image_items.specs.declared.item.Item.{Item}
 use Rattle.image_items.specs.declared.item.Item.TheVariants.{Size, Temps, Variable, Tree, Label, Code, Done}
 use Rattle.image_items.specs.Inner.Items.{item_line}
