@@ -1,9 +1,9 @@
 //! The lines of image texts, one by one.
 //!
 //! Promise: `item_of` gives what a line of an image's text says, where a word has so many bytes, or
-//! None (`item_of` in `specs/Reading`, which goes step by step as the code does). That a line which
-//! is read says what it is read as, and that a line which says something is read as that, is
-//! `proofs/Laws`, by which `image_text` goes.
+//! None (`item_of` in `specs/Reading`, which goes step by step as the code does), and `word_in` the
+//! word that hexadecimal digits are. That a line which is read says what it is read as, and that a
+//! line which says something is read as that, is `proofs/Laws`, by which `image_text` goes.
 //!
 //! Files:
 //!
@@ -22,5 +22,6 @@ mod item;
 mod list;
 mod reading;
 
+pub use field::word_in;
 pub use item::Item;
 pub use reading::item_of;

@@ -1,0 +1,11 @@
+pub mod Words
+pub mod Single
+pub mod Split
+pub mod Bytes
+pub mod ItemLists
+pub mod TransferLists
+pub mod Whole
+pub mod Progress
+pub mod Fronts
+pub mod Numbered
+pub mod Storages
