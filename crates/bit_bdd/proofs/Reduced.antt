@@ -56,6 +56,7 @@ module _ (bits : ℕ) (nodes : List Node) (book : IsReducedBook bits nodes) wher
     push_reduced absent =
         let node = Ask bit low high in
         record {
+          some = book.some;
           few = book.few;
           never = get_left nodes (node ∷ []) 0 (slice_get_within nodes 0 Never book.never) ∙ book.never;
           always = get_left nodes (node ∷ []) 1 (slice_get_within nodes 1 Always book.always) ∙ book.always;

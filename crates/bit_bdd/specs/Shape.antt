@@ -41,6 +41,7 @@ pub record IsReduced (bits : ℕ) (nodes : List Node) (place bit low high : ℕ)
 pub record IsReducedBook (bits : ℕ) (nodes : List Node) : Type 0 where
   pub never : slice_get nodes 0 ≡ Some Never
   pub always : slice_get nodes 1 ≡ Some Always
+  pub some : 0 < bits
   pub few : bits ≤ 64
   pub reduced : (place bit low high : ℕ) → slice_get nodes place ≡ Some (Ask bit low high) →
       IsReduced bits nodes place bit low high

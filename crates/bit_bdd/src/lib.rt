@@ -164,7 +164,9 @@ impl Book {
 
     /// The number of bits of the book's words, 1 to 64.
     pub fn bits(&self) -> u8
-        ensures { result ≡ self.now.bits }
+        ensures bits { result ≡ self.now.bits }
+        ensures some { 0 < result }
+        ensures most { result ≤ 64 }
     {
         self.bits
     }

@@ -20,7 +20,7 @@ use Rattle.form_model.specs.declared.forms.Step.{Step}
 use Rattle.form_model.specs.Live.{Regs, group_writes}
 use Rattle.word_fit.specs.Fits.{FitsGroup, FitsJump, group_stores}
 use Rattle.word_fit.specs.Steps.{step_operation}
-use Rattle.nop_synth.specs.Inner.Wanted.{all_hold, AllBelow, has_fields, row_set, step_set, step_field, memory_sets, is_wanted, register_sets, group_sets}
+use Rattle.nop_synth.specs.Wanted.{all_hold, AllBelow, has_fields, row_set, step_set, step_field, memory_sets, is_wanted, register_sets, group_sets}
 use Rattle.nop_synth.proofs.HeldSteps.{below-append, false_not, hold_both, hold_parts, step_does, step_held, steps_below, steps_do, steps_held}
 use Rattle.nop_synth.proofs.HeldStorages.{memory_below, memory_held, memory_kept, registers_below, registers_held, registers_kept}
 

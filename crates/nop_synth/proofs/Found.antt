@@ -13,7 +13,7 @@ use Rattle.transfer_set.specs.Ready.{IsReady}
 use Rattle.word_fit.specs.Steps.{step_operation}
 use Rattle.net_model.proofs.WordWidths.{clean_below}
 use Rattle.nop_synth.specs.declared.meet.FieldValue.{FieldValue}
-use Rattle.nop_synth.specs.Inner.Wanted.{all_hold, has_fields, group_sets, memory_sets, step_field, step_set}
+use Rattle.nop_synth.specs.Wanted.{all_hold, has_fields, group_sets, memory_sets, step_field, step_set}
 use Rattle.nop_synth.proofs.Asked.{held_fits, fits_held, held_jumps, jumps_held}
 
 -- what is told of the least word of a set

@@ -17,7 +17,7 @@ use Rattle.form_model.specs.declared.forms.Step.{Step}
 use Rattle.word_fit.specs.Fits.{Does, DoesAll}
 use Rattle.word_fit.specs.Steps.{step_operation}
 use Rattle.word_fit.proofs.StepRows.{row_operation, operation_is}
-use Rattle.nop_synth.specs.Inner.Wanted.{all_hold, AllBelow, has_field, has_fields, row_set, row_fields, step_set, step_field}
+use Rattle.nop_synth.specs.Wanted.{all_hold, AllBelow, has_field, has_fields, row_set, row_fields, step_set, step_field}
 
 pub false_not : {P : Type 0} (b : Bool) → b ≡ false → b ≡ true → P
 false_not b f t = absurd (true≢false (sym t ∙ f))

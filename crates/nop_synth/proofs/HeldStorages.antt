@@ -13,7 +13,7 @@ use Rattle.transfer_set.specs.Sets.{IsKeepSet}
 use Rattle.transfer_set.specs.Tables.{Table}
 use Rattle.transfer_set.proofs.ReadyLaws.{keep_set_at}
 use Rattle.form_model.specs.Live.{Regs}
-use Rattle.nop_synth.specs.Inner.Wanted.{all_hold, AllBelow, option_list, memory_sets, is_wanted, register_sets}
+use Rattle.nop_synth.specs.Wanted.{all_hold, AllBelow, option_list, memory_sets, is_wanted, register_sets}
 use Rattle.nop_synth.proofs.HeldSteps.{below-append, hold_both, hold_parts, one_hold}
 
 module _ (netlist : Netlist) (book : Diagrams) (pool : List Node) (table : Table) (ready : IsReady netlist book pool table) where

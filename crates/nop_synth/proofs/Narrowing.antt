@@ -10,7 +10,7 @@ use Rattle.bit_bdd.specs.Diagrams.{Diagrams, has_word}
 use Rattle.transfer_set.specs.Tables.{Table}
 use Rattle.form_model.specs.Live.{Regs}
 use Rattle.nop_synth.specs.declared.meet.FieldValue.{FieldValue}
-use Rattle.nop_synth.specs.Inner.Wanted.{is_wanted, option_list, register_sets, all_hold, AllBelow, has_field, has_fields, bit_agrees, bits_agree}
+use Rattle.nop_synth.specs.Wanted.{is_wanted, option_list, register_sets, all_hold, AllBelow, has_field, has_fields, bit_agrees, bits_agree}
 
 pub and_step : (n l h a t k u : Bool) → n ≡ (l && h) → l ≡ (a && t) → h ≡ k → u ≡ (t && k) → n ≡ (a && u)
 and_step n l h a t k u en el eh eu = en ∙ (λ j. el j && eh j) ∙ and_assoc a t k ∙ ap (λ z. a && z) (sym eu)

@@ -3,7 +3,7 @@
 ghost use Rattle.std.specs.Prelude.{◌≡◌, ℕ, ◌^◌, ◌<◌, ◌≤◌, ◌&&◌, ◌==◌, true, false, min, length, IfOk};
 ghost use Rattle.std.specs.Int.{bit_at};
 ghost use Rattle.bit_bdd.specs.Diagrams.{Extends, has_word};
-ghost use Rattle.nop_synth.specs.Inner.Wanted.{AllBelow, all_hold, bit_agrees, has_field, has_fields};
+ghost use Rattle.nop_synth.specs.Wanted.{AllBelow, all_hold, bit_agrees, has_field, has_fields};
 
 use bit_bdd::{Book, SetId};
 use rec_bits::NoMemory;
@@ -11,9 +11,9 @@ use std::alloc::Global;
 
 /// A value that words are to have in the bits of a mask, in their places.
 #[derive(Clone, Copy)]
-pub(crate) struct FieldValue {
-    pub(crate) mask: u64,
-    pub(crate) value: u64,
+pub struct FieldValue {
+    pub mask: u64,
+    pub value: u64,
 }
 
 // The words in which a bit is that of a value.
@@ -153,8 +153,9 @@ fn all_in(alloc: Global, book: &mut Book, set: SetId, sets: &[SetId]) -> Result<
     Ok(left)
 }
 
-// Those of some words that each set holds and that have a value in the bits of each mask.
-pub(crate) fn meet(
+/// Those of some words that each set holds and that have a value in the bits of each mask. The book
+/// grows, and what it held means what it meant. Want of memory is the only refusal.
+pub fn words_held(
     alloc: Global,
     book: &mut Book,
     width: u8,

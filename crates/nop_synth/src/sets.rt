@@ -4,7 +4,7 @@ ghost use Rattle.std.specs.Prelude.{◌≡◌, false, ◌<◌, [], ◌++◌, if�
 ghost use Rattle.form_model.specs.Live.{group_writes, regs_of};
 ghost use Rattle.word_fit.specs.Fits.{group_stores};
 ghost use Rattle.word_fit.specs.Steps.{step_operation};
-ghost use Rattle.nop_synth.specs.Inner.Wanted.{group_sets, is_wanted, memory_sets, option_list, register_sets, row_fields, row_set, step_field, step_set};
+ghost use Rattle.nop_synth.specs.Wanted.{group_sets, is_wanted, memory_sets, option_list, register_sets, row_fields, row_set, step_field, step_set};
 
 use crate::meet::FieldValue;
 use bit_bdd::SetId;

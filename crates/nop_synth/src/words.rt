@@ -7,7 +7,7 @@ ghost use Rattle.transfer_set.specs.Ready.{IsReady};
 ghost use Rattle.word_fit.specs.Fits.{FitsGroup, FitsJump, IsLeastFit};
 ghost use Rattle.word_fit.specs.Steps.{step_operation};
 
-use crate::meet::meet;
+use crate::meet::words_held;
 use crate::sets::{field_of, kept_memory, set_of, step_fields, wanted_sets};
 use bit_bdd::Book;
 use form_model::{RegSet, Step};
@@ -48,7 +48,7 @@ pub fn word_for(
     let _ = book.size();
     let sets = wanted_sets(alloc, patterns, pool, group, live)?;
     let fields = step_fields(alloc, patterns, group)?;
-    let fitting = meet(
+    let fitting = words_held(
         alloc,
         book,
         width,
@@ -86,6 +86,6 @@ pub fn jump_word(
     let sets = kept_memory(alloc, patterns)?;
     let fields = [field_of(patterns, step)];
     let set = set_of(patterns, step.pattern);
-    let fitting = meet(alloc, book, width, set, sets.as_slice(), &fields)?;
+    let fitting = words_held(alloc, book, width, set, sets.as_slice(), &fields)?;
     Ok(book.least(fitting))
 }

@@ -7,8 +7,8 @@ ghost use Rattle.net_model.specs.Fields.{bits_between, fields as fields_in};
 use rec_bits::mask;
 use sym_expr::{ExprId, Node, Pool};
 
-// The bits from one down to another.
-fn span(hi: u8, lo: u8) -> u64
+/// The bits of a word from `hi` down to `lo`, as a mask.
+pub fn span(hi: u8, lo: u8) -> u64
     requires order { lo ≤ hi }
     requires high { hi ≤ 63 }
     ensures { result ≡ bits_between hi lo }

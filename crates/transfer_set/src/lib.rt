@@ -15,7 +15,7 @@
 //! Files:
 //!
 //! - `route`: the routes of nets; `route_trace` makes them.
-//! - `fields`: the instruction bits that occur in an expression.
+//! - `fields`: the bits of a slice, and the instruction bits that occur in an expression.
 //! - `entries`: transfers with the words that give them, as they are collected.
 //! - `sources`: what feeds the storages, and the entries of all.
 //! - `keeping`, `stepping`: the words that keep a storage, and those that step.
@@ -46,7 +46,7 @@ mod sources;
 mod stepping;
 mod texts;
 
-pub use fields::expr_fields;
+pub use fields::{expr_fields, span};
 pub use laws::law_of_growth;
 pub use patterns::{Patterns, collect_patterns};
 pub use route::{Route, Routes};

@@ -1,5 +1,5 @@
-use Rattle.std.proofs.Common.{◌∙◌, ◌≡◌, ℕ, List, Bor, true, false, ap, subst, sym, arith, refl}
-use Rattle.asm_text.proofs.Storages.{HasNames, all_apart, has_name, none_yet, one_more, turned, twice}
+use Rattle.std.proofs.Common.{ℕ, List, Bor, true, false, subst, sym, refl}
+use Rattle.asm_text.proofs.Storages.{HasNames, all_apart, none_yet, one_more, turned, twice}
 use Rattle.asm_text.proofs.apart.are_apart.Goals as goal
 
 pub loop-pattern-init : goal.loop-pattern-init

@@ -1,6 +1,6 @@
-use Rattle.std.proofs.Common.{◌≡◌, ◌∙◌, ◌++◌, ℕ, List, ap, refl, sym, subst}
+use Rattle.std.proofs.Common.{◌∙◌, ◌++◌, ℕ, List, ap, refl, sym, subst}
 use Rattle.asm_text.specs.Inner.Reading.{Breaks}
-use Rattle.asm_text.proofs.Fronts.{front_is, joined, rest_is, short}
+use Rattle.asm_text.proofs.Fronts.{front_is, joined, rest_is}
 use Rattle.asm_text.proofs.Split.{behind, transfer_words}
 use Rattle.asm_text.proofs.transfers.front.Goals as goal
 

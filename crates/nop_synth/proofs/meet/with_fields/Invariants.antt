@@ -1,6 +1,6 @@
 use Rattle.std.proofs.Common.{◌≡◌, ℕ, ◌<◌, ◌^◌, ◌&&◌, length, take}
 use Rattle.bit_bdd.specs.Diagrams.{Extends, has_word}
-use Rattle.nop_synth.specs.Inner.Wanted.{has_fields}
+use Rattle.nop_synth.specs.Wanted.{has_fields}
 use Rattle.nop_synth.proofs.meet.with_fields.Given as goal
 
 abbrev pub invariant-loop-field : goal.invariant-loop-field

@@ -2,7 +2,7 @@ use Rattle.std.proofs.Common.{sym}
 use Rattle.std.proofs.lemmas.List.{append-nil}
 use Rattle.form_model.specs.Live.{group_writes, regs_of}
 use Rattle.word_fit.specs.Steps.{step_operation}
-use Rattle.nop_synth.specs.Inner.Wanted.{register_sets}
+use Rattle.nop_synth.specs.Wanted.{register_sets}
 use Rattle.nop_synth.proofs.Narrowing.{registers_more}
 use Rattle.nop_synth.proofs.sets.add_registers.Goals as goal
 

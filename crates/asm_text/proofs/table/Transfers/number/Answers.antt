@@ -1,5 +1,5 @@
-use Rattle.std.proofs.Common.{ℕ, List, length, ap, subst, ◌∙◌}
-use Rattle.asm_text.specs.Inner.Numbers.{HasNumbers, number_in}
+use Rattle.std.proofs.Common.{ℕ, List, length, subst, ◌∙◌}
+use Rattle.asm_text.specs.Inner.Numbers.{HasNumbers}
 use Rattle.asm_text.proofs.Numbered.{found_only, found_some}
 use Rattle.asm_text.proofs.table.Transfers.number.Goals as goal
 

@@ -1,6 +1,6 @@
 use Rattle.std.proofs.Common.{arith}
 use Rattle.std.proofs.lemmas.Grind.{common_steps}
-use Rattle.nop_synth.proofs.meet.meet.Goals as goal
+use Rattle.nop_synth.proofs.meet.words_held.Goals as goal
 
 pub returns-in_err-fitting-clause-grows : goal.returns-in_err-fitting-clause-grows
 returns-in_err-fitting-clause-grows c = grind (arith, common_steps)

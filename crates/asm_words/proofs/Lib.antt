@@ -1,0 +1,9 @@
+pub mod Alike
+pub mod Naming
+pub mod Fitting
+pub mod Clocked
+pub mod Bits
+pub mod Held
+pub mod Told
+pub mod Found
+pub mod Numbered
