@@ -1,5 +1,5 @@
--- The names that a netlist text gives have no marks.
-use Rattle.std.proofs.Common.{◌≡◌, ℕ, zero, suc, ◌+◌, ◌||◌, true, false, true≢false, List, [], ◌∷◌, ◌++◌, Option, Some, None, take, drop, slice_get, refl, sym, ap, subst, ◌∙◌}
+-- The names that a netlist text gives have bytes of names alone, so they have no marks.
+use Rattle.std.proofs.Common.{◌≡◌, ℕ, zero, suc, ◌+◌, ◌||◌, true, false, true≢false, List, [], ◌∷◌, ◌++◌, Option, Some, None, take, drop, slice_get, arith, refl, sym, ap, subst, ◌∙◌}
 use Rattle.std.specs.List.{AllByRecursion, AllPass}
 use Rattle.std.proofs.lemmas.Bool.{ne_eqb}
 use Rattle.std.proofs.lemmas.List.Elements.{All-head, All-tail, All-weaker, All-map, recursion_from_All}
@@ -17,11 +17,12 @@ use Rattle.net_model.specs.declared.words.Key.TheVariants.{Item, Operator as Ope
 use Rattle.net_model.specs.declared.words.ItemWord.{ItemWord}
 use Rattle.net_model.specs.declared.words.ItemWord.TheVariants.{Code, Register, Memory, Net, Bus, Module, Part}
 use Rattle.net_model.specs.declared.words.Operator.TheVariants.{Unary, Binary}
+use Rattle.net_model.specs.declared.hardware.Netlist.{Netlist}
 use Rattle.net_model.specs.Elaborated.{codes_from, netlist_of, storages_from}
 use Rattle.grammar.specs.Tokens.{IsName}
 use Rattle.net_model.specs.Numbering.{count_item}
 use Rattle.net_model.specs.TextNames.{own_name}
-use Rattle.net_model.specs.Texts.{first_name, name_in}
+use Rattle.net_model.specs.Texts.{first_name, name_in, name_of}
 use Rattle.net_model.specs.Written.{Entry, code, register, memory}
 use Rattle.net_front.specs.Fronts.{SaysNet}
 use Rattle.net_parser.specs.Texts.{net_lexed}
@@ -52,129 +53,143 @@ plain_bytes (b ∷ bs) named =
 
 -- ---- words
 
--- a name has no marks
-abbrev PlainWord : Word → Type 0
-PlainWord (Named n) = Plain n
-PlainWord _ = Unit {0}
+-- a name has bytes of names alone
+abbrev SpelledWord : Word → Type 0
+SpelledWord (Named n) = AllPass is_name_byte n
+SpelledWord _ = Unit {0}
 
-abbrev PlainToken : Lexed → Type 0
-PlainToken token = PlainWord token.word
+abbrev SpelledToken : Lexed → Type 0
+SpelledToken token = SpelledWord token.word
 
-abbrev ArePlain : List Lexed → Type 0
-ArePlain = AllByRecursion PlainToken
+abbrev AreSpelled : List Lexed → Type 0
+AreSpelled = AllByRecursion SpelledToken
 
-plain_else : {A : Type 0} (make : A → Word) → ((a : A) → PlainWord (make a)) → (found : Option A) (next : Word) → PlainWord next → PlainWord (or_word make found next)
-plain_else make each None next plain = plain
-plain_else make each (Some a) next plain = each a
+spelled_else : {A : Type 0} (make : A → Word) → ((a : A) → SpelledWord (make a)) → (found : Option A) (next : Word) → SpelledWord next → SpelledWord (or_word make found next)
+spelled_else make each None next spelled = spelled
+spelled_else make each (Some a) next spelled = each a
 
-plain_reserved : (text : List ℕ) → PlainWord (reserved_of text)
-plain_reserved text =
+spelled_reserved : (text : List ℕ) → SpelledWord (reserved_of text)
+spelled_reserved text =
     let symbols = or_word Shows (symbol_of text) Other in
     let forms = or_word (λ form. Keyed (Operates form)) (form_of text) symbols in
     let binaries = or_word (λ op. Keyed (Operates (Binary op))) (binary_of text) forms in
     let unaries = or_word (λ op. Keyed (Operates (Unary op))) (unary_of text) binaries in
-    plain_else (λ item. Keyed (Item item)) (λ word. tt) (item_of text) unaries
-    (plain_else (λ op. Keyed (Operates (Unary op))) (λ op. tt) (unary_of text) binaries
-    (plain_else (λ op. Keyed (Operates (Binary op))) (λ op. tt) (binary_of text) forms
-    (plain_else (λ form. Keyed (Operates form)) (λ operator. tt) (form_of text) symbols (plain_else Shows (λ symbol. tt) (symbol_of text) Other tt))))
+    spelled_else (λ item. Keyed (Item item)) (λ word. tt) (item_of text) unaries
+    (spelled_else (λ op. Keyed (Operates (Unary op))) (λ op. tt) (unary_of text) binaries
+    (spelled_else (λ op. Keyed (Operates (Binary op))) (λ op. tt) (binary_of text) forms
+    (spelled_else (λ form. Keyed (Operates form)) (λ operator. tt) (form_of text) symbols (spelled_else Shows (λ symbol. tt) (symbol_of text) Other tt))))
 
-plain_word : (kind : Kind) (n : ℕ) (bytes : List ℕ) → IsKind netlists kind n bytes → PlainWord (word_of reserved_of sign_word kind (take n bytes))
-plain_word Name n bytes is = plain_bytes (take n bytes) is.0.run.all
-plain_word Reserved n bytes is = plain_reserved (take n bytes)
-plain_word Number n bytes is = tt
-plain_word Sign n bytes is = plain_else Shows (λ s. tt) (sign_of (take n bytes)) Other tt
-plain_word Bad n bytes is = tt
+spelled_word : (kind : Kind) (n : ℕ) (bytes : List ℕ) → IsKind netlists kind n bytes → SpelledWord (word_of reserved_of sign_word kind (take n bytes))
+spelled_word Name n bytes is = is.0.run.all
+spelled_word Reserved n bytes is = spelled_reserved (take n bytes)
+spelled_word Number n bytes is = tt
+spelled_word Sign n bytes is = spelled_else Shows (λ s. tt) (sign_of (take n bytes)) Other tt
+spelled_word Bad n bytes is = tt
 
-plain_words : (bytes : List ℕ) → ArePlain (net_lexed bytes)
-plain_words bytes =
-    recursion_from_All PlainToken (net_lexed bytes)
-    (All-map PlainToken (lexed_of reserved_of sign_word bytes) (net_tokens bytes)
-    (All-weaker (IsTokenOf netlists bytes) (λ token. PlainToken (lexed_of reserved_of sign_word bytes token))
-    (λ token is. plain_word token.kind token.len (drop token.at bytes) is.kind)
+spelled_words : (bytes : List ℕ) → AreSpelled (net_lexed bytes)
+spelled_words bytes =
+    recursion_from_All SpelledToken (net_lexed bytes)
+    (All-map SpelledToken (lexed_of reserved_of sign_word bytes) (net_tokens bytes)
+    (All-weaker (IsTokenOf netlists bytes) (λ token. SpelledToken (lexed_of reserved_of sign_word bytes token))
+    (λ token is. spelled_word token.kind token.len (drop token.at bytes) is.kind)
     (net_tokens bytes) (are_tokens netlists bytes).each))
 
 -- ---- items
 
-abbrev PlainEntry : Entry → Type 0
-PlainEntry entry = Plain (own_name entry).name
+abbrev SpelledEntry : Entry → Type 0
+SpelledEntry entry = AllPass is_name_byte (own_name entry).name
 
-plain_parts : (us vs : List Lexed) → ArePlain (us ++ vs) → ArePlain us × ArePlain vs
-plain_parts [] vs plain = (tt, plain)
-plain_parts (u ∷ us) vs plain = let rest = plain_parts us vs plain.1 in ((plain.0, rest.0), rest.1)
+spelled_parts : (us vs : List Lexed) → AreSpelled (us ++ vs) → AreSpelled us × AreSpelled vs
+spelled_parts [] vs spelled = (tt, spelled)
+spelled_parts (u ∷ us) vs spelled = let rest = spelled_parts us vs spelled.1 in ((spelled.0, rest.0), rest.1)
 
-module _ {V W : Type 0} {A : List Lexed → V → Type 0} {B : List Lexed → V → List Lexed → W → Type 0} {ts : List Lexed} {w : W} (is : Bind A B ts w) (plain : ArePlain ts) where
-  plain_both : ArePlain is.front × ArePlain is.back
-  plain_both = plain_parts is.front is.back (subst ArePlain is.parts plain)
+module _ {V W : Type 0} {A : List Lexed → V → Type 0} {B : List Lexed → V → List Lexed → W → Type 0} {ts : List Lexed} {w : W} (is : Bind A B ts w) (spelled : AreSpelled ts) where
+  spelled_both : AreSpelled is.front × AreSpelled is.back
+  spelled_both = spelled_parts is.front is.back (subst AreSpelled is.parts spelled)
 
-  plain_front : ArePlain is.front
-  plain_front = plain_both.0
+  spelled_front : AreSpelled is.front
+  spelled_front = spelled_both.0
 
-  plain_back : ArePlain is.back
-  plain_back = plain_both.1
+  spelled_back : AreSpelled is.back
+  spelled_back = spelled_both.1
 
-plain_name : (ts : List Lexed) (name : Ident) → ArePlain ts → IsName ts name → Plain name.name
-plain_name ts name plain is = subst PlainToken is.is (subst ArePlain is.parts plain).0
+spelled_name : (ts : List Lexed) (name : Ident) → AreSpelled ts → IsName ts name → AllPass is_name_byte name.name
+spelled_name ts name spelled is = subst SpelledToken is.is (subst AreSpelled is.parts spelled).0
 
-plain_sized : (ts : List Lexed) (sized : Ident × ℕ) → ArePlain ts → IsSized ts sized → Plain sized.0.name
-plain_sized ts sized plain is =
-    subst (λ (s : Ident × ℕ). Plain s.0.name) (sym is.second.second.same) (plain_name is.front is.value (plain_front is plain) is.first)
+spelled_sized : (ts : List Lexed) (sized : Ident × ℕ) → AreSpelled ts → IsSized ts sized → AllPass is_name_byte sized.0.name
+spelled_sized ts sized spelled is =
+    subst (λ (s : Ident × ℕ). AllPass is_name_byte s.0.name) (sym is.second.second.same) (spelled_name is.front is.value (spelled_front is spelled) is.first)
 
-plain_behind : (word : ItemWord) (ts : List Lexed) (entry : Entry) → ArePlain ts → ItemBehind word ts entry → PlainEntry entry
-plain_behind Code ts entry plain is =
-    subst PlainEntry (sym is.second.second.second.same) (plain_sized is.front is.value (plain_front is plain) is.first)
-plain_behind Register ts entry plain is =
-    subst PlainEntry (sym is.second.second.same) (plain_sized is.front is.value (plain_front is plain) is.first)
-plain_behind Memory ts entry plain is =
-    subst PlainEntry (sym is.second.second.second.second.same) (plain_sized is.front is.value (plain_front is plain) is.first)
-plain_behind Net ts entry plain is =
-    subst PlainEntry (sym is.second.second.same) (plain_sized is.front is.value (plain_front is plain) is.first)
-plain_behind Bus ts entry plain is =
-    subst PlainEntry (sym is.second.second.same) (plain_sized is.front is.value (plain_front is plain) is.first)
-plain_behind Module ts entry plain is =
-    subst PlainEntry (sym is.second.second.second.same) (plain_name is.front is.value (plain_front is plain) is.first)
-plain_behind Part ts entry plain is =
-    subst PlainEntry (sym is.second.second.second.second.same) (plain_name is.front is.value (plain_front is plain) is.first)
+spelled_behind : (word : ItemWord) (ts : List Lexed) (entry : Entry) → AreSpelled ts → ItemBehind word ts entry → SpelledEntry entry
+spelled_behind Code ts entry spelled is =
+    subst SpelledEntry (sym is.second.second.second.same) (spelled_sized is.front is.value (spelled_front is spelled) is.first)
+spelled_behind Register ts entry spelled is =
+    subst SpelledEntry (sym is.second.second.same) (spelled_sized is.front is.value (spelled_front is spelled) is.first)
+spelled_behind Memory ts entry spelled is =
+    subst SpelledEntry (sym is.second.second.second.second.same) (spelled_sized is.front is.value (spelled_front is spelled) is.first)
+spelled_behind Net ts entry spelled is =
+    subst SpelledEntry (sym is.second.second.same) (spelled_sized is.front is.value (spelled_front is spelled) is.first)
+spelled_behind Bus ts entry spelled is =
+    subst SpelledEntry (sym is.second.second.same) (spelled_sized is.front is.value (spelled_front is spelled) is.first)
+spelled_behind Module ts entry spelled is =
+    subst SpelledEntry (sym is.second.second.second.same) (spelled_name is.front is.value (spelled_front is spelled) is.first)
+spelled_behind Part ts entry spelled is =
+    subst SpelledEntry (sym is.second.second.second.second.same) (spelled_name is.front is.value (spelled_front is spelled) is.first)
 
-plain_by_word : (word : Word) (at : ℕ) (ts : List Lexed) (entry : Entry) → ArePlain ts → ItemByWord word at ts entry → PlainEntry entry
-plain_by_word (Keyed (Item word)) at ts entry plain is = plain_behind word ts entry plain is
-plain_by_word _ at ts entry plain is = absurd is
+spelled_by_word : (word : Word) (at : ℕ) (ts : List Lexed) (entry : Entry) → AreSpelled ts → ItemByWord word at ts entry → SpelledEntry entry
+spelled_by_word (Keyed (Item word)) at ts entry spelled is = spelled_behind word ts entry spelled is
+spelled_by_word _ at ts entry spelled is = absurd is
 
-plain_item : (ts : List Lexed) (entry : Entry) → ArePlain ts → IsItem ts entry → PlainEntry entry
-plain_item ts entry plain is = plain_by_word is.value.word is.value.at is.back entry (plain_back is plain) is.second
+spelled_item : (ts : List Lexed) (entry : Entry) → AreSpelled ts → IsItem ts entry → SpelledEntry entry
+spelled_item ts entry spelled is = spelled_by_word is.value.word is.value.at is.back entry (spelled_back is spelled) is.second
 
-plain_items : (ts : List Lexed) (entries : List Entry) → ArePlain ts → ListOf IsItem ts entries → AllByRecursion PlainEntry entries
-plain_items ts entries plain none = tt
-plain_items ts entries plain (some {us = us} {b = b} {zs = zs} {w = w} is rest) =
-    let both = plain_parts us zs plain in
-    (plain_item us b both.0 is, plain_items zs w both.1 rest)
+spelled_items : (ts : List Lexed) (entries : List Entry) → AreSpelled ts → ListOf IsItem ts entries → AllByRecursion SpelledEntry entries
+spelled_items ts entries spelled none = tt
+spelled_items ts entries spelled (some {us = us} {b = b} {zs = zs} {w = w} is rest) =
+    let both = spelled_parts us zs spelled in
+    (spelled_item us b both.0 is, spelled_items zs w both.1 rest)
 
-plain_text : (ts : List Lexed) (entries : List Entry) → ArePlain ts → IsItems ts entries → AllByRecursion PlainEntry entries
-plain_text ts entries plain is =
+spelled_text : (ts : List Lexed) (entries : List Entry) → AreSpelled ts → IsItems ts entries → AllByRecursion SpelledEntry entries
+spelled_text ts entries spelled is =
     let rest = is.second in
-    subst (AllByRecursion PlainEntry) (sym rest.second.same) (
-      plain_item is.front is.value (plain_front is plain) is.first,
-      plain_items rest.front rest.value (plain_front rest (plain_back is plain)) rest.first,
+    subst (AllByRecursion SpelledEntry) (sym rest.second.same) (
+      spelled_item is.front is.value (spelled_front is spelled) is.first,
+      spelled_items rest.front rest.value (spelled_front rest (spelled_back is spelled)) rest.first,
     )
 
 -- ---- netlists
 
-plain_storages : (text : List Entry) (start : ℕ) (entries : List Entry) → AllByRecursion PlainEntry entries → (id : ℕ) → Plain (name_in (slice_get (storages_from text start entries) id))
-plain_storages text start [] plain id = tt
-plain_storages text start (register name width input when ∷ entries) plain zero = plain.0
-plain_storages text start (register name width input when ∷ entries) plain (suc id) =
-    plain_storages text (start + count_item text (register name width input when)) entries plain.1 id
-plain_storages text start (memory name width size addr_width value addr when ∷ entries) plain zero = plain.0
-plain_storages text start (memory name width size addr_width value addr when ∷ entries) plain (suc id) =
-    plain_storages text (start + count_item text (memory name width size addr_width value addr when)) entries plain.1 id
-plain_storages text start (entry ∷ entries) plain id = plain_storages text (start + count_item text entry) entries plain.1 id
+none_passes : AllPass is_name_byte []
+none_passes = λ k d h. absurd (omega arith)
 
-plain_code : (text entries : List Entry) → AllByRecursion PlainEntry entries → Plain (first_name (codes_from text entries))
-plain_code text [] plain = tt
-plain_code text (code name bits size counter ∷ entries) plain = plain.0
-plain_code text (entry ∷ entries) plain = plain_code text entries plain.1
+spelled_storages : (text : List Entry) (start : ℕ) (entries : List Entry) → AllByRecursion SpelledEntry entries → (id : ℕ) → AllPass is_name_byte (name_in (slice_get (storages_from text start entries) id))
+spelled_storages text start [] spelled id = none_passes
+spelled_storages text start (register name width input when ∷ entries) spelled zero = spelled.0
+spelled_storages text start (register name width input when ∷ entries) spelled (suc id) =
+    spelled_storages text (start + count_item text (register name width input when)) entries spelled.1 id
+spelled_storages text start (memory name width size addr_width value addr when ∷ entries) spelled zero = spelled.0
+spelled_storages text start (memory name width size addr_width value addr when ∷ entries) spelled (suc id) =
+    spelled_storages text (start + count_item text (memory name width size addr_width value addr when)) entries spelled.1 id
+spelled_storages text start (entry ∷ entries) spelled id = spelled_storages text (start + count_item text entry) entries spelled.1 id
 
--- the names of a text that is read have no marks
+spelled_code : (text entries : List Entry) → AllByRecursion SpelledEntry entries → AllPass is_name_byte (first_name (codes_from text entries))
+spelled_code text [] spelled = none_passes
+spelled_code text (code name bits size counter ∷ entries) spelled = spelled.0
+spelled_code text (entry ∷ entries) spelled = spelled_code text entries spelled.1
+
+-- the names of a netlist have bytes of names alone
+pub record HasSpelledNames (netlist : Netlist) : Type 0 where
+  pub storages : (id : ℕ) → AllPass is_name_byte (name_of netlist id)
+  pub code : AllPass is_name_byte (first_name netlist.codes)
+
+-- so have those of a text that is read
+pub spelled_names : (bytes : List ℕ) (entries : List Entry) → SaysNet bytes entries → HasSpelledNames (netlist_of entries)
+spelled_names bytes entries says =
+    let spelled = spelled_text (net_lexed bytes) entries (spelled_words bytes) says.text.spelled in
+    record { storages = spelled_storages entries 0 entries spelled; code = spelled_code entries entries spelled }
+
+-- which have no marks
 pub plain_names : (bytes : List ℕ) (entries : List Entry) → SaysNet bytes entries → HasPlainNames (netlist_of entries)
 plain_names bytes entries says =
-    let plain = plain_text (net_lexed bytes) entries (plain_words bytes) says.text.spelled in
-    record { storages = plain_storages entries 0 entries plain; code = plain_code entries entries plain }
+    let spelled = spelled_names bytes entries says in
+    record { storages = λ id. plain_bytes _ (spelled.storages id); code = plain_bytes _ spelled.code }

@@ -16,8 +16,8 @@
 //! - `texts`: from bytes to the text of the patterns.
 //! - `specs/`: `Extracts`, `Extraction` and `Sets` are all cited by public contracts.
 //! - `proofs/`: `Cleans` and `Extracting` for what is extracted, `PlainNames`: names of a text have
-//!   no marks, so the order of patterns leaves no choice; `RoutedLaws`: the answers exclude each
-//!   other.
+//!   bytes of names alone, so no marks, and the order of patterns leaves no choice; `RoutedLaws`:
+//!   the answers exclude each other.
 #![tactic(auto)]
 
 mod netlists;

@@ -13,6 +13,7 @@ use Rattle.net_model.specs.Transfers.{move_at}
 use Rattle.net_model.proofs.Storages.{lone_memory, memory_no_register, storage_within, stores_memory, writes_register}
 use Rattle.sym_expr.specs.Pools.{TermFits}
 use Rattle.net_model.specs.Fields.{fields}
+use Rattle.transfer_set.specs.Inner.Widths.{MoveFits}
 use Rattle.transfer_set.specs.TextMarks.{IsTermOf, IsMoveOf}
 use Rattle.form_model.specs.Rules.{Rule, into_reg, into_memory}
 use Rattle.form_set.specs.Inner.Linear.{is_linear, are_apart, move_linear}
@@ -24,7 +25,7 @@ use Rattle.form_set.proofs.FormLaws.{own_clobber}
 use Rattle.form_set.proofs.LinearLaws.{linear_is}
 use Rattle.form_set.proofs.SwapLaws.{swapped_alike}
 use Rattle.emit_seq.specs.Formed.{BitsApart, MeansAlike, IsFormed, IsIntoMemory, IsIntoReg, IsOnce, uses}
-use Rattle.right_code.specs.Inner.Known.{AreKnown, MoveFits}
+use Rattle.right_code.specs.Inner.Known.{AreKnown}
 use Rattle.right_code.proofs.Once.{WordsIn, apart_of, meet_none, once_of}
 use Rattle.right_code.proofs.Swapping.{AreSwapped, IsSwapped, is_word, swapped_sides}
 

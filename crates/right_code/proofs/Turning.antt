@@ -9,6 +9,7 @@ use Rattle.net_model.specs.Nets.{counter_of, counter_width, word_width}
 use Rattle.net_model.specs.Patterns.{Pattern}
 use Rattle.net_model.specs.Terms.{Term, reg, const, bin, select, write, next_of, swapped_next_of, term_width}
 use Rattle.sym_expr.specs.Pools.{TermFits}
+use Rattle.transfer_set.specs.Inner.Widths.{MoveFits}
 use Rattle.transfer_set.specs.Stepping.{is_next, is_one, is_reg}
 use Rattle.transfer_set.specs.TextMarks.{IsMoveOf, IsTermOf}
 use Rattle.transfer_set.specs.declared.stepping.Counter.{Counter}
@@ -24,7 +25,7 @@ use Rattle.form_set.proofs.ShapeBits.{shape_fits}
 use Rattle.form_set.proofs.SwapLaws.{swapped_alike}
 use Rattle.emit_seq.specs.Formed.{IsOnce}
 use Rattle.right_code.specs.Inner.Forks.{IsBranchForm, IsJumpForm, IsTargetTerm, one_side}
-use Rattle.right_code.specs.Inner.Known.{AreKnown, MoveFits}
+use Rattle.right_code.specs.Inner.Known.{AreKnown}
 use Rattle.right_code.specs.Inner.Laid.{TargetReaches}
 use Rattle.right_code.proofs.Narrow.{jump_within}
 use Rattle.right_code.proofs.Once.{meet_none, once_of}

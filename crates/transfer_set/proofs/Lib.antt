@@ -7,11 +7,13 @@ pub mod InOrder
 pub mod KeptWords
 pub mod Moved
 pub mod OnceEach
+pub mod OnePatterns
 pub mod Printing
 pub mod ReadyLaws
 pub mod SetsFound
 pub mod Sourcing
 pub mod Stepped
+pub mod TermsFit
 pub mod TermsOf
 pub mod TextsDiffer
 pub mod TextsOf

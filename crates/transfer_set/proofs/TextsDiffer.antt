@@ -234,7 +234,7 @@ code_at [] (code ∷ codes) e = refl
 code_at (storage ∷ storages) codes e = code_at storages codes e
 
 module _ (netlist : Netlist) (names : NamesDiffer netlist) (one : length netlist.codes ≡ 1) where
-  same_register : (r q : ℕ) → r < length netlist.storages → q < length netlist.storages → name_of netlist r ≡ name_of netlist q → r ≡ q
+  pub same_register : (r q : ℕ) → r < length netlist.storages → q < length netlist.storages → name_of netlist r ≡ name_of netlist q → r ≡ q
   same_register r q a b e =
       once (storage_names netlist) names r q (name_of netlist q)
       (registers_at netlist.storages (map (λ (code : Code). code.name) netlist.codes) r a ∙ ap Some e)

@@ -3,3 +3,4 @@
 pub mod Entries
 pub mod Sources
 pub mod Stepping
+pub mod Widths

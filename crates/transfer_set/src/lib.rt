@@ -26,9 +26,11 @@
 //! - `laws`: `law_of_growth`.
 //! - `specs/`, cited by public contracts, here and above: `Routes`, `Ready`, `Tables`, `Rows`,
 //!   `Sets`, `TextMarks`, `PatternsText`, `Stepping`, `Entries`. `specs/Inner/`: `Entries`,
-//!   `Sources` and `Stepping`, which go with the collecting.
+//!   `Sources` and `Stepping`, which go with the collecting, and `Widths` for the operators of
+//!   transfers.
 //! - `proofs/`: `Collecting`, `Feeding`, `Finding`, `Assembling` from routes to patterns,
-//!   `OnceEach`, `TextsDiffer`, `TransfersDiffer`, `InOrder` for their order, `ReadyLaws` for
+//!   `OnceEach`, `TextsDiffer`, `TransfersDiffer`, `InOrder` for their order, which leaves no choice
+//!   (`OnePatterns`), `TermsOf` and `TermsFit` for what their expressions are, `ReadyLaws` for
 //!   growth.
 #![tactic(auto)]
 

@@ -2,15 +2,8 @@
 use Rattle.std.specs.Prelude.{ℕ, ◌≡◌, List, Some, slice_get}
 use Rattle.net_model.specs.declared.hardware.Netlist.{Netlist}
 use Rattle.net_model.specs.Patterns.{IsPattern, Pattern}
-use Rattle.net_model.specs.Terms.{Move, keep, write, write_at}
-use Rattle.sym_expr.specs.Pools.{TermFits}
+use Rattle.transfer_set.specs.Inner.Widths.{MoveFits}
 use Rattle.transfer_set.specs.TextMarks.{IsMoveOf}
-
--- the operators of a transfer get operands of the widths that they ask for
-abbrev pub MoveFits : Move → Type 0
-MoveFits keep = Unit {0}
-MoveFits (write e) = TermFits e
-MoveFits (write_at a e) = TermFits a × TermFits e
 
 -- a pattern of the netlist, of its expressions
 pub record IsKnownPattern (netlist : Netlist) (pattern : Pattern) : Type 0 where
