@@ -11,11 +11,10 @@ use crate::line::Line;
 use crate::parts::after;
 use crate::table::Transfers;
 use crate::transfers::patterns_of;
-use code_model::bytes_of;
 use image_items::word_in;
 use rec_bits::{NoMemory, mask};
 use std::alloc::Global;
-use text_lines::line_end;
+use text_lines::{bytes_of, line_end};
 
 // The word of a raw line, without its LF.
 fn raw_word(text: &[u8], bits: u8) -> Option<u64>
