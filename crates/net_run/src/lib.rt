@@ -3,8 +3,8 @@
 //!
 //! Promise: `run` gives the text of the state that so many clocks reach (`shows`: `ShowsState`), or
 //! the first refusal that applies, in the order netlist, image, memory, clash, with the first cycle
-//! that clashes and its first such bus (`refused`: `IsRunFault`). Nothing is asked for once the
-//! first clock has passed.
+//! that clashes and its first such bus (`refused`: `IsRunFault`). Once the first clock has passed
+//! want of memory is no answer any more: no function behind it takes an allocator.
 //!
 //! Files:
 //!
