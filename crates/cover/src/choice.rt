@@ -13,7 +13,7 @@ ghost use Rattle.cover.specs.Inner.Choice.{ask_of, matches_ask, StandsWant, Begi
 ghost use Rattle.cover.specs.Inner.Jobs.{stock_of, nodes_of, open_operands, open_cuts, OperandsAt, CutsAt};
 ghost use Rattle.cover.specs.Inner.Tables.{AreRight};
 
-use crate::costs::form_cost;
+use crate::costs::{form_cost, plus};
 use crate::fits::{Fit, Want, cost_of, fit_at};
 use crate::least::{cuts_cost, floor_of, least, operand_cost, orders, orders_after};
 use crate::matches::Matches;
@@ -22,7 +22,6 @@ use crate::table::{CostTable, Instance, matches_at};
 use form_model::{Cover, CoverCuts, CoverOperands, RegSet, Tree};
 use rec_bits::NoMemory;
 use std::alloc::Global;
-use tree_sharing::plus;
 
 // The least costs of a match's operands and of its cuts.
 #[derive(Clone, Copy)]

@@ -9,7 +9,7 @@ ghost use Rattle.cover.specs.Inner.Choice.{ask_of, StandsWant, IsFit, FitOf, Fit
 ghost use Rattle.cover.specs.Inner.Jobs.{stock_of, nodes_of, OperandsAt, CutsAt};
 ghost use Rattle.cover.specs.Inner.Tables.{AreRight};
 
-use crate::costs::lesser_of;
+use crate::costs::{lesser_of, plus};
 use crate::least::{cuts_cost, orders};
 use crate::parts::{OpenCut, OpenOperand, cuts_in, operands_in};
 use crate::table::{CostTable, Instance};
@@ -17,7 +17,6 @@ use form_model::{RegSet, Tree};
 use rec_bits::NoMemory;
 use std::alloc::Global;
 use tree_grammar::{Destination, Part, match_at};
-use tree_sharing::plus;
 
 /// What is asked for: a tree that goes to a destination, with the number at which its trees begin.
 #[derive(Clone, Copy)]

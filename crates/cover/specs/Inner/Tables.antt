@@ -9,7 +9,7 @@ use Rattle.cover.specs.declared.table.Instance.{Instance}
 use Rattle.cover.specs.declared.table.KeptRow.{KeptRow}
 use Rattle.cover.specs.declared.table.CostTable.{CostTable}
 use Rattle.cover.specs.declared.matches.Matches.{Matches}
-use Rattle.tree_sharing.specs.Sharing.{AreFirsts}
+use Rattle.tree_sharing.specs.Sharing.{AreFirstEqual}
 use Rattle.cover.specs.Inner.Rows.{IsLeastRow}
 use Rattle.cover.specs.Inner.Jobs.{stock_of, nodes_of}
 use Rattle.cover.specs.Inner.Matched.{AreMatches}
@@ -37,6 +37,6 @@ pub record HasMatches (instance : Instance) (number : ℕ) (shared : Rc Matches 
 
 -- the numbers of equal trees are right, and so are all matches and each row that is kept
 pub record AreRight (instance : Instance) (table : CostTable) : Type 0 where
-  pub firsts : AreFirsts (nodes_of instance) table.firsts.items
+  pub firsts : AreFirstEqual (nodes_of instance) table.firsts.items
   pub matches : EachKept (HasMatches instance) table.matches.items
   pub rows : EachKept (IsKept instance) table.rows.items
