@@ -1,19 +1,13 @@
 //! How many cuts covers have.
 
-ghost use Rattle.std.specs.Prelude.{◌≡◌, ℕ, ◌+◌, IfOk, insert};
+ghost use Rattle.std.specs.Prelude.{◌≡◌, IfOk, insert};
 ghost use Rattle.form_model.specs.Plans.{cuts_plan, operands_plan, plan_of};
 ghost use Rattle.form_model.specs.Steps.{cut_count as cut_count_of, cut_counts as cut_counts_of, cuts_count as cuts_count_of, operand_counts as operand_counts_of, operands_count as operands_count_of};
 
 use form_model::{Cover, CoverCuts, CoverOperands};
 use rec_bits::NoMemory;
 use std::alloc::Global;
-
-/// The sum. Want of memory where there are more cuts than a list can hold.
-pub fn plus(a: u64, b: u64) -> Result<u64, NoMemory>
-    ensures { IfOk result (λ c. c ≡ a + b) }
-{
-    a.checked_add(b).ok_or(NoMemory)
-}
+use tree_grammar::plus;
 
 // How many cuts the covers of operands have.
 #[cycle(counting)]

@@ -1,13 +1,14 @@
 //! The steps of a cover.
 
 ghost use Rattle.std.specs.Prelude.{◌≡◌, IfOk, map};
+ghost use Rattle.form_model.specs.Covers.{stock_with};
 ghost use Rattle.form_model.specs.Plans.{plan_of};
 ghost use Rattle.form_model.specs.Rules.{destination_of};
 ghost use Rattle.form_model.specs.Steps.{cover_steps, plan_setting};
 ghost use Rattle.form_model.specs.Trees.{tree_term};
 ghost use Rattle.tree_grammar.specs.Parts.{destination_at};
 ghost use Rattle.emit_seq.specs.Emits.{IsEmitted, branch_of as branch_setting_of, setting_of_test};
-ghost use Rattle.emit_seq.specs.Views.{stock_of, stock_with};
+ghost use Rattle.emit_seq.specs.Views.{stock_of};
 
 use crate::cuts::all_steps;
 use crate::roots::{Covered, Stock, root_of};

@@ -13,12 +13,12 @@ ghost use Rattle.emit_seq.specs.Views.{cells_of_cuts, cells_of_operand, cells_of
 ghost use Rattle.emit_seq.specs.Emits.{IsRoot, IsTakenOut};
 
 use crate::cells::{CutCells, MatchCells, OperandCells, match_cells};
-use crate::counts::{cut_count, cut_counts, operand_counts, plus};
+use crate::counts::{cut_count, cut_counts, operand_counts};
 use crate::settings::{cells_setting, temp_setting};
 use form_model::{Cover, Form, Step, Tree};
 use rec_bits::NoMemory;
 use std::alloc::Global;
-use tree_grammar::{Destination, Match, Part, match_at};
+use tree_grammar::{Destination, Match, Part, match_at, plus};
 
 /// What covers are made of: the forms, and the number of temporary cells.
 #[derive(Clone, Copy)]
