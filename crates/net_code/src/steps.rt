@@ -4,6 +4,7 @@ ghost use Rattle.std.specs.Prelude.{◌≡◌, ◌<◌, ◌≤◌, ◌+◌, ◌+
 ghost use Rattle.std.proofs.Common.{replicate};
 ghost use Rattle.branch_fix.specs.Entered.{marked};
 ghost use Rattle.src_trees.specs.Blocks.{IsAssignBlock, continues, is_assign, job_at, job_list, jobs_at};
+ghost use Rattle.right_code.specs.Covered.{AllChosen};
 ghost use Rattle.right_code.specs.Images.{choice_at, choices_of, choices_at};
 ghost use Rattle.right_code.specs.Jobs.{jobs_steps};
 ghost use Rattle.net_code.specs.Inner.Views.{choices_in, stock_of, works_in};
@@ -32,6 +33,7 @@ fn push_job(
     tree: u32,
     steps: &mut Items<Step>,
 ) -> Result<(), NoMemory>
+    requires { AllChosen (stock_of program.now) (works_in program.now) (choices_in program.now) }
     ensures { OnOk result (steps.new ≡ steps.old
         ++ jobs_steps (stock_of program.now) (job_list (slice_get (works_in program.now) tree))
         (choices_of (slice_get (choices_in program.now) tree))) }
@@ -62,6 +64,7 @@ fn push_place(
     at: usize,
     steps: &mut Items<Step>,
 ) -> Result<(), NoMemory>
+    requires { AllChosen (stock_of program.now) (works_in program.now) (choices_in program.now) }
     ensures { OnOk result (steps.new ≡ steps.old
         ++ jobs_steps (stock_of program.now)
         (job_at (works_in program.now) (slice_get program.now.flow.now at))
@@ -85,6 +88,7 @@ pub(crate) fn block_steps(
 ) -> Result<Items<Step>, NoMemory>
     requires within { at + count ≤ length program.now.flow.now }
     requires even { length (choices_in program.now) ≡ length (works_in program.now) }
+    requires chosen { AllChosen (stock_of program.now) (works_in program.now) (choices_in program.now) }
     ensures { IfOk result (λ steps. steps
         ≡ jobs_steps (stock_of program.now)
         (jobs_at program.now.flow.now (works_in program.now) at count)
