@@ -1,18 +1,12 @@
 //! Costs: how many forms a cover has.
 
-ghost use Rattle.std.specs.Prelude.{◌≡◌, ◌+◌, ℕ, Some, IfOk};
+ghost use Rattle.std.specs.Prelude.{◌≡◌, ℕ, Some, IfOk};
 ghost use Rattle.std.specs.Bool.{OnTrue, OnFalse};
 ghost use Rattle.cover.specs.Inner.Least.{AtMost, lesser, summed};
 ghost use Rattle.cover.specs.Inner.Rows.{IsBelow};
 
 use rec_bits::NoMemory;
-
-// The sum of two costs. Want of memory stands for a cost past 64 bits.
-pub(crate) fn plus(a: u64, b: u64) -> Result<u64, NoMemory>
-    ensures { IfOk result (λ c. c ≡ a + b) }
-{
-    a.checked_add(b).ok_or(NoMemory)
-}
+use tree_grammar::plus;
 
 // Whether the cost is less than the one that is known.
 pub(crate) fn is_less(n: u64, known: Option<u64>) -> bool

@@ -9,12 +9,12 @@ ghost use Rattle.tree_grammar.specs.Parts.{destination_at};
 ghost use Rattle.cover.specs.Inner.Least.{AtMost};
 ghost use Rattle.cover.specs.Inner.Rows.{entry, entry_destination, IsSlot, goal_slot, IsBelow, AreWithin, IsWithin, offer_is, Noted, Chained, Swept, IsClosed, Entered};
 
-use crate::costs::{is_less, plus};
+use crate::costs::is_less;
 use crate::parts::register_of;
 use form_model::{Form, Goal};
 use rec_bits::NoMemory;
 use smallvec::SmallVec;
-use tree_grammar::Destination;
+use tree_grammar::{Destination, plus};
 
 /// A form whose match leaves the whole tree as its one part: from a cover for one entry of the
 /// tree's row it makes a cover for another, which costs 1 more.
