@@ -17,7 +17,7 @@ use Rattle.cover.specs.declared.parts.OpenOperand.{OpenOperand}
 use Rattle.cover.specs.declared.parts.OpenCut.{OpenCut}
 use Rattle.cover.specs.Inner.Asks.{Ask, takes}
 use Rattle.cover.specs.Inner.Least.{IsLeast, IsLeastForm, IsLeastOrder, IsLeastCut, summed}
-use Rattle.cover.specs.Inner.Jobs.{stock_of, nodes_of, open_operands, open_cuts}
+use Rattle.cover.specs.Inner.Jobs.{instance_stock, nodes_of, open_operands, open_cuts}
 use Rattle.cover.specs.Inner.Choice.{ask_of, StandsWant, IsFit, Fits, FitOf, FitsParts, NeverBegins, fit_cost}
 use Rattle.cover.proofs.LeastLemmas.{some_form}
 use Rattle.cover.proofs.ChoiceLemmas.{never_by, fits_least}
@@ -27,7 +27,7 @@ want_at instance w o m stands at is =
     let f : (nodes : List Term) → Stands nodes w.at (destination_at w.destination) (tree_term w.tree.now) → AreAt nodes m.parts.items = subst (λ y. IfSome y (λ x. (nodes : List Term) → Stands nodes w.at (destination_at w.destination) (tree_term w.tree.now) → AreAt nodes x.parts.items)) is at in
     f (nodes_of instance) stands
 
-pub want_takes : (instance : Instance) (form : Form) (w : Want) (o : Option Match) (m : Match) → option_map found_of o ≡ taken instance.temps (rule_of form) (destination_at w.destination) (tree_term w.tree.now) w.whole → o ≡ Some m → takes (stock_of instance) (rule_of form) (ask_of w) ≡ Some (found_of m)
+pub want_takes : (instance : Instance) (form : Form) (w : Want) (o : Option Match) (m : Match) → option_map found_of o ≡ taken instance.temps (rule_of form) (destination_at w.destination) (tree_term w.tree.now) w.whole → o ≡ Some m → takes (instance_stock instance) (rule_of form) (ask_of w) ≡ Some (found_of m)
 want_takes instance form w o m found is = sym found ∙ ap (option_map found_of) is
 
 summed_none : (x : Option ℕ) → summed x None ≡ None

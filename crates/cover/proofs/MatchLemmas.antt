@@ -26,7 +26,7 @@ use Rattle.cover.specs.declared.matches.FormMatch.{FormMatch}
 use Rattle.cover.specs.Inner.Asks.{takes, rest, start_under, operands_size, terms_size, rank, IsSparing, AreSparing, AreStored}
 use Rattle.cover.specs.Inner.Least.{AtMost, IsLeast, IsLeastOrder, IsLeastCut, IsFloor, IsCostBelow, summed}
 use Rattle.cover.specs.Inner.Rows.{Row, entry, entry_destination, row_ask, IsSlot, goal_slot, IsOffer, offer_is}
-use Rattle.cover.specs.Inner.Jobs.{stock_of, nodes_of, open_operands, open_cuts}
+use Rattle.cover.specs.Inner.Jobs.{instance_stock, nodes_of, open_operands, open_cuts}
 use Rattle.cover.specs.Inner.Matched.{rest_at, IsOpened, Takes, IsFormMatch, MatchesForm, with_match, AreFirstMatches}
 use Rattle.cover.specs.Inner.Choice.{NeverBegins, CostsOf, CostsWithin, BeginsOne}
 use Rattle.tree_sharing.proofs.NodeLemmas.{nodes_hold}
@@ -80,11 +80,11 @@ pub form_match : (instance : Instance) (form : Form) (k goal : ℕ) (t : Term) (
 form_match instance form k goal t whole number m parts x get s at e o = record {
   rule = rule_of form;
   found = found_of m;
-  listed = subst (λ j. slice_get (stock_of instance).rules j ≡ Some (rule_of form)) (sym o.form) s.listed;
+  listed = subst (λ j. slice_get (instance_stock instance).rules j ≡ Some (rule_of form)) (sym o.form) s.listed;
   clobbers = sym o.clobbers;
   goes = s.goes ∙ ap Some (sym o.goal);
   slot = subst (IsSlot whole) (sym o.goal) s.slot;
-  takes_it = subst (λ j. takes (stock_of instance) (rule_of form) (row_ask t whole j) ≡ Some (found_of m)) (sym o.goal) s.takes_it;
+  takes_it = subst (λ j. takes (instance_stock instance) (rule_of form) (row_ask t whole j) ≡ Some (found_of m)) (sym o.goal) s.takes_it;
   start = o.start ∙ ap (rest_at number) e ∙ rest_number number t m.parts.items at;
   register = subst (λ l. IfSome x.start (λ q. (u : Term) (w : Bool) → sites_of l ≡ operand q u w ∷ [] → q < 16)) e o.register;
   operands = o.operands ∙ ap (λ l. operands_of (sites_of l)) e;
@@ -97,30 +97,30 @@ form_match instance form k goal t whole number m parts x get s at e o = record {
     here = at (nodes_of instance) (nodes_hold (destination_at instance.destination) (tree_term instance.tree.now) number t get)
 
 -- the entry to which a form goes that takes the tree
-takes_goal : (instance : Instance) (form : Form) (k : ℕ) (t : Term) (whole : Bool) → slice_get instance.forms.now k ≡ Some form → (x : Takes (stock_of instance) t whole k) → (x.rule ≡ rule_of form) × (goal_slot (rule_of form).goal whole ≡ Some x.entry)
+takes_goal : (instance : Instance) (form : Form) (k : ℕ) (t : Term) (whole : Bool) → slice_get instance.forms.now k ≡ Some form → (x : Takes (instance_stock instance) t whole k) → (x.rule ≡ rule_of form) × (goal_slot (rule_of form).goal whole ≡ Some x.entry)
 takes_goal instance form k t whole got x =
     let l = rule_at instance k form got in
     let y = x.listed in
     let same : x.rule ≡ rule_of form = cc in
-    (same, subst (λ (r : Rule). goal_slot r.goal whole ≡ Some x.entry) same (row_small (stock_of instance) x.rule t whole x.entry x.found x.slot x.takes_it).0)
+    (same, subst (λ (r : Rule). goal_slot r.goal whole ≡ Some x.entry) same (row_small (instance_stock instance) x.rule t whole x.entry x.found x.slot x.takes_it).0)
 
-pub never_goal : (instance : Instance) (form : Form) (k : ℕ) (t : Term) (whole : Bool) (g : Option ℕ) → slice_get instance.forms.now k ≡ Some form → g ≡ goal_slot (kind_of form.goal) whole → g ≡ None → Takes (stock_of instance) t whole k → ⊥
+pub never_goal : (instance : Instance) (form : Form) (k : ℕ) (t : Term) (whole : Bool) (g : Option ℕ) → slice_get instance.forms.now k ≡ Some form → g ≡ goal_slot (kind_of form.goal) whole → g ≡ None → Takes (instance_stock instance) t whole k → ⊥
 never_goal instance form k t whole g got is none x =
     let h = (takes_goal instance form k t whole got x).1 in
     let e : ◌≡◌ {A = Option ℕ} None (Some x.entry) = sym none ∙ is ∙ h in cc
 
-pub never_match : (instance : Instance) (form : Form) (k goal : ℕ) (t : Term) (whole : Bool) (destination : Destination) (g : Option ℕ) (o : Option Match) → slice_get instance.forms.now k ≡ Some form → g ≡ goal_slot (kind_of form.goal) whole → g ≡ Some goal → destination ≡ entry_destination goal → option_map found_of o ≡ taken instance.temps (rule_of form) destination t whole → o ≡ None → Takes (stock_of instance) t whole k → ⊥
+pub never_match : (instance : Instance) (form : Form) (k goal : ℕ) (t : Term) (whole : Bool) (destination : Destination) (g : Option ℕ) (o : Option Match) → slice_get instance.forms.now k ≡ Some form → g ≡ goal_slot (kind_of form.goal) whole → g ≡ Some goal → destination ≡ entry_destination goal → option_map found_of o ≡ taken instance.temps (rule_of form) destination t whole → o ≡ None → Takes (instance_stock instance) t whole k → ⊥
 never_match instance form k goal t whole destination g o got is some at found none x =
     let h = takes_goal instance form k t whole got x in
     let e : ◌≡◌ {A = Option ℕ} (Some goal) (Some x.entry) = sym some ∙ is ∙ h.1 in
     let same : x.entry ≡ goal = cc in
-    let a : takes (stock_of instance) (rule_of form) (row_ask t whole goal) ≡ Some x.found = subst (λ j. takes (stock_of instance) (rule_of form) (row_ask t whole j) ≡ Some x.found) same (subst (λ r. takes (stock_of instance) r (row_ask t whole x.entry) ≡ Some x.found) h.0 x.takes_it) in
+    let a : takes (instance_stock instance) (rule_of form) (row_ask t whole goal) ≡ Some x.found = subst (λ j. takes (instance_stock instance) (rule_of form) (row_ask t whole j) ≡ Some x.found) same (subst (λ r. takes (instance_stock instance) r (row_ask t whole x.entry) ≡ Some x.found) h.0 x.takes_it) in
     let b = sym (ap (option_map found_of) none) ∙ found ∙ ap (λ p. taken instance.temps (rule_of form) p t whole) at ∙ a in cc
 
-pub never_value : (instance : Instance) (form : Form) (k : ℕ) (t : Term) (whole : Bool) → slice_get instance.forms.now k ≡ Some form → ((temps : ℕ) (w : Bool) → matched temps (rule_of form).value t w ≡ None) → Takes (stock_of instance) t whole k → ⊥
+pub never_value : (instance : Instance) (form : Form) (k : ℕ) (t : Term) (whole : Bool) → slice_get instance.forms.now k ≡ Some form → ((temps : ℕ) (w : Bool) → matched temps (rule_of form).value t w ≡ None) → Takes (instance_stock instance) t whole k → ⊥
 never_value instance form k t whole got never x =
     let h = takes_goal instance form k t whole got x in
-    let is : takes (stock_of instance) (rule_of form) (row_ask t whole x.entry) ≡ Some x.found = subst (λ r. takes (stock_of instance) r (row_ask t whole x.entry) ≡ Some x.found) h.0 x.takes_it in
+    let is : takes (instance_stock instance) (rule_of form) (row_ask t whole x.entry) ≡ Some x.found = subst (λ r. takes (instance_stock instance) r (row_ask t whole x.entry) ≡ Some x.found) h.0 x.takes_it in
     let none = no_value instance.temps (rule_of form) (rule_of form).goal (entry_destination x.entry) t whole (never instance.temps) in
     let e : ◌≡◌ {A = Option Found} None (Some x.found) = sym none ∙ is in cc
 
@@ -135,7 +135,7 @@ module _ (instance : Instance) (t : Term) (whole : Bool) where
     each = h.each;
     below = λ i m get. (let lt = h.below i m get in omega (arith, lt));
     all = λ k lt x. elim (cases_eq k n) [
-      | inl at ↦ absurd (never (subst (Takes (stock_of instance) t whole) at x))
+      | inl at ↦ absurd (never (subst (Takes (instance_stock instance) t whole) at x))
       | inr other ↦ h.all k (omega arith) x
     ];
     ordered = h.ordered;
@@ -166,8 +166,8 @@ module _ (instance : Instance) (t : Term) (whole : Bool) where
   })
 
   -- each form that takes the tree has a match
-  pub matches_all : (list : List FormMatch) → AreFirstMatches instance t whole (length instance.forms.now) list → (k : ℕ) → Takes (stock_of instance) t whole k → (i : ℕ) × (m : FormMatch) × (slice_get list i ≡ Some m) × (m.form ≡ k)
-  matches_all list h k x = h.all k (let w = slice_get_within (stock_of instance).rules k x.rule x.listed in let l = length-map instance.forms.now rule_of in omega (arith, w, l)) x
+  pub matches_all : (list : List FormMatch) → AreFirstMatches instance t whole (length instance.forms.now) list → (k : ℕ) → Takes (instance_stock instance) t whole k → (i : ℕ) × (m : FormMatch) × (slice_get list i ≡ Some m) × (m.form ≡ k)
+  matches_all list h k x = h.all k (let w = slice_get_within (instance_stock instance).rules k x.rule x.listed in let l = length-map instance.forms.now rule_of in omega (arith, w, l)) x
 
 pub at_index : {X : Type 0} (xs : List X) (i : ℕ) → i < length xs → (x : X) × (slice_get xs i ≡ Some x)
 at_index [] i lt = absurd (omega (arith, lt))
@@ -188,75 +188,75 @@ module _ (instance : Instance) (avoid : ℕ) (t : Term) (whole : Bool) (m : Form
       let r : IfSome (rest (size_of t) true f.found.sites) (λ q. (u : Term) (w : Bool) → f.found.sites ≡ operand q u w ∷ [] → q < 16) = subst (λ s. IfSome s (λ q. (u : Term) (w : Bool) → f.found.sites ≡ operand q u w ∷ [] → q < 16)) f.start f.register in
       start_rest (size_of t) (avoid == 0) f.found.sites r ∙ ap (λ s. start_under s (avoid == 0)) (sym f.start) ∙ sym is
 
-  pub offer_clobbers : (row : Row) → bit_and m.clobbers avoid ≢ 0 → IsOffer (stock_of instance) avoid t whole row m.form Nothing
-  offer_clobbers row never = offer_no_spare (stock_of instance) avoid t whole row m.form f.rule f.listed (λ e. never (subst (λ c. bit_and c avoid ≡ 0) f.clobbers e))
+  pub offer_clobbers : (row : Row) → bit_and m.clobbers avoid ≢ 0 → IsOffer (instance_stock instance) avoid t whole row m.form Nothing
+  offer_clobbers row never = offer_no_spare (instance_stock instance) avoid t whole row m.form f.rule f.listed (λ e. never (subst (λ c. bit_and c avoid ≡ 0) f.clobbers e))
 
-  pub offer_start : (row : Row) (o : Option ℕ) (q : ℕ) → bit_and m.clobbers avoid ≡ 0 → o ≡ start_under m.start (avoid == 0) → o ≡ Some q → IsOffer (stock_of instance) avoid t whole row m.form (Chains (record { start = q; goal = m.goal }))
+  pub offer_start : (row : Row) (o : Option ℕ) (q : ℕ) → bit_and m.clobbers avoid ≡ 0 → o ≡ start_under m.start (avoid == 0) → o ≡ Some q → IsOffer (instance_stock instance) avoid t whole row m.form (Chains (record { start = q; goal = m.goal }))
   offer_start row o q spared is some =
       let there : m.start ≡ Some q = start_some m.start (avoid == 0) q (sym is ∙ some) in
       let r : (u : Term) (w : Bool) → f.found.sites ≡ operand q u w ∷ [] → q < 16 = subst (λ s. IfSome s (λ q. (u : Term) (w : Bool) → f.found.sites ≡ operand q u w ∷ [] → q < 16)) there f.register in
-      offer_chain (stock_of instance) avoid t whole row m.form f.rule m.goal q f.found f.listed (spared_is spared) f.goes f.slot f.takes_it (rest_is o is ∙ some) (r t whole)
+      offer_chain (instance_stock instance) avoid t whole row m.form f.rule m.goal q f.found f.listed (spared_is spared) f.goes f.slot f.takes_it (rest_is o is ∙ some) (r t whole)
 
   pub match_sizes : (o : Option ℕ) → o ≡ start_under m.start (avoid == 0) → o ≡ None → (operands_size (open_operands m.operands.items) < size_of t) × (terms_size (open_cuts m.cuts.items) < size_of t + rank avoid)
   match_sizes o is none =
-      let small = (row_small (stock_of instance) f.rule t whole m.goal f.found f.slot f.takes_it).1 in
+      let small = (row_small (instance_stock instance) f.rule t whole m.goal f.found f.slot f.takes_it).1 in
       let z = rest_small whole t avoid f.found.sites small (rest_is o is ∙ none) in
       (subst (λ l. operands_size l < size_of t) (sym f.operands) z.0, subst (λ l. terms_size l < size_of t + rank avoid) (sym f.cuts) z.1)
 
-  offer_costs : (row : Row) (a b d : Option ℕ) (offer : Offer) → bit_and m.clobbers avoid ≡ 0 → IsLeastOrder (stock_of instance) avoid (open_operands m.operands.items) a → IsLeastCut (stock_of instance) (open_cuts m.cuts.items) b → d ≡ summed (summed (Some 1) a) b → offer ≡ offer_is m.goal d → IsOffer (stock_of instance) avoid t whole row m.form offer
+  offer_costs : (row : Row) (a b d : Option ℕ) (offer : Offer) → bit_and m.clobbers avoid ≡ 0 → IsLeastOrder (instance_stock instance) avoid (open_operands m.operands.items) a → IsLeastCut (instance_stock instance) (open_cuts m.cuts.items) b → d ≡ summed (summed (Some 1) a) b → offer ≡ offer_is m.goal d → IsOffer (instance_stock instance) avoid t whole row m.form offer
   offer_costs row a b d offer spared la lb e el =
-      let form_least = some_form (stock_of instance) avoid (row_ask t whole m.goal) m.form f.rule f.found a b f.listed (spared_is spared) f.takes_it (subst (λ l. IsLeastOrder (stock_of instance) avoid l a) f.operands la) (subst (λ l. IsLeastCut (stock_of instance) l b) f.cuts lb) in
-      subst (IsOffer (stock_of instance) avoid t whole row m.form) (sym (el ∙ ap (offer_is m.goal) e)) (offer_form (stock_of instance) avoid t whole row m.form f.rule m.goal (summed (summed (Some 1) a) b) f.listed f.goes f.slot form_least)
+      let form_least = some_form (instance_stock instance) avoid (row_ask t whole m.goal) m.form f.rule f.found a b f.listed (spared_is spared) f.takes_it (subst (λ l. IsLeastOrder (instance_stock instance) avoid l a) f.operands la) (subst (λ l. IsLeastCut (instance_stock instance) l b) f.cuts lb) in
+      subst (IsOffer (instance_stock instance) avoid t whole row m.form) (sym (el ∙ ap (offer_is m.goal) e)) (offer_form (instance_stock instance) avoid t whole row m.form f.rule m.goal (summed (summed (Some 1) a) b) f.listed f.goes f.slot form_least)
 
   -- the parts of a cover that begins with the match's form
-  parts_at : (ps : Operands) (cs : Cuts) (r : ℕ) → IsSlot whole r → IsSparing (stock_of instance) avoid (row_ask t whole r) (use_form m.form ps cs) → (m.goal ≡ r) × AreSparing (stock_of instance) avoid (open_operands m.operands.items) ps × AreStored (stock_of instance) (open_cuts m.cuts.items) cs
+  parts_at : (ps : Operands) (cs : Cuts) (r : ℕ) → IsSlot whole r → IsSparing (instance_stock instance) avoid (row_ask t whole r) (use_form m.form ps cs) → (m.goal ≡ r) × AreSparing (instance_stock instance) avoid (open_operands m.operands.items) ps × AreStored (instance_stock instance) (open_cuts m.cuts.items) cs
   parts_at ps cs r slot (rule, get, spared, found, is, orders, stored) =
       let l = f.listed in
       let same : rule ≡ f.rule = cc in
-      let g : goal_slot f.rule.goal whole ≡ Some r = subst (λ (x : Rule). goal_slot x.goal whole ≡ Some r) same (row_small (stock_of instance) rule t whole r found slot is).0 in
+      let g : goal_slot f.rule.goal whole ≡ Some r = subst (λ (x : Rule). goal_slot x.goal whole ≡ Some r) same (row_small (instance_stock instance) rule t whole r found slot is).0 in
       let h = f.goes in
       let at : m.goal ≡ r = cc in
-      let is' : takes (stock_of instance) f.rule (row_ask t whole m.goal) ≡ Some found = subst (λ j. takes (stock_of instance) f.rule (row_ask t whole j) ≡ Some found) (sym at) (subst (λ x. takes (stock_of instance) x (row_ask t whole r) ≡ Some found) same is) in
+      let is' : takes (instance_stock instance) f.rule (row_ask t whole m.goal) ≡ Some found = subst (λ j. takes (instance_stock instance) f.rule (row_ask t whole j) ≡ Some found) (sym at) (subst (λ x. takes (instance_stock instance) x (row_ask t whole r) ≡ Some found) same is) in
       let k = f.takes_it in
       let equal : found ≡ f.found = cc in
-      (at, subst (λ l. AreSparing (stock_of instance) avoid l ps) (ap (λ (x : Found). operands_of x.sites) equal ∙ sym f.operands) orders, subst (λ l. AreStored (stock_of instance) l cs) (ap (λ (x : Found). cuts_of x.sites) equal ∙ sym f.cuts) stored)
+      (at, subst (λ l. AreSparing (instance_stock instance) avoid l ps) (ap (λ (x : Found). operands_of x.sites) equal ∙ sym f.operands) orders, subst (λ l. AreStored (instance_stock instance) l cs) (ap (λ (x : Found). cuts_of x.sites) equal ∙ sym f.cuts) stored)
 
   -- no cover that begins with the match's form costs less than its parts' floor
-  floor_below : (a b : Option ℕ) (ps : Operands) (cs : Cuts) (r : ℕ) → IsFloor (stock_of instance) avoid (open_operands m.operands.items) a → IsLeastCut (stock_of instance) (open_cuts m.cuts.items) b → IsSlot whole r → IsSparing (stock_of instance) avoid (row_ask t whole r) (use_form m.form ps cs) → (m.goal ≡ r) × AtMost (summed (summed (Some 1) a) b) (1 + operands_cost ps + cuts_cost cs)
+  floor_below : (a b : Option ℕ) (ps : Operands) (cs : Cuts) (r : ℕ) → IsFloor (instance_stock instance) avoid (open_operands m.operands.items) a → IsLeastCut (instance_stock instance) (open_cuts m.cuts.items) b → IsSlot whole r → IsSparing (instance_stock instance) avoid (row_ask t whole r) (use_form m.form ps cs) → (m.goal ≡ r) × AtMost (summed (summed (Some 1) a) b) (1 + operands_cost ps + cuts_cost cs)
   floor_below a b ps cs r floor lb slot sparing =
       let p = parts_at ps cs r slot sparing in
       (p.0, both_at_most (summed (Some 1) a) b (1 + operands_cost ps) (cuts_cost cs) (both_at_most (Some 1) a 1 (operands_cost ps) (omega arith) (floor ps p.1)) (lb.least cs p.2))
 
-  offer_dear : (row : Row) (a b d : Option ℕ) → IsFloor (stock_of instance) avoid (open_operands m.operands.items) a → IsLeastCut (stock_of instance) (open_cuts m.cuts.items) b → d ≡ summed (summed (Some 1) a) b → ((n : ℕ) → AtMost d n → AtMost (entry row m.goal) n) → IsOffer (stock_of instance) avoid t whole row m.form Nothing
+  offer_dear : (row : Row) (a b d : Option ℕ) → IsFloor (instance_stock instance) avoid (open_operands m.operands.items) a → IsLeastCut (instance_stock instance) (open_cuts m.cuts.items) b → d ≡ summed (summed (Some 1) a) b → ((n : ℕ) → AtMost d n → AtMost (entry row m.goal) n) → IsOffer (instance_stock instance) avoid t whole row m.form Nothing
   offer_dear row a b d floor lb e dear = λ ps cs r slot sparing.
       let h = floor_below a b ps cs r floor lb slot sparing in
       subst (λ j. AtMost (entry row j) (1 + operands_cost ps + cuts_cost cs)) h.0 (dear (1 + operands_cost ps + cuts_cost cs) (subst (λ o. AtMost o (1 + operands_cost ps + cuts_cost cs)) (sym e) h.1))
 
-  pub offer_below : (row : Row) (known o : Option ℕ) (offer : Offer) → bit_and m.clobbers avoid ≡ 0 → known ≡ entry row m.goal → IsCostBelow (stock_of instance) avoid (open_operands m.operands.items) (open_cuts m.cuts.items) known o → offer ≡ offer_is m.goal o → IsOffer (stock_of instance) avoid t whole row m.form offer
+  pub offer_below : (row : Row) (known o : Option ℕ) (offer : Offer) → bit_and m.clobbers avoid ≡ 0 → known ≡ entry row m.goal → IsCostBelow (instance_stock instance) avoid (open_operands m.operands.items) (open_cuts m.cuts.items) known o → offer ≡ offer_is m.goal o → IsOffer (instance_stock instance) avoid t whole row m.form offer
   offer_below row known o offer spared e (inl x) is = offer_costs row x.operands x.cuts o offer spared x.order x.cut x.sum is
   offer_below row known o offer spared e (inr (none, x)) is =
-      subst (IsOffer (stock_of instance) avoid t whole row m.form) (sym (is ∙ ap (offer_is m.goal) none))
+      subst (IsOffer (instance_stock instance) avoid t whole row m.form) (sym (is ∙ ap (offer_is m.goal) none))
       (offer_dear row x.operands x.cuts (summed (summed (Some 1) x.operands) x.cuts) x.floor x.cut refl (λ n h. subst (λ k. AtMost k n) e (x.dear n h)))
 
   -- ---- covers of one cost
 
-  module _ (slot n : ℕ) (is_slot : IsSlot whole slot) (least : IsLeast (stock_of instance) avoid (row_ask t whole slot) (Some n)) where
-    pub other_goal : m.goal ≢ slot → NeverBegins (stock_of instance) avoid (row_ask t whole slot) n m.form
+  module _ (slot n : ℕ) (is_slot : IsSlot whole slot) (least : IsLeast (instance_stock instance) avoid (row_ask t whole slot) (Some n)) where
+    pub other_goal : m.goal ≢ slot → NeverBegins (instance_stock instance) avoid (row_ask t whole slot) n m.form
     other_goal differ ps cs (rule, get, spared, found, is, orders, stored) e =
         let l = f.listed in
         let same : rule ≡ f.rule = cc in
-        let g : goal_slot f.rule.goal whole ≡ Some slot = subst (λ (r : Rule). goal_slot r.goal whole ≡ Some slot) same (row_small (stock_of instance) rule t whole slot found is_slot is).0 in
+        let g : goal_slot f.rule.goal whole ≡ Some slot = subst (λ (r : Rule). goal_slot r.goal whole ≡ Some slot) same (row_small (instance_stock instance) rule t whole slot found is_slot is).0 in
         let h = f.goes in
         differ (cc)
 
-    pub other_clobbers : bit_and m.clobbers avoid ≢ 0 → NeverBegins (stock_of instance) avoid (row_ask t whole slot) n m.form
+    pub other_clobbers : bit_and m.clobbers avoid ≢ 0 → NeverBegins (instance_stock instance) avoid (row_ask t whole slot) n m.form
     other_clobbers never ps cs (rule, get, spared, found, is, orders, stored) e =
         let l = f.listed in
         let same : rule ≡ f.rule = cc in
         never (subst (λ c. bit_and c avoid ≡ 0) (ap (λ (r : Rule). r.clobbers) same ∙ f.clobbers) spared)
 
     -- a cover by a form whose floor is above n doesn't cost n
-    never_above : (a b d : Option ℕ) → IsFloor (stock_of instance) avoid (open_operands m.operands.items) a → IsLeastCut (stock_of instance) (open_cuts m.cuts.items) b → d ≡ summed (summed (Some 1) a) b → (AtMost d n → ⊥) → NeverBegins (stock_of instance) avoid (row_ask t whole slot) n m.form
+    never_above : (a b d : Option ℕ) → IsFloor (instance_stock instance) avoid (open_operands m.operands.items) a → IsLeastCut (instance_stock instance) (open_cuts m.cuts.items) b → d ≡ summed (summed (Some 1) a) b → (AtMost d n → ⊥) → NeverBegins (instance_stock instance) avoid (row_ask t whole slot) n m.form
     never_above a b d floor lb e above ps cs sparing at =
         let h = floor_below a b ps cs slot floor lb is_slot sparing in
         above (subst (λ o. AtMost o n) (sym e) (subst (AtMost (summed (summed (Some 1) a) b)) at h.1))
@@ -266,11 +266,11 @@ module _ (instance : Instance) (avoid : ℕ) (t : Term) (whole : Bool) (m : Form
     two_of (Some j) None x h = absurd (cc)
     two_of (Some j) (Some k) x h = let e : 1 + j + k ≡ x = cc in (j, k, refl, refl, sym e)
 
-    costs_begin : (a b : Option ℕ) (o : Option PartCosts) → m.goal ≡ slot → bit_and m.clobbers avoid ≡ 0 → IsLeastOrder (stock_of instance) avoid (open_operands m.operands.items) a → IsLeastCut (stock_of instance) (open_cuts m.cuts.items) b → CostsOf n a b o → BeginsOne (stock_of instance) avoid (row_ask t whole slot) n m o
+    costs_begin : (a b : Option ℕ) (o : Option PartCosts) → m.goal ≡ slot → bit_and m.clobbers avoid ≡ 0 → IsLeastOrder (instance_stock instance) avoid (open_operands m.operands.items) a → IsLeastCut (instance_stock instance) (open_cuts m.cuts.items) b → CostsOf n a b o → BeginsOne (instance_stock instance) avoid (row_ask t whole slot) n m o
     costs_begin a b None at spared la lb differ =
-        let takes' : takes (stock_of instance) f.rule (row_ask t whole slot) ≡ Some f.found = subst (λ j. takes (stock_of instance) f.rule (row_ask t whole j) ≡ Some f.found) at f.takes_it in
-        never_by (stock_of instance) avoid (row_ask t whole slot) n m.form (summed (summed (Some 1) a) b) least
-        (some_form (stock_of instance) avoid (row_ask t whole slot) m.form f.rule f.found a b f.listed (spared_is spared) takes' (subst (λ l. IsLeastOrder (stock_of instance) avoid l a) f.operands la) (subst (λ l. IsLeastCut (stock_of instance) l b) f.cuts lb))
+        let takes' : takes (instance_stock instance) f.rule (row_ask t whole slot) ≡ Some f.found = subst (λ j. takes (instance_stock instance) f.rule (row_ask t whole j) ≡ Some f.found) at f.takes_it in
+        never_by (instance_stock instance) avoid (row_ask t whole slot) n m.form (summed (summed (Some 1) a) b) least
+        (some_form (instance_stock instance) avoid (row_ask t whole slot) m.form f.rule f.found a b f.listed (spared_is spared) takes' (subst (λ l. IsLeastOrder (instance_stock instance) avoid l a) f.operands la) (subst (λ l. IsLeastCut (instance_stock instance) l b) f.cuts lb))
         (λ x e same. (let p = two_of a b x e in differ p.0 p.1 p.2 p.3 (sym p.4 ∙ same)))
     costs_begin a b (Some c) at spared la lb (ea, eb, sum) = (
       record {
@@ -278,42 +278,42 @@ module _ (instance : Instance) (avoid : ℕ) (t : Term) (whole : Bool) (m : Form
         found = f.found;
         listed = f.listed;
         spared = spared_is spared;
-        takes_it = subst (λ j. takes (stock_of instance) f.rule (row_ask t whole j) ≡ Some f.found) at f.takes_it;
+        takes_it = subst (λ j. takes (instance_stock instance) f.rule (row_ask t whole j) ≡ Some f.found) at f.takes_it;
         operands_are = f.operands;
         cuts_are = f.cuts;
-        order = subst (IsLeastOrder (stock_of instance) avoid (open_operands m.operands.items)) ea la;
-        cut = subst (IsLeastCut (stock_of instance) (open_cuts m.cuts.items)) eb lb;
+        order = subst (IsLeastOrder (instance_stock instance) avoid (open_operands m.operands.items)) ea la;
+        cut = subst (IsLeastCut (instance_stock instance) (open_cuts m.cuts.items)) eb lb;
       },
       sum,
     )
 
-    pub begins_within : (o : Option PartCosts) → m.goal ≡ slot → bit_and m.clobbers avoid ≡ 0 → CostsWithin (stock_of instance) avoid (open_operands m.operands.items) (open_cuts m.cuts.items) n o → BeginsOne (stock_of instance) avoid (row_ask t whole slot) n m o
+    pub begins_within : (o : Option PartCosts) → m.goal ≡ slot → bit_and m.clobbers avoid ≡ 0 → CostsWithin (instance_stock instance) avoid (open_operands m.operands.items) (open_cuts m.cuts.items) n o → BeginsOne (instance_stock instance) avoid (row_ask t whole slot) n m o
     begins_within o at spared (inl x) = costs_begin x.operands x.cuts o at spared x.order x.cut x.costs
     begins_within o at spared (inr (none, x)) =
-        subst (BeginsOne (stock_of instance) avoid (row_ask t whole slot) n m) (sym none)
+        subst (BeginsOne (instance_stock instance) avoid (row_ask t whole slot) n m) (sym none)
         (never_above x.operands x.cuts (summed (summed (Some 1) x.operands) x.cuts) x.floor x.cut refl x.above)
 
 -- ---- the first match that begins a cover of one cost
 
 module _ (instance : Instance) (avoid : ℕ) (t : Term) (whole : Bool) (slot n : ℕ) (list : List FormMatch) (is_slot : IsSlot whole slot) (h : AreFirstMatches instance t whole (length instance.forms.now) list) where
-  pub never_before : (i : ℕ) (m : FormMatch) → slice_get list i ≡ Some m → ((l : ℕ) (g : FormMatch) → l < i → slice_get list l ≡ Some g → NeverBegins (stock_of instance) avoid (row_ask t whole slot) n g.form) → (j : ℕ) → j < m.form → NeverBegins (stock_of instance) avoid (row_ask t whole slot) n j
+  pub never_before : (i : ℕ) (m : FormMatch) → slice_get list i ≡ Some m → ((l : ℕ) (g : FormMatch) → l < i → slice_get list l ≡ Some g → NeverBegins (instance_stock instance) avoid (row_ask t whole slot) n g.form) → (j : ℕ) → j < m.form → NeverBegins (instance_stock instance) avoid (row_ask t whole slot) n j
   never_before i m here never j lt ps cs (rule, get, spared, found, is, orders, stored) e =
       let (l, g, got, same) = matches_all instance t whole list h j (record { entry = slot; slot = is_slot; rule = rule; found = found; listed = get; takes_it = is }) in
       elim (cases_lt l i) [
-        | inl less ↦ never l g less got ps cs (subst (λ x. IsSparing (stock_of instance) avoid (row_ask t whole slot) (use_form x ps cs)) (sym same) (rule, get, spared, found, is, orders, stored)) e
+        | inl less ↦ never l g less got ps cs (subst (λ x. IsSparing (instance_stock instance) avoid (row_ask t whole slot) (use_form x ps cs)) (sym same) (rule, get, spared, found, is, orders, stored)) e
         | inr ge ↦ elim (cases_eq i l) [
           | inl at ↦ (let got' : slice_get list i ≡ Some g = subst (λ x. slice_get list x ≡ Some g) (sym at) got in let equal : g ≡ m = cc in let x = ap (λ (y : FormMatch). y.form) equal in absurd (omega (arith, x, same, lt)))
           | inr other ↦ (let x = h.ordered i l m g (omega arith) here got in absurd (omega (arith, x, same, lt)))
         ]
       ]
 
-  pub some_match : IsLeast (stock_of instance) avoid (row_ask t whole slot) (Some n) → ((l : ℕ) (g : FormMatch) → l < length list → slice_get list l ≡ Some g → NeverBegins (stock_of instance) avoid (row_ask t whole slot) n g.form) → ⊥
-  some_match least never = cover_exists (stock_of instance) avoid (row_ask t whole slot) n least go
+  pub some_match : IsLeast (instance_stock instance) avoid (row_ask t whole slot) (Some n) → ((l : ℕ) (g : FormMatch) → l < length list → slice_get list l ≡ Some g → NeverBegins (instance_stock instance) avoid (row_ask t whole slot) n g.form) → ⊥
+  some_match least never = cover_exists (instance_stock instance) avoid (row_ask t whole slot) n least go
     where
-      go : (j : ℕ) → j < length (stock_of instance).rules → NeverBegins (stock_of instance) avoid (row_ask t whole slot) n j
+      go : (j : ℕ) → j < length (instance_stock instance).rules → NeverBegins (instance_stock instance) avoid (row_ask t whole slot) n j
       go j lt ps cs (rule, get, spared, found, is, orders, stored) e =
           let (l, g, got, same) = matches_all instance t whole list h j (record { entry = slot; slot = is_slot; rule = rule; found = found; listed = get; takes_it = is }) in
-          never l g (slice_get_within list l g got) got ps cs (subst (λ x. IsSparing (stock_of instance) avoid (row_ask t whole slot) (use_form x ps cs)) (sym same) (rule, get, spared, found, is, orders, stored)) e
+          never l g (slice_get_within list l g got) got ps cs (subst (λ x. IsSparing (instance_stock instance) avoid (row_ask t whole slot) (use_form x ps cs)) (sym same) (rule, get, spared, found, is, orders, stored)) e
 
 -- what holds of the matches before i, and of that at i, holds of those before i + 1
 pub matches_later : (P : ℕ → Type 0) (list : List FormMatch) (i : ℕ) → ((l : ℕ) (g : FormMatch) → l < i → slice_get list l ≡ Some g → P g.form) → ((g : FormMatch) → slice_get list i ≡ Some g → P g.form) → (l : ℕ) (g : FormMatch) → l < i + 1 → slice_get list l ≡ Some g → P g.form

@@ -13,32 +13,32 @@ use Rattle.tree_grammar.specs.Parts.{found_of, sites_of, AreAt, Stands}
 use Rattle.cover.specs.declared.table.Instance.{Instance}
 use Rattle.cover.specs.Inner.Asks.{takes}
 use Rattle.cover.specs.Inner.Rows.{entry_destination, row_ask, IsSlot, goal_slot}
-use Rattle.cover.specs.Inner.Jobs.{stock_of}
+use Rattle.cover.specs.Inner.Jobs.{instance_stock}
 use Rattle.cover.proofs.SizeLemmas.{Small}
 use Rattle.cover.proofs.OfferLemmas.{row_small}
 use Rattle.cover.proofs.NodeLemmas.{slot_stands}
 
 pub record Start (instance : Instance) (form : Form) (k goal : ℕ) (t : Term) (whole : Bool) (m : Match) : Type 0 where
-  pub listed : slice_get (stock_of instance).rules k ≡ Some (rule_of form)
+  pub listed : slice_get (instance_stock instance).rules k ≡ Some (rule_of form)
   pub goes : goal_slot (rule_of form).goal whole ≡ Some goal
   pub slot : IsSlot whole goal
-  pub takes_it : takes (stock_of instance) (rule_of form) (row_ask t whole goal) ≡ Some (found_of m)
+  pub takes_it : takes (instance_stock instance) (rule_of form) (row_ask t whole goal) ≡ Some (found_of m)
   pub small : Small whole t (sites_of m.parts.items)
 
-pub rule_at : (instance : Instance) (k : ℕ) (form : Form) → slice_get instance.forms.now k ≡ Some form → slice_get (stock_of instance).rules k ≡ Some (rule_of form)
+pub rule_at : (instance : Instance) (k : ℕ) (form : Form) → slice_get instance.forms.now k ≡ Some form → slice_get (instance_stock instance).rules k ≡ Some (rule_of form)
 rule_at instance k form h = slice_get-map rule_of instance.forms.now k ∙ ap (option_map rule_of) h
 
 pub start_of : (instance : Instance) (form : Form) (k goal : ℕ) (t : Term) (whole : Bool) (destination : Destination) (g : Option ℕ) (o : Option Match) (m : Match) → slice_get instance.forms.now k ≡ Some form → (g ≡ goal_slot (kind_of form.goal) whole) × IfSome g (λ r. IsSlot whole r) → g ≡ Some goal → option_map found_of o ≡ taken instance.temps (rule_of form) destination t whole → o ≡ Some m → destination ≡ entry_destination goal → Start instance form k goal t whole m
 start_of instance form k goal t whole destination g o m got goes is found some at =
     let slot : IsSlot whole goal = subst (λ x. IfSome x (λ r. IsSlot whole r)) is goes.1 in
-    let t' : takes (stock_of instance) (rule_of form) (row_ask t whole goal) ≡ Some (found_of m) =
+    let t' : takes (instance_stock instance) (rule_of form) (row_ask t whole goal) ≡ Some (found_of m) =
     sym (ap (λ p. taken instance.temps (rule_of form) p t whole) at) ∙ sym found ∙ ap (option_map found_of) some in
     record {
       listed = rule_at instance k form got;
       goes = sym goes.0 ∙ is;
       slot = slot;
       takes_it = t';
-      small = (row_small (stock_of instance) (rule_of form) t whole goal (found_of m) slot t').1;
+      small = (row_small (instance_stock instance) (rule_of form) t whole goal (found_of m) slot t').1;
     }
 
 -- the numbers of a match's parts are right wherever the tree's subtrees stand

@@ -7,7 +7,7 @@ use Rattle.cover.specs.declared.table.Instance.{Instance}
 use Rattle.cover.specs.declared.table.KeptRow.{KeptRow}
 use Rattle.cover.specs.Inner.Least.{IsLeast}
 use Rattle.cover.specs.Inner.Rows.{row_ask, IsSlot}
-use Rattle.cover.specs.Inner.Jobs.{stock_of, nodes_of}
+use Rattle.cover.specs.Inner.Jobs.{instance_stock, nodes_of}
 use Rattle.cover.specs.Inner.Tables.{AreEmpty, EachKept, IsKept}
 use Rattle.cover.proofs.OfferLemmas.{get_either}
 
@@ -17,11 +17,11 @@ same_default [] i o d l e = absurd (omega (arith, l))
 same_default (x ∷ row) zero o d l e = sym e
 same_default (x ∷ row) (suc i) o d l e = same_default row i o d (omega (arith, l)) e
 
-pub entry_right : (instance : Instance) (number : ℕ) (row : KeptRow) (whole : Bool) (avoid slot : ℕ) (o : Option ℕ) → IsKept instance number row → row.whole ≡ whole → row.avoid ≡ avoid → slot < 17 → o ≡ get_or row.costs.items slot o → (t : Term) → slice_get (nodes_of instance) number ≡ Some t → IsSlot whole slot → IsLeast (stock_of instance) avoid (row_ask t whole slot) o
+pub entry_right : (instance : Instance) (number : ℕ) (row : KeptRow) (whole : Bool) (avoid slot : ℕ) (o : Option ℕ) → IsKept instance number row → row.whole ≡ whole → row.avoid ≡ avoid → slot < 17 → o ≡ get_or row.costs.items slot o → (t : Term) → slice_get (nodes_of instance) number ≡ Some t → IsSlot whole slot → IsLeast (instance_stock instance) avoid (row_ask t whole slot) o
 entry_right instance number row whole avoid slot o right ew ea lt e t get is =
-    subst (λ w. IsLeast (stock_of instance) avoid (row_ask t w slot) o) ew
-    (subst (λ a. IsLeast (stock_of instance) a (row_ask t row.whole slot) o) ea
-    (subst (λ x. IsLeast (stock_of instance) row.avoid (row_ask t row.whole slot) x) (same_default row.costs.items slot o None (let l = right.len in omega (arith, l, lt)) e) (right.least t get slot (subst (λ w. IsSlot w slot) (sym ew) is))))
+    subst (λ w. IsLeast (instance_stock instance) avoid (row_ask t w slot) o) ew
+    (subst (λ a. IsLeast (instance_stock instance) a (row_ask t row.whole slot) o) ea
+    (subst (λ x. IsLeast (instance_stock instance) row.avoid (row_ask t row.whole slot) x) (same_default row.costs.items slot o None (let l = right.len in omega (arith, l, lt)) e) (right.least t get slot (subst (λ w. IsSlot w slot) (sym ew) is))))
 
 -- ---- lists of what is kept
 

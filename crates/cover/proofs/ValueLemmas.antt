@@ -1,9 +1,16 @@
 -- Forms whose value doesn't take a tree.
 use Rattle.std.proofs.Common.{◌≡◌, ℕ, Bool, true, false, Option, Some, None, refl, ap, ◌∙◌}
 use Rattle.std.specs.Prelude.{if◌then◌else◌, ◌==◌}
-use Rattle.net_model.specs.Terms.{Term}
+use Rattle.std.specs.Bool.{OnFalse}
+use Rattle.net_model.specs.Terms.{Term, const}
+use Rattle.form_model.specs.Trees.{is_number}
 use Rattle.form_model.specs.Rules.{Rule, Kind, into_reg, into_memory, jumps, branches, Destination, into, cell, stored, temporary, tested}
-use Rattle.form_model.specs.Matches.{Found, matched, both, address_match, goal_match}
+use Rattle.form_model.specs.Matches.{Found, matched, both, address_match, goal_match, shape_match}
+
+-- a field shape takes numbers alone
+pub shown_number : (t : Term) → OnFalse (is_number t) ((shape : Term) → shape_match shape t ≡ None)
+shown_number (const w v) = tt
+shown_number _ = λ shape. refl
 
 no_both : (a : Option Found) → both a None ≡ None
 no_both None = refl

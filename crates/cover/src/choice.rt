@@ -10,7 +10,7 @@ ghost use Rattle.form_model.specs.Trees.{tree_term};
 ghost use Rattle.cover.specs.Inner.Rows.{IsSlot, row_ask};
 ghost use Rattle.cover.specs.Inner.Matched.{AreMatches};
 ghost use Rattle.cover.specs.Inner.Choice.{ask_of, matches_ask, StandsWant, Begins, BeginsAt, CostsOf, CostsWithin, Starts, StartsCut, IsFirst, IsFirstOrder, IsFirstFrom, IsFirstCuts, AreFirstParts};
-ghost use Rattle.cover.specs.Inner.Jobs.{stock_of, nodes_of, open_operands, open_cuts, OperandsAt, CutsAt};
+ghost use Rattle.cover.specs.Inner.Jobs.{instance_stock, nodes_of, open_operands, open_cuts, OperandsAt, CutsAt};
 ghost use Rattle.cover.specs.Inner.Tables.{AreRight};
 
 use crate::costs::form_cost;
@@ -22,7 +22,7 @@ use crate::table::{CostTable, Instance, matches_at};
 use form_model::{Cover, CoverCuts, CoverOperands, RegSet, Tree};
 use rec_bits::NoMemory;
 use std::alloc::Global;
-use tree_sharing::plus;
+use tree_grammar::plus;
 
 // The least costs of a match's operands and of its cuts.
 #[derive(Clone, Copy)]
@@ -42,10 +42,10 @@ fn begins<'a>(
     k: usize,
 ) -> Result<Option<Fit<'a>>, NoMemory>
     requires form { k < length instance.now.forms.now }
-    requires least { IsLeast (stock_of instance.now) avoid (ask_of want.now) (Some n) }
+    requires least { IsLeast (instance_stock instance.now) avoid (ask_of want.now) (Some n) }
     requires stands { StandsWant instance.now want.now }
     requires right { AreRight instance.now table.old }
-    ensures begins { IfOk result (λ o. Begins (stock_of instance.now) avoid (ask_of want.now) n k o) }
+    ensures begins { IfOk result (λ o. Begins (instance_stock instance.now) avoid (ask_of want.now) n k o) }
     ensures at { IfOk result (λ o. IfSome o (λ f. OperandsAt (nodes_of instance.now) f.operands.items)) }
     ensures cuts_at { IfOk result (λ o. IfSome o (λ f. CutsAt (nodes_of instance.now) f.cuts.items)) }
     ensures right { OnOk result (AreRight instance.now table.new) }
@@ -81,10 +81,10 @@ fn starts<'a>(
     i: usize,
 ) -> Result<Option<u64>, NoMemory>
     requires place { i < length ops.now }
-    requires least { IsLeastOrder (stock_of instance.now) avoid (open_operands ops.now) (Some n) }
+    requires least { IsLeastOrder (instance_stock instance.now) avoid (open_operands ops.now) (Some n) }
     requires at { OperandsAt (nodes_of instance.now) ops.now }
     requires right { AreRight instance.now table.old }
-    ensures starts { IfOk result (λ o. Starts (stock_of instance.now) avoid (open_operands ops.now) n i o) }
+    ensures starts { IfOk result (λ o. Starts (instance_stock instance.now) avoid (open_operands ops.now) n i o) }
     ensures right { OnOk result (AreRight instance.now table.new) }
 {
     let m = operand_cost(alloc, instance, table, ops[i], avoid)?;
@@ -101,10 +101,10 @@ fn first_cut<'a>(
     n: u64,
 ) -> Result<u64, NoMemory>
     requires some { 0 < length cuts.now }
-    requires least { IsLeastCut (stock_of instance.now) (open_cuts cuts.now) (Some n) }
+    requires least { IsLeastCut (instance_stock instance.now) (open_cuts cuts.now) (Some n) }
     requires at { CutsAt (nodes_of instance.now) cuts.now }
     requires right { AreRight instance.now table.old }
-    ensures starts { IfOk result (λ m. StartsCut (stock_of instance.now) (open_cuts cuts.now) n m) }
+    ensures starts { IfOk result (λ m. StartsCut (instance_stock instance.now) (open_cuts cuts.now) n m) }
     ensures right { OnOk result (AreRight instance.now table.new) }
 {
     let first = cuts[0];
@@ -123,10 +123,10 @@ pub(crate) fn choose<'a>(
     avoid: RegSet,
     n: u64,
 ) -> Result<Cover, NoMemory>
-    requires least { IsLeast (stock_of instance.now) avoid (ask_of want.now) (Some n) }
+    requires least { IsLeast (instance_stock instance.now) avoid (ask_of want.now) (Some n) }
     requires stands { StandsWant instance.now want.now }
     requires right { AreRight instance.now table.old }
-    ensures first { IfOk result (λ c. IsFirst (stock_of instance.now) avoid (ask_of want.now) (plan_of c)) }
+    ensures first { IfOk result (λ c. IsFirst (instance_stock instance.now) avoid (ask_of want.now) (plan_of c)) }
     ensures right { OnOk result (AreRight instance.now table.new) }
 {
     for k in 0..instance.forms.len() {
@@ -187,10 +187,10 @@ fn begins_at<'a>(
 ) -> Result<Option<PartCosts>, NoMemory>
     requires place { i < length matches.now.list.items }
     requires slot { IsSlot matches.now.whole slot }
-    requires least { IsLeast (stock_of instance.now) avoid (matches_ask matches.now slot) (Some n) }
+    requires least { IsLeast (instance_stock instance.now) avoid (matches_ask matches.now slot) (Some n) }
     requires matches { AreMatches instance.now matches.now }
     requires right { AreRight instance.now table.old }
-    ensures begins { IfOk result (λ o. BeginsAt (stock_of instance.now) avoid matches.now slot n i o) }
+    ensures begins { IfOk result (λ o. BeginsAt (instance_stock instance.now) avoid matches.now slot n i o) }
     ensures right { OnOk result (AreRight instance.now table.new) }
 {
     let found = &matches.list[i];
@@ -225,7 +225,7 @@ fn costs_within<'a>(
     requires cuts_at { CutsAt (nodes_of instance.now) cuts.now }
     requires right { AreRight instance.now table.old }
     ensures costs { IfOk result (λ o.
-        CostsWithin (stock_of instance.now) avoid (open_operands operands.now) (open_cuts cuts.now) n o) }
+        CostsWithin (instance_stock instance.now) avoid (open_operands operands.now) (open_cuts cuts.now) n o) }
     ensures right { OnOk result (AreRight instance.now table.new) }
 {
     let b = cuts_cost(alloc, instance, table, cuts)?;
@@ -251,11 +251,11 @@ fn choose_entry<'a>(
     n: u64,
 ) -> Result<Cover, NoMemory>
     requires slot { IsSlot whole slot }
-    requires least { IsLeast (stock_of instance.now) avoid (row_ask (tree_term tree.now) whole slot) (Some n) }
+    requires least { IsLeast (instance_stock instance.now) avoid (row_ask (tree_term tree.now) whole slot) (Some n) }
     requires number { slice_get (nodes_of instance.now) number ≡ Some (tree_term tree.now) }
     requires right { AreRight instance.now table.old }
     ensures first { IfOk result (λ c.
-        IsFirst (stock_of instance.now) avoid (row_ask (tree_term tree.now) whole slot) (plan_of c)) }
+        IsFirst (instance_stock instance.now) avoid (row_ask (tree_term tree.now) whole slot) (plan_of c)) }
     ensures right { OnOk result (AreRight instance.now table.new) }
 {
     let matches = matches_at(alloc, instance, table, tree, number, whole)?;
@@ -274,11 +274,11 @@ fn choose_among<'a>(
     n: u64,
 ) -> Result<Cover, NoMemory>
     requires slot { IsSlot matches.now.whole slot }
-    requires least { IsLeast (stock_of instance.now) avoid (matches_ask matches.now slot) (Some n) }
+    requires least { IsLeast (instance_stock instance.now) avoid (matches_ask matches.now slot) (Some n) }
     requires matches { AreMatches instance.now matches.now }
     requires right { AreRight instance.now table.old }
     ensures first { IfOk result (λ c.
-        IsFirst (stock_of instance.now) avoid (matches_ask matches.now slot) (plan_of c)) }
+        IsFirst (instance_stock instance.now) avoid (matches_ask matches.now slot) (plan_of c)) }
     ensures right { OnOk result (AreRight instance.now table.new) }
 {
     for i in 0..matches.list.len() {
@@ -312,13 +312,13 @@ fn choose_parts<'a>(
     avoid: RegSet,
     costs: PartCosts,
 ) -> Result<Cover, NoMemory>
-    requires order { IsLeastOrder (stock_of instance.now) avoid (open_operands operands.now) (Some costs.operands) }
-    requires cut { IsLeastCut (stock_of instance.now) (open_cuts cuts.now) (Some costs.cuts) }
+    requires order { IsLeastOrder (instance_stock instance.now) avoid (open_operands operands.now) (Some costs.operands) }
+    requires cut { IsLeastCut (instance_stock instance.now) (open_cuts cuts.now) (Some costs.cuts) }
     requires at { OperandsAt (nodes_of instance.now) operands.now }
     requires cuts_at { CutsAt (nodes_of instance.now) cuts.now }
     requires right { AreRight instance.now table.old }
     ensures first { IfOk result (λ c.
-        AreFirstParts (stock_of instance.now) avoid (open_operands operands.now) (open_cuts cuts.now) form c) }
+        AreFirstParts (instance_stock instance.now) avoid (open_operands operands.now) (open_cuts cuts.now) form c) }
     ensures right { OnOk result (AreRight instance.now table.new) }
 {
     let operands = choose_order(alloc, instance, table, operands, avoid, costs.operands)?;
@@ -367,11 +367,11 @@ fn choose_order<'a>(
     avoid: RegSet,
     n: u64,
 ) -> Result<CoverOperands, NoMemory>
-    requires least { IsLeastOrder (stock_of instance.now) avoid (open_operands ops.now) (Some n) }
+    requires least { IsLeastOrder (instance_stock instance.now) avoid (open_operands ops.now) (Some n) }
     requires at { OperandsAt (nodes_of instance.now) ops.now }
     requires right { AreRight instance.now table.old }
     ensures first { IfOk result (λ c.
-        IsFirstOrder (stock_of instance.now) avoid (open_operands ops.now) (operands_plan c)) }
+        IsFirstOrder (instance_stock instance.now) avoid (open_operands ops.now) (operands_plan c)) }
     ensures right { OnOk result (AreRight instance.now table.new) }
 {
     if ops.is_empty() {
@@ -398,11 +398,11 @@ fn order_from<'a>(
     m: u64,
 ) -> Result<CoverOperands, NoMemory>
     requires place { i < length ops.now }
-    requires starts { Starts (stock_of instance.now) avoid (open_operands ops.now) n i (Some m) }
+    requires starts { Starts (instance_stock instance.now) avoid (open_operands ops.now) n i (Some m) }
     requires at { OperandsAt (nodes_of instance.now) ops.now }
     requires right { AreRight instance.now table.old }
     ensures first { IfOk result (λ c.
-        IsFirstFrom (stock_of instance.now) avoid (open_operands ops.now) i (operands_plan c)) }
+        IsFirstFrom (instance_stock instance.now) avoid (open_operands ops.now) i (operands_plan c)) }
     ensures right { OnOk result (AreRight instance.now table.new) }
 {
     let first = ops[i];
@@ -435,11 +435,11 @@ fn order_without<'a>(
     i: usize,
 ) -> Result<CoverOperands, NoMemory>
     requires place { i < length ops.now }
-    requires least { IsLeastOrder (stock_of instance.now) avoid (remove (open_operands ops.now) i) (Some n) }
+    requires least { IsLeastOrder (instance_stock instance.now) avoid (remove (open_operands ops.now) i) (Some n) }
     requires at { OperandsAt (nodes_of instance.now) ops.now }
     requires right { AreRight instance.now table.old }
     ensures first { IfOk result (λ c.
-        IsFirstOrder (stock_of instance.now) avoid (remove (open_operands ops.now) i) (operands_plan c)) }
+        IsFirstOrder (instance_stock instance.now) avoid (remove (open_operands ops.now) i) (operands_plan c)) }
     ensures right { OnOk result (AreRight instance.now table.new) }
 {
     let rest = without(alloc, ops, i)?;
@@ -455,10 +455,10 @@ fn choose_cuts<'a>(
     cuts: &[OpenCut<'a>],
     n: u64,
 ) -> Result<CoverCuts, NoMemory>
-    requires least { IsLeastCut (stock_of instance.now) (open_cuts cuts.now) (Some n) }
+    requires least { IsLeastCut (instance_stock instance.now) (open_cuts cuts.now) (Some n) }
     requires at { CutsAt (nodes_of instance.now) cuts.now }
     requires right { AreRight instance.now table.old }
-    ensures first { IfOk result (λ c. IsFirstCuts (stock_of instance.now) (open_cuts cuts.now) (cuts_plan c)) }
+    ensures first { IfOk result (λ c. IsFirstCuts (instance_stock instance.now) (open_cuts cuts.now) (cuts_plan c)) }
     ensures right { OnOk result (AreRight instance.now table.new) }
 {
     if cuts.is_empty() {

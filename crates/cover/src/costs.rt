@@ -6,7 +6,7 @@ ghost use Rattle.cover.specs.Inner.Least.{AtMost, lesser, summed};
 ghost use Rattle.cover.specs.Inner.Rows.{IsBelow};
 
 use rec_bits::NoMemory;
-use tree_sharing::plus;
+use tree_grammar::plus;
 
 // Whether the cost is less than the one that is known.
 pub(crate) fn is_less(n: u64, known: Option<u64>) -> bool

@@ -6,7 +6,7 @@ ghost use Rattle.form_model.specs.Covers.{operands_of, cuts_of};
 ghost use Rattle.tree_grammar.specs.Parts.{sites_of, AreAt};
 ghost use Rattle.cover.specs.Inner.Least.{IsLeast, IsLeastForm};
 ghost use Rattle.cover.specs.Inner.Choice.{ask_of, StandsWant, IsFit, FitOf, FitsParts, fit_cost};
-ghost use Rattle.cover.specs.Inner.Jobs.{stock_of, nodes_of, OperandsAt, CutsAt};
+ghost use Rattle.cover.specs.Inner.Jobs.{instance_stock, nodes_of, OperandsAt, CutsAt};
 ghost use Rattle.cover.specs.Inner.Tables.{AreRight};
 
 use crate::costs::lesser_of;
@@ -16,8 +16,7 @@ use crate::table::{CostTable, Instance};
 use form_model::{RegSet, Tree};
 use rec_bits::NoMemory;
 use std::alloc::Global;
-use tree_grammar::{Destination, Part, match_at};
-use tree_sharing::plus;
+use tree_grammar::{Destination, Part, match_at, plus};
 
 /// What is asked for: a tree that goes to a destination, with the number at which its trees begin.
 #[derive(Clone, Copy)]
@@ -49,7 +48,7 @@ pub(crate) fn fit_at<'a>(
     requires form { k < length instance.now.forms.now }
     requires stands { StandsWant instance.now want.now }
     requires right { AreRight instance.now table.old }
-    ensures fit { IfOk result (λ o. IsFit (stock_of instance.now) avoid (ask_of want.now) k o) }
+    ensures fit { IfOk result (λ o. IsFit (instance_stock instance.now) avoid (ask_of want.now) k o) }
     ensures at { IfOk result (λ o. IfSome o (λ f. OperandsAt (nodes_of instance.now) f.operands.items)) }
     ensures cuts_at { IfOk result (λ o. IfSome o (λ f. CutsAt (nodes_of instance.now) f.cuts.items)) }
     ensures right { OnOk result (AreRight instance.now table.new) }
@@ -84,7 +83,7 @@ fn fit_parts<'a>(
     requires at { AreAt (nodes_of instance.now) parts.now }
     requires right { AreRight instance.now table.old }
     ensures fit { IfOk result (λ o.
-        FitsParts (stock_of instance.now) avoid (operands_of (sites_of parts.now)) (cuts_of (sites_of parts.now)) o) }
+        FitsParts (instance_stock instance.now) avoid (operands_of (sites_of parts.now)) (cuts_of (sites_of parts.now)) o) }
     ensures at { IfOk result (λ o. IfSome o (λ f. OperandsAt (nodes_of instance.now) f.operands.items)) }
     ensures cuts_at { IfOk result (λ o. IfSome o (λ f. CutsAt (nodes_of instance.now) f.cuts.items)) }
     ensures right { OnOk result (AreRight instance.now table.new) }
@@ -143,7 +142,7 @@ fn form_least<'a>(
     requires form { k < length instance.now.forms.now }
     requires stands { StandsWant instance.now want.now }
     requires right { AreRight instance.now table.old }
-    ensures least { IfOk result (λ o. IsLeastForm (stock_of instance.now) 0 (ask_of want.now) k o) }
+    ensures least { IfOk result (λ o. IsLeastForm (instance_stock instance.now) 0 (ask_of want.now) k o) }
     ensures right { OnOk result (AreRight instance.now table.new) }
 {
     let fit = fit_at(alloc, instance, table, want, 0, k)?;
@@ -159,7 +158,7 @@ pub(crate) fn least_of<'a>(
 ) -> Result<Option<u64>, NoMemory>
     requires stands { StandsWant instance.now want.now }
     requires right { AreRight instance.now table.old }
-    ensures least { IfOk result (λ o. IsLeast (stock_of instance.now) 0 (ask_of want.now) o) }
+    ensures least { IfOk result (λ o. IsLeast (instance_stock instance.now) 0 (ask_of want.now) o) }
     ensures right { OnOk result (AreRight instance.now table.new) }
 {
     let mut best = None;

@@ -4,13 +4,13 @@ ghost use Rattle.std.specs.Prelude.{◌≡◌, ◌<◌, Some, Err, IfOk, length,
 ghost use Rattle.net_model.specs.Terms.{Term};
 ghost use Rattle.form_model.specs.Trees.{tree_term};
 ghost use Rattle.form_model.specs.Rules.{destination_of};
-ghost use Rattle.form_model.specs.Covers.{IsChosen, HasNoCover, job_cost};
+ghost use Rattle.form_model.specs.Covers.{IsChosen, HasNoCover, job_cost, stock_with};
 ghost use Rattle.form_model.specs.Plans.{cost, plan_of};
 ghost use Rattle.tree_grammar.specs.Parts.{destination_at};
-ghost use Rattle.cover.specs.Best.{stock_with, choice_of};
+ghost use Rattle.cover.specs.Best.{choice_of};
 ghost use Rattle.cover.specs.Inner.Best.{root_ask, IsTreeCover, better_of, IsBest};
 ghost use Rattle.cover.specs.Jobs.{trees_of};
-ghost use Rattle.cover.specs.Inner.Jobs.{stock_of};
+ghost use Rattle.cover.specs.Inner.Jobs.{instance_stock};
 ghost use Rattle.cover.specs.Inner.Tables.{AreRight};
 
 use crate::choice::choose;
@@ -24,7 +24,7 @@ use tree_grammar::Destination;
 
 // The first cover of least cost of the instance's tree, if there is a cover.
 fn cover_tree(alloc: Global, instance: &Instance) -> Result<Option<TreeCover>, NoMemory>
-    ensures { IfOk result (λ o. IsTreeCover (stock_of instance.now)
+    ensures { IfOk result (λ o. IsTreeCover (instance_stock instance.now)
         (root_ask (destination_at instance.now.destination) (tree_term instance.now.tree.now)) o) }
 {
     let mut table = new_table(alloc, instance)?;
@@ -38,7 +38,7 @@ fn cover_by<'a>(
     table: &mut CostTable<'a>,
 ) -> Result<Option<TreeCover>, NoMemory>
     requires right { AreRight instance.now table.old }
-    ensures { IfOk result (λ o. IsTreeCover (stock_of instance.now)
+    ensures { IfOk result (λ o. IsTreeCover (instance_stock instance.now)
         (root_ask (destination_at instance.now.destination) (tree_term instance.now.tree.now)) o) }
 {
     let want = Want {

@@ -6,7 +6,7 @@ ghost use Rattle.form_model.specs.Trees.{tree_term};
 ghost use Rattle.cover.specs.Inner.Asks.{operand_ask};
 ghost use Rattle.cover.specs.Inner.Least.{IsLeast, IsLeastOrder, IsLeastAfter, IsLeastFrom, IsLeastCut, IsFloor, IsCostBelow};
 ghost use Rattle.cover.specs.Inner.Rows.{row_ask, IsSlot, IsBlank, IsLeastRow};
-ghost use Rattle.cover.specs.Inner.Jobs.{stock_of, nodes_of, open_operand, open_operands, open_cuts, OperandsAt, CutsAt};
+ghost use Rattle.cover.specs.Inner.Jobs.{instance_stock, nodes_of, open_operand, open_operands, open_cuts, OperandsAt, CutsAt};
 ghost use Rattle.cover.specs.Inner.Matched.{AreMatches, IsOfferAt};
 ghost use Rattle.cover.specs.Inner.Tables.{AreRight};
 
@@ -38,7 +38,7 @@ pub(crate) fn least<'a>(
     requires number { slice_get (nodes_of instance.now) number ≡ Some (tree_term tree.now) }
     requires right { AreRight instance.now table.old }
     ensures least { IfOk result (λ o.
-        IsLeast (stock_of instance.now) avoid (row_ask (tree_term tree.now) whole slot) o) }
+        IsLeast (instance_stock instance.now) avoid (row_ask (tree_term tree.now) whole slot) o) }
     ensures right { OnOk result (AreRight instance.now table.new) }
 {
     let first = first_equal(&table.firsts, number);
@@ -72,7 +72,7 @@ pub(crate) fn operand_cost<'a>(
     requires number { slice_get (nodes_of instance.now) operand.at ≡ Some (tree_term operand.tree.now) }
     requires right { AreRight instance.now table.old }
     ensures least { IfOk result (λ o.
-        IsLeast (stock_of instance.now) avoid (operand_ask (open_operand operand.entry)) o) }
+        IsLeast (instance_stock instance.now) avoid (operand_ask (open_operand operand.entry)) o) }
     ensures right { OnOk result (AreRight instance.now table.new) }
 {
     let slot = register_of(operand.id)?;
@@ -102,7 +102,7 @@ fn least_row<'a>(
     requires number { slice_get (nodes_of instance.now) number ≡ Some (tree_term tree.now) }
     requires right { AreRight instance.now table.old }
     ensures len { IfOk result (λ row. vec_len row ≡ 17) }
-    ensures least { IfOk result (λ row. IsLeastRow (stock_of instance.now) avoid (tree_term tree.now) whole row.items) }
+    ensures least { IfOk result (λ row. IsLeastRow (instance_stock instance.now) avoid (tree_term tree.now) whole row.items) }
     ensures right { OnOk result (AreRight instance.now table.new) }
 {
     let matches = matches_at(alloc, instance, table, tree, number, whole)?;
@@ -122,7 +122,7 @@ fn row_of<'a>(
     requires right { AreRight instance.now table.old }
     ensures len { IfOk result (λ row. vec_len row ≡ 17) }
     ensures least { IfOk result (λ row.
-        IsLeastRow (stock_of instance.now) avoid (tree_term matches.now.tree.now) matches.now.whole row.items) }
+        IsLeastRow (instance_stock instance.now) avoid (tree_term matches.now.tree.now) matches.now.whole row.items) }
     ensures right { OnOk result (AreRight instance.now table.new) }
 {
     let mut row = vec![in alloc; None; 17]?;
@@ -146,7 +146,7 @@ fn fill<'a>(
     requires blank { IsBlank row.old.items }
     ensures len { vec_len row.new ≡ 17 }
     ensures least { OnOk result
-        (IsLeastRow (stock_of instance.now) avoid (tree_term matches.now.tree.now) matches.now.whole row.new.items) }
+        (IsLeastRow (instance_stock instance.now) avoid (tree_term matches.now.tree.now) matches.now.whole row.new.items) }
     ensures right { OnOk result (AreRight instance.now table.new) }
 {
     let mut chains = SmallVec::new(alloc);
@@ -173,7 +173,7 @@ fn offer_at<'a>(
     requires place { i < length matches.now.list.items }
     requires matches { AreMatches instance.now matches.now }
     requires right { AreRight instance.now table.old }
-    ensures offer { IfOk result (λ l. IsOfferAt (stock_of instance.now) avoid matches.now row.now i l) }
+    ensures offer { IfOk result (λ l. IsOfferAt (instance_stock instance.now) avoid matches.now row.now i l) }
     ensures right { OnOk result (AreRight instance.now table.new) }
 {
     let found = &matches.list[i];
@@ -215,7 +215,7 @@ fn cost_below<'a>(
     requires cuts_at { CutsAt (nodes_of instance.now) cuts.now }
     requires right { AreRight instance.now table.old }
     ensures least { IfOk result (λ o.
-        IsCostBelow (stock_of instance.now) avoid (open_operands operands.now) (open_cuts cuts.now) known o) }
+        IsCostBelow (instance_stock instance.now) avoid (open_operands operands.now) (open_cuts cuts.now) known o) }
     ensures right { OnOk result (AreRight instance.now table.new) }
 {
     let b = cuts_cost(alloc, instance, table, cuts)?;
@@ -239,7 +239,7 @@ pub(crate) fn floor_of<'a>(
 ) -> Result<Option<u64>, NoMemory>
     requires at { OperandsAt (nodes_of instance.now) ops.now }
     requires right { AreRight instance.now table.old }
-    ensures floor { IfOk result (λ o. IsFloor (stock_of instance.now) avoid (open_operands ops.now) o) }
+    ensures floor { IfOk result (λ o. IsFloor (instance_stock instance.now) avoid (open_operands ops.now) o) }
     ensures right { OnOk result (AreRight instance.now table.new) }
 {
     if ops.is_empty() {
@@ -262,9 +262,9 @@ pub(crate) fn orders<'a>(
     floor: Option<u64>,
 ) -> Result<Option<u64>, NoMemory>
     requires at { OperandsAt (nodes_of instance.now) ops.now }
-    requires floor { IsFloor (stock_of instance.now) avoid (open_operands ops.now) floor }
+    requires floor { IsFloor (instance_stock instance.now) avoid (open_operands ops.now) floor }
     requires right { AreRight instance.now table.old }
-    ensures least { IfOk result (λ o. IsLeastOrder (stock_of instance.now) avoid (open_operands ops.now) o) }
+    ensures least { IfOk result (λ o. IsLeastOrder (instance_stock instance.now) avoid (open_operands ops.now) o) }
     ensures right { OnOk result (AreRight instance.now table.new) }
 {
     if ops.is_empty() {
@@ -295,7 +295,7 @@ fn orders_from<'a>(
     requires place { i < length ops.now }
     requires at { OperandsAt (nodes_of instance.now) ops.now }
     requires right { AreRight instance.now table.old }
-    ensures least { IfOk result (λ o. IsLeastFrom (stock_of instance.now) avoid (open_operands ops.now) i o) }
+    ensures least { IfOk result (λ o. IsLeastFrom (instance_stock instance.now) avoid (open_operands ops.now) i o) }
     ensures right { OnOk result (AreRight instance.now table.new) }
 {
     let Some(m) = operand_cost(alloc, instance, table, ops[i], avoid)? else {
@@ -321,7 +321,7 @@ pub(crate) fn orders_after<'a>(
     requires place { i < length ops.now }
     requires at { OperandsAt (nodes_of instance.now) ops.now }
     requires right { AreRight instance.now table.old }
-    ensures least { IfOk result (λ o. IsLeastAfter (stock_of instance.now) avoid (open_operands ops.now) i o) }
+    ensures least { IfOk result (λ o. IsLeastAfter (instance_stock instance.now) avoid (open_operands ops.now) i o) }
     ensures right { OnOk result (AreRight instance.now table.new) }
 {
     let first = ops[i];
@@ -343,7 +343,7 @@ pub(crate) fn cuts_cost<'a>(
 ) -> Result<Option<u64>, NoMemory>
     requires at { CutsAt (nodes_of instance.now) cuts.now }
     requires right { AreRight instance.now table.old }
-    ensures least { IfOk result (λ o. IsLeastCut (stock_of instance.now) (open_cuts cuts.now) o) }
+    ensures least { IfOk result (λ o. IsLeastCut (instance_stock instance.now) (open_cuts cuts.now) o) }
     ensures right { OnOk result (AreRight instance.now table.new) }
 {
     if cuts.is_empty() {

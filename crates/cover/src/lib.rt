@@ -6,13 +6,14 @@
 //! `law_of_choices`: there is at most one such cover, and none where `HasNoCover` holds. So there
 //! is always one right answer.
 //!
-//! Invariant: `AreRight` in `specs/Inner/Tables`. A subtree is looked up by an equal one's number
-//! (`tree_sharing`). Each row that the table keeps under the number of a subtree is right, for
-//! whether the subtree is whole and for the registers to avoid: for each register and for a
-//! temporary cell it has the least cost of the covers that write none of these. Each list of
-//! matches has all forms that match its subtree, in their order. A row is kept only once it is
-//! closed under the forms that go on from another entry of the same row, *chain rules*. `choice`
-//! reads off a cover by asking for each part whether it is one of the least cost that is left.
+//! Invariant: `AreRight` in `specs/Inner/Tables`. A subtree is looked up by the least number of an
+//! equal one (`tree_sharing`), so that equal subtrees have their rows in common. Each row that the
+//! table keeps under the number of a subtree is right, for whether the subtree is whole and for the
+//! registers to avoid: for each register and for a temporary cell it has the least cost of the
+//! covers that write none of these. Each list of matches has all forms that match its subtree, in
+//! their order. A row is kept only once it is closed under the forms that go on from another entry
+//! of the same row, *chain rules*. `choice` reads off a cover by asking for each part whether it is
+//! one of the least cost that is left.
 //!
 //! Files:
 //!

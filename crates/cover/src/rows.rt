@@ -14,8 +14,7 @@ use crate::parts::register_of;
 use form_model::{Form, Goal};
 use rec_bits::NoMemory;
 use smallvec::SmallVec;
-use tree_grammar::Destination;
-use tree_sharing::plus;
+use tree_grammar::{Destination, plus};
 
 /// A form whose match leaves the whole tree as its one part: from a cover for one entry of the
 /// tree's row it makes a cover for another, which costs 1 more.

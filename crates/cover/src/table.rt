@@ -5,7 +5,7 @@ ghost use Rattle.net_model.specs.Terms.{Term};
 ghost use Rattle.cover.specs.Inner.Least.{IsLeast};
 ghost use Rattle.cover.specs.Inner.Rows.{row_ask, IsSlot};
 ghost use Rattle.form_model.specs.Trees.{tree_term};
-ghost use Rattle.cover.specs.Inner.Jobs.{stock_of, nodes_of};
+ghost use Rattle.cover.specs.Inner.Jobs.{instance_stock, nodes_of};
 ghost use Rattle.cover.specs.Inner.Matched.{AreMatches};
 ghost use Rattle.cover.specs.Inner.Tables.{AreEmpty, AreRight, HasMatches, IsAmong, IsKept};
 
@@ -99,7 +99,7 @@ pub(crate) fn kept(
     requires right { AreRight instance.now table.now }
     requires slot { slot < 17 }
     ensures { IfSome result (λ o. (t : Term) → slice_get (nodes_of instance.now) number ≡ Some t → IsSlot whole slot →
-        IsLeast (stock_of instance.now) avoid (row_ask t whole slot) o) }
+        IsLeast (instance_stock instance.now) avoid (row_ask t whole slot) o) }
 {
     let rows = table.rows.get(number as usize)?;
     let row = row_in(rows, whole, avoid)?;

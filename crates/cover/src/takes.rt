@@ -9,16 +9,13 @@ ghost use Rattle.form_model.specs.Trees.{tree_term};
 use form_model::Tree;
 use net_model::Expr;
 use rec_bits::{Op1, Op2};
-use tree_grammar::is_field_shape;
+use tree_grammar::{is_field_shape, is_number_tree};
 
-// Whether the tree is a number, which a field shape may show.
-fn is_number(tree: &Tree) -> bool
+// Whether a field shape may take the tree: it takes numbers alone.
+fn may_be_shown(tree: &Tree) -> bool
     ensures { OnFalse result ((shape : Term) → shape_match shape (tree_term tree.now) ≡ None) }
 {
-    match tree {
-        Tree::Lit { .. } => true,
-        _ => false,
-    }
+    is_number_tree(tree)
 }
 
 fn is_read(tree: &Tree) -> bool
@@ -68,15 +65,15 @@ pub(crate) fn may_take(value: &Expr, tree: &Tree) -> bool
         matched temps (term_of value.now) (tree_term tree.now) whole ≡ None) }
 {
     match value {
-        Expr::Word(_) => is_number(tree),
-        Expr::Const { .. } => is_number(tree),
+        Expr::Word(_) => may_be_shown(tree),
+        Expr::Const { .. } => may_be_shown(tree),
         Expr::Reg(_, _) => true,
         Expr::Read(a, _) => is_field_shape(a) || is_read(tree),
         Expr::Un(op, a) => may_take_one(*op, a, tree),
         Expr::Bin(op, a, b) => may_take_two(*op, a, b, tree),
-        Expr::Slice(_, _, _) => is_number(tree) || is_slice(tree),
-        Expr::Zext(_, _) => is_number(tree) || is_zext(tree),
-        Expr::Sext(_, _) => is_number(tree) || is_sext(tree),
+        Expr::Slice(_, _, _) => may_be_shown(tree) || is_slice(tree),
+        Expr::Zext(_, _) => may_be_shown(tree) || is_zext(tree),
+        Expr::Sext(_, _) => may_be_shown(tree) || is_sext(tree),
         Expr::Cat(_, _) => false,
         Expr::Select(_, _, _) => false,
     }

@@ -9,7 +9,8 @@ use Rattle.form_model.specs.Plans.{Plan, use_form, Operands, no_operands, operan
 use Rattle.form_model.specs.Covers.{Stock, operands_of, cuts_of, IsOrderly, AreOrderly, AreCut, parts_cost, job_cost}
 use Rattle.form_model.specs.Steps.{OperandCells, CutCells, cut_count, operand_counts, cut_counts, plan_operand_cells, plan_cut_cells, operand_cells_or_none, rule_at, found_at, own_steps, operand_steps, woven, cut_steps, inside_operands, into_cells, plan_setting, form_step, cover_steps}
 use Rattle.emit_seq.specs.Leaves.{IsOfJob}
-use Rattle.emit_seq.proofs.Walks.{operands_in, trees_in, cells_operands, cells_trees}
+use Rattle.emit_seq.specs.Inner.CellLists.{operands_in, trees_in}
+use Rattle.emit_seq.proofs.Walks.{cells_operands, cells_trees}
 use Rattle.emit_seq.proofs.Opened.{IsOpened, opened_plan, IsOpenedOperand, opened_operand, operands_long, cuts_long}
 
 abbrev total_steps : List (List Step) → ℕ

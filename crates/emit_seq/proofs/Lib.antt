@@ -16,3 +16,4 @@ pub mod Nodes
 pub mod Few
 pub mod Emitting
 pub mod Places
+mod Orderly

@@ -1,6 +1,6 @@
 -- What an orderly cover says of its form and its operands, in the words of its steps.
-use Rattle.std.proofs.Common.{◌≡◌, ℕ, zero, suc, ◌+◌, ◌<◌, ◌==◌, ◌&&◌, bit_and, ◌^◌, Bool, true, false, List, [], ◌∷◌, length, Option, Some, None, refl, sym, ap, ◌∙◌, subst, arith}
-use Rattle.std.specs.Prelude.{slice_get, remove, insert}
+use Rattle.std.proofs.Common.{◌≡◌, ℕ, ◌+◌, ◌<◌, ◌==◌, ◌&&◌, bit_and, ◌^◌, Bool, true, false, List, [], length, Option, Some, None, refl, sym, ap, ◌∙◌, subst, arith}
+use Rattle.std.specs.Prelude.{slice_get, remove}
 use Rattle.std.specs.Int.{bit_at}
 use Rattle.std.proofs.lemmas.Nat.Bits.{bit_at-zero, bit_at_and, bit_at_or, bit_at-pow_same, bit_at-lt}
 use Rattle.std.proofs.lemmas.Bool.{eqb-true}
@@ -18,8 +18,9 @@ use Rattle.emit_seq.specs.Leaves.{ReadsFrom, DestinationReads}
 use Rattle.emit_seq.proofs.Fields.{picked}
 use Rattle.emit_seq.proofs.Matched.{Joined, joined, settled_some}
 use Rattle.emit_seq.proofs.Sites.{SitesRead, read-append, matched_taken}
-use Rattle.form_model.proofs.Zips.{get_mapped, map-remove, total, total-insert}
-use Rattle.emit_seq.proofs.Walks.{operands_in, past_sites, past_total}
+use Rattle.form_model.proofs.Zips.{get_mapped, length_in, length_out, map-remove, total, total-insert}
+use Rattle.emit_seq.specs.Inner.CellLists.{operands_in}
+use Rattle.emit_seq.proofs.Walks.{past_sites, past_total}
 
 pub record IsOpened (stock : Stock) (k : ℕ) (ps : Operands) (cs : Cuts) (destination : Destination) (tree : Term) (whole : Bool) : Type 0 where
   pub listed : slice_get stock.rules k ≡ Some (rule_at stock k)
@@ -65,16 +66,6 @@ opened_operand stock left i p ps c =
     }
 
 -- ---- how many operands, cuts and cells there are
-
-length_in : (ns : List ℕ) (i n : ℕ) → length (insert ns i n) ≡ suc (length ns)
-length_in ns zero n = refl
-length_in [] (suc i) n = refl
-length_in (m ∷ ns) (suc i) n = let e = length_in ns i n in omega (arith, e)
-
-length_out : {X : Type 0} (xs : List X) (i : ℕ) (x : X) → slice_get xs i ≡ Some x → length xs ≡ suc (length (remove xs i))
-length_out [] i x h = absurd (cc)
-length_out (y ∷ xs) zero x h = refl
-length_out (y ∷ xs) (suc i) x h = let e = length_out xs i x h in omega (arith, e)
 
 pub operands_long : (stock : Stock) (ps : Operands) (left : List Operand) → AreOrderly stock left ps → length (operand_counts ps) ≡ length left
 operands_long stock no_operands left c = sym (ap length c)

@@ -18,7 +18,8 @@ use Rattle.emit_seq.proofs.Fields.{picked, or_zero, or_left, zero_left, zero_rig
 use Rattle.emit_seq.proofs.Matched.{Joined, joined, settled_some, bits_in}
 use Rattle.emit_seq.proofs.Within.{shape_within, none_within, Named, cuts_named, NamedSplit, named_split, IsIn, pair_in, matched_in}
 use Rattle.form_model.proofs.Zips.{Each}
-use Rattle.emit_seq.proofs.Walks.{operands_in, trees_in, cells_operands, cells_trees}
+use Rattle.emit_seq.specs.Inner.CellLists.{operands_in, trees_in}
+use Rattle.emit_seq.proofs.Walks.{cells_operands, cells_trees}
 use Rattle.emit_seq.proofs.Opened.{IsOpened, opened_plan, IsOpenedOperand, opened_operand}
 use Rattle.emit_seq.proofs.Spared.{HasStep}
 

@@ -23,7 +23,8 @@ use Rattle.emit_seq.proofs.Fields.{picked}
 use Rattle.emit_seq.proofs.Matched.{Joined, joined}
 use Rattle.emit_seq.proofs.Sites.{IsIdOf, operands-append, id_left, id_right, shape_unread, matched_taken}
 use Rattle.form_model.proofs.Zips.{Each}
-use Rattle.emit_seq.proofs.Walks.{operands_in, trees_in, cells_operands, cells_trees}
+use Rattle.emit_seq.specs.Inner.CellLists.{operands_in, trees_in}
+use Rattle.emit_seq.proofs.Walks.{cells_operands, cells_trees}
 use Rattle.emit_seq.proofs.Opened.{IsOpened, opened_plan, IsOpenedOperand, opened_operand, writes_own}
 use Rattle.emit_seq.proofs.Lives.{spare-append, apart-append, live-steps, IsTidy, tidy_append, IsAlone, alone_append, each_in, given_of, woven_alone}
 

@@ -1,14 +1,14 @@
 -- The steps that put the cuts of a form's sites into their cells, from left to right.
-use Rattle.std.proofs.Common.{◌≡◌, ℕ, ◌+◌, ◌<◌, ◌≤◌, ◌⊎◌, inl, inr, List, [], ◌∷◌, ◌++◌, length, drop, map, slice_index, refl, sym, ap, ◌∙◌, subst, arith}
+use Rattle.std.proofs.Common.{◌≡◌, ℕ, ◌+◌, ◌<◌, ◌≤◌, ◌⊎◌, inl, inr, List, [], ◌∷◌, ◌++◌, length, drop, slice_index, refl, sym, ap, ◌∙◌, subst, arith}
 use Rattle.std.specs.List.{AllZip}
 use Rattle.net_model.specs.declared.states.State.{State}
-use Rattle.net_model.specs.Terms.{Term}
 use Rattle.net_model.specs.Meaning.{mean}
 use Rattle.form_model.specs.declared.forms.Step.{Step}
 use Rattle.form_model.specs.Matches.{Site, operand, cut}
 use Rattle.form_model.specs.Covers.{Operand, operands_of, cuts_of}
 use Rattle.form_model.specs.Effects.{Operation, apply_operation, steps_effect}
 use Rattle.form_model.specs.Steps.{OperandCells, CutCells, operand_cells, cut_cells, woven}
+use Rattle.emit_seq.specs.Inner.CellLists.{operands_in, trees_in}
 use Rattle.emit_seq.specs.Leaves.{ReadsFrom}
 use Rattle.emit_seq.proofs.Matched.{Holds}
 use Rattle.emit_seq.proofs.Sites.{SitesRead}
@@ -19,12 +19,6 @@ effect-steps m [] ys s = refl
 effect-steps m (x ∷ xs) ys s = effect-steps m xs ys (apply_operation (m x) s s)
 
 -- ---- the operands and cuts of sites, with their cells
-
-abbrev pub operands_in : List OperandCells → List Operand
-operands_in left = map (λ (cells : OperandCells). cells.operand) left
-
-abbrev pub trees_in : List CutCells → List Term
-trees_in cuts = map (λ (cells : CutCells). cells.tree) cuts
 
 pub cells_operands : (sites : List Site) (ks ls : List ℕ) (n : ℕ) → operands_in (operand_cells sites ks ls n) ≡ operands_of sites
 cells_operands [] ks ls n = refl

@@ -21,7 +21,8 @@ use Rattle.emit_seq.proofs.Fields.{zero_left, zero_right}
 use Rattle.emit_seq.proofs.Matched.{Holds}
 use Rattle.emit_seq.proofs.Sites.{SitesRead}
 use Rattle.form_model.proofs.Zips.{Each, each_at, each_put, each_weaker, each_both, zip_put, zip_at}
-use Rattle.emit_seq.proofs.Walks.{effect-steps, operands_in, trees_in, cells_operands, cells_trees, past_sites, OperandCount, CutCount, operands_counted, cuts_counted, operands_below, cuts_below, operands_read, cuts_read, holds_of, IsLocal, IsKept, kept_local, Fills, Stores, IsFilled, IsWalked, walk}
+use Rattle.emit_seq.specs.Inner.CellLists.{operands_in, trees_in}
+use Rattle.emit_seq.proofs.Walks.{effect-steps, cells_operands, cells_trees, past_sites, OperandCount, CutCount, operands_counted, cuts_counted, operands_below, cuts_below, operands_read, cuts_read, holds_of, IsLocal, IsKept, kept_local, Fills, Stores, IsFilled, IsWalked, walk}
 use Rattle.emit_seq.proofs.Opened.{IsOpened, opened_plan, IsOpenedOperand, opened_operand, operands_long, cuts_long, past_plan, into_formed, writes_own, goal_sites}
 use Rattle.emit_seq.proofs.Forms.{OwnBelow, form_done}
 

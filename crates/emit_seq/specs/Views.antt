@@ -1,9 +1,7 @@
 -- What the code's parts of a cover stand for.
-use Rattle.std.specs.Prelude.{ℕ, List, map}
+use Rattle.std.specs.Prelude.{List, map}
 use Rattle.net_model.specs.Terms.{term_of}
-use Rattle.form_model.specs.declared.forms.Form.{Form}
-use Rattle.form_model.specs.Covers.{Stock}
-use Rattle.form_model.specs.Rules.{rules_of}
+use Rattle.form_model.specs.Covers.{Stock, stock_with}
 use Rattle.form_model.specs.Steps.{OperandCells, CutCells}
 use Rattle.form_model.specs.Trees.{tree_term}
 use Rattle.emit_seq.specs.declared.cells.CutCells.{CutCells as CodeCutCells}
@@ -11,9 +9,6 @@ use Rattle.emit_seq.specs.declared.cells.OperandCells.{OperandCells as CodeOpera
 use Rattle.emit_seq.specs.declared.roots.Stock.{Stock as CodeStock}
 
 -- what covers are made of
-abbrev pub stock_with : List Form → ℕ → Stock
-stock_with forms temps = record { rules = rules_of forms; temps = temps }
-
 abbrev pub stock_of : CodeStock → Stock
 stock_of stock = stock_with stock.forms.now stock.temps
 

@@ -6,12 +6,11 @@ ghost use Rattle.tree_grammar.specs.Parts.{part_of, sites_of};
 ghost use Rattle.emit_seq.specs.Inner.CellLists.{AreMatchCells, HaveCells};
 ghost use Rattle.emit_seq.specs.Views.{cells_of_cuts, cells_of_operands};
 
-use crate::counts::plus;
 use form_model::Tree;
 use net_model::Expr;
 use rec_bits::NoMemory;
 use std::alloc::Global;
-use tree_grammar::Part;
+use tree_grammar::{Part, plus};
 
 /// An operand, with the cells of the cuts inside its cover: from the first up to the one past the
 /// last.

@@ -1,19 +1,14 @@
 //! How many cuts covers have.
 
-ghost use Rattle.std.specs.Prelude.{◌≡◌, ℕ, ◌+◌, IfOk, insert};
+ghost use Rattle.std.specs.Prelude.{◌≡◌, ◌≤◌, IfOk, insert, vec_len};
 ghost use Rattle.form_model.specs.Plans.{cuts_plan, operands_plan, plan_of};
 ghost use Rattle.form_model.specs.Steps.{cut_count as cut_count_of, cut_counts as cut_counts_of, cuts_count as cuts_count_of, operand_counts as operand_counts_of, operands_count as operands_count_of};
+ghost use Rattle.emit_seq.specs.Inner.CellLists.{ArePlaces};
 
 use form_model::{Cover, CoverCuts, CoverOperands};
 use rec_bits::NoMemory;
 use std::alloc::Global;
-
-/// The sum. Want of memory where there are more cuts than a list can hold.
-pub fn plus(a: u64, b: u64) -> Result<u64, NoMemory>
-    ensures { IfOk result (λ c. c ≡ a + b) }
-{
-    a.checked_add(b).ok_or(NoMemory)
-}
+use tree_grammar::plus;
 
 // How many cuts the covers of operands have.
 #[cycle(counting)]
@@ -48,19 +43,18 @@ pub fn cut_count(cover: &Cover) -> Result<u64, NoMemory>
     plus(operands_count(&cover.operands)?, cuts_count(&cover.cuts)?)
 }
 
-/// A list with one item more at this place. Want of memory where the place is past its end.
+/// A list with one item more at this place.
 pub fn inserted<T: Drop>(mut list: Vec<T>, place: usize, item: T) -> Result<Vec<T>, NoMemory>
+    requires { place ≤ vec_len list }
     ensures { IfOk result (λ made. made.items ≡ insert list.items place item) }
 {
-    if place > list.len() {
-        return Err(NoMemory);
-    }
     list.insert(place, item)?;
     Ok(list)
 }
 
 /// The operands' numbers of cuts, from left to right.
 pub fn operand_counts(alloc: Global, operands: &CoverOperands) -> Result<Vec<u64>, NoMemory>
+    requires { ArePlaces (operands_plan operands.now) }
     ensures { IfOk result (λ v. v.items ≡ operand_counts_of (operands_plan operands.now)) }
 {
     match operands {

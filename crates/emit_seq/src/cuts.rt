@@ -1,10 +1,12 @@
 //! The steps that put cuts into their cells.
 
 ghost use Rattle.std.specs.Prelude.{◌≡◌, ◌++◌, IfOk, OnOk};
+ghost use Rattle.form_model.specs.Covers.{AreCut, AreOrderly, IsOrderly};
 ghost use Rattle.form_model.specs.Plans.{cuts_plan, operands_plan, plan_of};
 ghost use Rattle.form_model.specs.Steps.{cut_steps as cut_steps_of, inside_operands as inside_operands_of, into_cells as into_cells_of, own_steps, woven as woven_of};
 ghost use Rattle.form_model.specs.Trees.{tree_term};
 ghost use Rattle.tree_grammar.specs.Parts.{destination_at, sites_of};
+ghost use Rattle.emit_seq.specs.Inner.CellLists.{operands_in, trees_in};
 ghost use Rattle.emit_seq.specs.Views.{cells_of_cuts, cells_of_operands, stock_of};
 
 use crate::cells::{CutCells, OperandCells};
@@ -68,7 +70,7 @@ fn woven(
     Ok(out)
 }
 
-/// The steps that put the cuts of a cover into their cells.
+/// The steps that put the cuts of an orderly cover into their cells.
 #[cycle(cutting)]
 pub fn cut_steps<'a>(
     alloc: Global,
@@ -76,6 +78,8 @@ pub fn cut_steps<'a>(
     cover: &Cover,
     covered: Covered<'a>,
 ) -> Result<Items<Step>, NoMemory>
+    requires { IsOrderly (stock_of stock) (destination_at covered.destination)
+        (tree_term covered.tree.now) covered.whole (plan_of cover.now) }
     ensures { IfOk result (λ steps. steps
         ≡ cut_steps_of (stock_of stock.entry) (plan_of cover.now) covered.entry.first
         (destination_at covered.entry.destination) (tree_term covered.entry.tree.now)
@@ -92,7 +96,7 @@ pub fn cut_steps<'a>(
     )
 }
 
-/// The steps that put the cuts of a cover into their cells, and then its own.
+/// The steps that put the cuts of an orderly cover into their cells, and then its own.
 #[cycle(cutting)]
 pub fn all_steps<'a>(
     alloc: Global,
@@ -100,6 +104,8 @@ pub fn all_steps<'a>(
     cover: &Cover,
     covered: Covered<'a>,
 ) -> Result<Items<Step>, NoMemory>
+    requires { IsOrderly (stock_of stock) (destination_at covered.destination)
+        (tree_term covered.tree.now) covered.whole (plan_of cover.now) }
     ensures { IfOk result (λ steps.
         steps ≡ cut_steps_of (stock_of stock.entry) (plan_of cover.now) covered.entry.first
         (destination_at covered.entry.destination) (tree_term covered.entry.tree.now) covered.entry.whole
@@ -120,13 +126,15 @@ fn inside_operands<'a>(
     operands: &CoverOperands,
     left: &mut Vec<OperandCells<'a>>,
 ) -> Result<Vec<Items<Step>>, NoMemory>
+    requires { AreOrderly (stock_of stock) (operands_in (cells_of_operands left.old.items))
+        (operands_plan operands.now) }
     ensures { IfOk result (λ v. v.items
         ≡ inside_operands_of (stock_of stock.entry) (operands_plan operands.now) (cells_of_operands left.old.items)) }
 {
     match operands {
         CoverOperands::Empty => Ok(Vec::new(alloc)),
         CoverOperands::Then { place, cover, rest } => {
-            let operand = operand_covered(take_out(left, *place)?);
+            let operand = operand_covered(take_out(left, *place));
             let steps = cut_steps(alloc, stock, cover, operand)?;
             let others = inside_operands(alloc, stock, rest, left)?;
             let lists = inserted(others, *place, steps)?;
@@ -144,13 +152,14 @@ fn into_cells<'a>(
     covers: &CoverCuts,
     cuts: &[CutCells<'a>],
 ) -> Result<Vec<Items<Step>>, NoMemory>
+    requires { AreCut (stock_of stock) (trees_in (cells_of_cuts cuts.now)) (cuts_plan covers.now) }
     ensures { IfOk result (λ v. v.items
         ≡ into_cells_of (stock_of stock.entry) (cuts_plan covers.now) (cells_of_cuts cuts.now)) }
 {
     match covers {
         CoverCuts::Empty => Ok(Vec::new(alloc)),
         CoverCuts::Then { cover, rest } => match cuts {
-            [] => Err(NoMemory),
+            [] => unreachable!(),
             [cells, later @ ..] => {
                 let steps = all_steps(alloc, stock, cover, cut_covered(*cells))?;
                 let others = into_cells(alloc, stock, rest, later)?;

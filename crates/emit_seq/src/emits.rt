@@ -1,13 +1,14 @@
 //! The steps of a cover.
 
-ghost use Rattle.std.specs.Prelude.{◌≡◌, IfOk, map};
+ghost use Rattle.std.specs.Prelude.{◌≡◌, IfOk, map, true};
+ghost use Rattle.form_model.specs.Covers.{Covers, IsOrderly, stock_with};
 ghost use Rattle.form_model.specs.Plans.{plan_of};
 ghost use Rattle.form_model.specs.Rules.{destination_of};
 ghost use Rattle.form_model.specs.Steps.{cover_steps, plan_setting};
 ghost use Rattle.form_model.specs.Trees.{tree_term};
 ghost use Rattle.tree_grammar.specs.Parts.{destination_at};
 ghost use Rattle.emit_seq.specs.Emits.{IsEmitted, branch_of as branch_setting_of, setting_of_test};
-ghost use Rattle.emit_seq.specs.Views.{stock_of, stock_with};
+ghost use Rattle.emit_seq.specs.Views.{stock_of};
 
 use crate::cuts::all_steps;
 use crate::roots::{Covered, Stock, root_of};
@@ -31,6 +32,8 @@ fn branch_of<'a>(
     cover: &Cover,
     covered: Covered<'a>,
 ) -> Result<Option<u64>, NoMemory>
+    requires { IsOrderly (stock_of stock) (destination_at covered.destination)
+        (tree_term covered.tree.now) covered.whole (plan_of cover.now) }
     ensures { IfOk result (λ branch. branch
         ≡ setting_of_test (destination_at covered.entry.destination)
         (plan_setting (stock_of stock.entry) (plan_of cover.now) covered.entry.first
@@ -53,6 +56,8 @@ fn emit_at<'a>(
     destination: Destination<'a>,
     tree: &'a Tree,
 ) -> Result<Emitted, NoMemory>
+    requires { IsOrderly (stock_of stock) (destination_at destination) (tree_term tree.now) true
+        (plan_of cover.now) }
     ensures steps { IfOk result (λ e. e.steps
         ≡ cover_steps (stock_of stock.entry) (destination_at destination.entry) (tree_term tree.now)
         (plan_of cover.now)) }
@@ -71,11 +76,9 @@ fn emit_at<'a>(
     Ok(Emitted { steps, branch })
 }
 
-/// The steps of a job whose tree of number `which` this cover covers: first those that put its cuts
+/// The steps of a job whose tree of number `which` this orderly cover covers: first those that put its cuts
 /// into the temporary cells 0, 1 and so on, from left to right and a cut after those inside it,
 /// then those of its operands in their order, and then the form's own. A test's branch is no step.
-/// On a cover that isn't an orderly one of that tree by these forms, for so many temporary cells,
-/// want of memory may be answered too.
 pub fn emit(
     alloc: Global,
     forms: &Forms,
@@ -84,6 +87,8 @@ pub fn emit(
     cover: &Cover,
     temps: u32,
 ) -> Result<Emitted, NoMemory>
+    requires { Covers (stock_with forms.now.list.items temps) (destination_of job.now.aim)
+        (map tree_term job.now.trees.items) (record { which = which; plan = plan_of cover.now }) }
     ensures { IfOk result (λ e. IsEmitted (stock_with forms.now.list.items temps) (destination_of job.now.aim)
         (map tree_term job.now.trees.items) (record { which = which; plan = plan_of cover.now }) e) }
 {
@@ -91,8 +96,6 @@ pub fn emit(
         forms: forms.list.as_slice(),
         temps,
     };
-    match job.trees.get(which) {
-        None => Err(NoMemory),
-        Some(tree) => emit_at(alloc, stock, cover, Destination::of(&job.aim), tree),
-    }
+    let tree = &job.trees[which];
+    emit_at(alloc, stock, cover, Destination::of(&job.aim), tree)
 }

@@ -1,12 +1,12 @@
 //! The steps of a cover, and what they leave.
 //!
-//! Promise: `emit` gives exactly the steps of the cover of a job's tree, and for a test the setting
-//! of its branch's condition (`IsEmitted`). `law_of_values`: from each start state the steps of an
-//! orderly cover leave the tree's value at its aim, and change no other cell from the temporary
-//! ones on (`LeaveValue`). `law_of_registers`: they spare what is still needed, read only what an
-//! earlier step wrote, and leave the program counter alone (`AreSpare`). `law_of_costs`,
-//! `law_of_settings` and `law_of_cells` tell how many steps there are, of which forms with which
-//! bits (`AreOfForms`), and how many cuts.
+//! Promise: of an orderly cover of one of a job's trees (`Covers`), `emit` gives exactly the steps,
+//! and for a test the setting of its branch's condition (`IsEmitted`). `law_of_values`: from each
+//! start state the steps of an orderly cover leave the tree's value at its aim, and change no other
+//! cell from the temporary ones on (`LeaveValue`). `law_of_registers`: they spare what is still
+//! needed, read only what an earlier step wrote, and leave the program counter alone (`AreSpare`).
+//! `law_of_costs`, `law_of_settings` and `law_of_cells` tell how many steps there are, of which
+//! forms with which bits (`AreOfForms`), and how many cuts.
 //!
 //! Invariant: cells are given from 0 on in the order of the tree from left to right, a cut after
 //! those inside it, whatever the order of the operands; a match has them side by side, so each part
@@ -25,10 +25,11 @@
 //! - `laws`: the five laws.
 //! - `specs/`, cited by public contracts: `Formed` (what is asked of forms), `Leaves`, `Spares`,
 //!   `Settles`, `Cells`, `Emits`, `Views`; the steps themselves are `form_model/specs/Steps`;
-//!   `Worked` is computed. `specs/Inner/`: `CellLists`, which goes with a loop.
+//!   `Worked` is computed. `specs/Inner/`: `CellLists`, the lists of operands and cuts as the
+//!   functions here hand them on.
 //! - `proofs/`: `Works` and `Spared` are the two inductions over covers, under `Leaving` and
 //!   `Lives`; `Matched`, `Forms` and `Fields` are for one form, `Walks` for cuts; `Counted`,
-//!   `Settled`, `Few`.
+//!   `Settled`, `Few`; `Orderly`: the places that an orderly cover names are there.
 #![tactic(auto)]
 
 mod cells;

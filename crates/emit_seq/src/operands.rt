@@ -1,11 +1,13 @@
 //! The steps of operands and of the form behind them.
 
 ghost use Rattle.std.specs.Prelude.{◌≡◌, ◌++◌, OnOk};
+ghost use Rattle.form_model.specs.Covers.{AreOrderly, IsOrderly};
 ghost use Rattle.form_model.specs.Plans.{operands_plan, plan_of};
 ghost use Rattle.form_model.specs.Rules.{Rule};
 ghost use Rattle.form_model.specs.Steps.{form_step, operand_steps, own_steps};
 ghost use Rattle.form_model.specs.Trees.{tree_term};
 ghost use Rattle.tree_grammar.specs.Parts.{destination_at};
+ghost use Rattle.emit_seq.specs.Inner.CellLists.{operands_in};
 ghost use Rattle.emit_seq.specs.Views.{cells_of_operands, stock_of};
 
 use crate::cells::OperandCells;
@@ -30,7 +32,7 @@ fn put_form_step(
     }
 }
 
-/// Adds the steps of a cover without those for its cuts: those of its operands, and then the form's
+/// Adds the steps of an orderly cover without those for its cuts: those of its operands, and then the form's
 /// own.
 #[cycle(evaluating)]
 pub fn put_own_steps<'a>(
@@ -40,6 +42,8 @@ pub fn put_own_steps<'a>(
     covered: Covered<'a>,
     out: &mut Items<Step>,
 ) -> Result<(), NoMemory>
+    requires { IsOrderly (stock_of stock) (destination_at covered.destination)
+        (tree_term covered.tree.now) covered.whole (plan_of cover.now) }
     ensures { OnOk result (out.new ≡ out.old
         ++ own_steps (stock_of stock.entry) (plan_of cover.now) covered.entry.first
         (destination_at covered.entry.destination) (tree_term covered.entry.tree.now)
@@ -60,13 +64,15 @@ fn put_operands<'a>(
     left: &mut Vec<OperandCells<'a>>,
     out: &mut Items<Step>,
 ) -> Result<(), NoMemory>
+    requires { AreOrderly (stock_of stock) (operands_in (cells_of_operands left.old.items))
+        (operands_plan operands.now) }
     ensures { OnOk result (out.new ≡ out.old
         ++ operand_steps (stock_of stock.entry) (operands_plan operands.now) (cells_of_operands left.old.items)) }
 {
     match operands {
         CoverOperands::Empty => Ok(()),
         CoverOperands::Then { place, cover, rest } => {
-            let operand = operand_covered(take_out(left, *place)?);
+            let operand = operand_covered(take_out(left, *place));
             put_own_steps(alloc, stock, cover, operand, out)?;
             put_operands(alloc, stock, rest, left, out)
         }

@@ -1,6 +1,7 @@
 //! The form at the root of a cover, with its match, its operands and cuts, and its step.
 
-ghost use Rattle.std.specs.Prelude.{◌≡◌, ◌+◌, Some, IfOk, bit_or, false, remove, slice_get};
+ghost use Rattle.std.specs.Prelude.{◌≡◌, ◌+◌, ◌<◌, Some, IfOk, IsSome, bit_or, false, length, slice_get, vec_len};
+ghost use Rattle.form_model.specs.Covers.{IsOrderly};
 ghost use Rattle.form_model.specs.Plans.{cuts_plan, operands_plan, plan_of};
 ghost use Rattle.form_model.specs.Rules.{rule_of};
 ghost use Rattle.form_model.specs.Matches.{taken};
@@ -8,17 +9,17 @@ ghost use Rattle.form_model.specs.Steps.{cells_setting as cells_setting_of, cut_
 ghost use Rattle.form_model.specs.Trees.{tree_term};
 ghost use Rattle.tree_grammar.specs.Parts.{destination_at, found_of, sites_of};
 ghost use Rattle.tree_grammar.specs.declared.parts.Destination.TheVariants.{Register, Temp};
-ghost use Rattle.emit_seq.specs.Inner.CellLists.{AreMatchCells};
+ghost use Rattle.emit_seq.specs.Inner.CellLists.{AreMatchCells, ArePlaces};
 ghost use Rattle.emit_seq.specs.Views.{cells_of_cuts, cells_of_operand, cells_of_operands, stock_of};
 ghost use Rattle.emit_seq.specs.Emits.{IsRoot, IsTakenOut};
 
 use crate::cells::{CutCells, MatchCells, OperandCells, match_cells};
-use crate::counts::{cut_count, cut_counts, operand_counts, plus};
+use crate::counts::{cut_count, cut_counts, operand_counts};
 use crate::settings::{cells_setting, temp_setting};
 use form_model::{Cover, Form, Step, Tree};
 use rec_bits::NoMemory;
 use std::alloc::Global;
-use tree_grammar::{Destination, Match, Part, match_at};
+use tree_grammar::{Destination, Match, Part, match_at, plus};
 
 /// What covers are made of: the forms, and the number of temporary cells.
 #[derive(Clone, Copy)]
@@ -46,10 +47,11 @@ pub struct Root<'a> {
     pub step: Step,
 }
 
-fn form_at<'a>(stock: Stock<'a>, place: usize) -> Result<&'a Form, NoMemory>
-    ensures { IfOk result (λ form. slice_get (stock_of stock.entry).rules place ≡ Some (rule_of form.now)) }
+fn form_at<'a>(stock: Stock<'a>, place: usize) -> &'a Form
+    requires { place < length stock.forms.now }
+    ensures { slice_get (stock_of stock.entry).rules place ≡ Some (rule_of result.now) }
 {
-    stock.forms.get(place).ok_or(NoMemory)
+    &stock.forms[place]
 }
 
 fn found_at<'a>(
@@ -58,6 +60,8 @@ fn found_at<'a>(
     form: &'a Form,
     covered: Covered<'a>,
 ) -> Result<Match<'a>, NoMemory>
+    requires { IsSome (taken stock.temps (rule_of form.now) (destination_at covered.destination)
+        (tree_term covered.tree.now) covered.whole) }
     ensures { IfOk result (λ found. taken stock.entry.temps (rule_of form.now)
         (destination_at covered.entry.destination) (tree_term covered.entry.tree.now)
         covered.entry.whole
@@ -72,7 +76,10 @@ fn found_at<'a>(
         stock.temps,
         0,
     )?;
-    found.ok_or(NoMemory)
+    match found {
+        Some(found) => Ok(found),
+        None => unreachable!(),
+    }
 }
 
 // The operands and the cuts of a match with these parts, with their cells from the first on.
@@ -82,6 +89,7 @@ fn cells_from<'a>(
     cover: &Cover,
     first: u64,
 ) -> Result<MatchCells<'a>, NoMemory>
+    requires { ArePlaces (operands_plan cover.now.operands) }
     ensures { IfOk result (AreMatchCells (sites_of parts.now)
         (operand_counts_of (operands_plan cover.now.operands))
         (cut_counts_of (cuts_plan cover.now.cuts)) first) }
@@ -111,18 +119,20 @@ fn setting_with(
     Ok((settled | read) | written)
 }
 
-/// The form at the root of a cover.
+/// The form at the root of an orderly cover.
 pub fn root_of<'a>(
     alloc: Global,
     stock: Stock<'a>,
     cover: &Cover,
     covered: Covered<'a>,
 ) -> Result<Root<'a>, NoMemory>
+    requires { IsOrderly (stock_of stock) (destination_at covered.destination)
+        (tree_term covered.tree.now) covered.whole (plan_of cover.now) }
     ensures { IfOk result (λ root. IsRoot (stock_of stock.entry) (plan_of cover.now)
         covered.entry.first (destination_at covered.entry.destination)
         (tree_term covered.entry.tree.now) covered.entry.whole root) }
 {
-    let form = form_at(stock, cover.form)?;
+    let form = form_at(stock, cover.form);
     let found = found_at(alloc, stock, form, covered)?;
     let cells = cells_from(alloc, found.parts.as_slice(), cover, covered.first)?;
     let setting = setting_with(found.setting, form, cover, covered, cells.cuts.as_slice())?;
@@ -139,17 +149,12 @@ pub fn root_of<'a>(
 }
 
 /// Takes the operand at this place out of those that are left.
-pub fn take_out<'a>(
-    left: &mut Vec<OperandCells<'a>>,
-    place: usize,
-) -> Result<OperandCells<'a>, NoMemory>
-    ensures { IfOk result (λ cells. IsTakenOut (cells_of_operands left.old.items) place
-        (cells_of_operand cells) (cells_of_operands left.new.items)) }
+pub fn take_out<'a>(left: &mut Vec<OperandCells<'a>>, place: usize) -> OperandCells<'a>
+    requires { place < vec_len left.old }
+    ensures { IsTakenOut (cells_of_operands left.old.items) place (cells_of_operand result)
+        (cells_of_operands left.new.items) }
 {
-    if place >= left.len() {
-        return Err(NoMemory);
-    }
-    Ok(left.remove(place))
+    left.remove(place)
 }
 
 /// What the cover of an operand is of.

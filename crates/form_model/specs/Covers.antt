@@ -1,7 +1,8 @@
 -- Orderly covers of a tree, and the one that is chosen.
 use Rattle.std.specs.Prelude.{ℕ, ◌+◌, ◌<◌, ◌≡◌, ◌⊎◌, Bool, true, false, List, [], ◌∷◌, Option, Some, None, slice_get, remove, bit_or, bit_and, ◌^◌}
 use Rattle.net_model.specs.Terms.{Term}
-use Rattle.form_model.specs.Rules.{Rule, Destination, into, temporary, tested}
+use Rattle.form_model.specs.declared.forms.Form.{Form}
+use Rattle.form_model.specs.Rules.{Rule, rules_of, Destination, into, temporary, tested}
 use Rattle.form_model.specs.Matches.{Site, operand, cut, Found, taken}
 use Rattle.form_model.specs.Plans.{Plan, use_form, Operands, no_operands, operand_then, Cuts, no_cuts, cut_then, cost, operands_cost, cuts_cost}
 
@@ -45,6 +46,10 @@ abbrev mutual
 pub record Stock : Type 0 where
   pub rules : List Rule
   pub temps : ℕ
+
+-- what the code's forms and so many temporary cells give
+abbrev pub stock_with : List Form → ℕ → Stock
+stock_with forms temps = record { rules = rules_of forms; temps = temps }
 
 abbrev mutual
   -- the plan is an orderly cover of a tree that goes to a destination

@@ -2,13 +2,14 @@
 use Rattle.std.proofs.Common.{◌≡◌, ℕ, zero, suc, ◌+◌, ◌-◌, ◌<◌, ◌≤◌, nat_lt, Bool, true, false, ◌&&◌, not, List, [], ◌∷◌, ◌++◌, Option, Some, None, length, slice_get, refl, sym, ap, subst, ◌∙◌, add-one, append-nil, append_assoc, arith, length-append}
 use Rattle.std.proofs.lemmas.Option.{slice_get_past}
 use Rattle.net_model.specs.Terms.{Term}
-use Rattle.form_model.specs.Covers.{Choice, Stock}
+use Rattle.form_model.specs.Covers.{Choice, IsChosen, Stock}
 use Rattle.form_model.specs.Steps.{cover_steps}
 use Rattle.form_model.specs.declared.flow.Flow.{Flow}
 use Rattle.form_model.specs.declared.flow.Flow.TheVariants.{Assign, Test, Jump, End}
 use Rattle.form_model.specs.declared.forms.Step.{Step}
 use Rattle.src_trees.specs.Blocks.{IsAssignBlock, continues, is_assign, is_entered, job_at, job_list, jobs_at}
 use Rattle.src_trees.specs.Lowered.{Work}
+use Rattle.right_code.specs.Covered.{AllChosen}
 use Rattle.right_code.specs.Images.{choice_at, choices_of, choices_at}
 use Rattle.right_code.specs.Jobs.{job_steps, jobs_steps, tree_or_none}
 
@@ -31,6 +32,17 @@ module _ (stock : Stock) where
       sym (append-nil steps)
       ∙ ap (λ (more : List Step). steps ++ more) (sym (no_choices (job_list (slice_get works tree))))
       ∙ ap (λ (o : Option Choice). steps ++ jobs_steps stock (job_list (slice_get works tree)) (choices_of o)) (sym (slice_get_past choices tree le))
+
+  -- the chosen cover of a job
+  pub chosen_at : (works : List Work) (choices : List Choice) (k : ℕ) (job : Work) (choice : Choice) → AllChosen stock works choices → slice_get works k ≡ Some job → slice_get choices k ≡ Some choice
+      → IsChosen stock job.destination job.trees choice
+  chosen_at [] choices k job choice all e f = absurd (cc)
+  chosen_at (w ∷ works) [] k job choice all e f = absurd all
+  chosen_at (w ∷ works) (x ∷ choices) zero job choice all e f =
+      let same : w ≡ job = cc in
+      let also : x ≡ choice = cc in
+      subst (λ (j : Work). IsChosen stock j.destination j.trees choice) same (subst (λ y. IsChosen stock w.destination w.trees y) also all.0)
+  chosen_at (w ∷ works) (x ∷ choices) (suc k) job choice all e f = chosen_at works choices k job choice all.1 e f
 
   -- the steps of the cover of a job
   pub covered_steps : (works : List Work) (choices : List Choice) (k : ℕ) (job : Work) (choice : Choice) (tree : Term) (steps : List Step) → slice_get works k ≡ Some job → slice_get choices k ≡ Some choice

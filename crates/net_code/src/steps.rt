@@ -3,6 +3,7 @@
 ghost use Rattle.std.specs.Prelude.{◌≡◌, ◌<◌, ◌≤◌, ◌+◌, ◌++◌, IfOk, OnOk, IfSome, Some, length, slice_get, true, false};
 ghost use Rattle.branch_fix.specs.Entered.{entered_places};
 ghost use Rattle.src_trees.specs.Blocks.{IsAssignBlock, continues, is_assign, job_at, job_list, jobs_at};
+ghost use Rattle.right_code.specs.Covered.{AllChosen};
 ghost use Rattle.right_code.specs.Images.{choice_at, choices_of, choices_at};
 ghost use Rattle.right_code.specs.Jobs.{jobs_steps};
 ghost use Rattle.net_code.specs.Inner.Views.{choices_in, stock_of, works_in};
@@ -21,6 +22,7 @@ fn push_job(
     tree: u32,
     steps: &mut Vec<Step>,
 ) -> Result<(), NoMemory>
+    requires { AllChosen (stock_of program.now) (works_in program.now) (choices_in program.now) }
     ensures { OnOk result (steps.new.items ≡ steps.old.items
         ++ jobs_steps (stock_of program.now) (job_list (slice_get (works_in program.now) tree))
         (choices_of (slice_get (choices_in program.now) tree))) }
@@ -51,6 +53,7 @@ fn push_place(
     at: usize,
     steps: &mut Vec<Step>,
 ) -> Result<(), NoMemory>
+    requires { AllChosen (stock_of program.now) (works_in program.now) (choices_in program.now) }
     ensures { OnOk result (steps.new.items ≡ steps.old.items
         ++ jobs_steps (stock_of program.now)
         (job_at (works_in program.now) (slice_get program.now.flow.now at))
@@ -74,6 +77,7 @@ pub(crate) fn block_steps(
 ) -> Result<Items<Step>, NoMemory>
     requires within { at + count ≤ length program.now.flow.now }
     requires even { length (choices_in program.now) ≡ length (works_in program.now) }
+    requires chosen { AllChosen (stock_of program.now) (works_in program.now) (choices_in program.now) }
     ensures { IfOk result (λ steps. steps
         ≡ jobs_steps (stock_of program.now)
         (jobs_at program.now.flow.now (works_in program.now) at count)

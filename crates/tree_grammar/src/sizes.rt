@@ -8,8 +8,9 @@ use form_model::Tree;
 use net_model::Expr;
 use rec_bits::{NoMemory, written_result_width};
 
-/// The sum, and want of memory where it is past the greatest number of nodes that can be counted.
-pub(crate) fn plus(a: u64, b: u64) -> Result<u64, NoMemory>
+/// The sum of two numbers of things that memory holds. Want of memory where it is past the greatest
+/// number that can be counted.
+pub fn plus(a: u64, b: u64) -> Result<u64, NoMemory>
     ensures { IfOk result (λ c. c ≡ a + b) }
 {
     match a.checked_add(b) {

@@ -18,7 +18,8 @@ use rec_bits::NoMemory;
 
 // ---- numbers and cells
 
-fn is_number_tree(tree: &Tree) -> bool
+/// Whether the tree is a number.
+pub fn is_number_tree(tree: &Tree) -> bool
     ensures { result ≡ is_number (tree_term tree.now) }
 {
     match tree {

@@ -1,7 +1,12 @@
--- Equal subtrees have one number.
-use Rattle.std.proofs.Common.{◌≡◌, ℕ, zero, suc, ◌+◌, List, [], ◌∷◌, ◌++◌, length, Option, Some, None, true, ◌&&◌, true≢false, refl, sym, ap, ◌∙◌, subst, arith, nat_eq, inl, inr, ◌⊎◌}
+-- Equal subtrees have one root, and its number is the least of theirs.
+use Rattle.std.proofs.Common.{◌≡◌, ℕ, zero, suc, ◌+◌, ◌<◌, ◌≤◌, Bool, List, [], ◌∷◌, ◌++◌, length, Option, Some, None, true, ◌&&◌, true≢false, refl, sym, ap, ◌∙◌, subst, arith, nat_eq, eq-eqb, length-append, inl, inr, ◌⊎◌}
+use Rattle.std.proofs.lemmas.Bool.{cases_lt}
+use Rattle.std.proofs.lemmas.Option.{slice_get_within}
 use borrow.Author.Tests.{eqb-true}
 use Rattle.std.specs.Prelude.{slice_get, slice_set}
+use Rattle.std.specs.Map.{lookup}
+use Rattle.std.specs.Option.{option_map}
+use Rattle.indexmap.specs.IndexMap.{insert_entry}
 use Rattle.rec_bits.proofs.Booleans.{both}
 use Rattle.rec_bits.specs.declared.operator.Op1.{Op1}
 use Rattle.rec_bits.specs.declared.operator.Op1.TheVariants.{Not, Neg}
@@ -9,18 +14,21 @@ use Rattle.rec_bits.specs.declared.operator.Op2.{Op2}
 use Rattle.rec_bits.specs.declared.operator.Op2.TheVariants.{Add, Sub, Mul, And, Or, Xor, Shl, Shr, Sar, Eq, Ltu, Lts}
 use Rattle.rec_bits.specs.contracts.operator.Op1PartialEq.TheImpl.{ghosts as op1_eq}
 use Rattle.rec_bits.specs.contracts.operator.Op2PartialEq.TheImpl.{ghosts as op2_eq}
-use Rattle.net_model.specs.Terms.{Term, read, un, bin, slice, zext, sext, size_of}
+use Rattle.net_model.specs.Terms.{Term, const, read, un, bin, slice, zext, sext, size_of}
 use Rattle.form_model.specs.Trees.{tree_term}
+use Rattle.form_model.specs.Rules.{Destination, into, cell, stored, temporary, tested}
+use Rattle.tree_grammar.specs.Parts.{value_at}
 use Rattle.form_model.specs.declared.trees.Tree.{Tree}
 use Rattle.form_model.specs.declared.trees.Tree.TheVariants.{Lit as Lit', Read', Un', Bin', Slice', Zext', Sext'}
 use Rattle.tree_grammar.specs.Numbers.{subtrees, HoldsSubtrees}
-use Rattle.tree_grammar.proofs.NumberLemmas.{lists_tail, holds_left, holds_right, holds_here}
+use Rattle.tree_grammar.proofs.NumberLemmas.{lists_tail, holds_left, holds_right, holds_here, size_length}
 use Rattle.tree_sharing.specs.declared.sharing.Root.{Root}
 use Rattle.tree_sharing.specs.declared.sharing.Root.TheVariants.{Lit, Read, Un, Bin, Slice, Zext, Sext}
 use Rattle.tree_sharing.specs.declared.sharing.Sharing.{Sharing}
 use Rattle.tree_sharing.specs.contracts.sharing.RootPartialEq.TheImpl.{ghosts as root_eq}
-use Rattle.tree_sharing.specs.Sharing.{AreFirsts}
-use Rattle.tree_sharing.specs.Inner.Sharing.{root_term, AreOwn, Shares, Rooted, Shared, first_of, second_of, operand_size, HaveNumbers, OperandShared}
+use Rattle.tree_sharing.specs.Sharing.{IsFirst, AreFirstEqual, job_nodes}
+use Rattle.tree_sharing.specs.Inner.Sharing.{IsRootOf, Roots, HasNumber, HaveNumbers, IsMet, IsMetFirst, MeetsFirst, IsDone, AreDoneBefore, AreDoneBelow, Grows, Rooted, Shared, first_of, second_of, operand_size, AreFirstOperands, OperandShared}
+use Rattle.tree_sharing.proofs.EntryLemmas.{each_found, each_added, any_weaker, any_found, any_kept, any_added, none_found}
 
 -- ---- equal roots are the same
 
@@ -80,6 +88,127 @@ exact_root (Zext a w) (Zext a' w') h = two Zext a w a' w' h
 exact_root (Sext a w) (Sext a' w') h = two Sext a w a' w' h
 exact_root a b h = absurd (true≢false (sym h))
 
+same_op1 : (a : Op1) → op1_eq.eq a a ≡ true
+same_op1 Not = refl
+same_op1 Neg = refl
+
+same_op2 : (a : Op2) → op2_eq.eq a a ≡ true
+same_op2 Add = refl
+same_op2 Sub = refl
+same_op2 Mul = refl
+same_op2 And = refl
+same_op2 Or = refl
+same_op2 Xor = refl
+same_op2 Shl = refl
+same_op2 Shr = refl
+same_op2 Sar = refl
+same_op2 Eq = refl
+same_op2 Ltu = refl
+same_op2 Lts = refl
+
+both_true : (p q : Bool) → p ≡ true → q ≡ true → (p && q) ≡ true
+both_true p q e f = ap (λ b. b && q) e ∙ f
+
+same_number : (a : ℕ) → nat_eq a a ≡ true
+same_number a = eq-eqb a a refl
+
+same_root : (a : Root) → root_eq.eq a a ≡ true
+same_root (Lit w v) = both_true (nat_eq w w) (nat_eq v v) (same_number w) (same_number v)
+same_root (Read a w) = both_true (nat_eq a a) (nat_eq w w) (same_number a) (same_number w)
+same_root (Un o a) = both_true (op1_eq.eq o o) (nat_eq a a) (same_op1 o) (same_number a)
+same_root (Bin o a b) = both_true (op2_eq.eq o o) (nat_eq a a && nat_eq b b) (same_op2 o) (both_true (nat_eq a a) (nat_eq b b) (same_number a) (same_number b))
+same_root (Slice a h l) = both_true (nat_eq a a) (nat_eq h h && nat_eq l l) (same_number a) (both_true (nat_eq h h) (nat_eq l l) (same_number h) (same_number l))
+same_root (Zext a w) = both_true (nat_eq a a) (nat_eq w w) (same_number a) (same_number w)
+same_root (Sext a w) = both_true (nat_eq a a) (nat_eq w w) (same_number a) (same_number w)
+
+-- ---- one root for equal trees, and one tree for a root
+
+one_first : (nodes : List Term) (t : Term) (a b : ℕ) → IsFirst nodes t a → IsFirst nodes t b → a ≡ b
+one_first nodes t a b p q = let h : a ≤ b = p.least b q.at in let k : b ≤ a = q.least a p.at in omega arith
+
+one_root : (nodes : List Term) (a b : Root) (t : Term) → IsRootOf nodes a t → IsRootOf nodes b t → a ≡ b
+one_root nodes a b (const w v) p q = p ∙ sym q
+one_root nodes a b (read x w) p q = p.2 ∙ ap (λ i. Read i w) (one_first nodes x p.0 q.0 p.1 q.1) ∙ sym q.2
+one_root nodes a b (un op x) p q = p.2 ∙ ap (λ i. Un op i) (one_first nodes x p.0 q.0 p.1 q.1) ∙ sym q.2
+one_root nodes a b (bin op x y) p q =
+    let e : p.0 ≡ q.0 = one_first nodes x p.0 q.0 p.2 q.2 in
+    let f : p.1 ≡ q.1 = one_first nodes y p.1 q.1 p.3 q.3 in
+    p.4 ∙ (λ j. Bin op (e j) (f j)) ∙ sym q.4
+one_root nodes a b (slice x hi lo) p q = p.2 ∙ ap (λ i. Slice i hi lo) (one_first nodes x p.0 q.0 p.1 q.1) ∙ sym q.2
+one_root nodes a b (zext x w) p q = p.2 ∙ ap (λ i. Zext i w) (one_first nodes x p.0 q.0 p.1 q.1) ∙ sym q.2
+one_root nodes a b (sext x w) p q = p.2 ∙ ap (λ i. Sext i w) (one_first nodes x p.0 q.0 p.1 q.1) ∙ sym q.2
+one_root nodes a b _ p q = absurd p
+
+abbrev bin_of : Op2 → Option Term → Option Term → Option Term
+bin_of op None b = None
+bin_of op (Some x) None = None
+bin_of op (Some x) (Some y) = Some (bin op x y)
+
+-- the tree with a root, whose operands are the trees of the root's numbers
+abbrev root_term : List Term → Root → Option Term
+root_term nodes (Lit width value) = Some (const width value)
+root_term nodes (Read a w) = option_map (λ x. read x w) (slice_get nodes a)
+root_term nodes (Un op a) = option_map (λ x. un op x) (slice_get nodes a)
+root_term nodes (Bin op a b) = bin_of op (slice_get nodes a) (slice_get nodes b)
+root_term nodes (Slice a hi lo) = option_map (λ x. slice x hi lo) (slice_get nodes a)
+root_term nodes (Zext a w) = option_map (λ x. zext x w) (slice_get nodes a)
+root_term nodes (Sext a w) = option_map (λ x. sext x w) (slice_get nodes a)
+
+root_gives : (nodes : List Term) (root : Root) (t : Term) → IsRootOf nodes root t → root_term nodes root ≡ Some t
+root_gives nodes root (const w v) p = ap (root_term nodes) p
+root_gives nodes root (read x w) p = ap (root_term nodes) p.2 ∙ ap (option_map (λ y. read y w)) p.1.at
+root_gives nodes root (un op x) p = ap (root_term nodes) p.2 ∙ ap (option_map (λ y. un op y)) p.1.at
+root_gives nodes root (bin op x y) p =
+    let e = p.2.at in let f = p.3.at in
+    ap (root_term nodes) p.4 ∙ (λ j. bin_of op (e j) (f j))
+root_gives nodes root (slice x hi lo) p = ap (root_term nodes) p.2 ∙ ap (option_map (λ y. slice y hi lo)) p.1.at
+root_gives nodes root (zext x w) p = ap (root_term nodes) p.2 ∙ ap (option_map (λ y. zext y w)) p.1.at
+root_gives nodes root (sext x w) p = ap (root_term nodes) p.2 ∙ ap (option_map (λ y. sext y w)) p.1.at
+root_gives nodes root _ p = absurd p
+
+one_of_get : (x y : Option Term) (t u : Term) → x ≡ Some t → x ≡ Some u → t ≡ u
+one_of_get x y t u e f = let both : Some t ≡ Some u = sym e ∙ f in cc
+
+one_tree : (nodes : List Term) (root : Root) (t u : Term) → IsRootOf nodes root t → IsRootOf nodes root u → t ≡ u
+one_tree nodes root t u p q = one_of_get (root_term nodes root) None t u (root_gives nodes root t p) (root_gives nodes root u q)
+
+-- ---- the number of a root
+
+met_known : (nodes : List Term) (roots : Roots) (root : Root) (t : Term) (first : ℕ) → lookup (root_eq.eq root) roots ≡ Some first → IsRootOf nodes root t → HaveNumbers nodes roots → IsMetFirst nodes roots roots t first
+met_known nodes roots root t first found is numbers =
+    let known = each_found (HasNumber nodes) root_eq.eq exact_root roots root first numbers found in
+    record {
+      numbers = numbers;
+      kept = λ u met. met;
+      met = any_found (λ r. IsRootOf nodes r t) root_eq.eq exact_root roots root first found is;
+      is = subst (λ u. IsFirst nodes u first) (one_tree nodes root known.tree t known.is is) known.first;
+    }
+
+pub meets_known : (roots : Roots) (root : Root) (at first : ℕ) → lookup (root_eq.eq root) roots ≡ Some first → MeetsFirst roots roots at root first
+meets_known roots root at first found nodes t here is numbers before = met_known nodes roots root t first found is numbers
+
+-- a tree of which no equal one stands before it
+first_here : (nodes : List Term) (t : Term) (at : ℕ) → slice_get nodes at ≡ Some t → ((m : ℕ) → m < at → slice_get nodes m ≡ Some t → ⊥) → IsFirst nodes t at
+first_here nodes t at here none = record {
+  at = here;
+  least = λ m get. elim (cases_lt m at) [ inl lt ↦ absurd (none m lt get) | inr ge ↦ ge ];
+}
+
+unmet : (nodes : List Term) (roots : Roots) (root : Root) (t : Term) → lookup (root_eq.eq root) roots ≡ None → IsRootOf nodes root t → IsMet nodes roots t → ⊥
+unmet nodes roots root t none is met =
+    none_found root_eq.eq same_root roots root none
+    (any_weaker (λ r. IsRootOf nodes r t) (λ r. r ≡ root) (λ r of. one_root nodes r root t of is) roots met)
+
+pub meets_new : (old new : Roots) (root : Root) (at : ℕ) → lookup (root_eq.eq root) old ≡ None → new ≡ insert_entry root_eq.eq old root at → MeetsFirst old new at root at
+meets_new old new root at none added nodes t here is numbers before =
+    let first = first_here nodes t at here (λ m lt get. unmet nodes old root t none is (before m lt get)) in
+    subst (λ es. IsMetFirst nodes old es t at) (sym added) (record {
+      numbers = each_added (HasNumber nodes) root_eq.eq exact_root old root at numbers (record { tree = t; is = is; first = first });
+      kept = λ u met. any_kept (λ r. IsRootOf nodes r u) root_eq.eq exact_root old root at met;
+      met = any_added (λ r. IsRootOf nodes r t) root_eq.eq exact_root old root at is;
+      is = first;
+    })
+
 -- ---- numbers of first subtrees
 
 get_set : (xs : List ℕ) (i v n f : ℕ) → slice_get (slice_set xs i v) n ≡ Some f → ((n ≡ i) × (f ≡ v)) ⊎ (slice_get xs n ≡ Some f)
@@ -89,25 +218,46 @@ get_set (x ∷ xs) zero v (suc n) f h = inr h
 get_set (x ∷ xs) (suc i) v zero f h = inr h
 get_set (x ∷ xs) (suc i) v (suc n) f h = elim (get_set xs i v n f h) [ inl p ↦ inl (ap suc p.0, p.1) | inr q ↦ inr q ]
 
-pub firsts_set : (nodes : List Term) (firsts : List ℕ) (at first : ℕ) → slice_get nodes first ≡ slice_get nodes at → AreFirsts nodes firsts → AreFirsts nodes (slice_set firsts at first)
-firsts_set nodes firsts at first same h = record {
-  equal = λ n f t got here. elim (get_set firsts at first n f got) [
-    | inl p ↦ ap (slice_get nodes) p.1 ∙ same ∙ sym (ap (slice_get nodes) p.0) ∙ here
-    | inr q ↦ h.equal n f t q here
-  ];
-}
+get_set_here : (xs : List ℕ) (i v f : ℕ) → slice_get (slice_set xs i v) i ≡ Some f → f ≡ v
+get_set_here [] i v f h = absurd (cc)
+get_set_here (x ∷ xs) zero v f h = cc
+get_set_here (x ∷ xs) (suc i) v f h = get_set_here xs i v f h
+
+-- the number is written behind which the tree is done
+set_kept : (nodes : List Term) (firsts : List ℕ) (at first : ℕ) (t : Term) → slice_get nodes at ≡ Some t → IsFirst nodes t first → (n f : ℕ) (u : Term) → ((g : ℕ) → slice_get firsts n ≡ Some g → IsFirst nodes u g) → slice_get (slice_set firsts at first) n ≡ Some f → slice_get nodes n ≡ Some u → IsFirst nodes u f
+set_kept nodes firsts at first t here is n f u known got get = elim (get_set firsts at first n f got) [
+  | inl p ↦ (let same = one_of_get (slice_get nodes n) None t u (ap (slice_get nodes) p.0 ∙ here) get in
+      subst (λ i. IsFirst nodes u i) (sym p.1) (subst (λ x. IsFirst nodes x first) same is))
+  | inr q ↦ known f q
+]
+
+set_here : (nodes : List Term) (firsts : List ℕ) (at first : ℕ) (t : Term) → slice_get nodes at ≡ Some t → IsFirst nodes t first → (f : ℕ) (u : Term) → slice_get (slice_set firsts at first) at ≡ Some f → slice_get nodes at ≡ Some u → IsFirst nodes u f
+set_here nodes firsts at first t here is f u got get =
+    let same = one_of_get (slice_get nodes at) None t u here get in
+    subst (λ i. IsFirst nodes u i) (sym (get_set_here firsts at first f got)) (subst (λ x. IsFirst nodes x first) same is)
+
+pub rooted : (old new : Sharing) (at first : ℕ) (root : Root) → MeetsFirst old.roots.entries new.roots.entries at root first → new.firsts.items ≡ slice_set old.firsts.items at first → Rooted old new at root first
+rooted old new at first root meets written nodes t here is numbers before =
+    let met = meets nodes t here is numbers (λ m lt get. (before m t lt get (omega arith)).met t get) in (
+      record {
+        numbers = met.numbers;
+        kept = λ n done. record {
+          met = λ u get. met.kept u (done.met u get);
+          first = λ f u got get. set_kept nodes old.firsts.items at first t here met.is n f u (λ g has. done.first g u has get) (ap (λ l. slice_get l n) (sym written) ∙ got) get;
+        };
+      },
+      record {
+        met = λ u get. subst (λ x. IsMet nodes new.roots.entries x) (one_of_get (slice_get nodes at) None t u here get) met.met;
+        first = λ f u got get. set_here nodes old.firsts.items at first t here met.is f u (ap (λ l. slice_get l at) (sym written) ∙ got) get;
+      },
+      met.is,
+    )
 
 pub get_push : {X : Type 0} (xs : List X) (y : X) (i : ℕ) (f : X) → slice_get (xs ++ (y ∷ [])) i ≡ Some f → (slice_get xs i ≡ Some f) ⊎ ((i ≡ length xs) × (f ≡ y))
 get_push [] y zero f h = inr (refl, (cc))
 get_push [] y (suc i) f h = absurd (cc)
 get_push (x ∷ xs) y zero f h = inl h
 get_push (x ∷ xs) y (suc i) f h = elim (get_push xs y i f h) [ inl p ↦ inl p | inr q ↦ inr (ap suc q.0, q.1) ]
-
-pub own_push : (xs : List ℕ) (y : ℕ) → length xs ≡ y → AreOwn xs → AreOwn (xs ++ (y ∷ []))
-own_push xs y len own n f got = elim (get_push xs y n f got) [ inl p ↦ own n f p | inr q ↦ q.1 ∙ sym len ∙ sym q.0 ]
-
-pub own_firsts : (nodes : List Term) (numbers : List ℕ) → AreOwn numbers → AreFirsts nodes numbers
-own_firsts nodes numbers own = record { equal = λ n f t got here. ap (slice_get nodes) (own n f got) ∙ here }
 
 -- ---- operands
 
@@ -133,16 +283,87 @@ tree_sizes (Slice' p a hi lo) = omega arith
 tree_sizes (Zext' p a w) = omega arith
 tree_sizes (Sext' p a w) = omega arith
 
-operand_found : (old new : Sharing) (at x : ℕ) (o : Option Term) (nodes : List Term) → OperandShared old new at o x → ((a : Term) → o ≡ Some a → HoldsSubtrees nodes at a) → Shares nodes old → Shares nodes new × ((a : Term) → o ≡ Some a → slice_get nodes x ≡ Some a)
-operand_found old new at x None nodes e holds shares = (subst (Shares nodes) (sym e) shares, λ a h. absurd (cc))
-operand_found old new at x (Some t) nodes h holds shares = let f = h nodes (holds t refl) shares in (f.0, λ a e. f.1 ∙ e)
+-- all before the number `n` behind a tree of number `at` that has more nodes
+before_more : (nodes : List Term) (sharing : Sharing) (at n size : ℕ) (t : Term) → slice_get nodes at ≡ Some t → size < size_of t → AreDoneBefore nodes sharing at (size_of t) → ((m : ℕ) → at + 1 ≤ m → m < n → IsDone nodes sharing m) → AreDoneBefore nodes sharing n size
+before_more nodes sharing at n size t here less before later m u lt get small = elim (cases_lt m at) [
+  | inl earlier ↦ before m u earlier get (omega arith)
+  | inr ge ↦ elim (cases_lt at m) [
+    | inl behind ↦ later m (omega arith) lt
+    | inr le ↦ (let e : m ≡ at = omega arith in
+        let same = one_of_get (slice_get nodes at) None t u here (ap (slice_get nodes) (sym e) ∙ get) in
+        let sizes = ap size_of same in
+        absurd (omega arith))
+  ]
+]
 
--- a tree by its operands and its root
-pub share_more : (old mid last new : Sharing) (t : Term) (o p : Option Term) (at inner next x y first : ℕ) (root : Root) → o ≡ first_of t → p ≡ second_of t → inner ≡ at + 1 → next ≡ inner + operand_size o → OperandShared old mid inner o x → OperandShared mid last next p y → ((nodes : List Term) → HaveNumbers nodes t x y → root_term nodes root ≡ Some t) → Rooted last new at root first → Shared old new at t first
-share_more old mid last new t o p at inner next x y first root eo ep ei en h k made rooted nodes holds shares =
-    let there : next ≡ at + 1 + operand_size (first_of t) = (let s = ap operand_size eo in omega (arith, ei, en, s)) in
-    let f = operand_found old mid inner x o nodes h (λ a e. subst (λ i. HoldsSubtrees nodes i a) (sym ei) (holds_first nodes at t a (sym eo ∙ e) holds)) shares in
-    let g = operand_found mid last next y p nodes k (λ b e. subst (λ i. HoldsSubtrees nodes i b) (sym there) (holds_second nodes at t b (sym ep ∙ e) holds)) f.0 in
+-- what is known of an operand, where there is one
+record OperandDone (nodes : List Term) (old new : Sharing) (at : ℕ) (o : Option Term) (x : ℕ) : Type 0 where
+  grows : Grows nodes old new
+  done : (n : ℕ) → at ≤ n → n < at + operand_size o → IsDone nodes new n
+  is : (a : Term) → o ≡ Some a → IsFirst nodes a x
+
+operand_done : (nodes : List Term) (old new : Sharing) (at x : ℕ) (o : Option Term) → OperandShared old new at o x → HaveNumbers nodes old.roots.entries → ((a : Term) → o ≡ Some a → HoldsSubtrees nodes at a) → ((a : Term) → o ≡ Some a → AreDoneBefore nodes old at (size_of a)) → OperandDone nodes old new at o x
+operand_done nodes old new at x None e numbers holds before = record {
+  grows = record {
+    numbers = subst (λ s. HaveNumbers nodes s.roots.entries) (sym e) numbers;
+    kept = λ n done. subst (λ s. IsDone nodes s n) (sym e) done;
+  };
+  done = λ n ge lt. absurd (omega arith);
+  is = λ a h. absurd (cc);
+}
+operand_done nodes old new at x (Some t) shared numbers holds before =
+    let s = shared nodes (holds t refl) numbers (before t refl) in
+    record {
+      grows = s.grows;
+      done = s.done;
+      is = λ a h. (let same : t ≡ a = cc in subst (λ y. IsFirst nodes y x) same s.is);
+    }
+
+-- a tree is done behind its operands and its root
+pub share_more : (old mid last new : Sharing) (t : Term) (at next x y first : ℕ) (root : Root) → size_of t ≡ 1 + operand_size (first_of t) + operand_size (second_of t) → next ≡ at + 1 + operand_size (first_of t) → OperandShared old mid (at + 1) (first_of t) x → OperandShared mid last next (second_of t) y → ((nodes : List Term) → AreFirstOperands nodes t x y → IsRootOf nodes root t) → Rooted last new at root first → Shared old new at t first
+share_more old mid last new t at next x y first root sizes en h k made roots nodes holds numbers before =
     let here = holds_here nodes at t holds in
-    let known = rooted nodes (here ∙ sym (made nodes (λ a e. f.1 a (eo ∙ e), λ b e. g.1 b (ep ∙ e)))) g.0 in
-    (known.0, known.1 ∙ here)
+    let f = operand_done nodes old mid (at + 1) x (first_of t) h numbers (λ a e. holds_first nodes at t a e holds)
+    (λ a e. (let s = ap operand_size e in before_more nodes old at (at + 1) (size_of a) t here (omega (arith, sizes, s)) before (λ m ge lt. absurd (omega arith)))) in
+    let g = operand_done nodes mid last next y (second_of t) k f.grows.numbers (λ b e. subst (λ i. HoldsSubtrees nodes i b) (sym en) (holds_second nodes at t b e holds))
+    (λ b e. (let s = ap operand_size e in before_more nodes mid at next (size_of b) t here (omega (arith, sizes, s)) (λ m u lt get small. f.grows.kept m (before m u lt get small)) (λ m ge lt. f.done m ge (omega (arith, en))))) in
+    let r = roots nodes t here (made nodes (f.is, g.is)) g.grows.numbers (λ m u lt get small. g.grows.kept m (f.grows.kept m (before m u lt get small))) in
+    record {
+      grows = record { numbers = r.0.numbers; kept = λ n done. r.0.kept n (g.grows.kept n (f.grows.kept n done)) };
+      done = λ n ge lt. elim (cases_lt at n) [
+        | inr le ↦ (let e : at ≡ n = omega arith in subst (IsDone nodes new) e r.1)
+        | inl behind ↦ elim (cases_lt n next) [
+          | inl inner ↦ r.0.kept n (g.grows.kept n (f.done n (omega arith) (omega (arith, en))))
+          | inr outer ↦ r.0.kept n (g.done n outer (omega (arith, sizes, en)))
+        ]
+      ];
+      is = r.2;
+    }
+
+-- ---- all numbers
+
+pub address_done : (nodes : List Term) (old new : Sharing) (first : ℕ) (t : Term) → Shared old new 0 t first → HoldsSubtrees nodes 0 t → HaveNumbers nodes old.roots.entries → AreDoneBelow nodes new (0 + size_of t)
+address_done nodes old new first t shared holds numbers =
+    let s = shared nodes holds numbers (λ m u lt get small. absurd (omega arith)) in
+    record { numbers = s.grows.numbers; done = λ n lt. s.done n (omega arith) (omega arith) }
+
+pub all_done : (nodes : List Term) (old new : Sharing) (at first : ℕ) (t : Term) → AreDoneBelow nodes old at → Shared old new at t first → HoldsSubtrees nodes at t → length new.firsts.items ≡ at + size_of t → length nodes ≡ at + size_of t → AreFirstEqual nodes new.firsts.items
+all_done nodes old new at first t below shared holds len count =
+    let s = shared nodes holds below.numbers (λ m u lt get small. below.done m lt) in
+    record {
+      len = len ∙ sym count;
+      each = λ n f u got get. (
+          let within = slice_get_within nodes n u get in
+          let done : IsDone nodes new n = elim (cases_lt n at) [
+            | inl lt ↦ s.grows.kept n (below.done n lt)
+            | inr ge ↦ s.done n ge (omega (arith, count))
+          ] in
+          done.first f u got get);
+    }
+
+pub job_length : (destination : Destination) (t : Term) → length (job_nodes destination t) ≡ value_at destination 0 + size_of t
+job_length (stored address) t = let a = size_length address in let b = size_length t in omega (arith, a, b, length-append (subtrees address) (subtrees t))
+job_length (into id) t = let b = size_length t in omega (arith, b)
+job_length (cell address) t = let b = size_length t in omega (arith, b)
+job_length temporary t = let b = size_length t in omega (arith, b)
+job_length tested t = let b = size_length t in omega (arith, b)

@@ -1,5 +1,5 @@
 -- The numbered subtrees of a job, and which of them are equal.
-use Rattle.std.specs.Prelude.{ℕ, ◌≡◌, List, ◌++◌, Some, slice_get}
+use Rattle.std.specs.Prelude.{ℕ, ◌≡◌, ◌≤◌, List, ◌++◌, Some, length, slice_get}
 use Rattle.net_model.specs.Terms.{Term}
 use Rattle.form_model.specs.Rules.{Destination, into, cell, stored, temporary, tested}
 use Rattle.tree_grammar.specs.Numbers.{subtrees}
@@ -12,7 +12,12 @@ job_nodes (cell address) t = subtrees t
 job_nodes temporary t = subtrees t
 job_nodes tested t = subtrees t
 
--- each number has that of an equal tree
-pub record AreFirsts (nodes : List Term) (firsts : List ℕ) : Type 0 where
-  pub equal : (n f : ℕ) (t : Term) → slice_get firsts n ≡ Some f → slice_get nodes n ≡ Some t →
-      slice_get nodes f ≡ Some t
+-- the least number of a tree
+pub record IsFirst (nodes : List Term) (t : Term) (n : ℕ) : Type 0 where
+  pub at : slice_get nodes n ≡ Some t
+  pub least : (m : ℕ) → slice_get nodes m ≡ Some t → n ≤ m
+
+-- each number, and no other, has the least one of an equal tree
+pub record AreFirstEqual (nodes : List Term) (firsts : List ℕ) : Type 0 where
+  pub len : length firsts ≡ length nodes
+  pub each : (n f : ℕ) (t : Term) → slice_get firsts n ≡ Some f → slice_get nodes n ≡ Some t → IsFirst nodes t f

@@ -1,22 +1,25 @@
 //! Which of the subtrees of a job are equal.
 //!
-//! Promise: each number that `first_numbers` gives, and `first_equal` looks up, is that of an equal
-//! subtree (`AreFirsts`). That equal subtrees have one number is speed, of which no clause speaks.
-//! Those of a store's address come first (`job_nodes`), each numbered as `tree_grammar` does.
+//! Promise: `first_numbers` gives each number the least number of an equal subtree, and has one for
+//! each (`AreFirstEqual`); `first_equal` looks it up. Those of a store's address come first
+//! (`job_nodes`), each numbered as `tree_grammar` does.
 //!
-//! Invariant: `Shares` in `specs/Inner/Sharing`: each root that was met has the number of a subtree
-//! with that root. A root names its operands by the numbers of the first subtrees that equal them,
-//! so equal subtrees have one root, and none is compared with another as a tree.
+//! Invariant: `IsShared` in `specs/Inner/Sharing`. A root names its operands by their least numbers,
+//! so equal subtrees have one root, and none is compared with another as a tree. Each root that was
+//! met has the least number of its subtree, and so has each number whose subtree was met. A subtree
+//! is met behind those inside it, which have greater numbers: so of the subtrees before it in number
+//! only those around it aren't met, and none of these equals it, since they have more nodes.
 //!
 //! Files:
 //!
-//! - `sharing`: roots and their numbers, and what `first_numbers` answers.
+//! - `sharing`: roots and their numbers, and the two public functions.
 //! - `specs/Sharing`, cited by public contracts; `specs/Inner/`: `Entries` and `Sharing`, what the
 //!   functions here tell one another.
 //! - `proofs/`: `NodeLemmas`: behind each numbered subtree stand its own; `SharingLemmas`: equal
-//!   subtrees have one number; `EntryLemmas`: what holds of each entry of a map.
+//!   subtrees have one root, and its number is the least; `EntryLemmas`: what holds of each entry of
+//!   a map, and of some key.
 #![tactic(auto)]
 
 mod sharing;
 
-pub use sharing::{first_equal, first_numbers, plus};
+pub use sharing::{first_equal, first_numbers};

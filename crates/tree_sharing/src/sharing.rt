@@ -1,11 +1,11 @@
 //! Which of the numbered subtrees are equal.
 
-ghost use Rattle.std.specs.Prelude.{◌≡◌, ◌+◌, ℕ, IfOk, OnOk, List, Some, slice_get};
+ghost use Rattle.std.specs.Prelude.{◌≡◌, ◌+◌, ◌≤◌, ◌<◌, IfOk, OnOk, List, [], slice_index_or, vec_len};
 ghost use Rattle.net_model.specs.Terms.{Term, size_of};
 ghost use Rattle.form_model.specs.Trees.{tree_term};
-ghost use Rattle.tree_sharing.specs.Sharing.{AreFirsts, job_nodes};
+ghost use Rattle.tree_sharing.specs.Sharing.{AreFirstEqual, job_nodes};
 ghost use Rattle.tree_grammar.specs.Parts.{AddressStands, destination_at, value_at};
-ghost use Rattle.tree_sharing.specs.Inner.Sharing.{AreOwn, HaveNumbers, OperandShared, Rooted, Shared, Shares, first_of, operand_size, operand_term, root_term, second_of};
+ghost use Rattle.tree_sharing.specs.Inner.Sharing.{AreDoneBelow, AreFirstOperands, HaveNumbers, IsRootOf, MeetsFirst, OperandShared, Rooted, Shared, first_of, operand_size, operand_term, second_of};
 
 use form_model::Tree;
 use indexmap::IndexMap;
@@ -29,70 +29,46 @@ pub enum Root {
 /// What is known of equal subtrees.
 #[derive(Drop)]
 pub struct Sharing {
-    /// For each number that of the first equal subtree.
+    /// For each number that of the first equal subtree, and 0 where it isn't known yet.
     pub firsts: Vec<u64>,
     /// The number of the first subtree with a root.
     pub roots: IndexMap<Root, u64>,
 }
 
-// A subtree's number, or that of an equal one before it, and the number behind the subtree.
+// The number of the first subtree that equals a subtree, and the number behind the subtree.
 #[derive(Clone, Copy)]
 struct Numbered {
     first: u64,
     next: u64,
 }
 
-/// The sum, or want of memory where no list could be so long.
-pub fn plus(a: u64, b: u64) -> Result<u64, NoMemory>
-    ensures { IfOk result (λ c. c ≡ a + b) }
+// The number of the first subtree with the root, which is `at` where none was met.
+fn meet(roots: &mut IndexMap<Root, u64>, root: Root, at: u64) -> Result<u64, NoMemory>
+    ensures { IfOk result (λ first. MeetsFirst roots.old.entries roots.new.entries at root first) }
 {
-    match a.checked_add(b) {
-        Some(c) => Ok(c),
-        None => Err(NoMemory),
+    if let Some(known) = roots.get(&root) {
+        return Ok(*known);
     }
-}
-
-// Each number below `count` as that of its own subtree.
-fn own_numbers(alloc: Global, count: u64) -> Result<Vec<u64>, NoMemory>
-    ensures { IfOk result (λ v. AreOwn v.items) }
-{
-    let mut numbers = Vec::new(alloc);
-    for n in 0..count {
-        numbers.push(n)?;
-    }
-    Ok(numbers)
-}
-
-// Notes that the subtree of number `at` equals that of number `first`.
-fn set_first(firsts: &mut Vec<u64>, at: u64, first: u64)
-    ensures { (nodes : List Term) → slice_get nodes first ≡ slice_get nodes at →
-        AreFirsts nodes firsts.old.items →
-        AreFirsts nodes firsts.new.items }
-{
-    let i = at as usize;
-    if i < firsts.len() {
-        firsts[i] = first;
-    }
+    roots.insert(root, at)?;
+    Ok(at)
 }
 
 // The number of the first subtree with the root of the subtree of number `at`.
 fn first_with(sharing: &mut Sharing, root: Root, at: u64) -> Result<u64, NoMemory>
-    ensures { IfOk result (λ first. Rooted sharing.old sharing.new at root first) }
+    requires { at < vec_len sharing.old.firsts }
+    ensures len { vec_len sharing.new.firsts ≡ vec_len sharing.old.firsts }
+    ensures first { IfOk result (λ first. Rooted sharing.old sharing.new at root first) }
 {
-    if let Some(known) = sharing.roots.get(&root) {
-        let first = *known;
-        set_first(&mut sharing.firsts, at, first);
-        return Ok(first);
-    }
-    sharing.roots.insert(root, at)?;
-    Ok(at)
+    let first = meet(&mut sharing.roots, root, at)?;
+    sharing.firsts[at as usize] = first;
+    Ok(first)
 }
 
-// The root of a tree whose operands equal the subtrees of these numbers; the second is for an
-// operator of two operands alone.
+// The root of a tree whose operands have these first numbers; the second is for an operator of two
+// operands alone.
 fn root_of(tree: &Tree, first: u64, second: u64) -> Root
-    ensures { (nodes : List Term) → HaveNumbers nodes (tree_term tree.now) first second →
-        root_term nodes result ≡ Some (tree_term tree.now) }
+    ensures { (nodes : List Term) → AreFirstOperands nodes (tree_term tree.now) first second →
+        IsRootOf nodes result (tree_term tree.now) }
 {
     match tree {
         Tree::Lit { width, value } => Root::Lit {
@@ -135,11 +111,12 @@ fn second_operand(tree: &Tree) -> Option<&Tree>
 // before them.
 #[cycle(sharing)]
 fn share(sharing: &mut Sharing, tree: &Tree, at: u64) -> Result<Numbered, NoMemory>
+    requires { at + size_of (tree_term tree.now) ≤ vec_len sharing.old.firsts }
+    ensures len { vec_len sharing.new.firsts ≡ vec_len sharing.old.firsts }
     ensures next { IfOk result (λ n. n.next ≡ at + size_of (tree_term tree.now)) }
     ensures shared { IfOk result (λ n. Shared sharing.old sharing.new at (tree_term tree.now) n.first) }
 {
-    let inner = plus(at, 1)?;
-    let x = share_operand(sharing, first_operand(tree), inner)?;
+    let x = share_operand(sharing, first_operand(tree), at + 1)?;
     let y = share_operand(sharing, second_operand(tree), x.next)?;
     let first = first_with(sharing, root_of(tree, x.first, y.first), at)?;
     Ok(Numbered {
@@ -155,6 +132,8 @@ fn share_operand(
     operand: Option<&Tree>,
     at: u64,
 ) -> Result<Numbered, NoMemory>
+    requires { at + operand_size (operand_term operand) ≤ vec_len sharing.old.firsts }
+    ensures len { vec_len sharing.new.firsts ≡ vec_len sharing.old.firsts }
     ensures next { IfOk result (λ n. n.next ≡ at + operand_size (operand_term operand.entry)) }
     ensures shared { IfOk result (λ n. OperandShared sharing.old sharing.new at (operand_term operand.entry) n.first) }
 {
@@ -179,8 +158,11 @@ fn address_size(destination: Destination) -> Result<u64, NoMemory>
 
 // Finds the equal ones among the subtrees of a store's address.
 fn share_address(sharing: &mut Sharing, destination: Destination) -> Result<(), NoMemory>
-    ensures { OnOk result ((nodes : List Term) → AddressStands nodes 0 (destination_at destination.entry) →
-        Shares nodes sharing.old → Shares nodes sharing.new) }
+    requires { value_at (destination_at destination) 0 ≤ vec_len sharing.old.firsts }
+    ensures len { vec_len sharing.new.firsts ≡ vec_len sharing.old.firsts }
+    ensures done { OnOk result ((nodes : List Term) → AddressStands nodes 0 (destination_at destination.entry) →
+        HaveNumbers nodes sharing.old.roots.entries →
+        AreDoneBelow nodes sharing.new (value_at (destination_at destination.entry) 0)) }
 {
     match destination {
         Destination::Store(address) => {
@@ -199,42 +181,41 @@ fn share_all(
     tree: &Tree,
     at: u64,
 ) -> Result<(), NoMemory>
-    requires { at ≡ value_at (destination_at destination) 0 }
-    ensures { OnOk result (Shares (job_nodes (destination_at destination.entry) (tree_term tree.now)) sharing.old →
-        Shares (job_nodes (destination_at destination.entry) (tree_term tree.now)) sharing.new) }
+    requires at { at ≡ value_at (destination_at destination) 0 }
+    requires len { vec_len sharing.old.firsts ≡ at + size_of (tree_term tree.now) }
+    requires none { sharing.old.roots.entries ≡ [] }
+    ensures { OnOk result (AreFirstEqual (job_nodes (destination_at destination.entry) (tree_term tree.now))
+        sharing.new.firsts.items) }
 {
     share_address(sharing, destination)?;
     share(sharing, tree, at)?;
     Ok(())
 }
 
-/// For the number of each subtree, of a store's address and then of the tree, that of an equal one,
-/// which equal subtrees have in common.
+/// For the number of each subtree, of a store's address and then of the tree, the least number of
+/// an equal one.
 pub fn first_numbers(
     alloc: Global,
     destination: Destination,
     tree: &Tree,
 ) -> Result<Vec<u64>, NoMemory>
     ensures { IfOk result (λ firsts.
-        AreFirsts (job_nodes (destination_at destination.entry) (tree_term tree.now)) firsts.items) }
+        AreFirstEqual (job_nodes (destination_at destination.entry) (tree_term tree.now)) firsts.items) }
 {
     let at = address_size(destination)?;
-    let count = plus(at, tree_size(tree)?)?;
+    let count = at.checked_add(tree_size(tree)?).ok_or(NoMemory)?;
     let mut sharing = Sharing {
-        firsts: own_numbers(alloc, count)?,
+        firsts: vec![in alloc; 0; count as usize]?,
         roots: IndexMap::new(alloc),
     };
     share_all(&mut sharing, destination, tree, at)?;
     Ok(sharing.firsts)
 }
 
-/// The number of the first subtree that equals the one of this number.
+/// The least number of a subtree that equals the one of this number; a number past the list is its
+/// own.
 pub fn first_equal(firsts: &[u64], number: u64) -> u64
-    ensures { (nodes : List Term) (t : Term) → AreFirsts nodes firsts.now → slice_get nodes number ≡ Some t →
-        slice_get nodes result ≡ Some t }
+    ensures { result ≡ slice_index_or firsts.now number number }
 {
-    match firsts.get(number as usize) {
-        Some(first) => *first,
-        None => number,
-    }
+    firsts.get(number as usize).copied().unwrap_or(number)
 }

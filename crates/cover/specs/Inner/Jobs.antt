@@ -2,8 +2,7 @@
 use Rattle.std.specs.Prelude.{◌≡◌, List, [], ◌∷◌, ◌++◌, map, Some, slice_get}
 use Rattle.net_model.specs.Terms.{Term}
 use Rattle.form_model.specs.Trees.{tree_term}
-use Rattle.form_model.specs.Rules.{rules_of}
-use Rattle.form_model.specs.Covers.{Stock, Operand}
+use Rattle.form_model.specs.Covers.{Stock, Operand, stock_with}
 use Rattle.tree_sharing.specs.Sharing.{job_nodes}
 use Rattle.tree_grammar.specs.Parts.{destination_at}
 use Rattle.tree_grammar.specs.declared.parts.Part.{Part}
@@ -13,8 +12,9 @@ use Rattle.cover.specs.declared.table.Instance.{Instance}
 use Rattle.cover.specs.declared.parts.OpenOperand.{OpenOperand}
 use Rattle.cover.specs.declared.parts.OpenCut.{OpenCut}
 
-abbrev pub stock_of : Instance → Stock
-stock_of s = record { rules = rules_of s.forms.now; temps = s.temps }
+-- what an instance is to be covered by
+abbrev pub instance_stock : Instance → Stock
+instance_stock s = stock_with s.forms.now s.temps
 
 -- the numbered trees of an instance
 abbrev pub nodes_of : Instance → List Term

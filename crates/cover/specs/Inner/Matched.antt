@@ -14,7 +14,7 @@ use Rattle.cover.specs.declared.matches.FormMatch.{FormMatch}
 use Rattle.cover.specs.declared.matches.Matches.{Matches}
 use Rattle.cover.specs.Inner.Asks.{takes, rest}
 use Rattle.cover.specs.Inner.Rows.{Row, row_ask, IsSlot, goal_slot, IsOffer}
-use Rattle.cover.specs.Inner.Jobs.{stock_of, nodes_of, open_operands, open_cuts, OperandsAt, CutsAt}
+use Rattle.cover.specs.Inner.Jobs.{instance_stock, nodes_of, open_operands, open_cuts, OperandsAt, CutsAt}
 
 -- the form at k takes the tree for an entry of its row
 pub record Takes (stock : Stock) (t : Term) (whole : Bool) (k : ℕ) : Type 0 where
@@ -29,11 +29,11 @@ pub record Takes (stock : Stock) (t : Term) (whole : Bool) (k : ℕ) : Type 0 wh
 pub record IsFormMatch (instance : Instance) (t : Term) (whole : Bool) (m : FormMatch) : Type 0 where
   pub rule : Rule
   pub found : Found
-  pub listed : slice_get (stock_of instance).rules m.form ≡ Some rule
+  pub listed : slice_get (instance_stock instance).rules m.form ≡ Some rule
   pub clobbers : rule.clobbers ≡ m.clobbers
   pub goes : goal_slot rule.goal whole ≡ Some m.goal
   pub slot : IsSlot whole m.goal
-  pub takes_it : takes (stock_of instance) rule (row_ask t whole m.goal) ≡ Some found
+  pub takes_it : takes (instance_stock instance) rule (row_ask t whole m.goal) ≡ Some found
   pub start : m.start ≡ rest (size_of t) true found.sites
   pub register : IfSome m.start (λ q. (u : Term) (w : Bool) → found.sites ≡ operand q u w ∷ [] → q < 16)
   pub operands : open_operands m.operands.items ≡ operands_of found.sites
@@ -61,7 +61,7 @@ pub record IsOpened (parts : List Part) (number k entry clobbered : ℕ) (m : Fo
 
 -- whether the form at k matches
 abbrev pub MatchesForm : Instance → Term → Bool → ℕ → Option FormMatch → Type 0
-MatchesForm instance t whole k None = Takes (stock_of instance) t whole k → ⊥
+MatchesForm instance t whole k None = Takes (instance_stock instance) t whole k → ⊥
 MatchesForm instance t whole k (Some m) = IsFormMatch instance t whole m × (m.form ≡ k)
 
 abbrev pub with_match : List FormMatch → Option FormMatch → List FormMatch
@@ -78,7 +78,7 @@ pub record AreFirstMatches (instance : Instance) (t : Term) (whole : Bool) (n : 
     (list : List FormMatch) : Type 0 where
   pub each : (i : ℕ) (m : FormMatch) → slice_get list i ≡ Some m → IsFormMatch instance t whole m
   pub below : (i : ℕ) (m : FormMatch) → slice_get list i ≡ Some m → m.form < n
-  pub all : (k : ℕ) → k < n → Takes (stock_of instance) t whole k →
+  pub all : (k : ℕ) → k < n → Takes (instance_stock instance) t whole k →
       (i : ℕ) × (m : FormMatch) × (slice_get list i ≡ Some m) × (m.form ≡ k)
   pub ordered : (i j : ℕ) (m l : FormMatch) → i < j → slice_get list i ≡ Some m →
       slice_get list j ≡ Some l → m.form < l.form

@@ -9,9 +9,9 @@ use Rattle.cover.specs.declared.table.Instance.{Instance}
 use Rattle.cover.specs.declared.table.KeptRow.{KeptRow}
 use Rattle.cover.specs.declared.table.CostTable.{CostTable}
 use Rattle.cover.specs.declared.matches.Matches.{Matches}
-use Rattle.tree_sharing.specs.Sharing.{AreFirsts}
+use Rattle.tree_sharing.specs.Sharing.{AreFirstEqual}
 use Rattle.cover.specs.Inner.Rows.{IsLeastRow}
-use Rattle.cover.specs.Inner.Jobs.{stock_of, nodes_of}
+use Rattle.cover.specs.Inner.Jobs.{instance_stock, nodes_of}
 use Rattle.cover.specs.Inner.Matched.{AreMatches}
 
 abbrev pub IsAmong : {A : Type 0} → List A → A → Type 0
@@ -28,7 +28,7 @@ EachKept {A = A} P lists = (n : ℕ) (v : Vec A Global) (x : A) → slice_get li
 pub record IsKept (instance : Instance) (number : ℕ) (row : KeptRow) : Type 0 where
   pub len : length row.costs.items ≡ 17
   pub least : (t : Term) → slice_get (nodes_of instance) number ≡ Some t →
-      IsLeastRow (stock_of instance) row.avoid t row.whole row.costs.items
+      IsLeastRow (instance_stock instance) row.avoid t row.whole row.costs.items
 
 -- the matches are those of the tree of this number
 pub record HasMatches (instance : Instance) (number : ℕ) (shared : Rc Matches Global) : Type 0 where
@@ -37,6 +37,6 @@ pub record HasMatches (instance : Instance) (number : ℕ) (shared : Rc Matches 
 
 -- the numbers of equal trees are right, and so are all matches and each row that is kept
 pub record AreRight (instance : Instance) (table : CostTable) : Type 0 where
-  pub firsts : AreFirsts (nodes_of instance) table.firsts.items
+  pub firsts : AreFirstEqual (nodes_of instance) table.firsts.items
   pub matches : EachKept (HasMatches instance) table.matches.items
   pub rows : EachKept (IsKept instance) table.rows.items

@@ -1,56 +1,101 @@
--- Equal subtrees among numbered ones.
-use Rattle.std.specs.Prelude.{ℕ, ◌≡◌, List, Option, Some, None, slice_get}
-use Rattle.std.specs.Option.{option_map}
+-- Roots of trees among numbered ones, and what is known of the numbers on the way.
+use Rattle.std.specs.Prelude.{ℕ, ◌+◌, ◌<◌, ◌≤◌, ◌≡◌, List, Option, Some, None, slice_get}
 use Rattle.std.specs.Borrow.{Bor}
-use Rattle.rec_bits.specs.declared.operator.Op2.{Op2}
 use Rattle.net_model.specs.Terms.{Term, const, read, un, bin, slice, zext, sext, size_of}
 use Rattle.form_model.specs.Trees.{tree_term}
 use Rattle.form_model.specs.declared.trees.Tree.{Tree}
 use Rattle.tree_grammar.specs.Numbers.{HoldsSubtrees}
-use Rattle.tree_sharing.specs.Sharing.{AreFirsts}
-use Rattle.tree_sharing.specs.Inner.Entries.{EachEntry}
+use Rattle.tree_sharing.specs.Sharing.{IsFirst}
+use Rattle.tree_sharing.specs.Inner.Entries.{EachEntry, AnyKey}
 use Rattle.tree_sharing.specs.declared.sharing.Root.{Root}
 use Rattle.tree_sharing.specs.declared.sharing.Root.TheVariants.{Lit, Read, Un, Bin, Slice, Zext, Sext}
 use Rattle.tree_sharing.specs.declared.sharing.Sharing.{Sharing}
 
-abbrev pub bin_of : Op2 → Option Term → Option Term → Option Term
-bin_of op None b = None
-bin_of op (Some x) None = None
-bin_of op (Some x) (Some y) = Some (bin op x y)
+-- the root of a tree: its operator, with the least number of each operand
+abbrev pub IsRootOf : List Term → Root → Term → Type 0
+IsRootOf nodes root (const w v) = root ≡ Lit w v
+IsRootOf nodes root (read x w) = (a : ℕ) × IsFirst nodes x a × (root ≡ Read a w)
+IsRootOf nodes root (un op x) = (a : ℕ) × IsFirst nodes x a × (root ≡ Un op a)
+IsRootOf nodes root (bin op x y) =
+    (a : ℕ) × (b : ℕ) × IsFirst nodes x a × IsFirst nodes y b × (root ≡ Bin op a b)
+IsRootOf nodes root (slice x hi lo) = (a : ℕ) × IsFirst nodes x a × (root ≡ Slice a hi lo)
+IsRootOf nodes root (zext x w) = (a : ℕ) × IsFirst nodes x a × (root ≡ Zext a w)
+IsRootOf nodes root (sext x w) = (a : ℕ) × IsFirst nodes x a × (root ≡ Sext a w)
+IsRootOf nodes root _ = ⊥
 
--- the tree with a root, whose operands are the trees of the root's numbers
-abbrev pub root_term : List Term → Root → Option Term
-root_term nodes (Lit width value) = Some (const width value)
-root_term nodes (Read a w) = option_map (λ x. read x w) (slice_get nodes a)
-root_term nodes (Un op a) = option_map (λ x. un op x) (slice_get nodes a)
-root_term nodes (Bin op a b) = bin_of op (slice_get nodes a) (slice_get nodes b)
-root_term nodes (Slice a hi lo) = option_map (λ x. slice x hi lo) (slice_get nodes a)
-root_term nodes (Zext a w) = option_map (λ x. zext x w) (slice_get nodes a)
-root_term nodes (Sext a w) = option_map (λ x. sext x w) (slice_get nodes a)
+-- ---- the roots that were met, with their numbers
 
--- each number has itself
-abbrev pub AreOwn : List ℕ → Type 0
-AreOwn numbers = (n f : ℕ) → slice_get numbers n ≡ Some f → f ≡ n
+abbrev pub Roots : Type 0
+Roots = List (Root × ℕ)
 
--- a root has the number of the tree with that root
-abbrev pub HasNumber : List Term → Root → ℕ → Type 0
-HasNumber nodes root n = slice_get nodes n ≡ root_term nodes root
+-- a root has the least number of its tree
+pub record HasNumber (nodes : List Term) (root : Root) (n : ℕ) : Type 0 where
+  pub tree : Term
+  pub is : IsRootOf nodes root tree
+  pub first : IsFirst nodes tree n
 
-pub record Shares (nodes : List Term) (sharing : Sharing) : Type 0 where
-  pub firsts : AreFirsts nodes sharing.firsts.items
-  pub roots : EachEntry (HasNumber nodes) sharing.roots.entries
+abbrev pub HaveNumbers : List Term → Roots → Type 0
+HaveNumbers nodes roots = EachEntry (HasNumber nodes) roots
 
--- the number of a tree that equals the one of number `at`, which has this root
+-- the root of the tree is among them
+abbrev pub IsMet : List Term → Roots → Term → Type 0
+IsMet nodes roots t = AnyKey (λ root. IsRootOf nodes root t) roots
+
+-- the roots with that of a tree, whose least number this is
+pub record IsMetFirst (nodes : List Term) (old new : Roots) (t : Term) (first : ℕ) : Type 0 where
+  pub numbers : HaveNumbers nodes new
+  pub kept : (u : Term) → IsMet nodes old u → IsMet nodes new u
+  pub met : IsMet nodes new t
+  pub is : IsFirst nodes t first
+
+-- the same of the tree of number `at`, which has this root; no equal one stands before it but those
+-- that were met
+abbrev pub MeetsFirst : Roots → Roots → ℕ → Root → ℕ → Type 0
+MeetsFirst old new at root first =
+    (nodes : List Term) (t : Term) → slice_get nodes at ≡ Some t → IsRootOf nodes root t →
+    HaveNumbers nodes old → ((m : ℕ) → m < at → slice_get nodes m ≡ Some t → IsMet nodes old t) →
+    IsMetFirst nodes old new t first
+
+-- ---- what is known on the way
+
+-- the tree of the number was met, and the number has the least one of an equal tree
+pub record IsDone (nodes : List Term) (sharing : Sharing) (n : ℕ) : Type 0 where
+  pub met : (t : Term) → slice_get nodes n ≡ Some t → IsMet nodes sharing.roots.entries t
+  pub first : (f : ℕ) (t : Term) → slice_get sharing.firsts.items n ≡ Some f → slice_get nodes n ≡ Some t → IsFirst nodes t f
+
+-- all numbers before `at` are done but those of trees of more nodes, among them the trees around
+abbrev pub AreDoneBefore : List Term → Sharing → ℕ → ℕ → Type 0
+AreDoneBefore nodes sharing at size =
+    (m : ℕ) (t : Term) → m < at → slice_get nodes m ≡ Some t → size_of t ≤ size → IsDone nodes sharing m
+
+-- all numbers below `n` are done
+pub record AreDoneBelow (nodes : List Term) (sharing : Sharing) (n : ℕ) : Type 0 where
+  pub numbers : HaveNumbers nodes sharing.roots.entries
+  pub done : (m : ℕ) → m < n → IsDone nodes sharing m
+
+-- what is known stays known
+pub record Grows (nodes : List Term) (old new : Sharing) : Type 0 where
+  pub numbers : HaveNumbers nodes new.roots.entries
+  pub kept : (n : ℕ) → IsDone nodes old n → IsDone nodes new n
+
+-- the tree of number `at` is done, and this is its least number
+pub record IsShared (nodes : List Term) (old new : Sharing) (at : ℕ) (t : Term) (first : ℕ) : Type 0 where
+  pub grows : Grows nodes old new
+  pub done : (n : ℕ) → at ≤ n → n < at + size_of t → IsDone nodes new n
+  pub is : IsFirst nodes t first
+
+-- the number `at` is done, whose tree has this root, and this is the least number of the tree
 abbrev pub Rooted : Sharing → Sharing → ℕ → Root → ℕ → Type 0
 Rooted old new at root first =
-    (nodes : List Term) → slice_get nodes at ≡ root_term nodes root → Shares nodes old →
-    Shares nodes new × (slice_get nodes first ≡ slice_get nodes at)
+    (nodes : List Term) (t : Term) → slice_get nodes at ≡ Some t → IsRootOf nodes root t →
+    HaveNumbers nodes old.roots.entries → AreDoneBefore nodes old at (size_of t) →
+    Grows nodes old new × IsDone nodes new at × IsFirst nodes t first
 
--- the number of a tree that equals the one whose subtrees stand from `at` on
+-- the tree is done whose subtrees stand from `at` on
 abbrev pub Shared : Sharing → Sharing → ℕ → Term → ℕ → Type 0
 Shared old new at t first =
-    (nodes : List Term) → HoldsSubtrees nodes at t → Shares nodes old →
-    Shares nodes new × (slice_get nodes first ≡ Some t)
+    (nodes : List Term) → HoldsSubtrees nodes at t → HaveNumbers nodes old.roots.entries →
+    AreDoneBefore nodes old at (size_of t) → IsShared nodes old new at t first
 
 -- ---- operands
 
@@ -76,13 +121,13 @@ abbrev pub operand_size : Option Term → ℕ
 operand_size None = 0
 operand_size (Some t) = size_of t
 
--- the numbers are those of the tree's operands
-abbrev pub HaveNumbers : List Term → Term → ℕ → ℕ → Type 0
-HaveNumbers nodes t first second =
-    ((a : Term) → first_of t ≡ Some a → slice_get nodes first ≡ Some a)
-    × ((b : Term) → second_of t ≡ Some b → slice_get nodes second ≡ Some b)
+-- the least numbers of the tree's operands
+abbrev pub AreFirstOperands : List Term → Term → ℕ → ℕ → Type 0
+AreFirstOperands nodes t first second =
+    ((a : Term) → first_of t ≡ Some a → IsFirst nodes a first)
+    × ((b : Term) → second_of t ≡ Some b → IsFirst nodes b second)
 
--- the number of a tree that equals an operand, where there is one
+-- an operand is done, where there is one
 abbrev pub OperandShared : Sharing → Sharing → ℕ → Option Term → ℕ → Type 0
 OperandShared old new at None first = new ≡ old
 OperandShared old new at (Some t) first = Shared old new at t first

@@ -8,7 +8,7 @@ use Rattle.form_model.specs.Covers.{Operand}
 use Rattle.form_model.specs.declared.covers.Cover.{Cover}
 use Rattle.cover.specs.Inner.Asks.{operand_ask, with_reg}
 use Rattle.cover.specs.Inner.Least.{IsLeast, IsLeastOrder}
-use Rattle.cover.specs.Inner.Jobs.{stock_of, nodes_of, open_operand, open_operands, open_cuts, OperandsAt}
+use Rattle.cover.specs.Inner.Jobs.{instance_stock, nodes_of, open_operand, open_operands, open_cuts, OperandsAt}
 use Rattle.cover.specs.declared.matches.FormMatch.{FormMatch}
 use Rattle.cover.specs.declared.matches.Matches.{Matches}
 use Rattle.cover.specs.Inner.Least.{IsLeastCut}
@@ -32,7 +32,7 @@ choose_entry-choose_among-requires t c =
       (
         subst (λ w. IsSlot w c.args.slot) (sym ew) c.requires.slot,
         (
-          subst (λ x. IsLeast (stock_of c.args.instance.now) c.args.avoid x (Some c.args.n)) (sym ask) c.requires.least,
+          subst (λ x. IsLeast (instance_stock c.args.instance.now) c.args.avoid x (Some c.args.n)) (sym ask) c.requires.least,
           (subst (AreMatches c.args.instance.now) (sym e) c.in_ok-matches.ensures.matches, c.in_ok-matches.ensures.right),
         ),
       ),
@@ -44,30 +44,30 @@ choose_entry-returns-clause-first t c =
     let et : tree_term c.deref.result.now.tree.now ≡ tree_term c.args.tree.now = ap (λ (ms : Matches). tree_term ms.tree.now) e ∙ c.in_ok-matches.ensures.tree in
     let ew : c.deref.result.now.whole ≡ c.args.whole = ap (λ (ms : Matches). ms.whole) e ∙ c.in_ok-matches.ensures.whole in
     let ask = ap (λ u. row_ask u c.deref.result.now.whole c.args.slot) et ∙ ap (λ w. row_ask (tree_term c.args.tree.now) w c.args.slot) ew in
-    IfOk-weaker c.choose_among.result (λ (x : Cover). IsFirst (stock_of c.args.instance.now) c.args.avoid (matches_ask c.deref.result.now c.args.slot) (plan_of x)) (λ (x : Cover). IsFirst (stock_of c.args.instance.now) c.args.avoid (row_ask (tree_term c.args.tree.now) c.args.whole c.args.slot) (plan_of x))
-    (λ x first. subst (λ a. IsFirst (stock_of c.args.instance.now) c.args.avoid a (plan_of x)) ask first) c.choose_among.ensures.first
+    IfOk-weaker c.choose_among.result (λ (x : Cover). IsFirst (instance_stock c.args.instance.now) c.args.avoid (matches_ask c.deref.result.now c.args.slot) (plan_of x)) (λ (x : Cover). IsFirst (instance_stock c.args.instance.now) c.args.avoid (row_ask (tree_term c.args.tree.now) c.args.whole c.args.slot) (plan_of x))
+    (λ x first. subst (λ a. IsFirst (instance_stock c.args.instance.now) c.args.avoid a (plan_of x)) ask first) c.choose_among.ensures.first
 
 pub choose_among-returns-in-Some-clause-first : goal.choose_among-returns-in-Some-clause-first
 choose_among-returns-in-Some-clause-first t c =
     let m : FormMatch = c.index-found.result.now in
     let lt : c.loop-i.i < length c.args.matches.now.list.items = search rules in
     let got : slice_get c.args.matches.now.list.items c.loop-i.i ≡ Some m = slice_get_read _ _ _ _ refl lt c.index-found.ensures in
-    let b : BeginsAt (stock_of c.args.instance.now) c.args.avoid c.args.matches.now c.args.slot c.args.n c.loop-i.i (Some c.in-Some.costs) =
-    subst (λ o. BeginsAt (stock_of c.args.instance.now) c.args.avoid c.args.matches.now c.args.slot c.args.n c.loop-i.i o) c.in-Some.is c.in_ok-costs.ensures.begins in
+    let b : BeginsAt (instance_stock c.args.instance.now) c.args.avoid c.args.matches.now c.args.slot c.args.n c.loop-i.i (Some c.in-Some.costs) =
+    subst (λ o. BeginsAt (instance_stock c.args.instance.now) c.args.avoid c.args.matches.now c.args.slot c.args.n c.loop-i.i o) c.in-Some.is c.in_ok-costs.ensures.begins in
     let fits = b m got in
-    IfOk-weaker c.choose_parts.result (λ (x : Cover). AreFirstParts (stock_of c.args.instance.now) c.args.avoid (open_operands c.deref.result.now) (open_cuts c.deref-in-Some.result.now) m.form x) (λ (x : Cover). IsFirst (stock_of c.args.instance.now) c.args.avoid (matches_ask c.args.matches.now c.args.slot) (plan_of x))
+    IfOk-weaker c.choose_parts.result (λ (x : Cover). AreFirstParts (instance_stock c.args.instance.now) c.args.avoid (open_operands c.deref.result.now) (open_cuts c.deref-in-Some.result.now) m.form x) (λ (x : Cover). IsFirst (instance_stock c.args.instance.now) c.args.avoid (matches_ask c.args.matches.now c.args.slot) (plan_of x))
     (λ x first.
-    subst (λ k. IsFirst (stock_of c.args.instance.now) c.args.avoid (matches_ask c.args.matches.now c.args.slot) (use_form k (operands_plan x.operands) (cuts_plan x.cuts))) (sym first.0)
-    (first_by_form (stock_of c.args.instance.now) c.args.avoid (matches_ask c.args.matches.now c.args.slot) c.args.n c.requires.least m.form _ _ _ _ _ _
+    subst (λ k. IsFirst (instance_stock c.args.instance.now) c.args.avoid (matches_ask c.args.matches.now c.args.slot) (use_form k (operands_plan x.operands) (cuts_plan x.cuts))) (sym first.0)
+    (first_by_form (instance_stock c.args.instance.now) c.args.avoid (matches_ask c.args.matches.now c.args.slot) c.args.n c.requires.least m.form _ _ _ _ _ _
     (never_before c.args.instance.now c.args.avoid (tree_term c.args.matches.now.tree.now) c.args.matches.now.whole c.args.slot c.args.n c.args.matches.now.list.items c.requires.slot c.requires.matches c.loop-i.i m got c.loop-i.invariant.never)
     fits.0 fits.1
-    (subst (λ l. IsFirstOrder (stock_of c.args.instance.now) c.args.avoid (open_operands l) (operands_plan x.operands)) c.deref.ensures.value first.1)
-    (subst (λ l. IsFirstCuts (stock_of c.args.instance.now) (open_cuts l) (cuts_plan x.cuts)) c.deref-in-Some.ensures.value first.2))) c.choose_parts.ensures.first
+    (subst (λ l. IsFirstOrder (instance_stock c.args.instance.now) c.args.avoid (open_operands l) (operands_plan x.operands)) c.deref.ensures.value first.1)
+    (subst (λ l. IsFirstCuts (instance_stock c.args.instance.now) (open_cuts l) (cuts_plan x.cuts)) c.deref-in-Some.ensures.value first.2))) c.choose_parts.ensures.first
 
 pub choose_among-loop-i-preserved : goal.choose_among-loop-i-preserved
 choose_among-loop-i-preserved t c = record {
-  never = matches_later (NeverBegins (stock_of c.args.instance.now) c.args.avoid (matches_ask c.args.matches.now c.args.slot) c.args.n) c.args.matches.now.list.items c.loop-i.i c.loop-i.invariant.never
-      (subst (λ o. BeginsAt (stock_of c.args.instance.now) c.args.avoid c.args.matches.now c.args.slot c.args.n c.loop-i.i o) c.in_default.is c.in_ok-costs.ensures.begins);
+  never = matches_later (NeverBegins (instance_stock c.args.instance.now) c.args.avoid (matches_ask c.args.matches.now c.args.slot) c.args.n) c.args.matches.now.list.items c.loop-i.i c.loop-i.invariant.never
+      (subst (λ o. BeginsAt (instance_stock c.args.instance.now) c.args.avoid c.args.matches.now c.args.slot c.args.n c.loop-i.i o) c.in_default.is c.in_ok-costs.ensures.begins);
   right = c.in_ok-costs.ensures.right;
 }
 
@@ -82,14 +82,14 @@ choose_among-choose_parts-requires t c =
     let m : FormMatch = c.index-found.result.now in
     let lt : c.loop-i.i < length c.args.matches.now.list.items = search rules in
     let got : slice_get c.args.matches.now.list.items c.loop-i.i ≡ Some m = slice_get_read _ _ _ _ refl lt c.index-found.ensures in
-    let b : BeginsAt (stock_of c.args.instance.now) c.args.avoid c.args.matches.now c.args.slot c.args.n c.loop-i.i (Some c.in-Some.costs) =
-    subst (λ o. BeginsAt (stock_of c.args.instance.now) c.args.avoid c.args.matches.now c.args.slot c.args.n c.loop-i.i o) c.in-Some.is c.in_ok-costs.ensures.begins in
+    let b : BeginsAt (instance_stock c.args.instance.now) c.args.avoid c.args.matches.now c.args.slot c.args.n c.loop-i.i (Some c.in-Some.costs) =
+    subst (λ o. BeginsAt (instance_stock c.args.instance.now) c.args.avoid c.args.matches.now c.args.slot c.args.n c.loop-i.i o) c.in-Some.is c.in_ok-costs.ensures.begins in
     let fits = b m got in (
       (let sum = fits.1 in omega (arith, sum, c.decreases)),
       (
-        subst (λ l. IsLeastOrder (stock_of c.args.instance.now) c.args.avoid (open_operands l) (Some c.in-Some.costs.operands)) (sym c.deref.ensures.value) fits.0.order,
+        subst (λ l. IsLeastOrder (instance_stock c.args.instance.now) c.args.avoid (open_operands l) (Some c.in-Some.costs.operands)) (sym c.deref.ensures.value) fits.0.order,
         (
-          subst (λ l. IsLeastCut (stock_of c.args.instance.now) (open_cuts l) (Some c.in-Some.costs.cuts)) (sym c.deref-in-Some.ensures.value) fits.0.cut,
+          subst (λ l. IsLeastCut (instance_stock c.args.instance.now) (open_cuts l) (Some c.in-Some.costs.cuts)) (sym c.deref-in-Some.ensures.value) fits.0.cut,
           (
             subst (OperandsAt (nodes_of c.args.instance.now)) (sym c.deref.ensures.value) (c.requires.matches.each c.loop-i.i m got).operands_at,
             (subst (CutsAt (nodes_of c.args.instance.now)) (sym c.deref-in-Some.ensures.value) (c.requires.matches.each c.loop-i.i m got).cuts_at, c.in_ok-costs.ensures.right),
@@ -115,26 +115,26 @@ choose_cuts-choose_entry-requires t c =
     let some : 0 < length c.args.cuts.now = search rules in
     let got = slice_get_read _ _ _ _ refl some c.index-cuts-0.is in
     let e = stored_split c.args.cuts.now c.index-cuts-0.result got in
-    let s = subst (λ l. StartsCut (stock_of c.args.instance.now) l c.args.n c.in_ok-m.m) e c.in_ok-m.ensures.starts in
+    let s = subst (λ l. StartsCut (instance_stock c.args.instance.now) l c.args.n c.in_ok-m.m) e c.in_ok-m.ensures.starts in
     (omega (arith, s.1, c.decreases), (cut_slot, (s.2, (stored_first _ c.args.cuts.now _ c.requires.at got, c.in_ok-m.ensures.right))))
 
 pub choose_order-returns-in-Some-clause-first : goal.choose_order-returns-in-Some-clause-first
 choose_order-returns-in-Some-clause-first t c =
-    let s : Starts (stock_of c.args.instance.now) c.args.avoid (open_operands c.args.ops.now) c.args.n c.loop-i.i (Some c.in-Some.m) =
-    subst (λ o. Starts (stock_of c.args.instance.now) c.args.avoid (open_operands c.args.ops.now) c.args.n c.loop-i.i o) c.in-Some.is c.in_ok-m.ensures.starts in
-    IfOk-weaker c.order_from.result (λ x. IsFirstFrom (stock_of c.args.instance.now) c.args.avoid (open_operands c.args.ops.now) c.loop-i.i (operands_plan x)) (λ x. IsFirstOrder (stock_of c.args.instance.now) c.args.avoid (open_operands c.args.ops.now) (operands_plan x))
+    let s : Starts (instance_stock c.args.instance.now) c.args.avoid (open_operands c.args.ops.now) c.args.n c.loop-i.i (Some c.in-Some.m) =
+    subst (λ o. Starts (instance_stock c.args.instance.now) c.args.avoid (open_operands c.args.ops.now) c.args.n c.loop-i.i o) c.in-Some.is c.in_ok-m.ensures.starts in
+    IfOk-weaker c.order_from.result (λ x. IsFirstFrom (instance_stock c.args.instance.now) c.args.avoid (open_operands c.args.ops.now) c.loop-i.i (operands_plan x)) (λ x. IsFirstOrder (instance_stock c.args.instance.now) c.args.avoid (open_operands c.args.ops.now) (operands_plan x))
     (λ x first.
     let same : s.0 ≡ first.0 = (let g = s.1 in let h = first.3 in cc) in
-    let la : IsLeast (stock_of c.args.instance.now) c.args.avoid (operand_ask first.0) (Some c.in-Some.m) = subst (λ y. IsLeast (stock_of c.args.instance.now) c.args.avoid (operand_ask y) (Some c.in-Some.m)) same s.4 in
-    let lb : IsLeastOrder (stock_of c.args.instance.now) (with_reg c.args.avoid first.0.id) (remove (open_operands c.args.ops.now) c.loop-i.i) (Some (c.args.n - c.in-Some.m)) =
-    subst (λ (y : Operand). IsLeastOrder (stock_of c.args.instance.now) (with_reg c.args.avoid y.id) (remove (open_operands c.args.ops.now) c.loop-i.i) (Some (c.args.n - c.in-Some.m))) same s.5 in
-    subst (IsFirstOrder (stock_of c.args.instance.now) c.args.avoid (open_operands c.args.ops.now)) (sym first.6)
-    (first_by_operand (stock_of c.args.instance.now) c.args.avoid (open_operands c.args.ops.now) c.args.n c.requires.least c.loop-i.i c.in-Some.m first.0 first.1 first.2 c.loop-i.invariant.never first.3 s.3 la lb first.4 first.5)) c.order_from.ensures.first
+    let la : IsLeast (instance_stock c.args.instance.now) c.args.avoid (operand_ask first.0) (Some c.in-Some.m) = subst (λ y. IsLeast (instance_stock c.args.instance.now) c.args.avoid (operand_ask y) (Some c.in-Some.m)) same s.4 in
+    let lb : IsLeastOrder (instance_stock c.args.instance.now) (with_reg c.args.avoid first.0.id) (remove (open_operands c.args.ops.now) c.loop-i.i) (Some (c.args.n - c.in-Some.m)) =
+    subst (λ (y : Operand). IsLeastOrder (instance_stock c.args.instance.now) (with_reg c.args.avoid y.id) (remove (open_operands c.args.ops.now) c.loop-i.i) (Some (c.args.n - c.in-Some.m))) same s.5 in
+    subst (IsFirstOrder (instance_stock c.args.instance.now) c.args.avoid (open_operands c.args.ops.now)) (sym first.6)
+    (first_by_operand (instance_stock c.args.instance.now) c.args.avoid (open_operands c.args.ops.now) c.args.n c.requires.least c.loop-i.i c.in-Some.m first.0 first.1 first.2 c.loop-i.invariant.never first.3 s.3 la lb first.4 first.5)) c.order_from.ensures.first
 
 pub choose_order-loop-i-preserved : goal.choose_order-loop-i-preserved
 choose_order-loop-i-preserved t c = record {
-  never = operands_later (stock_of c.args.instance.now) c.args.avoid (open_operands c.args.ops.now) c.args.n c.loop-i.i c.loop-i.invariant.never
-      (subst (λ o. Starts (stock_of c.args.instance.now) c.args.avoid (open_operands c.args.ops.now) c.args.n c.loop-i.i o) c.in_default.is c.in_ok-m.ensures.starts);
+  never = operands_later (instance_stock c.args.instance.now) c.args.avoid (open_operands c.args.ops.now) c.args.n c.loop-i.i c.loop-i.invariant.never
+      (subst (λ o. Starts (instance_stock c.args.instance.now) c.args.avoid (open_operands c.args.ops.now) c.args.n c.loop-i.i o) c.in_default.is c.in_ok-m.ensures.starts);
   right = c.in_ok-m.ensures.right;
 }
 
@@ -142,13 +142,13 @@ pub choose_order-unreachable-requires : goal.choose_order-unreachable-requires
 choose_order-unreachable-requires t c =
     let some : 0 < length c.args.ops.now = search rules in
     let n = length_inputs c.args.ops.now in
-    order_exists (stock_of c.args.instance.now) c.args.avoid (open_operands c.args.ops.now) c.args.n c.requires.least (omega (arith, some, n))
+    order_exists (instance_stock c.args.instance.now) c.args.avoid (open_operands c.args.ops.now) c.args.n c.requires.least (omega (arith, some, n))
     (λ j p ps lt. c.loop-i.invariant.never j p ps (omega (arith, lt, n, c.loop-i-test.false)))
 
 pub choose_order-order_from-requires : goal.choose_order-order_from-requires
 choose_order-order_from-requires t c =
-    let s : Starts (stock_of c.args.instance.now) c.args.avoid (open_operands c.args.ops.now) c.args.n c.loop-i.i (Some c.in-Some.m) =
-    subst (λ o. Starts (stock_of c.args.instance.now) c.args.avoid (open_operands c.args.ops.now) c.args.n c.loop-i.i o) c.in-Some.is c.in_ok-m.ensures.starts in (omega (arith, c.decreases), (c.loop-i-test.true, (s, (c.requires.at, c.in_ok-m.ensures.right))))
+    let s : Starts (instance_stock c.args.instance.now) c.args.avoid (open_operands c.args.ops.now) c.args.n c.loop-i.i (Some c.in-Some.m) =
+    subst (λ o. Starts (instance_stock c.args.instance.now) c.args.avoid (open_operands c.args.ops.now) c.args.n c.loop-i.i o) c.in-Some.is c.in_ok-m.ensures.starts in (omega (arith, c.decreases), (c.loop-i-test.true, (s, (c.requires.at, c.in_ok-m.ensures.right))))
 
 pub order_from-choose_entry-requires : goal.order_from-choose_entry-requires
 order_from-choose_entry-requires t c =
@@ -161,7 +161,7 @@ order_from-choose_entry-requires t c =
       (
         register_slot _ _ _ c.in_ok-slot.ensures,
         (
-          subst (λ x. IsLeast (stock_of c.args.instance.now) c.args.avoid x (Some c.args.m)) (sym ask) (subst (λ x. IsLeast (stock_of c.args.instance.now) c.args.avoid (operand_ask x) (Some c.args.m)) same s.4),
+          subst (λ x. IsLeast (instance_stock c.args.instance.now) c.args.avoid x (Some c.args.m)) (sym ask) (subst (λ x. IsLeast (instance_stock c.args.instance.now) c.args.avoid (operand_ask x) (Some c.args.m)) same s.4),
           (input_get _ _ c.args.i _ c.requires.at got, c.requires.right),
         ),
       ),
@@ -173,13 +173,13 @@ order_from-order_without-requires t c =
     let get = inputs_at c.args.ops.now c.args.i c.index-ops-i.result got in
     let s = c.requires.starts in
     let same : s.0 ≡ open_operand c.index-ops-i.result = (let g = s.1 in cc) in
-    let others : IsLeastOrder (stock_of c.args.instance.now) (with_reg c.args.avoid c.index-ops-i.result.id) (remove (open_operands c.args.ops.now) c.args.i) (Some (c.args.n - c.args.m)) =
-    subst (λ (x : Operand). IsLeastOrder (stock_of c.args.instance.now) (with_reg c.args.avoid x.id) (remove (open_operands c.args.ops.now) c.args.i) (Some (c.args.n - c.args.m))) same s.5 in (
+    let others : IsLeastOrder (instance_stock c.args.instance.now) (with_reg c.args.avoid c.index-ops-i.result.id) (remove (open_operands c.args.ops.now) c.args.i) (Some (c.args.n - c.args.m)) =
+    subst (λ (x : Operand). IsLeastOrder (instance_stock c.args.instance.now) (with_reg c.args.avoid x.id) (remove (open_operands c.args.ops.now) c.args.i) (Some (c.args.n - c.args.m))) same s.5 in (
       omega (arith, s.2, s.3, c.decreases),
       (
         c.requires.place,
         (
-          subst (λ r. IsLeastOrder (stock_of c.args.instance.now) r (remove (open_operands c.args.ops.now) c.args.i) (Some (c.args.n - c.args.m))) (sym c.in_ok-later.ensures) others,
+          subst (λ r. IsLeastOrder (instance_stock c.args.instance.now) r (remove (open_operands c.args.ops.now) c.args.i) (Some (c.args.n - c.args.m))) (sym c.in_ok-later.ensures) others,
           (c.requires.at, c.in_ok-here.ensures.right),
         ),
       ),
@@ -190,10 +190,10 @@ order_from-returns-clause-first t c =
     let got = slice_get_read _ _ _ _ refl c.requires.place c.index-ops-i.is in
     let get = inputs_at c.args.ops.now c.args.i c.index-ops-i.result got in
     let ask = register_ask c.in_ok-slot.slot (tree_term c.index-ops-i.result.tree.now) c.index-ops-i.result.whole (open_operand c.index-ops-i.result) c.in_ok-slot.ensures refl refl in
-    let here = subst (λ x. IsFirst (stock_of c.args.instance.now) c.args.avoid x (plan_of c.in_ok-here.here)) ask c.in_ok-here.ensures.first in
-    let others : IsFirstOrder (stock_of c.args.instance.now) (with_reg c.args.avoid c.index-ops-i.result.id) (remove (open_operands c.args.ops.now) c.args.i) (operands_plan c.in_ok-others.others) =
-    subst (λ r. IsFirstOrder (stock_of c.args.instance.now) r (remove (open_operands c.args.ops.now) c.args.i) (operands_plan c.in_ok-others.others)) c.in_ok-later.ensures c.in_ok-others.ensures.first in
-    IfOk-weaker c.operand_first.result (λ x. operands_plan x ≡ operand_then c.args.i (plan_of c.in_ok-here.here) (operands_plan c.in_ok-others.others)) (λ x. IsFirstFrom (stock_of c.args.instance.now) c.args.avoid (open_operands c.args.ops.now) c.args.i (operands_plan x))
+    let here = subst (λ x. IsFirst (instance_stock c.args.instance.now) c.args.avoid x (plan_of c.in_ok-here.here)) ask c.in_ok-here.ensures.first in
+    let others : IsFirstOrder (instance_stock c.args.instance.now) (with_reg c.args.avoid c.index-ops-i.result.id) (remove (open_operands c.args.ops.now) c.args.i) (operands_plan c.in_ok-others.others) =
+    subst (λ r. IsFirstOrder (instance_stock c.args.instance.now) r (remove (open_operands c.args.ops.now) c.args.i) (operands_plan c.in_ok-others.others)) c.in_ok-later.ensures c.in_ok-others.ensures.first in
+    IfOk-weaker c.operand_first.result (λ x. operands_plan x ≡ operand_then c.args.i (plan_of c.in_ok-here.here) (operands_plan c.in_ok-others.others)) (λ x. IsFirstFrom (instance_stock c.args.instance.now) c.args.avoid (open_operands c.args.ops.now) c.args.i (operands_plan x))
     (λ x is. (open_operand c.index-ops-i.result, plan_of c.in_ok-here.here, operands_plan c.in_ok-others.others, get, here, others, is)) c.operand_first.ensures
 
 pub order_without-choose_order-requires : goal.order_without-choose_order-requires
@@ -202,7 +202,7 @@ order_without-choose_order-requires t c =
     let e : open_operands c.deref.result.now ≡ remove (open_operands c.args.ops.now) c.args.i = ap open_operands d ∙ inputs_without c.args.ops.now c.args.i in (
       omega (arith, c.decreases),
       (
-        subst (λ xs. IsLeastOrder (stock_of c.args.instance.now) c.args.avoid xs (Some c.args.n)) (sym e) c.requires.least,
+        subst (λ xs. IsLeastOrder (instance_stock c.args.instance.now) c.args.avoid xs (Some c.args.n)) (sym e) c.requires.least,
         (subst (OperandsAt (nodes_of c.args.instance.now)) (sym d) (inputs_remove (nodes_of c.args.instance.now) c.args.ops.now c.args.i c.requires.at), c.requires.right),
       ),
     )
@@ -211,8 +211,8 @@ pub order_without-returns-clause-first : goal.order_without-returns-clause-first
 order_without-returns-clause-first t c =
     let d : c.deref.result.now ≡ remove c.args.ops.now c.args.i = c.deref.ensures.value ∙ c.in_ok-rest.ensures in
     let e : open_operands c.deref.result.now ≡ remove (open_operands c.args.ops.now) c.args.i = ap open_operands d ∙ inputs_without c.args.ops.now c.args.i in
-    IfOk-weaker c.choose_order.result (λ x. IsFirstOrder (stock_of c.args.instance.now) c.args.avoid (open_operands c.deref.result.now) (operands_plan x)) (λ x. IsFirstOrder (stock_of c.args.instance.now) c.args.avoid (remove (open_operands c.args.ops.now) c.args.i) (operands_plan x))
-    (λ x first. subst (λ xs. IsFirstOrder (stock_of c.args.instance.now) c.args.avoid xs (operands_plan x)) e first) c.choose_order.ensures.first
+    IfOk-weaker c.choose_order.result (λ x. IsFirstOrder (instance_stock c.args.instance.now) c.args.avoid (open_operands c.deref.result.now) (operands_plan x)) (λ x. IsFirstOrder (instance_stock c.args.instance.now) c.args.avoid (remove (open_operands c.args.ops.now) c.args.i) (operands_plan x))
+    (λ x first. subst (λ xs. IsFirstOrder (instance_stock c.args.instance.now) c.args.avoid xs (operands_plan x)) e first) c.choose_order.ensures.first
 
 pub choose_order-returns-then-is_empty-clause-first : goal.choose_order-returns-then-is_empty-clause-first
 choose_order-returns-then-is_empty-clause-first t c = empty_first _ _ _ (let n : length c.args.ops.now ≡ 0 = search rules in no_inputs c.args.ops.now n)
@@ -222,10 +222,10 @@ choose_cuts-choose_cuts-requires t c =
     let some : 0 < length c.args.cuts.now = search rules in
     let got = slice_get_read _ _ _ _ refl some c.index-cuts-0.is in
     let e = stored_split c.args.cuts.now c.index-cuts-0.result got in
-    let s = subst (λ l. StartsCut (stock_of c.args.instance.now) l c.args.n c.in_ok-m.m) e c.in_ok-m.ensures.starts in (
+    let s = subst (λ l. StartsCut (instance_stock c.args.instance.now) l c.args.n c.in_ok-m.m) e c.in_ok-m.ensures.starts in (
       omega (arith, s.0, s.1, c.decreases),
       (
-        subst (λ l. IsLeastCut (stock_of c.args.instance.now) (open_cuts l) (Some (c.args.n - c.in_ok-m.m))) (sym (tail_is c.args.cuts.now)) s.3,
+        subst (λ l. IsLeastCut (instance_stock c.args.instance.now) (open_cuts l) (Some (c.args.n - c.in_ok-m.m))) (sym (tail_is c.args.cuts.now)) s.3,
         (subst (CutsAt (nodes_of c.args.instance.now)) (sym (tail_is c.args.cuts.now)) (stored_later (nodes_of c.args.instance.now) c.args.cuts.now c.requires.at), c.in_ok-here.ensures.right),
       ),
     )
@@ -235,9 +235,9 @@ choose_cuts-returns-clause-first t c =
     let some : 0 < length c.args.cuts.now = search rules in
     let got = slice_get_read _ _ _ _ refl some c.index-cuts-0.is in
     let e = stored_split c.args.cuts.now c.index-cuts-0.result got in
-    let s = subst (λ l. StartsCut (stock_of c.args.instance.now) l c.args.n c.in_ok-m.m) e c.in_ok-m.ensures.starts in
-    let later = subst (λ l. IsFirstCuts (stock_of c.args.instance.now) (open_cuts l) (cuts_plan c.in_ok-later.later)) (tail_is c.args.cuts.now) c.in_ok-later.ensures.first in
-    IfOk-weaker c.cut_first.result (λ x. cuts_plan x ≡ cut_then (plan_of c.in_ok-here.here) (cuts_plan c.in_ok-later.later)) (λ x. IsFirstCuts (stock_of c.args.instance.now) (open_cuts c.args.cuts.now) (cuts_plan x))
-    (λ x is. subst (IsFirstCuts (stock_of c.args.instance.now) (open_cuts c.args.cuts.now)) (sym is)
-    (subst (λ l. IsFirstCuts (stock_of c.args.instance.now) l (cut_then (plan_of c.in_ok-here.here) (cuts_plan c.in_ok-later.later))) (sym e)
-    (first_by_cut (stock_of c.args.instance.now) _ _ c.args.n c.in_ok-m.m _ _ s c.in_ok-here.ensures.first later))) c.cut_first.ensures
+    let s = subst (λ l. StartsCut (instance_stock c.args.instance.now) l c.args.n c.in_ok-m.m) e c.in_ok-m.ensures.starts in
+    let later = subst (λ l. IsFirstCuts (instance_stock c.args.instance.now) (open_cuts l) (cuts_plan c.in_ok-later.later)) (tail_is c.args.cuts.now) c.in_ok-later.ensures.first in
+    IfOk-weaker c.cut_first.result (λ x. cuts_plan x ≡ cut_then (plan_of c.in_ok-here.here) (cuts_plan c.in_ok-later.later)) (λ x. IsFirstCuts (instance_stock c.args.instance.now) (open_cuts c.args.cuts.now) (cuts_plan x))
+    (λ x is. subst (IsFirstCuts (instance_stock c.args.instance.now) (open_cuts c.args.cuts.now)) (sym is)
+    (subst (λ l. IsFirstCuts (instance_stock c.args.instance.now) l (cut_then (plan_of c.in_ok-here.here) (cuts_plan c.in_ok-later.later))) (sym e)
+    (first_by_cut (instance_stock c.args.instance.now) _ _ c.args.n c.in_ok-m.m _ _ s c.in_ok-here.ensures.first later))) c.cut_first.ensures

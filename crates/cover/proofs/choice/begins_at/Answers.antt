@@ -4,7 +4,7 @@ use Rattle.std.proofs.lemmas.Option.{slice_get_read}
 use Rattle.std.proofs.lemmas.Result.{IfOk-weaker}
 use Rattle.form_model.specs.Trees.{tree_term}
 use Rattle.cover.specs.declared.matches.FormMatch.{FormMatch}
-use Rattle.cover.specs.Inner.Jobs.{stock_of, nodes_of, open_operands, open_cuts, OperandsAt, CutsAt}
+use Rattle.cover.specs.Inner.Jobs.{instance_stock, nodes_of, open_operands, open_cuts, OperandsAt, CutsAt}
 use Rattle.cover.specs.Inner.Choice.{matches_ask, NeverBegins, CostsWithin, BeginsOne, BeginsAt}
 use Rattle.cover.proofs.MatchLemmas.{at_place, other_goal, other_clobbers, begins_within}
 use Rattle.cover.proofs.choice.begins_at.Goals as goal
@@ -13,14 +13,14 @@ pub returns-then-found-slot-clause-begins : goal.returns-then-found-slot-clause-
 returns-then-found-slot-clause-begins c =
     let m : FormMatch = c.index-found.result.now in
     let got : slice_get c.args.matches.now.list.items c.args.i ≡ Some m = slice_get_read _ _ _ _ refl c.requires.place c.index-found.ensures in
-    at_place (λ y. NeverBegins (stock_of c.args.instance.now) c.args.avoid (matches_ask c.args.matches.now c.args.slot) c.args.n y.form) c.args.matches.now.list.items c.args.i m got
+    at_place (λ y. NeverBegins (instance_stock c.args.instance.now) c.args.avoid (matches_ask c.args.matches.now c.args.slot) c.args.n y.form) c.args.matches.now.list.items c.args.i m got
     (other_goal c.args.instance.now c.args.avoid (tree_term c.args.matches.now.tree.now) c.args.matches.now.whole m (c.requires.matches.each c.args.i m got) c.args.slot c.args.n c.requires.slot c.requires.least c.if-found-slot.true)
 
 pub returns-then-found-avoid-ne0-clause-begins : goal.returns-then-found-avoid-ne0-clause-begins
 returns-then-found-avoid-ne0-clause-begins c =
     let m : FormMatch = c.index-found.result.now in
     let got : slice_get c.args.matches.now.list.items c.args.i ≡ Some m = slice_get_read _ _ _ _ refl c.requires.place c.index-found.ensures in
-    at_place (λ y. NeverBegins (stock_of c.args.instance.now) c.args.avoid (matches_ask c.args.matches.now c.args.slot) c.args.n y.form) c.args.matches.now.list.items c.args.i m got
+    at_place (λ y. NeverBegins (instance_stock c.args.instance.now) c.args.avoid (matches_ask c.args.matches.now c.args.slot) c.args.n y.form) c.args.matches.now.list.items c.args.i m got
     (other_clobbers c.args.instance.now c.args.avoid (tree_term c.args.matches.now.tree.now) c.args.matches.now.whole m (c.requires.matches.each c.args.i m got) c.args.slot c.args.n c.requires.slot c.requires.least c.if-found-avoid-ne0.true)
 
 pub costs_within-requires-clause-at : goal.costs_within-requires-clause-at
@@ -39,8 +39,8 @@ pub returns-clause-begins : goal.returns-clause-begins
 returns-clause-begins c =
     let m : FormMatch = c.index-found.result.now in
     let got : slice_get c.args.matches.now.list.items c.args.i ≡ Some m = slice_get_read _ _ _ _ refl c.requires.place c.index-found.ensures in
-    IfOk-weaker c.costs_within.result (λ o. CostsWithin (stock_of c.args.instance.now) c.args.avoid (open_operands c.deref.result.now) (open_cuts c.deref-2.result.now) c.args.n o) (λ o. BeginsAt (stock_of c.args.instance.now) c.args.avoid c.args.matches.now c.args.slot c.args.n c.args.i o)
-    (λ o costs. at_place (λ y. BeginsOne (stock_of c.args.instance.now) c.args.avoid (matches_ask c.args.matches.now c.args.slot) c.args.n y o) c.args.matches.now.list.items c.args.i m got
+    IfOk-weaker c.costs_within.result (λ o. CostsWithin (instance_stock c.args.instance.now) c.args.avoid (open_operands c.deref.result.now) (open_cuts c.deref-2.result.now) c.args.n o) (λ o. BeginsAt (instance_stock c.args.instance.now) c.args.avoid c.args.matches.now c.args.slot c.args.n c.args.i o)
+    (λ o costs. at_place (λ y. BeginsOne (instance_stock c.args.instance.now) c.args.avoid (matches_ask c.args.matches.now c.args.slot) c.args.n y o) c.args.matches.now.list.items c.args.i m got
     (begins_within c.args.instance.now c.args.avoid (tree_term c.args.matches.now.tree.now) c.args.matches.now.whole m (c.requires.matches.each c.args.i m got) c.args.slot c.args.n c.requires.slot c.requires.least o c.if-found-slot.false c.if-found-avoid-ne0.false
-    (subst (λ l. CostsWithin (stock_of c.args.instance.now) c.args.avoid (open_operands l) (open_cuts m.cuts.items) c.args.n o) c.deref.ensures.value
-    (subst (λ l. CostsWithin (stock_of c.args.instance.now) c.args.avoid (open_operands c.deref.result.now) (open_cuts l) c.args.n o) c.deref-2.ensures.value costs)))) c.costs_within.ensures.costs
+    (subst (λ l. CostsWithin (instance_stock c.args.instance.now) c.args.avoid (open_operands l) (open_cuts m.cuts.items) c.args.n o) c.deref.ensures.value
+    (subst (λ l. CostsWithin (instance_stock c.args.instance.now) c.args.avoid (open_operands c.deref.result.now) (open_cuts l) c.args.n o) c.deref-2.ensures.value costs)))) c.costs_within.ensures.costs

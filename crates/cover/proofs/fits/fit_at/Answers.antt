@@ -7,7 +7,7 @@ use Rattle.form_model.specs.declared.forms.Form.{Form}
 use Rattle.form_model.specs.Rules.{rule_of}
 use Rattle.form_model.specs.Covers.{operands_of, cuts_of}
 use Rattle.tree_grammar.specs.Parts.{found_of, sites_of, AreAt}
-use Rattle.cover.specs.Inner.Jobs.{stock_of, nodes_of}
+use Rattle.cover.specs.Inner.Jobs.{instance_stock, nodes_of}
 use Rattle.cover.specs.Inner.Choice.{ask_of, FitsParts, IsFit}
 use Rattle.cover.proofs.RowLemmas.{listed}
 use Rattle.cover.proofs.StartLemmas.{rule_at}
@@ -23,12 +23,12 @@ pub returns-clause-fit : goal.returns-clause-fit
 returns-clause-fit c =
     let form : Form = get_or c.args.instance.now.forms.now c.args.k c.index-instance-k.result in
     let got : slice_get c.args.instance.now.forms.now c.args.k ≡ Some form = listed _ _ _ c.requires.form in
-    IfOk-weaker c.fit_parts.result (λ o. FitsParts (stock_of c.args.instance.now) c.args.avoid (operands_of (sites_of c.deref.result.now)) (cuts_of (sites_of c.deref.result.now)) o)
-    (λ o. IsFit (stock_of c.args.instance.now) c.args.avoid (ask_of c.args.want.now) c.args.k o)
-    (λ o fits. parts_fit (stock_of c.args.instance.now) c.args.avoid (ask_of c.args.want.now) c.args.k (rule_of form) (found_of c.in-Some.found) o
+    IfOk-weaker c.fit_parts.result (λ o. FitsParts (instance_stock c.args.instance.now) c.args.avoid (operands_of (sites_of c.deref.result.now)) (cuts_of (sites_of c.deref.result.now)) o)
+    (λ o. IsFit (instance_stock c.args.instance.now) c.args.avoid (ask_of c.args.want.now) c.args.k o)
+    (λ o fits. parts_fit (instance_stock c.args.instance.now) c.args.avoid (ask_of c.args.want.now) c.args.k (rule_of form) (found_of c.in-Some.found) o
     (rule_at c.args.instance.now c.args.k form got) c.if-form-avoid-ne0.false
     (want_takes c.args.instance.now form c.args.want.now c.in_ok-found.field-0 c.in-Some.found c.in_ok-found.ensures.found c.in-Some.is)
-    (subst (λ l. FitsParts (stock_of c.args.instance.now) c.args.avoid (operands_of (sites_of l)) (cuts_of (sites_of l)) o) c.deref.ensures.value fits)) c.fit_parts.ensures.fit
+    (subst (λ l. FitsParts (instance_stock c.args.instance.now) c.args.avoid (operands_of (sites_of l)) (cuts_of (sites_of l)) o) c.deref.ensures.value fits)) c.fit_parts.ensures.fit
 
 pub returns-then-form-avoid-ne0-clause-fit : goal.returns-then-form-avoid-ne0-clause-fit
 returns-then-form-avoid-ne0-clause-fit c = grind (arith, elements)

@@ -1,6 +1,6 @@
 use Rattle.std.proofs.Common.{◌<◌, length, rules}
 use Rattle.form_model.specs.Rules.{destination_of}
-use Rattle.cover.specs.Best.{stock_with}
+use Rattle.form_model.specs.Covers.{stock_with}
 use Rattle.cover.proofs.BestLemmas.{best_step}
 use Rattle.cover.proofs.jobs.best_of.Goals as goal
 

@@ -1,6 +1,6 @@
 use Rattle.form_model.specs.Rules.{destination_of}
 use Rattle.cover.specs.Jobs.{trees_of}
-use Rattle.cover.specs.Best.{stock_with}
+use Rattle.form_model.specs.Covers.{stock_with}
 use Rattle.cover.specs.Inner.Best.{IsBest}
 use Rattle.cover.proofs.jobs.best_of.Given as goal
 

@@ -1,7 +1,7 @@
 use Rattle.std.proofs.Common.{subst, length}
 use Rattle.form_model.specs.Rules.{destination_of}
 use Rattle.cover.specs.Jobs.{trees_of}
-use Rattle.cover.specs.Best.{stock_with}
+use Rattle.form_model.specs.Covers.{stock_with}
 use Rattle.cover.specs.Inner.Best.{IsBest}
 use Rattle.cover.proofs.BestLemmas.{is_chosen, is_none, chosen_again}
 use Rattle.cover.proofs.jobs.cover.Goals as goal

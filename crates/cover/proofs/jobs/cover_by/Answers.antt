@@ -5,7 +5,7 @@ use Rattle.tree_grammar.specs.Parts.{destination_at}
 use Rattle.cover.specs.Inner.Least.{IsLeast}
 use Rattle.cover.specs.Inner.Choice.{IsFirst}
 use Rattle.cover.specs.Inner.Best.{root_ask}
-use Rattle.cover.specs.Inner.Jobs.{stock_of}
+use Rattle.cover.specs.Inner.Jobs.{instance_stock}
 use Rattle.tree_sharing.proofs.NodeLemmas.{root_stands}
 use Rattle.cover.proofs.BestLemmas.{first_cost}
 use Rattle.cover.proofs.jobs.cover_by.Goals as goal
@@ -18,9 +18,9 @@ choose-requires-clause-stands c = root_stands (destination_at c.args.instance.no
 
 pub returns : goal.returns
 returns c =
-    let first : IsFirst (stock_of c.args.instance.now) 0 (root_ask (destination_at c.args.instance.now.destination) (tree_term c.args.instance.now.tree.now)) (plan_of c.in_ok-cover.cover) =
+    let first : IsFirst (instance_stock c.args.instance.now) 0 (root_ask (destination_at c.args.instance.now.destination) (tree_term c.args.instance.now.tree.now)) (plan_of c.in_ok-cover.cover) =
     c.in_ok-cover.ensures.first in (
       first,
       first_cost _ _ _ c.in-Some.n _ (subst
-          (λ o. IsLeast (stock_of c.args.instance.now) 0 (root_ask (destination_at c.args.instance.now.destination) (tree_term c.args.instance.now.tree.now)) o) c.in-Some.is c.in_ok-n.ensures.least) first,
+          (λ o. IsLeast (instance_stock c.args.instance.now) 0 (root_ask (destination_at c.args.instance.now.destination) (tree_term c.args.instance.now.tree.now)) o) c.in-Some.is c.in_ok-n.ensures.least) first,
     )

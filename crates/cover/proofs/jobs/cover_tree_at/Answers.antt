@@ -7,7 +7,7 @@ use Rattle.net_model.specs.Terms.{Term}
 use Rattle.form_model.specs.Trees.{tree_term}
 use Rattle.form_model.specs.Rules.{destination_of}
 use Rattle.tree_grammar.specs.Parts.{destination_at}
-use Rattle.cover.specs.Best.{stock_with}
+use Rattle.form_model.specs.Covers.{stock_with}
 use Rattle.cover.specs.Jobs.{trees_of}
 use Rattle.cover.specs.Inner.Best.{root_ask, IsTreeCover}
 use Rattle.cover.proofs.jobs.cover_tree_at.Goals as goal

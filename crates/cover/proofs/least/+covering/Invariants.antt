@@ -4,7 +4,7 @@ use Rattle.form_model.specs.Trees.{tree_term}
 use Rattle.cover.specs.Inner.Asks.{operands_size, terms_size, rank}
 use Rattle.cover.specs.Inner.Least.{OrderReached, FirstsBelow}
 use Rattle.cover.specs.Inner.Rows.{IsTried}
-use Rattle.cover.specs.Inner.Jobs.{stock_of, open_operands, open_cuts}
+use Rattle.cover.specs.Inner.Jobs.{instance_stock, open_operands, open_cuts}
 use Rattle.cover.specs.Inner.Tables.{AreRight}
 use Rattle.cover.proofs.least.+covering.Given as goal
 
@@ -46,14 +46,14 @@ decreases-cuts_cost l = 32 * terms_size (open_cuts l.cuts.now) + 8
 
 abbrev pub invariant-orders-loop-i : goal.invariant-orders-loop-i
 invariant-orders-loop-i l = record {
-  reached : OrderReached (stock_of l.instance) l.avoid (open_operands l.ops) l.best;
-  least : FirstsBelow (stock_of l.instance) l.avoid (open_operands l.ops) l.i l.best;
+  reached : OrderReached (instance_stock l.instance) l.avoid (open_operands l.ops) l.best;
+  least : FirstsBelow (instance_stock l.instance) l.avoid (open_operands l.ops) l.i l.best;
   right : AreRight l.instance l.table;
 }
 
 abbrev pub invariant-fill-loop-i : goal.invariant-fill-loop-i
 invariant-fill-loop-i l = record {
   len : vec_len l.row ≡ 17;
-  tried : IsTried (stock_of l.instance) l.avoid (tree_term l.matches.tree.now) l.matches.whole l.matches.list.items l.i l.chains.items l.row.items;
+  tried : IsTried (instance_stock l.instance) l.avoid (tree_term l.matches.tree.now) l.matches.whole l.matches.list.items l.i l.chains.items l.row.items;
   right : AreRight l.instance l.table;
 }

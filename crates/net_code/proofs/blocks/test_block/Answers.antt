@@ -14,8 +14,9 @@ use Rattle.word_fit.specs.Groups.{AllHaveWords}
 use Rattle.right_code.specs.Jobs.{job_steps, tree_or_none, tree_used}
 use Rattle.net_code.specs.Inner.Coded.{IsPackedBlock}
 use Rattle.net_code.specs.Inner.Covering.{machine_netlist, machine_patterns}
-use Rattle.net_code.specs.Inner.Views.{stock_of}
+use Rattle.net_code.specs.Inner.Views.{choices_in, stock_of, works_in}
 use Rattle.net_code.proofs.Frames.{root_form, test_have, wanted_is}
+use Rattle.net_code.proofs.Stepping.{chosen_at}
 use Rattle.net_code.proofs.blocks.test_block.Goals as goal
 
 pub packed-requires-clause-words : goal.packed-requires-clause-words
@@ -71,3 +72,9 @@ returns-in_err-emitted-clause-code c = IfOk-from_err c.from_residual.result _ c.
 
 pub returns-in_err-emitted-clause-once : goal.returns-in_err-emitted-clause-once
 returns-in_err-emitted-clause-once c = IfOk-from_err c.from_residual.result _ c.from_residual.ensures.0
+
+pub emit-requires : goal.emit-requires
+emit-requires c =
+    let program = c.args.program.now in
+    let t = c.requires.job in
+    (chosen_at (stock_of program) (works_in program) (choices_in program) t.tree (work_of c.args.job.now) (choice_of c.args.chosen.now) c.requires.covering.1.chosen t.work t.covers).covers

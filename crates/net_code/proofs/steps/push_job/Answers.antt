@@ -5,7 +5,7 @@ use Rattle.form_model.specs.declared.forms.Step.{Step}
 use Rattle.src_trees.specs.Jobs.{work_of}
 use Rattle.net_code.specs.Inner.Views.{choices_in, stock_of, works_in}
 use Rattle.net_code.proofs.Listing.{mapped_get}
-use Rattle.net_code.proofs.Stepping.{covered_steps, coverless, jobless}
+use Rattle.net_code.proofs.Stepping.{chosen_at, covered_steps, coverless, jobless}
 use Rattle.net_code.proofs.steps.push_job.Goals as goal
 
 pub returns-in_default : goal.returns-in_default
@@ -33,3 +33,12 @@ returns c =
     (mapped_get work_of program.jobs.now c.args.tree c.in-Some.job.now job.3.0 job.1)
     (mapped_get choice_of program.covers.now c.args.tree c.in-Some-get.chosen.now chosen.3.0 chosen.1)
     emitted.used emitted.steps)
+
+pub emit-requires : goal.emit-requires
+emit-requires c =
+    let program = c.args.program.now in
+    let job = c.in-Some.ensures.lookup in
+    let chosen = c.in-Some-get.ensures.lookup in
+    (chosen_at (stock_of program) (works_in program) (choices_in program) c.args.tree (work_of c.in-Some.job.now) (choice_of c.in-Some-get.chosen.now) c.requires
+    (mapped_get work_of program.jobs.now c.args.tree c.in-Some.job.now job.3.0 job.1)
+    (mapped_get choice_of program.covers.now c.args.tree c.in-Some-get.chosen.now chosen.3.0 chosen.1)).covers

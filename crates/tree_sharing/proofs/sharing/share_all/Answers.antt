@@ -1,14 +1,25 @@
-use Rattle.std.proofs.Common.{sym, subst}
+use Rattle.std.proofs.Common.{sym, subst, arith, length, ◌≡◌, ◌+◌}
+use Rattle.net_model.specs.Terms.{size_of}
 use Rattle.form_model.specs.Trees.{tree_term}
 use Rattle.tree_grammar.specs.Numbers.{HoldsSubtrees}
 use Rattle.tree_grammar.specs.Parts.{destination_at}
 use Rattle.tree_sharing.specs.Sharing.{job_nodes}
+use Rattle.tree_sharing.specs.Inner.Sharing.{AreDoneBelow, HaveNumbers}
 use Rattle.tree_sharing.proofs.NodeLemmas.{root_stands}
+use Rattle.tree_sharing.proofs.SharingLemmas.{all_done, job_length}
 use Rattle.tree_sharing.proofs.sharing.share_all.Goals as goal
 
 pub returns : goal.returns
-returns c = λ shares.
-    let nodes = job_nodes (destination_at c.args.destination) (tree_term c.args.tree.now) in
-    let stands = root_stands (destination_at c.args.destination) (tree_term c.args.tree.now) in
-    let after = c.in_ok-share_address.ensures nodes stands.address shares in
-    (c.in_ok-share.ensures.shared nodes (subst (λ n. HoldsSubtrees nodes n (tree_term c.args.tree.now)) (sym c.requires) stands.value) after).0
+returns c =
+    let destination = destination_at c.args.destination in
+    let tree = tree_term c.args.tree.now in
+    let nodes = job_nodes destination tree in
+    let stands = root_stands destination tree in
+    let address = c.in_ok-share_address.ensures.done nodes stands.address (subst (HaveNumbers nodes) (sym c.requires.none) tt) in
+    let len : length c.share.new.sharing.firsts.items ≡ c.args.at + size_of tree =
+    omega (arith, c.share.new.sharing.firsts.ok.0, c.in_ok-share.ensures.len, c.in_ok-share_address.ensures.len, c.requires.len) in
+    let count : length nodes ≡ c.args.at + size_of tree = omega (arith, job_length destination tree, c.requires.at) in
+    all_done nodes c.share_address.new.sharing c.share.new.sharing c.args.at c.in_ok-share.field-0.first tree
+    (subst (AreDoneBelow nodes c.share_address.new.sharing) (sym c.requires.at) address)
+    c.in_ok-share.ensures.shared
+    (subst (λ n. HoldsSubtrees nodes n tree) (sym c.requires.at) stands.value) len count

@@ -1,0 +1,97 @@
+-- What an orderly cover says of the code's lists: each place that it names is there.
+use Rattle.std.proofs.Common.{◌≡◌, ℕ, suc, ◌<◌, Bool, false, List, ◌∷◌, length, Some, refl, sym, ap, ◌∙◌, subst, arith}
+use Rattle.std.specs.Prelude.{IsSome, slice_get, remove}
+use Rattle.std.proofs.lemmas.Option.{slice_get_within}
+use Rattle.net_model.specs.Terms.{Term}
+use Rattle.form_model.specs.declared.forms.Form.{Form}
+use Rattle.form_model.specs.Rules.{Rule, rule_of, rules_of, Destination, into, temporary}
+use Rattle.form_model.specs.Matches.{taken}
+use Rattle.form_model.specs.Plans.{Plan, use_form, Operands, no_operands, operand_then, Cuts, cut_then}
+use Rattle.form_model.specs.Covers.{Stock, Operand, IsOrderly, AreOrderly, AreCut}
+use Rattle.form_model.specs.Steps.{OperandCells, cut_count, operand_counts, cut_counts, inside_operands, found_at}
+use Rattle.form_model.proofs.Zips.{get_mapped, length_in, length_out, map-remove}
+use Rattle.emit_seq.specs.declared.cells.CutCells.{CutCells as CodeCutCells}
+use Rattle.emit_seq.specs.declared.cells.OperandCells.{OperandCells as CodeOperandCells}
+use Rattle.emit_seq.specs.declared.roots.Root.{Root}
+use Rattle.emit_seq.specs.Emits.{IsFormAtRoot, IsTakenOut}
+use Rattle.emit_seq.specs.Inner.CellLists.{ArePlaces, operands_in, trees_in}
+use Rattle.emit_seq.specs.Views.{cells_of_cut, cells_of_cuts, cells_of_operand, cells_of_operands}
+use Rattle.emit_seq.proofs.Opened.{opened_plan, operands_long}
+use Rattle.emit_seq.proofs.Walks.{cells_operands, cells_trees}
+
+pub places_of : (stock : Stock) (ps : Operands) (left : List Operand) → AreOrderly stock left ps → ArePlaces ps
+places_of stock no_operands left c = tt
+places_of stock (operand_then i p ps) left c =
+    let within = slice_get_within left i c.0 c.1 in
+    let long = operands_long stock ps (remove left i) c.4 in
+    let out = length_out left i c.0 c.1 in
+    (omega (arith, within, long, out), places_of stock ps (remove left i) c.4)
+
+-- ---- the form at the root
+
+module _ (stock : Stock) (k : ℕ) (ps : Operands) (cs : Cuts) (destination : Destination) (tree : Term) (whole : Bool)
+    (c : IsOrderly stock destination tree whole (use_form k ps cs)) where
+  pub form_within : (forms : List Form) → stock.rules ≡ rules_of forms → k < length forms
+  form_within forms e =
+      let (form, at, is) = get_mapped rule_of forms k c.0 (sym (ap (λ rules. slice_get rules k) e) ∙ c.1) in
+      slice_get_within forms k form at
+
+  pub form_takes : (rule : Rule) → slice_get stock.rules k ≡ Some rule → IsSome (taken stock.temps rule destination tree whole)
+  form_takes rule e =
+      let both : Some c.0 ≡ Some rule = sym c.1 ∙ e in
+      let same : c.0 ≡ rule = cc in
+      subst (λ r. IsSome (taken stock.temps r destination tree whole)) same (subst (λ o. IsSome o) (sym c.3) refl)
+
+  pub operand_places : ArePlaces ps
+  operand_places = places_of stock ps _ c.4
+
+  module _ (n : ℕ) (root : Root) (h : IsFormAtRoot stock k ps cs n destination tree whole root) where
+    pub root_operands : AreOrderly stock (operands_in (cells_of_operands root.operands.items)) ps
+    root_operands =
+        let sites = (found_at stock k destination tree whole).sites in
+        let e = ap operands_in h.operands ∙ cells_operands sites (operand_counts ps) (cut_counts cs) n in
+        subst (λ z. AreOrderly stock z ps) (sym e) (opened_plan stock k ps cs destination tree whole c).operands
+
+    pub root_cuts : AreCut stock (trees_in (cells_of_cuts root.cuts.items)) cs
+    root_cuts =
+        let sites = (found_at stock k destination tree whole).sites in
+        let e = ap trees_in h.cuts ∙ cells_trees sites (operand_counts ps) (cut_counts cs) n in
+        subst (λ z. AreCut stock z cs) (sym e) (opened_plan stock k ps cs destination tree whole c).cuts
+
+-- ---- an operand that is taken out
+
+-- its place is there
+pub place_within : (stock : Stock) (left : List CodeOperandCells) (i : ℕ) (p : Plan) (ps : Operands) → AreOrderly stock (operands_in (cells_of_operands left)) (operand_then i p ps) → i < length left
+place_within stock left i p ps c =
+    let (cells, at, is) = get_mapped (λ (s : OperandCells). s.operand) (cells_of_operands left) i c.0 c.1 in
+    let (code, there, same) = get_mapped cells_of_operand left i cells at in
+    slice_get_within left i code there
+
+module _ (stock : Stock) (left : List OperandCells) (i : ℕ) (p : Plan) (ps : Operands) (c : AreOrderly stock (operands_in left) (operand_then i p ps))
+    (cells : OperandCells) (new : List OperandCells) (t : IsTakenOut left i cells new) where
+  pub taken_orderly : IsOrderly stock (into cells.operand.id) cells.operand.tree cells.operand.whole p
+  taken_orderly =
+      let (there, at, is) = get_mapped (λ (s : OperandCells). s.operand) left i c.0 c.1 in
+      let both : Some there ≡ Some cells = sym at ∙ t.at in
+      let same : there ≡ cells = cc in
+      let e : c.0 ≡ cells.operand = sym is ∙ ap (λ (s : OperandCells). s.operand) same in
+      subst (λ (o : Operand). IsOrderly stock (into o.id) o.tree o.whole p) e c.2
+
+  pub left_orderly : AreOrderly stock (operands_in new) ps
+  left_orderly = subst (λ z. AreOrderly stock z ps) (sym (ap operands_in t.rest ∙ map-remove (λ (s : OperandCells). s.operand) left i)) c.4
+
+pub inside_long : (stock : Stock) (ps : Operands) (left : List OperandCells) → length (inside_operands stock ps left) ≡ length (operand_counts ps)
+inside_long stock no_operands left = refl
+inside_long stock (operand_then i p ps) left =
+    let h = inside_long stock ps (remove left i) in
+    length_in (inside_operands stock ps (remove left i)) i _ ∙ ap (λ n. suc n) h ∙ sym (length_in (operand_counts ps) i (cut_count p))
+
+-- ---- a cut
+
+module _ (stock : Stock) (first : CodeCutCells) (later : List CodeCutCells) (p : Plan) (cs : Cuts)
+    (c : AreCut stock (trees_in (cells_of_cuts (first ∷ later))) (cut_then p cs)) where
+  pub cut_orderly : IsOrderly stock temporary (cells_of_cut first).tree false p
+  cut_orderly = let e : c.0 ≡ (cells_of_cut first).tree = cc (c.2) in subst (λ t. IsOrderly stock temporary t false p) e c.3
+
+  pub later_orderly : AreCut stock (trees_in (cells_of_cuts later)) cs
+  later_orderly = let e : c.1 ≡ trees_in (cells_of_cuts later) = cc (c.2) in subst (λ z. AreCut stock z cs) e c.4
