@@ -1,4 +1,5 @@
 mod AnswerLemmas
+mod AsmLemmas
 mod CompileLemmas
 mod ExtractLemmas
 mod FetchLemmas

@@ -15,6 +15,9 @@ use Rattle.net_make.specs.Summaries.{IsSummary}
 use Rattle.net_compile.proofs.TaskLemmas.{one_beyond, one_broken, one_full, one_limit, one_uncovered}
 use Rattle.net_run.proofs.RunLaws.{one_image_fault, one_memory_fault, one_clash, no_clash_shown}
 use Rattle.net_run.specs.Runs.{ClashedAt}
+use Rattle.net_asm.proofs.AsmLaws.{one_text_fault, one_wordless}
+use Rattle.net_asm.specs.Assembled.{IsAssembled}
+use Rattle.net_asm.specs.Disassembled.{IsDisassembled}
 use Rattle.rec_io.specs.Causes.{Rose}
 use Rattle.rec_io.specs.Files.{Files, file_of}
 use Rattle.rec_io.specs.Shelf.{ShelfState}
@@ -23,15 +26,15 @@ use Rattle.record_core.proofs.CompileLemmas.{done_within}
 use Rattle.record_core.proofs.GoLemmas.{one_lack}
 use Rattle.record_core.proofs.NetLemmas.{NetStages-alike}
 use Rattle.record_core.proofs.StageLemmas.{AllAlike, AtMostOne, By-unique, Then-alike, Just-unique}
-use Rattle.record_core.specs.Answers.{AnswersAgree, Answers, FilesAnswer, CanCompile, AreOfImages, CodeAnswers, CodeEnds, ExtractAnswers, WatchAnswers, netlist_in, RunEnds, RunAnswers, TextAnswers, CommandAnswers, file_at, file_limit, place_from, AreFiles, IsFileReadFault, IsFileTooLong, IsFile, IsAnswer, IsExact, IsAccepted}
+use Rattle.record_core.specs.Answers.{AnswersAgree, Answers, AsmAnswers, DisAnswers, FilesAnswer, CanCompile, AreOfImages, CodeAnswers, CodeEnds, ExtractAnswers, WatchAnswers, netlist_in, RunEnds, RunAnswers, TextAnswers, CommandAnswers, file_at, file_limit, place_from, AreFiles, IsFileReadFault, IsFileTooLong, IsFile, IsAnswer, IsExact, IsAccepted}
 use Rattle.record_core.specs.Lines.{due_line}
 use Rattle.record_core.specs.Stages.{Then}
 use Rattle.record_core.specs.Watching.{IsWatched}
 use Rattle.record_core.specs.Words.{command_of, names_of}
 use Rattle.record_core.specs.declared.words.Command.{Command}
-use Rattle.record_core.specs.declared.words.Command.TheVariants.{Compile, Extract, Run, Go, Make}
+use Rattle.record_core.specs.declared.words.Command.TheVariants.{Compile, Extract, Run, Go, Make, Asm, Dis}
 use Rattle.record_core.specs.declared.status.Status.{Status}
-use Rattle.record_core.specs.declared.status.Status.TheVariants.{Done, Usage, ReadFault, TooLong, NetText, Net, SrcText, Src, NoStep, NoJump, NoCover, DataFull, NoReach, ImageFull, ImageText, MemText, Clash, Memory}
+use Rattle.record_core.specs.declared.status.Status.TheVariants.{Done, Usage, ReadFault, TooLong, NetText, Net, SrcText, Src, NoStep, NoJump, NoCover, DataFull, NoReach, ImageFull, ImageText, MemText, Clash, AsmText, AsmWord, Memory}
 
 one_read : (names : List (List ℕ)) (before now : ShelfState) (x y : ℕ) → IsFileReadFault names before now x → IsFileReadFault names before now y → x ≡ y
 one_read names before now x y p q = let a = p.place in let b = q.place in cc
@@ -50,6 +53,8 @@ equal (Some Extract) s t e = e
 equal (Some (Run clocks)) s t e = e
 equal (Some (Go clocks)) s t e = inl e
 equal (Some (Make number)) s t e = inl e
+equal (Some Asm) s t e = e
+equal (Some Dis) s t e = e
 
 -- ---- commands that make code
 
@@ -130,6 +135,19 @@ RunAnswers-unique line net image memory clocks =
     Then-alike (λ s t. s ≡ t) (line None) _ _ (By-unique ImageText _ (one_image_fault net image)) (
     Then-alike (λ s t. s ≡ t) (line None) _ _ (By-unique MemText _ (one_memory_fault net memory)) (RunEnds-unique line net image memory clocks))))
 
+-- ---- `asm` and `dis`
+
+AsmAnswers-unique : (line : Status → List ℕ) (net asm : List ℕ) → AtMostOne (AsmAnswers line net asm)
+AsmAnswers-unique line net asm =
+    NetStages-alike line net _ (λ s t. s ≡ t) (λ s t e. e) (
+    Then-alike (λ s t. s ≡ t) line _ _ (By-unique AsmText _ (one_text_fault net asm)) (
+    Then-alike (λ s t. s ≡ t) line _ _ (By-unique AsmWord _ (one_wordless net asm)) (done_only (IsAssembled net asm))))
+
+DisAnswers-unique : (line : Status → List ℕ) (net image : List ℕ) → AtMostOne (DisAnswers line net image)
+DisAnswers-unique line net image =
+    NetStages-alike line net _ (λ s t. s ≡ t) (λ s t e. e) (
+    Then-alike (λ s t. s ≡ t) line _ _ (By-unique ImageText _ (one_image_fault net image)) (done_only (IsDisassembled net image)))
+
 -- ---- all commands
 
 TextAnswers-agree : (line : Option ℕ → Status → List ℕ) (command : Command) (files : List (List ℕ)) → AllAlike (AnswersAgree (Some command)) (TextAnswers line command files)
@@ -140,6 +158,8 @@ TextAnswers-agree line (Run clocks) files = RunAnswers-unique line (file_at file
 TextAnswers-agree line (Go clocks) files =
     CodeAnswers-agree (line None) (file_at files 0) (file_at files 1) _ (watch_beside (line None) (file_at files 0) (file_at files 1) (file_at files 2) clocks)
 TextAnswers-agree line (Make number) files = CodeAnswers-agree (line None) (job_netlist number) (job_program number) _ (done_beside (IsSummary number))
+TextAnswers-agree line Asm files = AsmAnswers-unique (line None) (file_at files 0) (file_at files 1)
+TextAnswers-agree line Dis files = DisAnswers-unique (line None) (file_at files 0) (file_at files 1)
 
 -- the bytes of a file that is told
 one_file : (files : Option Files) (name a b : List ℕ) → IsSome files → IsFile files name a → IsFile files name b → a ≡ b
@@ -229,6 +249,8 @@ accepted_by words before now can calm (Some Extract) is status text answers = ab
 accepted_by words before now can calm (Some (Run clocks)) is status text answers = absurd cc
 accepted_by words before now can calm (Some (Go clocks)) is status text answers = absurd cc
 accepted_by words before now can calm (Some (Make number)) is status text answers = absurd cc
+accepted_by words before now can calm (Some Asm) is status text answers = absurd cc
+accepted_by words before now can calm (Some Dis) is status text answers = absurd cc
 accepted_by words before now can calm (Some Compile) is status text (inl ((file, fault, e), t)) = absurd (calm fault.rose)
 accepted_by words before now can calm (Some Compile) is status text (inr (a, inl ((at, long, e), t))) =
     absurd (no_long_file before.files can.known (names_of Compile words) can.files before now refl can.are at long)

@@ -14,6 +14,9 @@ use Rattle.net_compile.specs.Tasks.{TaskHolds}
 use Rattle.job_gen.specs.NetText.{net_text as job_netlist}
 use Rattle.job_gen.specs.SrcText.{src_text as job_program}
 use Rattle.net_make.specs.Summaries.{IsSummary}
+use Rattle.net_asm.specs.Assembled.{IsAssembled, IsNoAsmFile, IsWordless}
+use Rattle.net_asm.specs.Disassembled.{IsDisassembled}
+use Rattle.net_asm.specs.Laws.{IsShownAgain}
 use Rattle.net_run.specs.Runs.{IsNoImageFile, IsNoMemoryFile, ClashedAt, Clashes, ShowsState}
 use Rattle.rec_io.specs.Causes.{Rose}
 use Rattle.rec_io.specs.Files.{Files, file_of}
@@ -25,9 +28,9 @@ use Rattle.record_core.specs.Stages.{By, Just, Then}
 use Rattle.record_core.specs.Watching.{IsWatched, LacksMemory}
 use Rattle.record_core.specs.Words.{command_of, names_of}
 use Rattle.record_core.specs.declared.words.Command.{Command}
-use Rattle.record_core.specs.declared.words.Command.TheVariants.{Compile, Extract, Run, Go, Make}
+use Rattle.record_core.specs.declared.words.Command.TheVariants.{Compile, Extract, Run, Go, Make, Asm, Dis}
 use Rattle.record_core.specs.declared.status.Status.{Status}
-use Rattle.record_core.specs.declared.status.Status.TheVariants.{Done, Usage, ReadFault, TooLong, WriteFault, NetText, Net, SrcText, Src, NoStep, NoJump, NoCover, DataFull, NoReach, ImageFull, Memory, ImageText, MemText, Clash}
+use Rattle.record_core.specs.declared.status.Status.TheVariants.{Done, Usage, ReadFault, TooLong, WriteFault, NetText, Net, SrcText, Src, NoStep, NoJump, NoCover, DataFull, NoReach, ImageFull, Memory, ImageText, MemText, Clash, AsmText, AsmWord}
 
 -- the most bytes of a file
 abbrev pub file_limit : ℕ
@@ -138,6 +141,23 @@ MakeAnswers line number =
     CodeAnswers line (job_netlist number) (job_program number)
     (λ status text. (status ≡ Done) × IsSummary number text)
 
+-- what `asm` answers for these two texts
+abbrev pub AsmAnswers : (Status → List ℕ) → List ℕ → List ℕ → Status → List ℕ → Type 0
+AsmAnswers line net asm =
+    Then line (By NetText (IsNoNetText net)) (
+    Then line (By Net (BreaksAnyRule net)) (
+    Then line (By AsmText (IsNoAsmFile net asm)) (
+    Then line (By AsmWord (IsWordless net asm)) (
+    λ status text. (status ≡ Done) × IsAssembled net asm text))))
+
+-- what `dis` answers for these two texts
+abbrev pub DisAnswers : (Status → List ℕ) → List ℕ → List ℕ → Status → List ℕ → Type 0
+DisAnswers line net image =
+    Then line (By NetText (IsNoNetText net)) (
+    Then line (By Net (BreaksAnyRule net)) (
+    Then line (By ImageText (IsNoImageFile net image)) (
+    λ status text. (status ≡ Done) × IsDisassembled net image text)))
+
 -- the bytes of the file at this place
 abbrev pub file_at : List (List ℕ) → ℕ → List ℕ
 file_at files place = slice_index_or files place []
@@ -149,6 +169,8 @@ TextAnswers line Extract files = ExtractAnswers (line None) (file_at files 0)
 TextAnswers line (Run clocks) files = RunAnswers line (file_at files 0) (file_at files 1) (file_at files 2) clocks
 TextAnswers line (Go clocks) files = GoAnswers (line None) (file_at files 0) (file_at files 1) (file_at files 2) clocks
 TextAnswers line (Make number) files = MakeAnswers (line None) number
+TextAnswers line Asm files = AsmAnswers (line None) (file_at files 0) (file_at files 1)
+TextAnswers line Dis files = DisAnswers (line None) (file_at files 0) (file_at files 1)
 
 -- the netlist's text of a command: the first file, and of `make` that of its number
 abbrev pub netlist_in : Command → List (List ℕ) → List ℕ
@@ -252,13 +274,17 @@ pub record CanCompile (words : List (List ℕ)) (given : Option Files) : Type 0 
 -- what is written on `Done`. Of `compile`: an image that is right code for the program on the
 -- netlist. Of `extract`: what the instruction words of the netlist do, each with its least word. Of
 -- `run`: the state that the clocks reach. Of `go`: the checkpoints that the netlist shows on the
--- words of an image that is right code. Of `make`: the summary of the made-up texts of the number
+-- words of an image that is right code. Of `make`: the summary of the made-up texts of the number.
+-- Of `asm`: the image of the least words of the lines. Of `dis`: a line for each word of the image,
+-- of which it is one of the words, and what is assembled of the text clocks as the image does
 abbrev pub IsText : Command → List (List ℕ) → List ℕ → Type 0
 IsText Compile files = IsCompiled (file_at files 0) (file_at files 1)
 IsText Extract files = IsExtracted (file_at files 0)
 IsText (Run clocks) files = ShowsState (file_at files 0) (file_at files 1) (file_at files 2) clocks
 IsText (Go clocks) files = λ out. TaskHolds (file_at files 0) (file_at files 1) (IsWatched (file_at files 2) clocks out)
 IsText (Make number) files = IsSummary number
+IsText Asm files = IsAssembled (file_at files 0) (file_at files 1)
+IsText Dis files = IsShownAgain (file_at files 0) (file_at files 1)
 
 -- the bytes that were taken are the text of the command for the files of these names
 pub record HasText (command : Command) (names : List (List ℕ)) (known : Files) (old new : List ℕ) : Type 0 where

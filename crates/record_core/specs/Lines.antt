@@ -5,7 +5,7 @@ use Rattle.std.specs.List.{concat}
 use Rattle.record_core.specs.NetLines.{net_line, name_place, name_from}
 use Rattle.record_core.specs.SrcLines.{src_line}
 use Rattle.record_core.specs.declared.status.Status.{Status}
-use Rattle.record_core.specs.declared.status.Status.TheVariants.{Done, Usage, ReadFault, TooLong, WriteFault, NetText, Net, SrcText, Src, NoStep, NoJump, NoCover, DataFull, NoReach, ImageFull, Memory, ImageText, MemText, Clash}
+use Rattle.record_core.specs.declared.status.Status.TheVariants.{Done, Usage, ReadFault, TooLong, WriteFault, NetText, Net, SrcText, Src, NoStep, NoJump, NoCover, DataFull, NoReach, ImageFull, Memory, ImageText, MemText, Clash, AsmText, AsmWord}
 
 -- the word that names this file
 abbrev pub name_of_file : List (List ℕ) → ℕ → List ℕ
@@ -39,6 +39,8 @@ status_line words name (ImageText at) = concat (codes "error image text " ∷ de
 status_line words name (MemText at) = concat (codes "error memory text " ∷ decimal at ∷ codes "\n" ∷ [])
 status_line words name (Clash cycle bus) =
     concat (codes "error clash " ∷ decimal cycle ∷ codes " " ∷ name ∷ codes "\n" ∷ [])
+status_line words name (AsmText at) = concat (codes "error asm text " ∷ decimal at ∷ codes "\n" ∷ [])
+status_line words name (AsmWord line) = concat (codes "error asm word " ∷ decimal line ∷ codes "\n" ∷ [])
 
 -- where the name stands that a line tells: the item's of a broken rule, or that of the bus which
 -- clashes

@@ -6,7 +6,7 @@ use Rattle.std.specs.Option.{option_map_or}
 use Rattle.std.specs.Str.{bytes_eq}
 use Rattle.text_lines.specs.Fields.{number_of}
 use Rattle.record_core.specs.declared.words.Command.{Command}
-use Rattle.record_core.specs.declared.words.Command.TheVariants.{Compile, Extract, Run, Go, Make}
+use Rattle.record_core.specs.declared.words.Command.TheVariants.{Compile, Extract, Run, Go, Make, Asm, Dis}
 
 -- the words as texts
 abbrev pub texts_of : List (String Global) → List (List ℕ)
@@ -41,7 +41,10 @@ abbrev pub command_of : List (List ℕ) → Option Command
 command_of (word ∷ other ∷ []) =
     if bytes_eq word (codes "extract") then Some Extract
     else (if bytes_eq word (codes "make") then option_map Make (job_number other) else None)
-command_of (word ∷ net ∷ src ∷ []) = if bytes_eq word (codes "compile") then Some Compile else None
+command_of (word ∷ net ∷ other ∷ []) =
+    if bytes_eq word (codes "compile") then Some Compile
+    else (if bytes_eq word (codes "asm") then Some Asm
+    else (if bytes_eq word (codes "dis") then Some Dis else None))
 command_of (word ∷ net ∷ other ∷ memory ∷ clocks ∷ []) =
     if bytes_eq word (codes "run") then option_map Run (clocks_of clocks)
     else (if bytes_eq word (codes "go") then option_map Go (clocks_of clocks) else None)
@@ -59,6 +62,8 @@ file_count Extract = 1
 file_count (Run clocks) = 3
 file_count (Go clocks) = 3
 file_count (Make number) = 0
+file_count Asm = 2
+file_count Dis = 2
 
 -- how many files the words ask for
 abbrev pub files_asked : List (List ℕ) → ℕ

@@ -7,6 +7,7 @@ ghost use Rattle.record_core.specs.Inner.Putting.{PutsDone};
 ghost use Rattle.record_core.specs.Words.{CommandFits};
 ghost use Rattle.record_core.specs.declared.status.Status.{Status};
 
+use crate::asm::{assembled_text, shown_text};
 use crate::compile::compile_text;
 use crate::extract::extract_text;
 use crate::go::go;
@@ -86,6 +87,14 @@ pub fn put_command<S: Sink>(
         }
         Command::Make(number) => {
             let text = make_text(alloc, number)?;
+            Ok(put(out, &text))
+        }
+        Command::Asm => {
+            let text = assembled_text(alloc, file(files, 0), file(files, 1))?;
+            Ok(put(out, &text))
+        }
+        Command::Dis => {
+            let text = shown_text(alloc, file(files, 0), file(files, 1))?;
             Ok(put(out, &text))
         }
     }

@@ -18,7 +18,7 @@
 //! - `status`, `stop`: how a call ends, and why a command has no text.
 //! - `words`: the command that the words ask for.
 //! - `fetch`: the files of a command.
-//! - `compile`, `extract`, `run`, `go`, `make`: one command each.
+//! - `compile`, `extract`, `run`, `go`, `make`, `asm`: one command each, `asm` with `dis`.
 //! - `commands`: the arm of each command, and its text put.
 //! - `line`: the lines of the faults.
 //! - `refusal`: why nothing else is written, with its line, and how that is put.
@@ -30,6 +30,7 @@
 //!   file a command, `FetchLemmas`, `NameLemmas`.
 #![tactic(auto)]
 
+mod asm;
 mod call;
 mod commands;
 mod compile;

@@ -222,5 +222,7 @@ pub fn fault_line(
         Status::ImageText(at) => format!(in alloc; "error image text {at}\n"),
         Status::MemText(at) => format!(in alloc; "error memory text {at}\n"),
         Status::Clash { cycle, .. } => format!(in alloc; "error clash {cycle} {name}\n"),
+        Status::AsmText(at) => format!(in alloc; "error asm text {at}\n"),
+        Status::AsmWord(line) => format!(in alloc; "error asm word {line}\n"),
     }
 }

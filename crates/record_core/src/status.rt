@@ -2,6 +2,7 @@
 ghost use Rattle.std.specs.Prelude.{◌≡◌};
 ghost use Rattle.record_core.specs.declared.status.Status.{Status};
 
+use net_asm::{AsmFault, DisFault};
 use net_compile::CompileFault;
 use net_front::NetRefusal;
 use net_model::NetFault;
@@ -51,6 +52,12 @@ pub enum Status {
     MemText(u64),
     /// Two drivers of the bus of this number are enabled in this clock cycle, of equal values too.
     Clash { cycle: u64, bus: u32 },
+    /// The second file is no assembler text for the netlist; the offset of the first byte of the
+    /// first line that isn't of the form or stands past the code.
+    AsmText(u64),
+    /// No instruction word does what this line of the assembler text says, counted from 0, and each
+    /// line before it has one.
+    AsmWord(u64),
 }
 
 impl Status {
@@ -74,6 +81,8 @@ impl Status {
             Status::Memory => 11,
             Status::ImageText(_) | Status::MemText(_) => 12,
             Status::Clash { .. } => 13,
+            Status::AsmText(_) => 16,
+            Status::AsmWord(_) => 17,
         }
     }
 }
@@ -136,6 +145,39 @@ impl From<NetRefusal> for Status {
             NetRefusal::Text(at) => Status::NetText(at),
             NetRefusal::Fault(fault) => Status::Net(fault),
             NetRefusal::Memory => Status::Memory,
+        }
+    }
+}
+
+impl From<AsmFault> for Status {
+    ghost from_gives = { λ fault status. status ≡ asm_status fault };
+
+    ghost use Rattle.std.specs.Prelude.{◌≡◌};
+    ghost use Rattle.record_core.specs.Inner.Statuses.{asm_status};
+
+    fn from(fault: AsmFault) -> Status {
+        match fault {
+            AsmFault::NetText(at) => Status::NetText(at),
+            AsmFault::Net(fault) => Status::Net(fault),
+            AsmFault::Text(at) => Status::AsmText(at),
+            AsmFault::Word(line) => Status::AsmWord(line),
+            AsmFault::Memory => Status::Memory,
+        }
+    }
+}
+
+impl From<DisFault> for Status {
+    ghost from_gives = { λ fault status. status ≡ dis_status fault };
+
+    ghost use Rattle.std.specs.Prelude.{◌≡◌};
+    ghost use Rattle.record_core.specs.Inner.Statuses.{dis_status};
+
+    fn from(fault: DisFault) -> Status {
+        match fault {
+            DisFault::NetText(at) => Status::NetText(at),
+            DisFault::Net(fault) => Status::Net(fault),
+            DisFault::ImageText(at) => Status::ImageText(at),
+            DisFault::Memory => Status::Memory,
         }
     }
 }

@@ -25,6 +25,10 @@ pub enum Command {
     Go(u32),
     /// `make N`: the summary of the made-up netlist and program of this number, compiled and run.
     Make(u32),
+    /// `asm NET TEXT`: the image text of an assembler text for a netlist.
+    Asm,
+    /// `dis NET IMG`: the assembler text of an image for a netlist.
+    Dis,
 }
 
 impl Command {
@@ -37,7 +41,7 @@ impl Command {
         ensures few { result ≤ 8 }
     {
         match self {
-            Command::Compile => 2,
+            Command::Compile | Command::Asm | Command::Dis => 2,
             Command::Extract => 1,
             Command::Run(_) | Command::Go(_) => 3,
             Command::Make(_) => 0,
@@ -84,6 +88,21 @@ fn short_command(words: &[String]) -> Option<Command>
     None
 }
 
+// The command of three words, if they have the form of one.
+fn middle_command(words: &[String]) -> Option<Command>
+    requires { length words.now ≡ 3 }
+    ensures command { result ≡ command_of (texts_of words.now) }
+    ensures named { IfSome result (λ command. file_count command < 3) }
+    ensures fits { IfSome result CommandFits }
+{
+    match words[0].as_str() {
+        "compile" => Some(Command::Compile),
+        "asm" => Some(Command::Asm),
+        "dis" => Some(Command::Dis),
+        _ => None,
+    }
+}
+
 // The command of five words, if they have the form of one.
 fn long_command(words: &[String]) -> Option<Command>
     requires { length words.now ≡ 5 }
@@ -113,8 +132,8 @@ pub fn command_of(words: &[String]) -> Option<Command>
     if words.len() == 2 {
         return short_command(words);
     }
-    if words.len() == 3 && words[0].as_str() == "compile" {
-        return Some(Command::Compile);
+    if words.len() == 3 {
+        return middle_command(words);
     }
     if words.len() == 5 {
         return long_command(words);

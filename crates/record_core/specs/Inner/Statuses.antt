@@ -4,12 +4,16 @@ use Rattle.net_front.specs.declared.front.NetRefusal.{NetRefusal}
 use Rattle.net_front.specs.declared.front.NetRefusal.TheVariants.{Text as NoNet, Fault as BrokenNet, Memory as NetMemory}
 use Rattle.net_compile.specs.declared.fault.CompileFault.{CompileFault}
 use Rattle.net_compile.specs.declared.fault.CompileFault.TheVariants.{NetText as CompileNetText, Net as CompileNet, SrcText as CompileSrcText, Src as CompileSrc, DataFull as NoRoom, NoStep as Stepless, NoJump as Jumpless, NoCover as Uncovered, NoReach as Beyond, ImageFull as Overlong, Memory as CompileMemory}
+use Rattle.net_asm.specs.declared.fault.AsmFault.{AsmFault}
+use Rattle.net_asm.specs.declared.fault.AsmFault.TheVariants as assembling
+use Rattle.net_asm.specs.declared.fault.DisFault.{DisFault}
+use Rattle.net_asm.specs.declared.fault.DisFault.TheVariants as showing
 use Rattle.net_run.specs.declared.machine.RunFault.{RunFault}
 use Rattle.net_run.specs.declared.machine.RunFault.TheVariants.{NetText as RunNetText, Net as RunNet, ImageText as NoImage, MemText as NoMemoryText, Clash as Clashed, Memory as RunMemory}
 use Rattle.rec_bits.specs.declared.fault.ParseFault.{ParseFault}
 use Rattle.rec_bits.specs.declared.fault.ParseFault.TheVariants.{Text as NoState, Memory as NoStateMemory}
 use Rattle.record_core.specs.declared.status.Status.{Status}
-use Rattle.record_core.specs.declared.status.Status.TheVariants.{NetText, Net, SrcText, Src, NoStep, NoJump, NoCover, DataFull, NoReach, ImageFull, Memory, ImageText, MemText, Clash}
+use Rattle.record_core.specs.declared.status.Status.TheVariants.{NetText, Net, SrcText, Src, NoStep, NoJump, NoCover, DataFull, NoReach, ImageFull, Memory, ImageText, MemText, Clash, AsmText, AsmWord}
 use Rattle.record_core.specs.declared.stop.Stop.{Stop}
 
 -- of the compiler
@@ -36,6 +40,21 @@ abbrev pub net_status : NetRefusal → Status
 net_status (NoNet at) = NetText at
 net_status (BrokenNet fault) = Net fault
 net_status NetMemory = Memory
+
+-- of the assembler
+abbrev pub asm_status : AsmFault → Status
+asm_status (assembling.NetText at) = NetText at
+asm_status (assembling.Net broken) = Net broken
+asm_status (assembling.Text at) = AsmText at
+asm_status (assembling.Word number) = AsmWord number
+asm_status assembling.Memory = Memory
+
+-- of the disassembler
+abbrev pub dis_status : DisFault → Status
+dis_status (showing.NetText at) = NetText at
+dis_status (showing.Net broken) = Net broken
+dis_status (showing.ImageText at) = ImageText at
+dis_status showing.Memory = Memory
 
 -- a status that is about no bus
 abbrev pub without_bus : Status → Stop

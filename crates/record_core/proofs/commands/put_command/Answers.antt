@@ -34,6 +34,16 @@ returns-in_err-text-in-Make-clause-refused g c = λ line.
     let p = err_from_is_err_and c.from_residual-in_err-text-in-Make.result c.from_residual-in_err-text-in-Make.ensures.1 in
     rw (p.1, p.2, c.in-Make.is) (c.in_err-text-in-Make.ensures.refused (line None))
 
+pub returns-in_err-text-in-Asm-clause-refused : goal.returns-in_err-text-in-Asm-clause-refused
+returns-in_err-text-in-Asm-clause-refused g c = λ line.
+    let p = err_from_is_err_and c.from_residual-in_err-text-in-Asm.result c.from_residual-in_err-text-in-Asm.ensures.1 in
+    rw (p.1, p.2, c.in-Asm.is) (rw (c.file-in-Asm.ensures, c.file-in-Asm-2.ensures) at (c.in_err-text-in-Asm.ensures.refused (line None)))
+
+pub returns-in_err-text-in-Dis-clause-refused : goal.returns-in_err-text-in-Dis-clause-refused
+returns-in_err-text-in-Dis-clause-refused g c = λ line.
+    let p = err_from_is_err_and c.from_residual-in_err-text-in-Dis.result c.from_residual-in_err-text-in-Dis.ensures.1 in
+    rw (p.1, p.2, c.in-Dis.is) (rw (c.file-in-Dis.ensures, c.file-in-Dis-2.ensures) at (c.in_err-text-in-Dis.ensures.refused (line None)))
+
 pub returns-in_ok-text-in-Compile-clause-done : goal.returns-in_ok-text-in-Compile-clause-done
 returns-in_ok-text-in-Compile-clause-done g c = λ line. record {
   text = c.in_ok-text-in-Compile.text.items;
@@ -69,4 +79,18 @@ returns-in_ok-text-in-Make-clause-done g c = λ line. record {
   text = c.in_ok-text-in-Make.text.items;
   answers = rw c.in-Make.is (c.in_ok-text-in-Make.ensures.ok (line None));
   puts = rw c.deref-in-Make.ensures.value at c.put-in-Make.ensures;
+}
+
+pub returns-in_ok-text-in-Asm-clause-done : goal.returns-in_ok-text-in-Asm-clause-done
+returns-in_ok-text-in-Asm-clause-done g c = λ line. record {
+  text = c.in_ok-text-in-Asm.text.items;
+  answers = rw c.in-Asm.is (rw (c.file-in-Asm.ensures, c.file-in-Asm-2.ensures) at (c.in_ok-text-in-Asm.ensures.ok (line None)));
+  puts = rw c.deref-in-Asm.ensures.value at c.put-in-Asm.ensures;
+}
+
+pub returns-in_ok-text-in-Dis-clause-done : goal.returns-in_ok-text-in-Dis-clause-done
+returns-in_ok-text-in-Dis-clause-done g c = λ line. record {
+  text = c.in_ok-text-in-Dis.text.items;
+  answers = rw c.in-Dis.is (rw (c.file-in-Dis.ensures, c.file-in-Dis-2.ensures) at (c.in_ok-text-in-Dis.ensures.ok (line None)));
+  puts = rw c.deref-in-Dis.ensures.value at c.put-in-Dis.ensures;
 }

@@ -1,0 +1,93 @@
+-- What `asm` and `dis` answer.
+use Rattle.std.proofs.Common.{◌≡◌, ◌⊎◌, ℕ, List, inl, inr, refl}
+use Rattle.net_asm.proofs.AsmLaws.{no_text_fault, no_wordless}
+use Rattle.net_asm.proofs.DisLaws.{no_image_fault}
+use Rattle.net_asm.specs.Assembled.{IsAssembled, IsAssembleFault, IsNoAsmFile, IsWordless}
+use Rattle.net_asm.specs.Disassembled.{IsDisassembled, IsDisassembleFault}
+use Rattle.net_asm.specs.Machines.{IsMachineText}
+use Rattle.net_asm.specs.declared.fault.AsmFault.{AsmFault}
+use Rattle.net_asm.specs.declared.fault.AsmFault.TheVariants as assembling
+use Rattle.net_asm.specs.declared.fault.DisFault.{DisFault}
+use Rattle.net_asm.specs.declared.fault.DisFault.TheVariants as showing
+use Rattle.net_run.specs.Runs.{IsNoImageFile}
+use Rattle.record_core.proofs.NetLemmas.{past_rules, stops_at_text, stops_at_rule}
+use Rattle.record_core.proofs.StageLemmas.{By-none}
+use Rattle.record_core.specs.Answers.{AsmAnswers, DisAnswers}
+use Rattle.record_core.specs.Inner.Statuses.{asm_status, dis_status}
+use Rattle.record_core.specs.Stages.{By, Then}
+use Rattle.record_core.specs.declared.status.Status.{Status}
+use Rattle.record_core.specs.declared.status.Status.TheVariants.{Done, Memory, ImageText, AsmText, AsmWord}
+
+-- ---- `asm`
+
+module _ (line : Status → List ℕ) (net asm : List ℕ) where
+  -- the later stages, by what the texts passed so far
+  abbrev word_answers : Status → List ℕ → Type 0
+  word_answers = Then line (By AsmWord (IsWordless net asm)) (λ status text. (status ≡ Done) × IsAssembled net asm text)
+
+  abbrev line_answers : Status → List ℕ → Type 0
+  line_answers = Then line (By AsmText (IsNoAsmFile net asm)) word_answers
+
+  pub answers_image : (out : List ℕ) → IsAssembled net asm out → AsmAnswers line net asm Done out
+  answers_image out is = past_rules line net line_answers is.is.entries is.is.file Done out (inr (
+    By-none AsmText (IsNoAsmFile net asm) (no_text_fault net asm is.machine is.is is.lines is.says),
+    inr (By-none AsmWord (IsWordless net asm) (λ number none. no_wordless net asm out number is none), (refl, is)),
+  ))
+
+  answers_no_line : (at : ℕ) → IsNoAsmFile net asm at → AsmAnswers line net asm (AsmText at) (line (AsmText at))
+  answers_no_line at none =
+      past_rules line net line_answers none.is.entries none.is.file (AsmText at) (line (AsmText at)) (inl ((at, none, refl), refl))
+
+  answers_no_word : (number : ℕ) → IsWordless net asm number → AsmAnswers line net asm (AsmWord number) (line (AsmWord number))
+  answers_no_word number none =
+      past_rules line net line_answers none.is.entries none.is.file (AsmWord number) (line (AsmWord number)) (inr (
+        By-none AsmText (IsNoAsmFile net asm) (no_text_fault net asm none.machine none.is _ none.says),
+        inl ((number, none, refl), refl),
+      ))
+
+  -- a fault of the assembler is what is answered
+  pub answers_asm_fault : (fault : AsmFault) → IsAssembleFault net asm fault
+      → (asm_status fault ≡ Memory) ⊎ AsmAnswers line net asm (asm_status fault) (line (asm_status fault))
+  answers_asm_fault (assembling.NetText at) is = inr (stops_at_text line net line_answers at is)
+  answers_asm_fault (assembling.Net broken) is = inr (stops_at_rule line net line_answers broken is)
+  answers_asm_fault (assembling.Text at) is = inr (answers_no_line at is)
+  answers_asm_fault (assembling.Word number) is = inr (answers_no_word number is)
+  answers_asm_fault assembling.Memory is = inl refl
+
+-- what is written on `Done` is assembled
+pub assembled_of : (line : Status → List ℕ) (net asm text : List ℕ) → AsmAnswers line net asm Done text → IsAssembled net asm text
+assembled_of line net asm text (inl ((at, reason, is), same)) = absurd cc
+assembled_of line net asm text (inr (net_text, inl ((broken, reason, is), same))) = absurd cc
+assembled_of line net asm text (inr (net_text, inr (rules, inl ((at, reason, is), same)))) = absurd cc
+assembled_of line net asm text (inr (net_text, inr (rules, inr (lines, inl ((number, reason, is), same))))) = absurd cc
+assembled_of line net asm text (inr (net_text, inr (rules, inr (lines, inr (words, (is, made)))))) = made
+
+-- ---- `dis`
+
+module _ (line : Status → List ℕ) (net image : List ℕ) where
+  abbrev image_answers : Status → List ℕ → Type 0
+  image_answers = Then line (By ImageText (IsNoImageFile net image)) (λ status text. (status ≡ Done) × IsDisassembled net image text)
+
+  pub answers_lines : (out : List ℕ) → IsDisassembled net image out → DisAnswers line net image Done out
+  answers_lines out is = past_rules line net image_answers is.is.entries is.is.file Done out (inr (
+    By-none ImageText (IsNoImageFile net image) (λ at none. no_image_fault net image out is at none), (refl, is),
+  ))
+
+  answers_no_image : (at : ℕ) → IsMachineText net → IsNoImageFile net image at → DisAnswers line net image (ImageText at) (line (ImageText at))
+  answers_no_image at some none =
+      past_rules line net image_answers some.is.entries some.is.file (ImageText at) (line (ImageText at)) (inl ((at, none, refl), refl))
+
+  -- a fault of the disassembler is what is answered
+  pub answers_dis_fault : (fault : DisFault) → IsDisassembleFault net image fault
+      → (dis_status fault ≡ Memory) ⊎ DisAnswers line net image (dis_status fault) (line (dis_status fault))
+  answers_dis_fault (showing.NetText at) is = inr (stops_at_text line net image_answers at is)
+  answers_dis_fault (showing.Net broken) is = inr (stops_at_rule line net image_answers broken is)
+  answers_dis_fault (showing.ImageText at) is = inr (answers_no_image at is.0 is.1)
+  answers_dis_fault showing.Memory is = inl refl
+
+-- what is written on `Done` is disassembled
+pub disassembled_of : (line : Status → List ℕ) (net image text : List ℕ) → DisAnswers line net image Done text → IsDisassembled net image text
+disassembled_of line net image text (inl ((at, reason, is), same)) = absurd cc
+disassembled_of line net image text (inr (net_text, inl ((broken, reason, is), same))) = absurd cc
+disassembled_of line net image text (inr (net_text, inr (rules, inl ((at, reason, is), same)))) = absurd cc
+disassembled_of line net image text (inr (net_text, inr (rules, inr (images, (is, shown))))) = shown
