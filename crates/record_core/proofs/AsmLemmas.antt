@@ -1,15 +1,25 @@
 -- What `asm` and `dis` answer.
-use Rattle.std.proofs.Common.{◌≡◌, ◌⊎◌, ℕ, List, inl, inr, refl}
+use Rattle.std.proofs.Common.{◌≡◌, ◌⊎◌, ℕ, List, [], ◌∷◌, inl, inr, refl, subst}
+use Rattle.std.specs.List.{AllZip}
+use Rattle.net_model.specs.declared.hardware.Netlist.{Netlist}
 use Rattle.net_asm.proofs.AsmLaws.{no_text_fault, no_wordless}
-use Rattle.net_asm.proofs.DisLaws.{no_image_fault}
-use Rattle.net_asm.specs.Assembled.{IsAssembled, IsAssembleFault, IsNoAsmFile, IsWordless}
-use Rattle.net_asm.specs.Disassembled.{IsDisassembled, IsDisassembleFault}
+use Rattle.asm_text.specs.declared.line.Line.{Line}
+use Rattle.asm_words.proofs.Clocked.{words_lie}
+use Rattle.code_model.specs.Places.{words_of}
+use Rattle.net_asm.proofs.Again.{clocks_alike}
+use Rattle.net_asm.specs.Machines.{IsMachine, Machine}
+use Rattle.net_run.proofs.RunLaws.{no_image_fault}
+use Rattle.net_asm.specs.Assembled.{HasWord, IsAssembled, IsAssembleFault, IsNoAsmFile, IsWordless}
+use Rattle.net_asm.specs.Disassembled.{IsDisassembled, IsDisassembleFault, ShowsWord}
 use Rattle.net_asm.specs.Machines.{IsMachineText}
 use Rattle.net_asm.specs.declared.fault.AsmFault.{AsmFault}
 use Rattle.net_asm.specs.declared.fault.AsmFault.TheVariants as assembling
 use Rattle.net_asm.specs.declared.fault.DisFault.{DisFault}
 use Rattle.net_asm.specs.declared.fault.DisFault.TheVariants as showing
-use Rattle.net_run.specs.Runs.{IsNoImageFile}
+use Rattle.net_run.specs.Runs.{IsImageFile, IsNoImageFile}
+use Rattle.code_model.specs.ImageFits.{limits_of}
+use Rattle.code_model.specs.ImageLines.{IsImageText}
+use Rattle.record_core.specs.Showing.{IsShownText}
 use Rattle.record_core.proofs.NetLemmas.{past_rules, stops_at_text, stops_at_rule}
 use Rattle.record_core.proofs.StageLemmas.{By-none}
 use Rattle.record_core.specs.Answers.{AsmAnswers, DisAnswers}
@@ -68,9 +78,18 @@ module _ (line : Status → List ℕ) (net image : List ℕ) where
   abbrev image_answers : Status → List ℕ → Type 0
   image_answers = Then line (By ImageText (IsNoImageFile net image)) (λ status text. (status ≡ Done) × IsDisassembled net image text)
 
+  image_file : (out : List ℕ) → IsDisassembled net image out → IsImageFile net image
+  image_file out is = record {
+    entries = is.is.entries;
+    said = is.said;
+    net_file = is.is.file.file;
+    image_text = subst (λ (n : Netlist). IsImageText (limits_of n) image is.said) is.is.netlist is.read;
+  }
+
   pub answers_lines : (out : List ℕ) → IsDisassembled net image out → DisAnswers line net image Done out
   answers_lines out is = past_rules line net image_answers is.is.entries is.is.file Done out (inr (
-    By-none ImageText (IsNoImageFile net image) (λ at none. no_image_fault net image out is at none), (refl, is),
+    By-none ImageText (IsNoImageFile net image) (λ at none. no_image_fault net image at (image_file out is) none),
+    (refl, is),
   ))
 
   answers_no_image : (at : ℕ) → IsMachineText net → IsNoImageFile net image at → DisAnswers line net image (ImageText at) (line (ImageText at))
@@ -85,9 +104,27 @@ module _ (line : Status → List ℕ) (net image : List ℕ) where
   answers_dis_fault (showing.ImageText at) is = inr (answers_no_image at is.0 is.1)
   answers_dis_fault showing.Memory is = inl refl
 
--- what is written on `Done` is disassembled
-pub disassembled_of : (line : Status → List ℕ) (net image text : List ℕ) → DisAnswers line net image Done text → IsDisassembled net image text
+disassembled_of : (line : Status → List ℕ) (net image text : List ℕ) → DisAnswers line net image Done text → IsDisassembled net image text
 disassembled_of line net image text (inl ((at, reason, is), same)) = absurd cc
 disassembled_of line net image text (inr (net_text, inl ((broken, reason, is), same))) = absurd cc
 disassembled_of line net image text (inr (net_text, inr (rules, inl ((at, reason, is), same)))) = absurd cc
 disassembled_of line net image text (inr (net_text, inr (rules, inr (images, (is, shown))))) = shown
+
+-- each word is one of its line's
+all_lie : (net : List ℕ) (machine : Machine) → IsMachine net machine → (words : List ℕ) (lines : List Line) → AllZip (ShowsWord machine) words lines
+    → AllZip (λ word line. HasWord machine line word) words lines
+all_lie net machine is [] [] shown = tt
+all_lie net machine is [] (line ∷ lines) shown = absurd shown
+all_lie net machine is (word ∷ words) [] shown = absurd shown
+all_lie net machine is (word ∷ words) (line ∷ lines) shown =
+    (words_lie machine.netlist machine.patterns word line is.patterns.every shown.0, all_lie net machine is words lines shown.1)
+
+-- what is written on `Done` shows the image
+pub shown_of : (line : Status → List ℕ) (net image text : List ℕ) → DisAnswers line net image Done text → IsShownText net image text
+shown_of line net image text answers =
+    let shown = disassembled_of line net image text answers in
+    record {
+      shown = shown;
+      lie = all_lie net shown.machine shown.is (words_of shown.said) shown.lines shown.shown;
+      alike = λ out made s state. clocks_alike net image text out shown made s state;
+    }

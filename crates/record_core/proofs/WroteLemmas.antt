@@ -5,7 +5,7 @@ use Rattle.rec_io.specs.Files.{Files}
 use Rattle.rec_io.specs.Shelf.{ShelfState}
 use Rattle.rec_io.specs.Sink.{SinkState}
 use Rattle.rec_io.specs.Written.{Takes}
-use Rattle.record_core.proofs.AsmLemmas.{assembled_of, disassembled_of}
+use Rattle.record_core.proofs.AsmLemmas.{assembled_of, shown_of}
 use Rattle.record_core.proofs.CompileLemmas.{right_of}
 use Rattle.record_core.proofs.ExtractLemmas.{patterns_of}
 use Rattle.record_core.proofs.GoLemmas.{watched_of}
@@ -26,7 +26,7 @@ text_is line (Run clocks) files text answers = state_of line (file_at files 0) (
 text_is line (Go clocks) files text answers = watched_of (line None) (file_at files 0) (file_at files 1) (file_at files 2) clocks text answers
 text_is line (Make number) files text answers = summary_of (line None) number text answers
 text_is line Asm files text answers = assembled_of (line None) (file_at files 0) (file_at files 1) text answers
-text_is line Dis files text answers = disassembled_of (line None) (file_at files 0) (file_at files 1) text answers
+text_is line Dis files text answers = shown_of (line None) (file_at files 0) (file_at files 1) text answers
 
 command_wrote : (line : List ℕ → Option ℕ → Status → List ℕ) (command : Command) (names : List (List ℕ)) (told : Option Files) (old new : Option (List ℕ)) (text : List ℕ) → CommandAnswers line told command names Done text → Takes old new text → Wrote command names told old new
 command_wrote line command names None old new text answers taken = tt

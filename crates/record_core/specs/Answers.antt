@@ -16,7 +16,6 @@ use Rattle.job_gen.specs.SrcText.{src_text as job_program}
 use Rattle.net_make.specs.Summaries.{IsSummary}
 use Rattle.net_asm.specs.Assembled.{IsAssembled, IsNoAsmFile, IsWordless}
 use Rattle.net_asm.specs.Disassembled.{IsDisassembled}
-use Rattle.net_asm.specs.Laws.{IsShownAgain}
 use Rattle.net_run.specs.Runs.{IsNoImageFile, IsNoMemoryFile, ClashedAt, Clashes, ShowsState}
 use Rattle.rec_io.specs.Causes.{Rose}
 use Rattle.rec_io.specs.Files.{Files, file_of}
@@ -24,6 +23,7 @@ use Rattle.rec_io.specs.Shelf.{ShelfState, LastFailed, NoFetchFailed}
 use Rattle.rec_io.specs.Sink.{SinkState, LastPutFailed}
 use Rattle.rec_io.specs.Written.{Takes, TakesPrefix}
 use Rattle.record_core.specs.Lines.{due_line}
+use Rattle.record_core.specs.Showing.{IsShownText}
 use Rattle.record_core.specs.Stages.{By, Just, Then}
 use Rattle.record_core.specs.Watching.{IsWatched, LacksMemory}
 use Rattle.record_core.specs.Words.{command_of, names_of}
@@ -284,7 +284,7 @@ IsText (Run clocks) files = ShowsState (file_at files 0) (file_at files 1) (file
 IsText (Go clocks) files = λ out. TaskHolds (file_at files 0) (file_at files 1) (IsWatched (file_at files 2) clocks out)
 IsText (Make number) files = IsSummary number
 IsText Asm files = IsAssembled (file_at files 0) (file_at files 1)
-IsText Dis files = IsShownAgain (file_at files 0) (file_at files 1)
+IsText Dis files = IsShownText (file_at files 0) (file_at files 1)
 
 -- the bytes that were taken are the text of the command for the files of these names
 pub record HasText (command : Command) (names : List (List ℕ)) (known : Files) (old new : List ℕ) : Type 0 where

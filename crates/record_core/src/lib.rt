@@ -24,7 +24,7 @@
 //! - `refusal`: why nothing else is written, with its line, and how that is put.
 //! - `call`: `record_call`.
 //! - `specs/`, cited by public contracts: `Answers` (what is answered, and what is written),
-//!   `Stages`, `Words`, `Watching`, `Status`, `Lines`, `NetLines` and `SrcLines`. `specs/Inner/`:
+//!   `Stages`, `Words`, `Watching`, `Showing`, `Status`, `Lines`, `NetLines` and `SrcLines`. `specs/Inner/`:
 //!   `Fetch`, `Putting`, `Refusals`, `Statuses`, for the functions here.
 //! - `proofs/`: `WroteLemmas`, `AnswerLemmas`, `UniqueLemmas` and `StageLemmas` for the call, one
 //!   file a command, `FetchLemmas`, `NameLemmas`.
