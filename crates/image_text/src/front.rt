@@ -7,6 +7,7 @@ use code_model::{Image, Limits, Mark, Place, Word};
 use image_items::{Item, item_of};
 use rec_bits::{Items, NoMemory, mask};
 use std::alloc::Global;
+use text_lines::bytes_of;
 
 /// What the lines so far say.
 #[derive(Drop)]

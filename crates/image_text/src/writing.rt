@@ -8,6 +8,7 @@ ghost use Rattle.text_lines.specs.Digits.{hex_of};
 use code_model::{Image, Mark, Place, Word};
 use rec_bits::NoMemory;
 use std::alloc::Global;
+use text_lines::bytes_of;
 
 // The bytes of the widest word.
 const WORD_BYTES: usize = 8;
