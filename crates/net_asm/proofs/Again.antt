@@ -3,6 +3,7 @@
 use Rattle.std.proofs.Common.{◌≡◌, inl, inr, ℕ, ◌^◌, ◌<◌, List, [], ◌∷◌, ◌++◌, map, refl, sym, ap, subst, ◌∙◌, arith}
 use Rattle.std.specs.List.{AllByRecursion, AllZip, concat}
 use Rattle.std.proofs.lemmas.List.{length-map}
+use Rattle.std.proofs.lemmas.Slice.Zip.{AllZip-long}
 use Rattle.net_model.specs.Clock.{clock, counter_in, step, word_at}
 use Rattle.code_model.specs.declared.image.Word.{Word}
 use Rattle.code_model.specs.ImageFits.{CodeFits, limits_of}
@@ -26,7 +27,7 @@ use Rattle.net_asm.specs.declared.fault.AsmFault.TheVariants as fault
 use Rattle.net_asm.proofs.AsmLaws.{no_broken_rule, no_text_fault, one_lines}
 use Rattle.net_asm.proofs.MachineLaws.{bits_are, machine_texts, narrow, no_net_text, one_machine, rules_of}
 use Rattle.net_asm.proofs.ShownLines.{shown_fits}
-use Rattle.net_asm.proofs.Zips.{zip_at, zip_long, zip_middle}
+use Rattle.net_asm.proofs.Zips.{zip_at, zip_middle, zip_turned}
 
 -- ---- reading
 
@@ -85,7 +86,7 @@ reads_again net image text d =
           subst (λ (all : List (List ℕ)). SayLines (texts_of d.machine) (limits_of d.machine.netlist).bits all d.lines)
           (sym (ap lines_of d.written ∙ parted d.machine net d.is d.lines fit)) (say_own (texts_of d.machine) (limits_of d.machine.netlist).bits d.lines fit);
       few =
-          (let long = zip_long (ShowsWord d.machine) (words_of d.said) d.lines d.shown in
+          (let long = AllZip-long (ShowsWord d.machine) (words_of d.said) d.lines d.shown in
           let same = length-map d.said.words (λ (word : Word). word.word) in
           let few = d.read.fits.few in omega arith);
     }
@@ -96,13 +97,6 @@ reads_again net image text d =
 lies : (machine : Machine) (net : List ℕ) → IsMachine net machine → (word : ℕ) (line : Line) → ShowsWord machine word line → HasWord machine line word
 lies machine net is word line shown = words_lie machine.netlist machine.patterns word line is.patterns.every shown
 
--- the other way round
-turned : {A B : Type 0} (R : A → B → Type 0) (xs : List A) (ys : List B) → AllZip R xs ys → AllZip (λ y x. R x y) ys xs
-turned R [] [] h = tt
-turned R [] (y ∷ ys) h = absurd h
-turned R (x ∷ xs) [] h = absurd h
-turned R (x ∷ xs) (y ∷ ys) h = (h.0, turned R xs ys h.1)
-
 pub is_taken : IsTaken
 is_taken net image text d (fault.NetText at) h = absurd (no_net_text net d.machine at d.is h)
 is_taken net image text d (fault.Net broken) h = absurd (no_broken_rule net d.machine broken d.is h)
@@ -110,7 +104,7 @@ is_taken net image text d (fault.Text at) h = absurd (no_text_fault net text d.m
 is_taken net image text d (fault.Word number) h =
     absurd (
     let same : d.lines ≡ h.before ++ (h.line ∷ h.after) = one_lines net text d.machine h.machine d.is h.is d.lines (h.before ++ (h.line ∷ h.after)) (reads_again net image text d) h.says in
-    let shown = turned (ShowsWord d.machine) (words_of d.said) d.lines d.shown in
+    let shown = zip_turned (ShowsWord d.machine) (words_of d.said) d.lines d.shown in
     let found = zip_middle (λ (line : Line) (word : ℕ). ShowsWord d.machine word line) h.before h.line h.after (words_of d.said) (subst (λ (ls : List Line). AllZip (λ (line : Line) (word : ℕ). ShowsWord d.machine word line) ls (words_of d.said)) same shown) in
     h.none found.0 (subst (λ (m : Machine). HasWord m h.line found.0) (one_machine net d.machine h.machine d.is h.is) (lies d.machine net d.is found.0 h.line found.1))
     )

@@ -4,6 +4,7 @@ use Rattle.std.specs.Prelude.{All}
 use Rattle.std.specs.List.{AllByRecursion, AllZip}
 use Rattle.std.proofs.lemmas.List.{length-map, map-append}
 use Rattle.std.proofs.lemmas.List.Elements.{All-cons, All-head, All-nil, All-tail}
+use Rattle.std.proofs.lemmas.Slice.Zip.{AllZip-long, all_zipped_more}
 use Rattle.net_model.specs.CheckedRules.{Ordered}
 use Rattle.net_model.specs.declared.hardware.Netlist.{Netlist}
 use Rattle.net_model.specs.Nets.{word_width}
@@ -29,7 +30,6 @@ use Rattle.net_asm.specs.declared.fault.DisFault.{DisFault}
 use Rattle.net_asm.specs.declared.fault.DisFault.TheVariants as dis
 use Rattle.net_asm.proofs.MachineLaws.{bits_are, machine_texts, rules_of}
 use Rattle.net_asm.proofs.Tables.{take_next, texts_are, word_small}
-use Rattle.net_asm.proofs.Zips.{zip_long, zip_push}
 
 -- ---- lines
 
@@ -113,7 +113,7 @@ module _ (net text : List ℕ) (machine : Machine) (is : IsMachine net machine) 
       fits = record {
         bits = refl;
         few =
-            (let long = zip_long (HasLeastWord machine) of.least.lines of.words of.least.least in
+            (let long = AllZip-long (HasLeastWord machine) of.least.lines of.words of.least.least in
             let same = length-map of.words bare_word in
             let few = of.least.says.few in omega arith);
         temps = omega arith;
@@ -160,7 +160,7 @@ pub shown_next : (machine : Machine) (words : List Word) (n : ℕ) (word : Word)
 shown_next machine words n word lines line lt is shown one =
     let more : map (λ (word : Word). word.word) (take (n + 1) words) ≡ map (λ (word : Word). word.word) (take n words) ++ (word.word ∷ []) =
     ap (map (λ (word : Word). word.word)) (take_next words n word lt is) ∙ map-append (λ (word : Word). word.word) (take n words) (word ∷ []) in
-    subst (λ (ws : List ℕ). AllZip (ShowsWord machine) ws (lines ++ (line ∷ []))) (sym more) (zip_push (ShowsWord machine) (map (λ (word : Word). word.word) (take n words)) lines word.word line shown one)
+    subst (λ (ws : List ℕ). AllZip (ShowsWord machine) ws (lines ++ (line ∷ []))) (sym more) (all_zipped_more (ShowsWord machine) (map (λ (word : Word). word.word) (take n words)) lines word.word line shown one)
 
 module _ (netlist : Netlist) (extracted : Extracted) (from : IsExtractedFrom netlist extracted) where
   -- the text of lines by the kept texts is that by the machine's

@@ -1,10 +1,13 @@
 -- What is known of patterns that were extracted: their sets and expressions are those of the book
 -- and the pool, their texts are those of their transfers, and they stay as the book grows.
-use Rattle.std.proofs.Common.{◌≡◌, ℕ, zero, suc, ◌+◌, ◌^◌, ◌<◌, ◌≤◌, false, true, true≢false, List, [], ◌∷◌, ◌++◌, length, map, take, drop, Option, Some, None, IfSome, IfNone, MatchOption, slice_get, slice_index, slice_index_or, refl, sym, ap, subst, ◌∙◌, add-one, arith}
+use Rattle.std.proofs.Common.{◌≡◌, ℕ, zero, suc, ◌+◌, ◌^◌, ◌<◌, ◌≤◌, false, true, true≢false, List, [], ◌∷◌, ◌++◌, length, length-take, map, take, drop, Option, Some, None, IfSome, IfNone, MatchOption, slice_get, slice_index, slice_index_or, refl, sym, ap, subst, ◌∙◌, add-one, arith}
 use Rattle.std.specs.Prelude.{◌↔◌, All, option_map}
 use Rattle.std.specs.List.{AllByRecursion, AllZip}
 use Rattle.std.proofs.lemmas.List.Elements.{All-cons, All-head, All-nil, All-tail, All-weaker}
+use Rattle.std.proofs.Math.Seq.{drop-cons}
+use Rattle.std.proofs.lemmas.List.{length-map, take-append-drop, take_more}
 use Rattle.std.proofs.lemmas.Option.{same_Some}
+use Rattle.std.proofs.lemmas.Slice.Zip.{all_zipped_more}
 use Rattle.bit_bdd.specs.Diagrams.{Diagrams, Extends, has_word}
 use Rattle.bit_bdd.proofs.CallerLemmas.{same_words, still_within}
 use Rattle.net_model.specs.declared.hardware.Code.{Code}
@@ -28,11 +31,10 @@ use Rattle.asm_text.specs.declared.line.Line.{Line}
 use Rattle.asm_text.specs.declared.line.Line.TheVariants.{Raw, Do}
 use Rattle.asm_text.specs.Lines.{LineFits}
 use Rattle.asm_words.specs.Asked.{IsWordOfLine}
-use Rattle.asm_words.specs.Tables.{HasExprs, HasSets, ItemsFit}
+use Rattle.asm_words.specs.Tables.{HasExprs, HasLine, HasSets}
 use Rattle.net_asm.specs.Machines.{Machine, move_texts}
 use Rattle.net_asm.specs.Assembled.{HasLeastWord, IsWorded}
 use Rattle.net_asm.specs.Inner.Tables.{IsLeastOf, KeepsPatterns, LacksWord, machine_of, row_texts}
-use Rattle.net_asm.proofs.Zips.{zip_push}
 
 -- ---- sets and expressions
 
@@ -104,10 +106,13 @@ some_storage netlist order rules = by netlist.codes rules.roles.code rules.forme
 
 -- ---- lines
 
--- the items of a line that fits do
-pub items_fit : (texts : List (List ℕ)) (bits : ℕ) (line : Line) → LineFits texts bits line → ItemsFit bits line
-items_fit texts bits (Raw word) fits = tt
-items_fit texts bits (Do numbers items) fits = fits.2
+-- a line that fits the kept texts is one of the table
+pub has_line : (table : Table) (bits : ℕ) (line : Line) → LineFits (row_texts table.rows) bits line → HasLine bits table line
+has_line table bits (Raw word) fits = fits
+has_line table bits (Do numbers items) fits = (
+  λ k d lt. (let n = fits.0 k d lt in let long = length-map table.rows (λ (row : Row). row.text.items) in omega arith),
+  fits.2,
+)
 
 -- the words of a line that fits are below 2 to the code's bits
 pub word_small : (netlist : Netlist) (order : List ℕ) → KeepsRules netlist order → (patterns : List Pattern) (texts : List (List ℕ)) (line : Line) → LineFits texts (word_width netlist) line → (word : ℕ) → IsWordOfLine netlist patterns line word → word < 2 ^ word_width netlist
@@ -140,23 +145,8 @@ least_of_line netlist order rules extracted from line fits new set found grows w
 
 -- ---- lists
 
-pub split_at : {A : Type 0} (xs : List A) (n : ℕ) (x : A) → n < length xs → x ≡ slice_index_or xs n x → xs ≡ take n xs ++ (x ∷ drop (suc n) xs)
-split_at [] n x lt e = absurd (omega (arith, lt))
-split_at (y ∷ xs) zero x lt e = ap (λ (z : _). z ∷ xs) (sym e)
-split_at (y ∷ xs) (suc n) x lt e = ap (λ (zs : List _). y ∷ zs) (split_at xs n x (omega (arith, lt)) e)
-
 pub take_next : {A : Type 0} (xs : List A) (n : ℕ) (x : A) → n < length xs → x ≡ slice_index_or xs n x → take (n + 1) xs ≡ take n xs ++ (x ∷ [])
-take_next {A = A} xs n x lt e = ap (λ (k : ℕ). take k xs) (add-one n) ∙ by xs n lt e
-  where
-    by : (xs : List A) (n : ℕ) → n < length xs → x ≡ slice_index_or xs n x → take (suc n) xs ≡ take n xs ++ (x ∷ [])
-    by [] n lt e = absurd (omega (arith, lt))
-    by (y ∷ xs) zero lt e = ap (λ (z : A). z ∷ []) (sym e)
-    by (y ∷ xs) (suc n) lt e = ap (λ (zs : List A). y ∷ zs) (by xs n (omega (arith, lt)) e)
-
-pub long_front : {A : Type 0} (xs : List A) (n : ℕ) → n ≤ length xs → length (take n xs) ≡ n
-long_front xs zero le = refl
-long_front [] (suc n) le = absurd (omega (arith, le))
-long_front (x ∷ xs) (suc n) le = omega (arith, long_front xs n (omega (arith, le)))
+take_next xs n x lt e = take_more xs n x lt ∙ ap (λ (z : _). take n xs ++ (z ∷ [])) (sym e)
 
 -- one more image
 pub map_next : {A B : Type 0} (f : A → B) (xs : List A) (n : ℕ) (y : B) → option_map f (slice_get xs n) ≡ Some y → map f (take (n + 1) xs) ≡ map f (take n xs) ++ (y ∷ [])
@@ -180,8 +170,9 @@ lacks_at machine lines n line words lt is least none = record {
   before = take n lines;
   line = line;
   after = drop (suc n) lines;
-  parts = split_at lines n line lt is;
-  place = long_front lines n (omega (arith, lt));
+  parts =
+      sym (take-append-drop n lines) ∙ ap (λ (rest : List Line). take n lines ++ rest) (drop-cons lines n line lt ∙ ap (λ (l : Line). l ∷ drop (suc n) lines) (sym is));
+  place = simp length-take (omega arith);
   worded = worded machine (take n lines) words least;
   none = none;
 }
@@ -189,7 +180,7 @@ lacks_at machine lines n line words lt is least none = record {
 -- one more word
 pub least_next : (machine : Machine) (lines : List Line) (n : ℕ) (line : Line) (words : List ℕ) (word : ℕ) → n < length lines → line ≡ slice_index_or lines n line → AllZip (HasLeastWord machine) (take n lines) words → HasLeastWord machine line word → AllZip (HasLeastWord machine) (take (n + 1) lines) (words ++ (word ∷ []))
 least_next machine lines n line words word lt is least one =
-    subst (λ (ls : List Line). AllZip (HasLeastWord machine) ls (words ++ (word ∷ []))) (sym (take_next lines n line lt is)) (zip_push (HasLeastWord machine) (take n lines) words line word least one)
+    subst (λ (ls : List Line). AllZip (HasLeastWord machine) ls (words ++ (word ∷ []))) (sym (take_next lines n line lt is)) (all_zipped_more (HasLeastWord machine) (take n lines) words line word least one)
 
 -- the patterns that are kept are one machine's
 pub kept_machine : (netlist : Netlist) (old new : Extracted) → KeepsPatterns old new → machine_of netlist new ≡ machine_of netlist old

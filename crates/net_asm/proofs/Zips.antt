@@ -1,20 +1,8 @@
 -- Lists in step.
-use Rattle.std.proofs.Common.{◌≡◌, ◌⊎◌, inl, inr, ℕ, zero, suc, List, [], ◌∷◌, ◌++◌, length, slice_index, refl, arith}
+use Rattle.std.proofs.Common.{◌≡◌, ◌⊎◌, inl, inr, ℕ, zero, suc, List, [], ◌∷◌, ◌++◌, slice_index, refl}
 use Rattle.std.specs.List.{AllZip}
 
 module _ {A B : Type 0} (R : A → B → Type 0) where
-  pub zip_push : (xs : List A) (ys : List B) (x : A) (y : B) → AllZip R xs ys → R x y → AllZip R (xs ++ (x ∷ [])) (ys ++ (y ∷ []))
-  zip_push [] [] x y h r = (r, tt)
-  zip_push [] (b ∷ ys) x y h r = absurd h
-  zip_push (a ∷ xs) [] x y h r = absurd h
-  zip_push (a ∷ xs) (b ∷ ys) x y h r = (h.0, zip_push xs ys x y h.1 r)
-
-  pub zip_long : (xs : List A) (ys : List B) → AllZip R xs ys → length xs ≡ length ys
-  zip_long [] [] h = refl
-  zip_long [] (b ∷ ys) h = absurd h
-  zip_long (a ∷ xs) [] h = absurd h
-  zip_long (a ∷ xs) (b ∷ ys) h = omega (arith, zip_long xs ys h.1)
-
   -- an element in the middle has its other
   pub zip_middle : (front : List A) (x : A) (back : List A) (ys : List B) → AllZip R (front ++ (x ∷ back)) ys → (y : B) × R x y
   zip_middle [] x back [] h = absurd h
@@ -45,3 +33,10 @@ zip_at R S (x ∷ xs) zs [] h g k = absurd h
 zip_at R S (x ∷ xs) [] (y ∷ ys) h g k = absurd g
 zip_at R S (x ∷ xs) (z ∷ zs) (y ∷ ys) h g zero = inl (y, h.0, g.0)
 zip_at R S (x ∷ xs) (z ∷ zs) (y ∷ ys) h g (suc k) = zip_at R S xs zs ys h.1 g.1 k
+
+-- the other way round
+pub zip_turned : {A B : Type 0} (R : A → B → Type 0) (xs : List A) (ys : List B) → AllZip R xs ys → AllZip (λ y x. R x y) ys xs
+zip_turned R [] [] h = tt
+zip_turned R [] (y ∷ ys) h = absurd h
+zip_turned R (x ∷ xs) [] h = absurd h
+zip_turned R (x ∷ xs) (y ∷ ys) h = (h.0, zip_turned R xs ys h.1)
