@@ -2,15 +2,17 @@
 //!
 //! A line is `raw` and a word in hexadecimal digits, or it is `keep` or transfers joined by ` & `,
 //! after which ` with` and items may stand, each behind a space. A transfer is the text of one of a
-//! netlist's patterns, and an item is the first and the last of some bits and their value. A line
-//! ends with LF, and no two of its transfers are of one storage.
+//! netlist's patterns, and an item is the highest and the lowest of some bits and their value. A
+//! line ends with LF, and no two of its transfers are of one storage.
 //!
 //! Promise: `print` gives the text of lines (`lines_text`). `lines` takes bytes just where their
 //! lines are what is written of lines that fit, of which there are no more than the code has words
 //! (`read`: `IsAsmText`), and otherwise tells the first line that isn't of the form or stands past
-//! the code's size (`refused`: `IsAsmFault`). A line's bytes say one line at most, also where a
-//! register is called `with`, `raw` or `keep`: a transfer's text has exactly two spaces
+//! the code's size (`refused`: `IsAsmFault`). Bytes say one line at most (`only` of `line_of`), also
+//! where a register is called `with`, `raw` or `keep`: a transfer's text has exactly two spaces
 //! (`IsTransferText`), and no two texts are equal, so lines are read from the left without choice.
+//! The time of reading grows in proportion to the bytes: one table has the texts, and another the
+//! storages that a line names so far.
 //!
 //! Invariant: the table of `Transfers` has the text of each pattern, with the number of a pattern
 //! that has it.

@@ -63,7 +63,8 @@ pub(crate) fn line_of(
     requires some { 1 ≤ bits }
     requires most { bits ≤ 64 }
     ensures read { IfOk result (λ found. IfSome found (SaysLine transfers.now bits line.now)) }
-    ensures only { IfOk result (λ found. (said : Line) → SaysLine transfers.now bits line.now said → found ≡ Some said) }
+    ensures only { IfOk result (λ found.
+        (said : Line) → SaysLine transfers.now bits line.now said → found ≡ Some said) }
 {
     let Some(text) = line_end(line) else {
         return Ok(None);

@@ -32,7 +32,8 @@ impl<'a> Transfers<'a> {
     /// The number of a pattern whose text this is, if there is one.
     pub(crate) fn number(&self, text: &[u8]) -> Option<u32>
         ensures some { IfSome result (λ number. (number < length self.now) × (text_of self.now number ≡ text.now)) }
-        ensures only { (number : ℕ) → number < length self.now → text_of self.now number ≡ text.now → result ≡ None → ⊥ }
+        ensures only { (number : ℕ) →
+            number < length self.now → text_of self.now number ≡ text.now → result ≡ None → ⊥ }
     {
         self.numbers.get(text).copied()
     }

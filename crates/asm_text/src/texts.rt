@@ -34,6 +34,32 @@ fn next_line(
     line_of(alloc, transfers, line, bits)
 }
 
+// The lines that a text says.
+fn read_lines(
+    alloc: Global,
+    transfers: &Transfers,
+    bytes: &[u8],
+    bits: u8,
+    size: u64,
+) -> Result<Vec<Line>, ParseFault>
+    requires transfers { AreTransferTexts transfers.now }
+    requires some { 1 ≤ bits }
+    requires most { bits ≤ 64 }
+    ensures read { IfOk result (λ lines. IsAsmText transfers.now bits size bytes.now lines.items) }
+    ensures refused { IfErr result (IsAsmRefusal transfers.now bits size bytes.now) }
+{
+    let mut lines = Vec::new(alloc);
+    let mut rest = bytes;
+    while let Some((line, more)) = first_line(rest) {
+        let Some(said) = next_line(alloc, transfers, line, bits, size, lines.len())? else {
+            return Err(ParseFault::Text((bytes.len() - rest.len()) as u64));
+        };
+        lines.push(said)?;
+        rest = more;
+    }
+    Ok(lines)
+}
+
 /// The lines of an assembler text for words of `bits` bits, of which a code has `size`. `texts` are
 /// the texts of the netlist's patterns, by their numbers. `Text` comes exactly where a line isn't
 /// of the form, or stands past the code's size, with the offset of the first byte of the first such
@@ -53,14 +79,5 @@ pub fn lines(
     ensures refused { IfErr result (IsAsmRefusal texts.now.items bits size bytes.now) }
 {
     let transfers = numbered(alloc, texts.as_slice())?;
-    let mut lines = Vec::new(alloc);
-    let mut rest = bytes;
-    while let Some((line, more)) = first_line(rest) {
-        let Some(said) = next_line(alloc, &transfers, line, bits, size, lines.len())? else {
-            return Err(ParseFault::Text((bytes.len() - rest.len()) as u64));
-        };
-        lines.push(said)?;
-        rest = more;
-    }
-    Ok(lines)
+    read_lines(alloc, &transfers, bytes, bits, size)
 }

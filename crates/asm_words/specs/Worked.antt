@@ -59,7 +59,8 @@ loads_other h = absurd (let e : ◌≡◌ {A = ℕ} 3 4 = h.bits.0 in cc)
 pub two_slices : once (line_slices patterns (0 ∷ 1 ∷ 2 ∷ [])) ≡ record { hi = 7; lo = 0 } ∷ []
 two_slices = refl
 
-pub whole_word : once (move_slices (write (bin Add (word 12) (slice (bin Add (word 12) (word 12)) 3 0)))) ≡ record { hi = 11; lo = 0 } ∷ []
+pub whole_word : once (move_slices (write (bin Add (word 12) (slice (bin Add (word 12) (word 12)) 3 0))))
+    ≡ record { hi = 11; lo = 0 } ∷ []
 whole_word = refl
 
 pub shown_item : item_of 259 (record { hi = 7; lo = 0 }) ≡ item 7 0 3

@@ -72,7 +72,8 @@ fn add_transfer(
     number: u32,
 ) -> Result<(), NoMemory>
     requires { HasExprs pool.now patterns.now }
-    ensures { OnOk result (found.new ≡ with_slices found.old (row_slices pool.now (slice_get patterns.now.rows number))) }
+    ensures { OnOk result (found.new
+        ≡ with_slices found.old (row_slices pool.now (slice_get patterns.now.rows number))) }
 {
     let Some((addr, value)) = patterns.expr_of(number) else {
         return Ok(());

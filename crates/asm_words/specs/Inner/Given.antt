@@ -16,7 +16,8 @@ row_holds book word (Some row) = has_word book row.set word
 -- the numbers, from one on, of the rows whose sets hold the word
 abbrev pub numbers_in : Diagrams → List Row → ℕ → ℕ → List ℕ
 numbers_in book [] number word = []
-numbers_in book (row ∷ rows) number word = (if has_word book row.set word then number ∷ [] else []) ++ numbers_in book rows (number + 1) word
+numbers_in book (row ∷ rows) number word =
+    (if has_word book row.set word then number ∷ [] else []) ++ numbers_in book rows (number + 1) word
 
 -- the slices in a row's transfer
 abbrev pub row_slices : List Node → Option Row → List Slice

@@ -22,7 +22,8 @@ row_named table numbers storage = list_any (λ n. is_row_of storage (slice_get t
 
 -- the words that keep a storage, unless a pattern is of it
 abbrev pub kept_set : Table → List ℕ → ℕ → List ℕ
-kept_set table numbers storage = if row_named table numbers storage then [] else option_list (slice_get table.keeps storage)
+kept_set table numbers storage =
+    if row_named table numbers storage then [] else option_list (slice_get table.keeps storage)
 
 unfoldable pub kept_sets : Table → List ℕ → ℕ → List ℕ
 kept_sets table numbers zero = []
