@@ -1,0 +1,11 @@
+pub mod Again
+pub mod AsmLaws
+pub mod DisLaws
+pub mod MachineLaws
+pub mod OneLine
+pub mod PatternTexts
+pub mod Read
+pub mod ShownLines
+pub mod Tables
+pub mod TransferTexts
+pub mod Zips

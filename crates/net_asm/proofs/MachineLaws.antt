@@ -1,0 +1,57 @@
+-- Bytes are one machine's at most, and its patterns have texts of transfers.
+use Rattle.std.proofs.Common.{◌≡◌, ℕ, List, [], ◌∷◌, refl, sym, ap, subst, ◌∙◌}
+use Rattle.std.specs.Prelude.{slice_get}
+use Rattle.net_model.specs.declared.hardware.Code.{Code}
+use Rattle.net_model.specs.declared.hardware.Netlist.{Netlist}
+use Rattle.net_model.specs.CheckedRules.{KeepsRules}
+use Rattle.net_model.specs.Elaborated.{netlist_of}
+use Rattle.net_model.specs.Nets.{code_bits, word_width}
+use Rattle.net_model.specs.Patterns.{ArePatterns, Pattern}
+use Rattle.net_model.specs.Written.{Entry}
+use Rattle.net_parser.specs.Texts.{IsNoNetText}
+use Rattle.net_front.proofs.FrontLaws.{no_text_fault}
+use Rattle.net_extract.specs.Extracts.{IsRoutedFile}
+use Rattle.net_extract.proofs.PlainNames.{plain_names, spelled_names}
+use Rattle.code_model.specs.ImageFits.{limits_in, limits_of}
+use Rattle.image_text.proofs.Whole.{Narrow}
+use Rattle.net_run.proofs.LimitLaws.{narrow_of}
+use Rattle.transfer_set.proofs.OnePatterns.{patterns_one}
+use Rattle.asm_text.specs.Lines.{AreTransferTexts}
+use Rattle.net_asm.specs.Machines.{IsMachine, Machine, move_texts, texts_of}
+use Rattle.net_asm.proofs.PatternTexts.{transfer_texts}
+
+-- the first code's words are the instruction words
+pub bits_are : (netlist : Netlist) → (limits_of netlist).bits ≡ word_width netlist
+bits_are netlist = by netlist.codes
+  where
+    by : (codes : List Code) → (limits_in codes).bits ≡ code_bits (slice_get codes 0)
+    by [] = refl
+    by (code ∷ codes) = refl
+
+-- the patterns of a netlist file have texts of transfers
+pub file_texts : (net : List ℕ) (entries : List Entry) → IsRoutedFile net entries → (patterns : List Pattern) → ArePatterns (netlist_of entries) patterns → AreTransferTexts (move_texts (netlist_of entries) patterns)
+file_texts net entries file patterns are =
+    transfer_texts (netlist_of entries) file.file.keeps.order file.file.keeps.rules (spelled_names net entries file.file.says) (plain_names net entries file.file.says) patterns are
+
+module _ (net : List ℕ) where
+  pub one_machine : (a b : Machine) → IsMachine net a → IsMachine net b → a ≡ b
+  one_machine a b p q =
+      let entries : p.entries ≡ q.entries = p.file.file.says.only q.entries q.file.file.says.text in
+      let e : a.netlist ≡ b.netlist = p.netlist ∙ ap netlist_of entries ∙ sym q.netlist in
+      let f : a.patterns ≡ b.patterns = patterns_one a.netlist a.patterns b.patterns p.patterns (subst (λ (n : Netlist). ArePatterns n b.patterns) (sym e) q.patterns) in
+      (λ k. record { netlist = e k; patterns = f k })
+
+  pub no_net_text : (machine : Machine) (at : ℕ) → IsMachine net machine → IsNoNetText net at → ⊥
+  no_net_text machine at p none = no_text_fault net p.entries at p.file.file.says none
+
+  module _ (machine : Machine) (is : IsMachine net machine) where
+    pub rules_of : KeepsRules machine.netlist is.file.file.keeps.order
+    rules_of = subst (λ (n : Netlist). KeepsRules n is.file.file.keeps.order) (sym is.netlist) is.file.file.keeps.rules
+
+    pub machine_texts : AreTransferTexts (texts_of machine)
+    machine_texts =
+        subst (λ (n : Netlist). AreTransferTexts (move_texts n machine.patterns)) (sym is.netlist)
+        (file_texts net is.entries is.file machine.patterns (subst (λ (n : Netlist). ArePatterns n machine.patterns) is.netlist is.patterns))
+
+    pub narrow : Narrow (limits_of machine.netlist)
+    narrow = subst (λ (n : Netlist). Narrow (limits_of n)) (sym is.netlist) (narrow_of net is.entries is.file.file)

@@ -1,0 +1,5 @@
+pub mod Machines
+pub mod Assembled
+pub mod Disassembled
+pub mod Laws
+pub mod Inner

@@ -1,0 +1,32 @@
+-- A netlist with its patterns, as assembler texts speak of it.
+use Rattle.std.specs.Prelude.{◌≡◌, ℕ, List, map}
+use Rattle.net_model.specs.declared.hardware.Netlist.{Netlist}
+use Rattle.net_model.specs.Elaborated.{netlist_of}
+use Rattle.net_model.specs.Patterns.{ArePatterns, Pattern}
+use Rattle.net_model.specs.Texts.{move_text}
+use Rattle.net_model.specs.Written.{Entry}
+use Rattle.net_extract.specs.Extracts.{IsRoutedFile}
+
+pub record Machine : Type 0 where
+  pub netlist : Netlist
+  pub patterns : List Pattern
+
+-- the bytes are a netlist text that keeps all rules, and the machine is its netlist, with all
+-- patterns in their order
+pub record IsMachine (net : List ℕ) (machine : Machine) : Type 0 where
+  pub entries : List Entry
+  pub file : IsRoutedFile net entries
+  pub netlist : machine.netlist ≡ netlist_of entries
+  pub patterns : ArePatterns machine.netlist machine.patterns
+
+-- the texts of the transfers, by the patterns' numbers
+abbrev pub move_texts : Netlist → List Pattern → List (List ℕ)
+move_texts netlist patterns = map (λ (p : Pattern). move_text netlist p.storage p.move) patterns
+
+abbrev pub texts_of : Machine → List (List ℕ)
+texts_of machine = move_texts machine.netlist machine.patterns
+
+-- some machine's
+pub record IsMachineText (net : List ℕ) : Type 0 where
+  pub machine : Machine
+  pub is : IsMachine net machine
