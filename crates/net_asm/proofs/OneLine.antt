@@ -5,7 +5,7 @@ use Rattle.std.proofs.lemmas.Bool.{cases_lt}
 use Rattle.std.proofs.lemmas.List.{append-nil}
 use Rattle.std.proofs.lemmas.List.Elements.{All-head, All-tail}
 use Rattle.std.proofs.lemmas.Option.{same_Some}
-use Rattle.code_model.specs.ImageText.{bytes_of, hex_of}
+use Rattle.text_lines.specs.Digits.{bytes_of, hex_of}
 use Rattle.image_items.specs.Reading.{word_in}
 use Rattle.image_items.proofs.Digits.{word_in_again}
 use Rattle.text_lines.specs.Lines.{lines_of}
