@@ -6,7 +6,7 @@ Usage: examples.py BINARY [--table]
 Each program is compiled for each processor and run by `record go` from its memory text. What the variables hold at the end has to be what the
 algorithm gives, as it is written below in Python; where the processor lacks something that the program needs, the answer has to be the expected
 `error no cover`. The images examples/PROGRAM.PROCESSOR.hand.img are code for the same cells that was written by hand; they are run by `record run`
-and held against the same results. A line is printed for each:
+and held against the same results. Their words are those that `record asm` makes of examples/PROGRAM.PROCESSOR.hand.asm. A line is printed for each:
 
     dot xy: 18 words, 23 unpacked, 104 cycles
     dot xy by hand: 6 words, 19 cycles
@@ -169,6 +169,11 @@ def by_hand(binary, netlist, image, memory):
     return (cells_of(state(late)), late) if ended(late + 1) else ({}, None)
 
 
+def words_of(image):
+    """The words of an image text, in hexadecimal digits."""
+    return re.findall(r'^word \d+ ([0-9a-f]+) ', image, re.M)
+
+
 def counter_of(netlist):
     return re.search(r'^code .* at (\w+);', netlist.read_text(), re.M)[1]
 
@@ -213,6 +218,8 @@ def examples(binary):
                 cells, cycles = by_hand(binary, netlist, hand, memory)
                 row += [text.split()[2], cycles]
                 fault = ', but its variables have other places' if places_of(text) != places else wrong(expected, variables(places, cells), cycles)
+                if words_of(answer(binary, 'asm', netlist, hand.with_suffix('.asm'))) != words_of(text):
+                    fault += ', but its assembler text has other words'
                 yield f'{program} {name} by hand: {row[5]} words, {cycles} cycles', fault, None
 
 

@@ -1,0 +1,25 @@
+PC := add(PC,1#8) & ACC := read(M,slice(I,7,0)) with 7:0=1
+PC := add(PC,1#8) & ACC := add(ACC,read(M,slice(I,7,0))) with 7:0=2
+PC := add(PC,1#8) & M[slice(I,7,0)] := ACC with 7:0=1
+PC := add(PC,1#8) & ACC := sub(ACC,read(M,slice(I,7,0))) with 7:0=2
+PC := add(PC,1#8) & ACC := sub(ACC,read(M,slice(I,7,0))) with 7:0=2
+PC := add(PC,1#8) & M[slice(I,7,0)] := ACC with 7:0=2
+PC := add(PC,1#8) & ACC := read(M,slice(I,7,0)) with 7:0=3
+PC := add(PC,1#8) & ACC := add(ACC,read(M,slice(I,7,0))) with 7:0=4
+PC := add(PC,1#8) & M[slice(I,7,0)] := ACC with 7:0=3
+PC := add(PC,1#8) & ACC := sub(ACC,read(M,slice(I,7,0))) with 7:0=4
+PC := add(PC,1#8) & ACC := sub(ACC,read(M,slice(I,7,0))) with 7:0=4
+PC := add(PC,1#8) & M[slice(I,7,0)] := ACC with 7:0=4
+PC := add(PC,1#8) & ACC := read(M,slice(I,7,0)) with 7:0=1
+PC := add(PC,1#8) & ACC := add(ACC,read(M,slice(I,7,0))) with 7:0=3
+PC := add(PC,1#8) & M[slice(I,7,0)] := ACC with 7:0=1
+PC := add(PC,1#8) & ACC := sub(ACC,read(M,slice(I,7,0))) with 7:0=3
+PC := add(PC,1#8) & ACC := sub(ACC,read(M,slice(I,7,0))) with 7:0=3
+PC := add(PC,1#8) & M[slice(I,7,0)] := ACC with 7:0=3
+PC := add(PC,1#8) & ACC := read(M,slice(I,7,0)) with 7:0=2
+PC := add(PC,1#8) & ACC := add(ACC,read(M,slice(I,7,0))) with 7:0=4
+PC := add(PC,1#8) & M[slice(I,7,0)] := ACC with 7:0=2
+PC := add(PC,1#8) & ACC := sub(ACC,read(M,slice(I,7,0))) with 7:0=4
+PC := add(PC,1#8) & ACC := sub(ACC,read(M,slice(I,7,0))) with 7:0=4
+PC := add(PC,1#8) & M[slice(I,7,0)] := ACC with 7:0=4
+PC := slice(I,7,0) with 7:0=24

@@ -1,0 +1,25 @@
+PC := add(PC,1#10) & A := read(M,slice(I,7,0)) with 7:0=1
+PC := add(PC,1#10) & A := add(A,read(M,slice(I,7,0))) with 7:0=2
+PC := add(PC,1#10) & M[slice(I,7,0)] := A with 7:0=1
+PC := add(PC,1#10) & A := sub(A,read(M,slice(I,7,0))) with 7:0=2
+PC := add(PC,1#10) & A := sub(A,read(M,slice(I,7,0))) with 7:0=2
+PC := add(PC,1#10) & M[slice(I,7,0)] := A with 7:0=2
+PC := add(PC,1#10) & A := read(M,slice(I,7,0)) with 7:0=3
+PC := add(PC,1#10) & A := add(A,read(M,slice(I,7,0))) with 7:0=4
+PC := add(PC,1#10) & M[slice(I,7,0)] := A with 7:0=3
+PC := add(PC,1#10) & A := sub(A,read(M,slice(I,7,0))) with 7:0=4
+PC := add(PC,1#10) & A := sub(A,read(M,slice(I,7,0))) with 7:0=4
+PC := add(PC,1#10) & M[slice(I,7,0)] := A with 7:0=4
+PC := add(PC,1#10) & A := read(M,slice(I,7,0)) with 7:0=1
+PC := add(PC,1#10) & A := add(A,read(M,slice(I,7,0))) with 7:0=3
+PC := add(PC,1#10) & M[slice(I,7,0)] := A with 7:0=1
+PC := add(PC,1#10) & A := sub(A,read(M,slice(I,7,0))) with 7:0=3
+PC := add(PC,1#10) & A := sub(A,read(M,slice(I,7,0))) with 7:0=3
+PC := add(PC,1#10) & M[slice(I,7,0)] := A with 7:0=3
+PC := add(PC,1#10) & A := read(M,slice(I,7,0)) with 7:0=2
+PC := add(PC,1#10) & A := add(A,read(M,slice(I,7,0))) with 7:0=4
+PC := add(PC,1#10) & M[slice(I,7,0)] := A with 7:0=2
+PC := add(PC,1#10) & A := sub(A,read(M,slice(I,7,0))) with 7:0=4
+PC := add(PC,1#10) & A := sub(A,read(M,slice(I,7,0))) with 7:0=4
+PC := add(PC,1#10) & M[slice(I,7,0)] := A with 7:0=4
+PC := slice(I,9,0) with 9:0=24
