@@ -1,6 +1,6 @@
 //! Laws of what is seen of a netlist, proved here once for every crate above.
 
-ghost use Rattle.std.specs.Prelude.{◌≡◌, ℕ, List};
+ghost use Rattle.std.specs.Prelude.{◌≡◌, ◌*◌, ℕ, List, length};
 ghost use Rattle.net_model.specs.declared.hardware.Netlist.{Netlist};
 ghost use Rattle.net_model.specs.declared.states.State.{State};
 ghost use Rattle.net_model.specs.Clock.{clock, run, word_at};
@@ -8,6 +8,7 @@ ghost use Rattle.net_model.specs.Order.{IsOrder};
 ghost use Rattle.net_model.specs.Value.{value_of};
 ghost use Rattle.fault_sim.specs.declared.fault.Fault.{Fault};
 ghost use Rattle.fault_sim.specs.Faulty.{IsFault, IsHidden, as_it_is, faulty_clock, seen_clock, seen_of, seen_run};
+ghost use Rattle.fault_sim.specs.Reports.{bits_of, faults_of};
 
 /// A netlist each net of which is seen as it is has its own values, clocks and runs.
 pub fn law_of_no_fault()
@@ -25,4 +26,10 @@ pub fn law_of_hidden_faults()
         IsFault netlist fault → (words : List ℕ) (s : State) →
         IsHidden netlist fault s (word_at netlist words s) →
         faulty_clock netlist fault words s ≡ clock netlist words s }
+{}
+
+/// There are two faults for each bit of each net.
+pub fn law_of_fault_count()
+    ensures { (netlist : Netlist) →
+        length (faults_of netlist) ≡ 2 * bits_of netlist.nets }
 {}

@@ -11,7 +11,7 @@ use crate::Fault;
 use crate::edge::{clock_cells, clock_registers};
 use crate::values::evaluate;
 use cycle_sim::{Clocked, find_clash, number_at, value_at, zeros};
-use net_model::{Checked, State};
+use net_model::{Checked, Netlist, State};
 use rec_bits::{Items, NoMemory};
 use std::alloc::Global;
 use std::marker::Model;
@@ -104,6 +104,14 @@ impl<'a> FaultSim<'a> {
         self.fault = fault;
         copy(start.regs.as_slice(), &mut self.state.regs);
         copy(start.cells.as_slice(), &mut self.state.cells);
+    }
+
+    /// The netlist, without the fault.
+    pub fn netlist(&self) -> &'a Netlist
+        ensures value { result.now ≡ self.now.netlist }
+        ensures few { length result.now.nets < 2 ^ 32 }
+    {
+        self.checked.netlist()
     }
 
     /// The words of the instruction memory.
