@@ -3,9 +3,10 @@
 //!
 //! Promise: `clock` is the clock equation, every storage from the old values, or it tells the first
 //! bus that clashes and changes nothing (`clocks`: `Clocks`, by `clock` of
-//! `net_model/specs/Clock`). `evaluate` gives the value of each net (`value_of`), `find_clash` the
-//! first bus that clashes. `pc`, `reg`, `cell` and `last_write` tell what the simulator holds. No
-//! call of a `Sim` but `new` takes memory.
+//! `net_model/specs/Clock`). `evaluate` gives the value of each net (`value_of`), `gate_of` that of
+//! one net's gate from those of the nets that it names, `find_clash` the first bus that clashes.
+//! `pc`, `reg`, `cell` and `last_write` tell what the simulator holds. No call of a `Sim` but `new`
+//! takes memory.
 //!
 //! Invariant: a `Sim` keeps `IsRunning`: its words and its state fit the netlist, and its program
 //! is one of the netlist (`IsProgram`): run from any state under any word, the program's array
@@ -43,4 +44,4 @@ mod values;
 
 pub use edge::find_clash;
 pub use sim::{Clocked, Sim};
-pub use values::{evaluate, value_at, zeros};
+pub use values::{evaluate, gate_of, number_at, value_at, zeros};

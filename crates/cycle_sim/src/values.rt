@@ -12,8 +12,8 @@ use std::alloc::Global;
 // What stands past the end of a list of numbers.
 const PAST_THE_END: u64 = 0;
 
-// The number at a place.
-pub(crate) fn number_at(numbers: &[u64], place: u64) -> u64
+/// The number at a place; 0 past the last.
+pub fn number_at(numbers: &[u64], place: u64) -> u64
     ensures { result ≡ slice_index numbers.now place }
 {
     match numbers.get(place as usize) {
@@ -58,8 +58,8 @@ pub fn evaluate(checked: &Checked, state: &State, word: u64, values: &mut Items<
     }
 }
 
-// The value of a net's gate, from the values of the nets that it names.
-fn gate_of(netlist: &Netlist, state: &State, word: u64, values: &[u64], net: &Net) -> u64
+/// The value of a net's gate, from the values of the nets that it names.
+pub fn gate_of(netlist: &Netlist, state: &State, word: u64, values: &[u64], net: &Net) -> u64
     requires typed { IsTyped netlist.now }
     requires fit { ValuesFit netlist.now (slice_index values.now) }
     requires low { 1 ≤ net.now.width }

@@ -1,5 +1,6 @@
 -- Words that fit groups, clocked one after the other, each clock to the next address.
 use Rattle.std.proofs.Common.{ℕ, zero, suc, ◌≡◌, ◌<◌, ◌+◌, ◌^◌, List, [], ◌∷◌, length, drop, refl, sym, ◌∙◌, ap, arith, subst, slice_index}
+use Rattle.std.proofs.Math.Nat.{mod-eq_of_lt}
 use Rattle.net_model.specs.declared.hardware.Netlist.{Netlist}
 use Rattle.net_model.specs.declared.states.State.{State}
 use Rattle.net_model.specs.CheckedRules.{KeepsRules}
@@ -46,7 +47,7 @@ module _ (netlist : Netlist) (order : List ℕ) (keeps : KeepsRules netlist orde
         let fit : FitsGroup netlist m w g l = f.0 in
         let d : IsClocked netlist m (words_of image) g l s = clocks netlist order keeps (words_of image) w s h.state fit.clean (ap (slice_index (words_of image)) h.counter ∙ p.0) m g l fit in
         let c : counter_in netlist s ≡ at = h.counter in
-        let one : counter_in netlist d.next ≡ at + 1 = d.counter (omega (arith, b, c)) ∙ ap (λ n. n + 1) c in
+        let one : counter_in netlist d.next ≡ at + 1 = d.counter ∙ mod-eq_of_lt (omega (arith, b, c)) ∙ ap (λ n. n + 1) c in
         let r = walk ws gs (at + 1) d.next f.1 (record { state = d.state; counter = one }) p.1 (omega (arith, b)) in
         (r.0, (h, (d.next, d.clocked, r.1)))
 

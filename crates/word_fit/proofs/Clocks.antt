@@ -1,6 +1,5 @@
 -- A clock under a word that fits a group follows the group.
 use Rattle.std.proofs.Common.{◌≡◌, inl, inr, ℕ, ◌+◌, ◌%◌, ◌^◌, ◌<◌, ◌≤◌, List, [], ◌∷◌, slice_get, slice_index, slice_set, bit_and, bit_or, sym, ◌∙◌, ap, arith, subst}
-use Rattle.std.proofs.Math.Nat.{mod-eq_of_lt}
 use Rattle.std.proofs.lemmas.Nat.{and_le_l}
 use Rattle.net_model.specs.declared.hardware.Netlist.{Netlist}
 use Rattle.net_model.specs.declared.states.State.{State}
@@ -86,5 +85,5 @@ module _ (netlist : Netlist) (order : List ℕ) (keeps : KeepsRules netlist orde
     follows = follows s step.next (step.state.regs ∙ sym state.regs) m g live (all_made m g f.does)
         (λ e. step.cells ∙ ap (λ k. cells_moved k s w) (f.memory e))
         (λ r e h. kept r (λ q. f.registers r q e h));
-    counter = λ h. one_on f.steps ∙ mod-eq_of_lt h;
+    counter = one_on f.steps;
   }

@@ -1,5 +1,5 @@
 -- What follows for words that fit groups, as statements.
-use Rattle.std.specs.Prelude.{◌≡◌, ◌⊎◌, ◌↔◌, ℕ, ◌+◌, ◌<◌, ◌^◌, List, length, true, Some, slice_get}
+use Rattle.std.specs.Prelude.{◌≡◌, ◌⊎◌, ◌↔◌, ℕ, ◌+◌, ◌<◌, ◌≤◌, ◌^◌, List, length, true, Some, slice_get}
 use Rattle.net_model.specs.declared.hardware.Netlist.{Netlist}
 use Rattle.net_model.specs.declared.states.State.{State}
 use Rattle.net_model.specs.CheckedRules.{KeepsRules}
@@ -21,15 +21,15 @@ ClocksFollow =
     KeepsRules netlist order → FitsGroup netlist m w g live → IsState netlist s →
     word_at netlist code s ≡ w → IsClocked netlist m code g live s
 
--- words that fit groups and stand in a code from the program counter on, which isn't led past its
--- last address, clocked in order, don't clash, leave the program counter behind them, and leave the
+-- words that fit groups and stand in a code from the program counter on, up to the last address that
+-- it can have, clocked in order, don't clash, leave the program counter behind them, and leave the
 -- memory and the registers that are live after them as the groups do one after the other
 abbrev pub RunsFollow : Type 0
 RunsFollow =
     (netlist : Netlist) (order : List ℕ) (m : Step → Operation) (code words : List ℕ)
     (groups : List (List Step)) (after : Regs) (s : State) →
     KeepsRules netlist order → GroupsFit m (fits_over netlist m) words groups after → IsState netlist s →
-    StandAt code (counter_in netlist s) words → counter_in netlist s + length words < 2 ^ counter_width netlist →
+    StandAt code (counter_in netlist s) words → counter_in netlist s + length words ≤ 2 ^ counter_width netlist →
     RunsTo netlist code s (length words) after (groups_effect m groups s)
 
 -- and where each group has one step, as the steps do
@@ -38,7 +38,7 @@ RunsFollowSteps =
     (netlist : Netlist) (order : List ℕ) (m : Step → Operation) (code words : List ℕ)
     (steps : List Step) (after : Regs) (s : State) →
     KeepsRules netlist order → GroupsFit m (fits_over netlist m) words (singles steps) after → IsState netlist s →
-    StandAt code (counter_in netlist s) words → counter_in netlist s + length words < 2 ^ counter_width netlist →
+    StandAt code (counter_in netlist s) words → counter_in netlist s + length words ≤ 2 ^ counter_width netlist →
     RunsTo netlist code s (length words) after (steps_effect m steps s)
 
 -- a register is live exactly where it is still needed

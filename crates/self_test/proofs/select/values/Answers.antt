@@ -1,0 +1,25 @@
+use Rattle.std.proofs.Common.{◌+◌, ◌<◌, ◌++◌, List, drop, length, ap, sym, ◌∙◌, append_assoc, arith}
+use Rattle.net_model.specs.Terms.{Term}
+use Rattle.form_model.specs.Rules.{rules_of}
+use Rattle.transfer_set.specs.Rows.{row_patterns}
+use Rattle.self_test.specs.Candidates.{values_from}
+use Rattle.self_test.specs.Inner.Values.{terms_at}
+use Rattle.self_test.proofs.Lists.{rows_step}
+use Rattle.self_test.proofs.select.values.Goals as goal
+
+pub loop-number-preserved : goal.loop-number-preserved
+loop-number-preserved c =
+    let nt = c.args.checked.now.netlist in
+    let rules = rules_of c.args.forms.now in
+    let pool = c.args.pool.now in
+    let rows = c.args.patterns.now.rows in
+    let i = c.loop-number.number in
+    let lt : i < length rows = omega (arith, c.loop-number-test.true, c.len-number-end.ensures) in
+    record {
+      known = c.in_ok-push_value.ensures.known;
+      so_far =
+          c.loop-number.invariant.so_far
+          ∙ ap (λ (ts : List Term). terms_at pool c.loop-number.values ++ ts) (rows_step nt rules pool rows i i lt)
+          ∙ sym (append_assoc (terms_at pool c.loop-number.values) _ _)
+          ∙ ap (λ (ts : List Term). ts ++ values_from nt rules (i + 1) (drop (i + 1) (row_patterns pool rows))) (sym c.in_ok-push_value.ensures.added);
+    }

@@ -1,0 +1,23 @@
+//! The run of a self-test: from its words to its text.
+//!
+//! Promise: `report` clocks the words from the self-test's first state, as many clocks as there are
+//! words, and gives the text of what they show of each fault; it answers None exactly where the run
+//! without a fault clashes (`text_of` of `specs/Texts`).
+//!
+//! A self-test starts with the number after its address in each cell, as far as a cell's width goes,
+//! and with 0 in all else (`test_start` of `specs/Starts`).
+//!
+//! Files:
+//!
+//! - `starting`: the first state.
+//! - `good`: what the run without a fault leaves in the memory.
+//! - `texts`: `report`.
+//! - `specs/`: `Starts` and `Texts` are cited by public contracts.
+//! - `proofs/`: `Cells`: the first state fits; `Nets`: a netlist has a net, so it has a fault.
+#![tactic(auto)]
+
+mod good;
+mod starting;
+mod texts;
+
+pub use texts::report;
