@@ -3,7 +3,7 @@ use Rattle.std.specs.Prelude.{ℕ, ◌+◌, List, [], ◌∷◌, ◌++◌, codes
 use Rattle.std.specs.List.{concat, flat_map}
 use Rattle.std.specs.Fmt.{decimal}
 use Rattle.rec_bits.specs.Operators.{bit_of}
-use Rattle.code_model.specs.ImageText.{bytes_of, hex_of}
+use Rattle.text_lines.specs.Digits.{bytes_of, hex_of}
 use Rattle.fault_sim.specs.declared.fault.Fault.{Fault}
 use Rattle.fault_sim.specs.declared.finding.Finding.{Finding}
 use Rattle.fault_sim.specs.declared.finding.Finding.TheVariants.{Clash, Detected, Unseen}

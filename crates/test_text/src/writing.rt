@@ -2,13 +2,13 @@
 
 ghost use Rattle.std.specs.Prelude.{◌≡◌, ◌++◌, ◌≤◌, IfOk, OnOk, string_bytes};
 ghost use Rattle.std.specs.List.{flat_map};
-ghost use Rattle.code_model.specs.ImageText.{hex_of};
+ghost use Rattle.text_lines.specs.Digits.{hex_of};
 ghost use Rattle.test_text.specs.Text.{detected_count, end_lines, fault_line, fault_lines, finding_line, head_lines, is_detected, report_text, word_line, word_lines};
 
-use code_model::bytes_of;
 use fault_sim::{Fault, Finding};
 use rec_bits::NoMemory;
 use std::alloc::Global;
+use text_lines::bytes_of;
 
 // The bytes of the widest word.
 const WORD_BYTES: usize = 8;
