@@ -3,7 +3,7 @@
 
 Usage: short_memory.py BINARY
 
-Needs a C compiler, for a library that is loaded before the C library and counts the requests. On all five forms of words
+Needs a C compiler, for a library that is loaded before the C library and counts the requests. On all forms of words
 each run has to end with status 11 and `error memory`, or nothing, and with nothing before it, or with what the whole run answers. Those that
 say nothing are counted.
 """
@@ -62,6 +62,7 @@ CALLS = [
     ['compile', 's8.rtn', 'two.src'], ['compile', 'a16.rtn', 'count.src'], ['compile', 'wide.rtn', 'levels.src'],
     ['run', 'a16.rtn', 'sum.img', 'sum.mem', '4'], ['extract', 'a16.rtn'], ['extract', 'dsp.rtn'],
     ['go', 'a16.rtn', 'count.src', 'sum.mem', '100'], ['make', '1'],
+    ['asm', 'pair.rtn', 'add.pair.hand.asm'], ['dis', 'a16.rtn', 'sum.img'],
 ]
 
 
