@@ -1,5 +1,5 @@
 -- Lists of operands and cuts as the code holds them.
-use Rattle.std.proofs.Common.{◌≡◌, ℕ, zero, suc, ◌+◌, ◌-◌, ◌<◌, ◌≤◌, List, [], ◌∷◌, length, take, drop, Option, Some, arith, refl, ap, ◌∙◌, subst, Bool, true, false}
+use Rattle.std.proofs.Common.{◌≡◌, ℕ, zero, suc, ◌+◌, ◌-◌, ◌≤◌, List, [], ◌∷◌, length, take, drop, Option, Some, arith, refl, ap, ◌∙◌, subst, Bool, true, false}
 use Rattle.std.specs.Prelude.{slice_get, remove, if◌then◌else◌, ◌==◌}
 use Rattle.std.specs.Option.{option_map}
 use Rattle.std.proofs.lemmas.List.{take_all}
@@ -7,14 +7,14 @@ use Rattle.std.proofs.lemmas.Option.{slice_get-map}
 use Rattle.net_model.specs.Terms.{Term, size_of}
 use Rattle.form_model.specs.Trees.{tree_term}
 use Rattle.form_model.specs.Covers.{Stock, Operand}
-use Rattle.form_model.specs.Rules.{Destination}
+use Rattle.cover.specs.declared.slots.Slot.TheVariants.{Register, Temporary}
 use Rattle.cover.specs.declared.parts.OpenOperand.{OpenOperand}
 use Rattle.cover.specs.declared.parts.OpenCut.{OpenCut}
 use Rattle.cover.specs.Inner.Asks.{operand_ask, operands_size, rank}
 use Rattle.cover.specs.Inner.Least.{IsLeast}
-use Rattle.cover.specs.Inner.Rows.{row_ask, IsSlot}
+use Rattle.cover.specs.Inner.Slots.{IsSlot}
+use Rattle.cover.specs.Inner.Rows.{row_ask}
 use Rattle.cover.specs.Inner.Jobs.{open_operand, open_operands, open_cuts, OperandsAt, CutsAt}
-use Rattle.cover.proofs.OfferLemmas.{slot_reg}
 
 pub inputs_at : (is : List OpenOperand) (i : ℕ) (x : OpenOperand) → slice_get is i ≡ Some x → slice_get (open_operands is) i ≡ Some (open_operand x)
 inputs_at is i x h = slice_get-map open_operand is i ∙ ap (option_map open_operand) h
@@ -66,21 +66,15 @@ pub tail_is : {X : Type 0} (ts : List X) → take (length ts - 1) (drop 1 ts) �
 tail_is [] = refl
 tail_is (x ∷ ts) = take_all (length (x ∷ ts) - 1) ts (omega arith)
 
-pub register_slot : (whole : Bool) (r id : ℕ) → (r ≡ id) × (r < 16) → IsSlot whole r
-register_slot whole r id h = record { within = (let l = h.1 in omega (arith, l)); cut = λ e. absurd (let l = h.1 in omega (arith, l, e)) }
-
-pub cut_slot : IsSlot false 16
-cut_slot = record { within = omega arith; cut = λ e. refl }
+pub cut_slot : IsSlot false Temporary
+cut_slot = refl
 
 -- an entry of a row as what is asked for an operand
-pub register_ask : (r : ℕ) (t : Term) (w : Bool) (x : Operand) → (r ≡ x.id) × (r < 16) → t ≡ x.tree → w ≡ x.whole → row_ask t w r ≡ operand_ask x
-register_ask r t w x h et ew =
-    ap (λ u. row_ask u w r) et ∙ ap (λ v. row_ask x.tree v r) ew ∙ ap (row_ask x.tree x.whole) h.0 ∙ ap (λ (p : Destination). record { destination = p; tree = x.tree; whole = x.whole }) (slot_reg x.id (let e = h.0 in let l = h.1 in omega (arith, e, l)))
+pub register_ask : (r : ℕ) (x : Operand) → r ≡ x.id → row_ask x.tree x.whole (Register r) ≡ operand_ask x
+register_ask r x h = ap (λ j. row_ask x.tree x.whole (Register j)) h
 
-pub register_least : (stock : Stock) (avoid r : ℕ) (x : Operand) (o : Option ℕ) → (r ≡ x.id) × (r < 16) → IsLeast stock avoid (row_ask x.tree x.whole r) o → IsLeast stock avoid (operand_ask x) o
-register_least stock avoid r x o h is =
-    subst (λ p. IsLeast stock avoid (record { destination = p; tree = x.tree; whole = x.whole }) o) (slot_reg x.id (let e = h.0 in let l = h.1 in omega (arith, e, l)))
-    (subst (λ j. IsLeast stock avoid (row_ask x.tree x.whole j) o) h.0 is)
+pub register_least : (stock : Stock) (avoid r : ℕ) (x : Operand) (o : Option ℕ) → r ≡ x.id → IsLeast stock avoid (row_ask x.tree x.whole (Register r)) o → IsLeast stock avoid (operand_ask x) o
+register_least stock avoid r x o h is = subst (λ a. IsLeast stock avoid a o) (register_ask r x h) is
 
 pub rank_le : (n : ℕ) → rank n ≤ 1
 rank_le n = go (n == 0)

@@ -1,4 +1,5 @@
 mod PartLemmas
+mod SlotLemmas
 mod RowLemmas
 mod SizeLemmas
 mod NodeLemmas

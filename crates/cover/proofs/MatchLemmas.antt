@@ -1,9 +1,8 @@
 -- The forms that match a tree, and what their matches give.
-use Rattle.std.proofs.Common.{◌≡◌, ◌≢◌, ℕ, zero, suc, ◌+◌, ◌<◌, List, [], ◌∷◌, length, Option, Some, None, Bool, true, false, refl, sym, ap, ◌∙◌, subst, arith, nat_lt, inl, inr}
-use Rattle.std.specs.Prelude.{slice_get, bit_and, IfSome, if◌then◌else◌, ◌==◌, ◌&&◌, ◌||◌}
+use Rattle.std.proofs.Common.{◌≡◌, ◌≢◌, ℕ, zero, suc, ◌+◌, ◌<◌, List, [], ◌∷◌, length, Option, Some, None, Bool, true, false, refl, sym, ap, ◌∙◌, subst, arith, inl, inr}
+use Rattle.std.specs.Prelude.{slice_get, bit_and, IfSome, if◌then◌else◌, ◌==◌, ◌&&◌}
 use Rattle.std.specs.Option.{option_map}
 use Rattle.std.proofs.lemmas.Bool.{cases_eq, cases_lt}
-use Rattle.std.proofs.lemmas.Bool.Decides.{nat_tests}
 use Rattle.std.proofs.lemmas.List.{length-map}
 use Rattle.std.proofs.lemmas.Option.{slice_get_within}
 use Rattle.net_model.specs.Terms.{Term, size_of}
@@ -18,6 +17,8 @@ use Rattle.tree_grammar.specs.declared.parts.Part.{Part}
 use Rattle.tree_grammar.specs.declared.parts.Part.TheVariants
 use Rattle.tree_grammar.specs.Numbers.{HoldsSubtrees}
 use Rattle.tree_grammar.specs.Parts.{destination_at, found_of, sites_of, AreAt}
+use Rattle.cover.specs.declared.slots.Slot.{Slot}
+use Rattle.cover.specs.declared.slots.Slot.TheVariants.{Register, Temporary}
 use Rattle.cover.specs.declared.table.Instance.{Instance}
 use Rattle.cover.specs.declared.rows.Offer.{Offer}
 use Rattle.cover.specs.declared.rows.Offer.TheVariants.{Nothing, Chains}
@@ -25,7 +26,8 @@ use Rattle.cover.specs.declared.choice.PartCosts.{PartCosts}
 use Rattle.cover.specs.declared.matches.FormMatch.{FormMatch}
 use Rattle.cover.specs.Inner.Asks.{takes, rest, start_under, operands_size, terms_size, rank, IsSparing, AreSparing, AreStored}
 use Rattle.cover.specs.Inner.Least.{AtMost, IsLeast, IsLeastOrder, IsLeastCut, IsFloor, IsCostBelow, summed}
-use Rattle.cover.specs.Inner.Rows.{Row, entry, entry_destination, row_ask, IsSlot, goal_slot, IsOffer, offer_is}
+use Rattle.cover.specs.Inner.Slots.{IsEntry, IsSlot, entry_destination, goal_slot}
+use Rattle.cover.specs.Inner.Rows.{Row, entry, row_ask, IsOffer, offer_is}
 use Rattle.cover.specs.Inner.Jobs.{instance_stock, nodes_of, open_operands, open_cuts}
 use Rattle.cover.specs.Inner.Matched.{rest_at, IsOpened, Takes, IsFormMatch, MatchesForm, with_match, AreFirstMatches}
 use Rattle.cover.specs.Inner.Choice.{NeverBegins, CostsOf, CostsWithin, BeginsOne}
@@ -41,42 +43,39 @@ use Rattle.cover.proofs.ChoiceLemmas.{never_by, cover_exists}
 
 -- ---- the entry from which a match goes on
 
-low : (free : Bool) (q : ℕ) → q < 16 → (free || nat_lt q 16) ≡ true
-low true q lt = refl
-low false q lt = grind (arith, nat_tests)
-
-pub start_rest : (size : ℕ) (free : Bool) (sites : List Site) → IfSome (rest size true sites) (λ q. (u : Term) (w : Bool) → sites ≡ operand q u w ∷ [] → q < 16) → rest size free sites ≡ start_under (rest size true sites) free
-start_rest size free [] h = refl
-start_rest size free (operand id tree whole ∷ []) h = go (size_of tree == size) h
+pub start_rest : (size : ℕ) (free : Bool) (sites : List Site) → rest size free sites ≡ start_under (rest size true sites) free
+start_rest size free [] = refl
+start_rest size free (operand id tree whole ∷ []) = go (size_of tree == size)
   where
-    go : (b : Bool) → IfSome (if b then Some id else None) (λ q. (u : Term) (w : Bool) → ◌≡◌ {A = List Site} (operand id tree whole ∷ []) (operand q u w ∷ []) → q < 16) → (if b then Some id else None) ≡ start_under (if b then Some id else None) free
-    go true k = sym (ap (λ c. if c then Some id else None) (low free id (k tree whole refl)))
-    go false k = refl
-start_rest size free (operand id tree whole ∷ s ∷ sites) h = refl
-start_rest size free (cut shape tree ∷ []) h = go free (size_of tree == size)
+    go : (b : Bool) → (if b then Some (Register id) else None) ≡ start_under (if b then Some (Register id) else None) free
+    go true = refl
+    go false = refl
+start_rest size free (operand id tree whole ∷ s ∷ sites) = refl
+start_rest size free (cut shape tree ∷ []) = go free (size_of tree == size)
   where
-    go : (f b : Bool) → (if f && b then Some 16 else None) ≡ start_under (if b then Some 16 else None) f
+    go : (f b : Bool) → (if f && b then Some Temporary else None) ≡ start_under (if b then Some Temporary else None) f
     go true true = refl
     go true false = refl
     go false true = refl
     go false false = refl
-start_rest size free (cut shape tree ∷ s ∷ sites) h = refl
+start_rest size free (cut shape tree ∷ s ∷ sites) = refl
 
-start_some : (s : Option ℕ) (free : Bool) (q : ℕ) → start_under s free ≡ Some q → s ≡ Some q
+start_some : (s : Option Slot) (free : Bool) (q : Slot) → start_under s free ≡ Some q → s ≡ Some q
 start_some None free q h = absurd (cc)
-start_some (Some p) free q h = (picked (free || nat_lt p 16) (Some p) q h).1
+start_some (Some (Register r)) free q h = h
+start_some (Some Temporary) free q h = (picked free (Some Temporary) q h).1
 
 -- ---- one form
 
 -- what goes on from the tree of this number goes on from the whole tree
 rest_number : (number : ℕ) (t : Term) (parts : List Part) → ((nodes : List Term) → HoldsSubtrees nodes number t → AreAt nodes parts) → rest_at number parts ≡ rest (size_of t) true (sites_of parts)
 rest_number number t [] h = refl
-rest_number number t (TheVariants.Operand id tree whole at ∷ []) h = ap (λ b. if b then Some id else None) (whole_number number at t (tree_term tree.now) (λ nodes holds. (h nodes holds).0))
-rest_number number t (TheVariants.Cut shape tree at ∷ []) h = ap (λ b. if b then Some 16 else None) (whole_number number at t (tree_term tree.now) (λ nodes holds. (h nodes holds).0))
+rest_number number t (TheVariants.Operand id tree whole at ∷ []) h = ap (λ b. if b then Some (Register id) else None) (whole_number number at t (tree_term tree.now) (λ nodes holds. (h nodes holds).0))
+rest_number number t (TheVariants.Cut shape tree at ∷ []) h = ap (λ b. if b then Some Temporary else None) (whole_number number at t (tree_term tree.now) (λ nodes holds. (h nodes holds).0))
 rest_number number t (TheVariants.Operand id tree whole at ∷ p ∷ parts) h = refl
 rest_number number t (TheVariants.Cut shape tree at ∷ p ∷ parts) h = refl
 
-pub form_match : (instance : Instance) (form : Form) (k goal : ℕ) (t : Term) (whole : Bool) (number : ℕ) (m : Match) (parts : List Part) (x : FormMatch) → slice_get (nodes_of instance) number ≡ Some t → Start instance form k goal t whole m → ((nodes : List Term) → HoldsSubtrees nodes number t → AreAt nodes m.parts.items) → parts ≡ m.parts.items → IsOpened parts number k goal form.clobbers x → IsFormMatch instance t whole x
+pub form_match : (instance : Instance) (form : Form) (k : ℕ) (goal : Slot) (t : Term) (whole : Bool) (number : ℕ) (m : Match) (parts : List Part) (x : FormMatch) → slice_get (nodes_of instance) number ≡ Some t → Start instance form k goal t whole m → ((nodes : List Term) → HoldsSubtrees nodes number t → AreAt nodes m.parts.items) → parts ≡ m.parts.items → IsOpened parts number k goal form.clobbers x → IsFormMatch instance t whole x
 form_match instance form k goal t whole number m parts x get s at e o = record {
   rule = rule_of form;
   found = found_of m;
@@ -86,7 +85,7 @@ form_match instance form k goal t whole number m parts x get s at e o = record {
   slot = subst (IsSlot whole) (sym o.goal) s.slot;
   takes_it = subst (λ j. takes (instance_stock instance) (rule_of form) (row_ask t whole j) ≡ Some (found_of m)) (sym o.goal) s.takes_it;
   start = o.start ∙ ap (rest_at number) e ∙ rest_number number t m.parts.items at;
-  register = subst (λ l. IfSome x.start (λ q. (u : Term) (w : Bool) → sites_of l ≡ operand q u w ∷ [] → q < 16)) e o.register;
+  register = o.register;
   operands = o.operands ∙ ap (λ l. operands_of (sites_of l)) e;
   cuts = o.cuts ∙ ap (λ l. cuts_of (sites_of l)) e;
   operands_at = o.operands_at (nodes_of instance) (subst (AreAt (nodes_of instance)) (sym e) here);
@@ -104,15 +103,15 @@ takes_goal instance form k t whole got x =
     let same : x.rule ≡ rule_of form = cc in
     (same, subst (λ (r : Rule). goal_slot r.goal whole ≡ Some x.entry) same (row_small (instance_stock instance) x.rule t whole x.entry x.found x.slot x.takes_it).0)
 
-pub never_goal : (instance : Instance) (form : Form) (k : ℕ) (t : Term) (whole : Bool) (g : Option ℕ) → slice_get instance.forms.now k ≡ Some form → g ≡ goal_slot (kind_of form.goal) whole → g ≡ None → Takes (instance_stock instance) t whole k → ⊥
+pub never_goal : (instance : Instance) (form : Form) (k : ℕ) (t : Term) (whole : Bool) (g : Option Slot) → slice_get instance.forms.now k ≡ Some form → g ≡ goal_slot (kind_of form.goal) whole → g ≡ None → Takes (instance_stock instance) t whole k → ⊥
 never_goal instance form k t whole g got is none x =
     let h = (takes_goal instance form k t whole got x).1 in
-    let e : ◌≡◌ {A = Option ℕ} None (Some x.entry) = sym none ∙ is ∙ h in cc
+    let e : ◌≡◌ {A = Option Slot} None (Some x.entry) = sym none ∙ is ∙ h in cc
 
-pub never_match : (instance : Instance) (form : Form) (k goal : ℕ) (t : Term) (whole : Bool) (destination : Destination) (g : Option ℕ) (o : Option Match) → slice_get instance.forms.now k ≡ Some form → g ≡ goal_slot (kind_of form.goal) whole → g ≡ Some goal → destination ≡ entry_destination goal → option_map found_of o ≡ taken instance.temps (rule_of form) destination t whole → o ≡ None → Takes (instance_stock instance) t whole k → ⊥
+pub never_match : (instance : Instance) (form : Form) (k : ℕ) (goal : Slot) (t : Term) (whole : Bool) (destination : Destination) (g : Option Slot) (o : Option Match) → slice_get instance.forms.now k ≡ Some form → g ≡ goal_slot (kind_of form.goal) whole → g ≡ Some goal → destination ≡ entry_destination goal → option_map found_of o ≡ taken instance.temps (rule_of form) destination t whole → o ≡ None → Takes (instance_stock instance) t whole k → ⊥
 never_match instance form k goal t whole destination g o got is some at found none x =
     let h = takes_goal instance form k t whole got x in
-    let e : ◌≡◌ {A = Option ℕ} (Some goal) (Some x.entry) = sym some ∙ is ∙ h.1 in
+    let e : ◌≡◌ {A = Option Slot} (Some goal) (Some x.entry) = sym some ∙ is ∙ h.1 in
     let same : x.entry ≡ goal = cc in
     let a : takes (instance_stock instance) (rule_of form) (row_ask t whole goal) ≡ Some x.found = subst (λ j. takes (instance_stock instance) (rule_of form) (row_ask t whole j) ≡ Some x.found) same (subst (λ r. takes (instance_stock instance) r (row_ask t whole x.entry) ≡ Some x.found) h.0 x.takes_it) in
     let b = sym (ap (option_map found_of) none) ∙ found ∙ ap (λ p. taken instance.temps (rule_of form) p t whole) at ∙ a in cc
@@ -183,21 +182,20 @@ module _ (instance : Instance) (avoid : ℕ) (t : Term) (whole : Bool) (m : Form
   spared_is : bit_and m.clobbers avoid ≡ 0 → bit_and f.rule.clobbers avoid ≡ 0
   spared_is e = subst (λ c. bit_and c avoid ≡ 0) (sym f.clobbers) e
 
-  rest_is : (o : Option ℕ) → o ≡ start_under m.start (avoid == 0) → rest (size_of t) (avoid == 0) f.found.sites ≡ o
+  rest_is : (o : Option Slot) → o ≡ start_under m.start (avoid == 0) → rest (size_of t) (avoid == 0) f.found.sites ≡ o
   rest_is o is =
-      let r : IfSome (rest (size_of t) true f.found.sites) (λ q. (u : Term) (w : Bool) → f.found.sites ≡ operand q u w ∷ [] → q < 16) = subst (λ s. IfSome s (λ q. (u : Term) (w : Bool) → f.found.sites ≡ operand q u w ∷ [] → q < 16)) f.start f.register in
-      start_rest (size_of t) (avoid == 0) f.found.sites r ∙ ap (λ s. start_under s (avoid == 0)) (sym f.start) ∙ sym is
+      start_rest (size_of t) (avoid == 0) f.found.sites ∙ ap (λ s. start_under s (avoid == 0)) (sym f.start) ∙ sym is
 
   pub offer_clobbers : (row : Row) → bit_and m.clobbers avoid ≢ 0 → IsOffer (instance_stock instance) avoid t whole row m.form Nothing
   offer_clobbers row never = offer_no_spare (instance_stock instance) avoid t whole row m.form f.rule f.listed (λ e. never (subst (λ c. bit_and c avoid ≡ 0) f.clobbers e))
 
-  pub offer_start : (row : Row) (o : Option ℕ) (q : ℕ) → bit_and m.clobbers avoid ≡ 0 → o ≡ start_under m.start (avoid == 0) → o ≡ Some q → IsOffer (instance_stock instance) avoid t whole row m.form (Chains (record { start = q; goal = m.goal }))
+  pub offer_start : (row : Row) (o : Option Slot) (q : Slot) → bit_and m.clobbers avoid ≡ 0 → o ≡ start_under m.start (avoid == 0) → o ≡ Some q → IsOffer (instance_stock instance) avoid t whole row m.form (Chains (record { start = q; goal = m.goal }))
   offer_start row o q spared is some =
       let there : m.start ≡ Some q = start_some m.start (avoid == 0) q (sym is ∙ some) in
-      let r : (u : Term) (w : Bool) → f.found.sites ≡ operand q u w ∷ [] → q < 16 = subst (λ s. IfSome s (λ q. (u : Term) (w : Bool) → f.found.sites ≡ operand q u w ∷ [] → q < 16)) there f.register in
-      offer_chain (instance_stock instance) avoid t whole row m.form f.rule m.goal q f.found f.listed (spared_is spared) f.goes f.slot f.takes_it (rest_is o is ∙ some) (r t whole)
+      let r : IsEntry q = subst (λ s. IfSome s IsEntry) there f.register in
+      offer_chain (instance_stock instance) avoid t whole row m.form f.rule m.goal q f.found f.listed (spared_is spared) f.goes f.slot f.takes_it (rest_is o is ∙ some) r
 
-  pub match_sizes : (o : Option ℕ) → o ≡ start_under m.start (avoid == 0) → o ≡ None → (operands_size (open_operands m.operands.items) < size_of t) × (terms_size (open_cuts m.cuts.items) < size_of t + rank avoid)
+  pub match_sizes : (o : Option Slot) → o ≡ start_under m.start (avoid == 0) → o ≡ None → (operands_size (open_operands m.operands.items) < size_of t) × (terms_size (open_cuts m.cuts.items) < size_of t + rank avoid)
   match_sizes o is none =
       let small = (row_small (instance_stock instance) f.rule t whole m.goal f.found f.slot f.takes_it).1 in
       let z = rest_small whole t avoid f.found.sites small (rest_is o is ∙ none) in
@@ -209,7 +207,7 @@ module _ (instance : Instance) (avoid : ℕ) (t : Term) (whole : Bool) (m : Form
       subst (IsOffer (instance_stock instance) avoid t whole row m.form) (sym (el ∙ ap (offer_is m.goal) e)) (offer_form (instance_stock instance) avoid t whole row m.form f.rule m.goal (summed (summed (Some 1) a) b) f.listed f.goes f.slot form_least)
 
   -- the parts of a cover that begins with the match's form
-  parts_at : (ps : Operands) (cs : Cuts) (r : ℕ) → IsSlot whole r → IsSparing (instance_stock instance) avoid (row_ask t whole r) (use_form m.form ps cs) → (m.goal ≡ r) × AreSparing (instance_stock instance) avoid (open_operands m.operands.items) ps × AreStored (instance_stock instance) (open_cuts m.cuts.items) cs
+  parts_at : (ps : Operands) (cs : Cuts) (r : Slot) → IsSlot whole r → IsSparing (instance_stock instance) avoid (row_ask t whole r) (use_form m.form ps cs) → (m.goal ≡ r) × AreSparing (instance_stock instance) avoid (open_operands m.operands.items) ps × AreStored (instance_stock instance) (open_cuts m.cuts.items) cs
   parts_at ps cs r slot (rule, get, spared, found, is, orders, stored) =
       let l = f.listed in
       let same : rule ≡ f.rule = cc in
@@ -222,7 +220,7 @@ module _ (instance : Instance) (avoid : ℕ) (t : Term) (whole : Bool) (m : Form
       (at, subst (λ l. AreSparing (instance_stock instance) avoid l ps) (ap (λ (x : Found). operands_of x.sites) equal ∙ sym f.operands) orders, subst (λ l. AreStored (instance_stock instance) l cs) (ap (λ (x : Found). cuts_of x.sites) equal ∙ sym f.cuts) stored)
 
   -- no cover that begins with the match's form costs less than its parts' floor
-  floor_below : (a b : Option ℕ) (ps : Operands) (cs : Cuts) (r : ℕ) → IsFloor (instance_stock instance) avoid (open_operands m.operands.items) a → IsLeastCut (instance_stock instance) (open_cuts m.cuts.items) b → IsSlot whole r → IsSparing (instance_stock instance) avoid (row_ask t whole r) (use_form m.form ps cs) → (m.goal ≡ r) × AtMost (summed (summed (Some 1) a) b) (1 + operands_cost ps + cuts_cost cs)
+  floor_below : (a b : Option ℕ) (ps : Operands) (cs : Cuts) (r : Slot) → IsFloor (instance_stock instance) avoid (open_operands m.operands.items) a → IsLeastCut (instance_stock instance) (open_cuts m.cuts.items) b → IsSlot whole r → IsSparing (instance_stock instance) avoid (row_ask t whole r) (use_form m.form ps cs) → (m.goal ≡ r) × AtMost (summed (summed (Some 1) a) b) (1 + operands_cost ps + cuts_cost cs)
   floor_below a b ps cs r floor lb slot sparing =
       let p = parts_at ps cs r slot sparing in
       (p.0, both_at_most (summed (Some 1) a) b (1 + operands_cost ps) (cuts_cost cs) (both_at_most (Some 1) a 1 (operands_cost ps) (omega arith) (floor ps p.1)) (lb.least cs p.2))
@@ -240,7 +238,7 @@ module _ (instance : Instance) (avoid : ℕ) (t : Term) (whole : Bool) (m : Form
 
   -- ---- covers of one cost
 
-  module _ (slot n : ℕ) (is_slot : IsSlot whole slot) (least : IsLeast (instance_stock instance) avoid (row_ask t whole slot) (Some n)) where
+  module _ (slot : Slot) (n : ℕ) (is_slot : IsSlot whole slot) (least : IsLeast (instance_stock instance) avoid (row_ask t whole slot) (Some n)) where
     pub other_goal : m.goal ≢ slot → NeverBegins (instance_stock instance) avoid (row_ask t whole slot) n m.form
     other_goal differ ps cs (rule, get, spared, found, is, orders, stored) e =
         let l = f.listed in
@@ -295,7 +293,7 @@ module _ (instance : Instance) (avoid : ℕ) (t : Term) (whole : Bool) (m : Form
 
 -- ---- the first match that begins a cover of one cost
 
-module _ (instance : Instance) (avoid : ℕ) (t : Term) (whole : Bool) (slot n : ℕ) (list : List FormMatch) (is_slot : IsSlot whole slot) (h : AreFirstMatches instance t whole (length instance.forms.now) list) where
+module _ (instance : Instance) (avoid : ℕ) (t : Term) (whole : Bool) (slot : Slot) (n : ℕ) (list : List FormMatch) (is_slot : IsSlot whole slot) (h : AreFirstMatches instance t whole (length instance.forms.now) list) where
   pub never_before : (i : ℕ) (m : FormMatch) → slice_get list i ≡ Some m → ((l : ℕ) (g : FormMatch) → l < i → slice_get list l ≡ Some g → NeverBegins (instance_stock instance) avoid (row_ask t whole slot) n g.form) → (j : ℕ) → j < m.form → NeverBegins (instance_stock instance) avoid (row_ask t whole slot) n j
   never_before i m here never j lt ps cs (rule, get, spared, found, is, orders, stored) e =
       let (l, g, got, same) = matches_all instance t whole list h j (record { entry = slot; slot = is_slot; rule = rule; found = found; listed = get; takes_it = is }) in

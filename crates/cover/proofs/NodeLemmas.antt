@@ -1,27 +1,25 @@
 -- Where subtrees stand among the numbered trees of a job.
-use Rattle.std.proofs.Common.{◌≡◌, ℕ, zero, suc, ◌+◌, List, [], ◌∷◌, ◌++◌, length, Some, arith, refl, sym, ap, ◌∙◌, subst, inl, inr, Bool, true, false, nat_lt, ◌-◌, ◌<◌, replicate}
-use Rattle.std.specs.Prelude.{slice_get, remove, if◌then◌else◌, ◌==◌}
+use Rattle.std.proofs.Common.{◌≡◌, ℕ, zero, suc, ◌+◌, List, [], ◌∷◌, ◌++◌, length, Some, arith, refl, sym, ap, ◌∙◌, subst, inl, inr, true, false, ◌-◌, ◌<◌, replicate}
+use Rattle.std.specs.Prelude.{slice_get, remove, ◌==◌}
 use Rattle.std.proofs.lemmas.Bool.Decides.{nat_tests}
 use Rattle.std.proofs.lemmas.List.{length-replicate}
 use Rattle.std.proofs.lemmas.Option.{slice_get_within}
 use Rattle.net_model.specs.Terms.{Term, zext, size_of}
-use Rattle.form_model.specs.Rules.{into, temporary}
 use Rattle.tree_grammar.specs.Numbers.{subtrees, HoldsSubtrees}
 use Rattle.tree_grammar.specs.Parts.{Stands}
 use Rattle.tree_grammar.proofs.NumberLemmas.{size_length, holds_here}
 use Rattle.tree_sharing.proofs.NodeLemmas.{get_split, get_right, whole_tree, from_start}
+use Rattle.cover.specs.declared.slots.Slot.{Slot}
+use Rattle.cover.specs.declared.slots.Slot.TheVariants.{Register, Temporary}
 use Rattle.cover.specs.declared.parts.OpenOperand.{OpenOperand}
 use Rattle.form_model.specs.Trees.{tree_term}
-use Rattle.cover.specs.Inner.Rows.{entry_destination}
+use Rattle.cover.specs.Inner.Slots.{entry_destination}
 use Rattle.cover.specs.Inner.Jobs.{OperandsAt}
 use Rattle.cover.proofs.SizeLemmas.{size_pos}
 
-pub slot_stands : (nodes : List Term) (n r : ℕ) (t : Term) → HoldsSubtrees nodes n t → Stands nodes n (entry_destination r) t
-slot_stands nodes n r t h = go (nat_lt r 16)
-  where
-    go : (b : Bool) → Stands nodes n (if b then into r else temporary) t
-    go true = record { address = tt; value = h }
-    go false = record { address = tt; value = h }
+pub slot_stands : (nodes : List Term) (n : ℕ) (s : Slot) (t : Term) → HoldsSubtrees nodes n t → Stands nodes n (entry_destination s) t
+slot_stands nodes n (Register r) t h = record { address = tt; value = h }
+slot_stands nodes n Temporary t h = record { address = tt; value = h }
 
 -- ---- the number of the whole tree
 

@@ -1,14 +1,16 @@
 -- What one form gives for a row, and the row of all forms.
-use Rattle.std.proofs.Common.{◌≡◌, ◌≢◌, ℕ, zero, suc, ◌+◌, ◌<◌, ◌≤◌, List, [], ◌∷◌, ◌++◌, length, replicate, refl, sym, ap, ◌∙◌, subst, Option, Some, None, Bool, true, false, arith, nat_lt, ◌⊎◌, inl, inr}
-use Rattle.std.specs.Prelude.{slice_get, bit_and, if◌then◌else◌, ◌==◌}
+use Rattle.std.proofs.Common.{◌≡◌, ◌≢◌, ℕ, zero, suc, ◌+◌, ◌≤◌, List, [], ◌∷◌, ◌++◌, length, replicate, refl, sym, ap, ◌∙◌, subst, Option, Some, None, Bool, true, false, arith, ◌⊎◌, inl, inr}
+use Rattle.std.specs.Prelude.{slice_get, slice_index_or, bit_and, ◌==◌}
 use Rattle.std.proofs.lemmas.Bool.{cases_eq}
 use Rattle.std.proofs.lemmas.Bool.Decides.{nat_tests}
 use Rattle.std.proofs.lemmas.Option.{slice_get_within}
 use Rattle.net_model.specs.Terms.{Term, size_of}
-use Rattle.form_model.specs.Rules.{Rule, into_memory, into, temporary}
-use Rattle.form_model.specs.Matches.{operand, cut, Found, goal_match}
+use Rattle.form_model.specs.Rules.{Rule, into_memory, into}
+use Rattle.form_model.specs.Matches.{operand, cut, Found}
 use Rattle.form_model.specs.Plans.{Plan, use_form, Operands, no_operands, operand_then, Cuts, no_cuts, cut_then, cost, operands_cost, cuts_cost}
 use Rattle.form_model.specs.Covers.{Stock, Operand, operands_of, cuts_of}
+use Rattle.cover.specs.declared.slots.Slot.{Slot}
+use Rattle.cover.specs.declared.slots.Slot.TheVariants.{Register, Temporary}
 use Rattle.cover.specs.declared.rows.ChainRule.{ChainRule}
 use Rattle.cover.specs.declared.rows.Offer.{Offer}
 use Rattle.cover.specs.declared.matches.FormMatch.{FormMatch}
@@ -16,37 +18,29 @@ use Rattle.cover.specs.Inner.Matched.{Takes}
 use Rattle.cover.specs.declared.rows.Offer.TheVariants.{Nothing, Chains, Reaches}
 use Rattle.cover.specs.Inner.Asks.{operand_ask, cut_ask, takes, IsSparing, AreSparing, AreStored, rest}
 use Rattle.cover.specs.Inner.Least.{AtMost, Reached, IsLeastForm}
-use Rattle.cover.specs.Inner.Rows.{Row, entry, IsBlank, entry_destination, row_ask, IsSlot, goal_slot, IsLeastRow, IsLift, AreLifts, AreWithin, IsWithin, IsMet, IsTried, IsOffer, offer_is, Noted, IsClosed}
+use Rattle.cover.specs.Inner.Slots.{place, IsEntry, IsSlot, goal_slot}
+use Rattle.cover.specs.Inner.Rows.{Row, entry, IsBlank, row_ask, IsLeastRow, IsLift, AreLifts, AreWithin, IsWithin, IsMet, IsTried, IsOffer, offer_is, Noted, IsClosed}
 use Rattle.cover.proofs.SizeLemmas.{Small, into_small, temp_small, rest_some}
 use Rattle.cover.proofs.LeastLemmas.{at_most_more, some_of}
+use Rattle.cover.proofs.SlotLemmas.{slot_entry, place_once}
 
 -- ---- entries of a row
 
+blank_place : (n r : ℕ) → slice_index_or (replicate {A = Option ℕ} n None) r None ≡ None
+blank_place zero zero = refl
+blank_place zero (suc r) = refl
+blank_place (suc n) zero = refl
+blank_place (suc n) (suc r) = blank_place n r
+
 pub blank_row : (n : ℕ) → IsBlank (replicate n None)
-blank_row zero zero = refl
-blank_row zero (suc r) = refl
-blank_row (suc n) zero = refl
-blank_row (suc n) (suc r) = blank_row n r
-
-pub slot_reg : (r : ℕ) → r < 16 → entry_destination r ≡ into r
-slot_reg r lt = let e : nat_lt r 16 ≡ true = grind (arith, nat_tests) in ap (λ b. if b then into r else temporary) e
-
-not_reg : (r : ℕ) → nat_lt r 16 ≡ false → 16 ≤ r
-not_reg r e = grind (arith, nat_tests)
+blank_row n s = blank_place n (place s)
 
 -- what a form takes for an entry of a row: it goes there, and leaves the whole tree or less
-pub row_small : (stock : Stock) (rule : Rule) (t : Term) (whole : Bool) (r : ℕ) (found : Found) → IsSlot whole r → takes stock rule (row_ask t whole r) ≡ Some found → (goal_slot rule.goal whole ≡ Some r) × Small whole t found.sites
-row_small stock rule t whole r found slot h = go (nat_lt r 16) refl h
-  where
-    go : (b : Bool) → nat_lt r 16 ≡ b → goal_match stock.temps rule rule.goal (if b then into r else temporary) t whole ≡ Some found → (goal_slot rule.goal whole ≡ Some r) × Small whole t found.sites
-    go true e m = into_small stock.temps rule rule.goal r t whole found m
-    go false e m =
-        let (is, small) = temp_small stock.temps rule rule.goal t whole found m in
-        let ge = not_reg r e in
-        let at : r ≡ 16 = omega (arith, ge, slot.within) in
-        let w : whole ≡ false = slot.cut at in
-        let a : goal_slot rule.goal whole ≡ goal_slot into_memory false = ap (λ g. goal_slot g whole) is ∙ ap (λ v. goal_slot into_memory v) w in
-        (a ∙ ap Some (sym at), subst (λ v. Small v t found.sites) (sym w) small)
+pub row_small : (stock : Stock) (rule : Rule) (t : Term) (whole : Bool) (s : Slot) (found : Found) → IsSlot whole s → takes stock rule (row_ask t whole s) ≡ Some found → (goal_slot rule.goal whole ≡ Some s) × Small whole t found.sites
+row_small stock rule t whole (Register r) found slot h = into_small stock.temps rule rule.goal r t whole found h
+row_small stock rule t whole Temporary found w h =
+    let (is, small) = temp_small stock.temps rule rule.goal t whole found h in
+    (ap (λ g. goal_slot g whole) is ∙ ap (λ v. goal_slot into_memory v) w, subst (λ v. Small v t found.sites) (sym w) small)
 
 -- ---- offers
 
@@ -65,14 +59,14 @@ module _ (stock : Stock) (avoid : ℕ) (t : Term) (whole : Bool) (row : Row) (k 
       absurd (never (subst (λ (x : Rule). bit_and x.clobbers avoid ≡ 0) same spared))
 
   -- the entry to which the form goes
-  at_goal : (rule : Rule) (d : ℕ) → slice_get stock.rules k ≡ Some rule → goal_slot rule.goal whole ≡ Some d → (ps : Operands) (cs : Cuts) (r : ℕ) → IsSlot whole r → IsSparing stock avoid (row_ask t whole r) (use_form k ps cs) → d ≡ r
+  at_goal : (rule : Rule) (d : Slot) → slice_get stock.rules k ≡ Some rule → goal_slot rule.goal whole ≡ Some d → (ps : Operands) (cs : Cuts) (r : Slot) → IsSlot whole r → IsSparing stock avoid (row_ask t whole r) (use_form k ps cs) → d ≡ r
   at_goal rule d get goal ps cs r slot (rule', get', spared, found, is, orders, stored) =
       let same : rule' ≡ rule = cc in
       let g = (row_small stock rule' t whole r found slot is).0 in
       let g' : goal_slot rule.goal whole ≡ Some r = subst (λ (x : Rule). goal_slot x.goal whole ≡ Some r) same g in
       cc
 
-  pub offer_form : (rule : Rule) (d : ℕ) (o : Option ℕ) → slice_get stock.rules k ≡ Some rule → goal_slot rule.goal whole ≡ Some d → IsSlot whole d → IsLeastForm stock avoid (row_ask t whole d) k o → IsOffer stock avoid t whole row k (offer_is d o)
+  pub offer_form : (rule : Rule) (d : Slot) (o : Option ℕ) → slice_get stock.rules k ≡ Some rule → goal_slot rule.goal whole ≡ Some d → IsSlot whole d → IsLeastForm stock avoid (row_ask t whole d) k o → IsOffer stock avoid t whole row k (offer_is d o)
   offer_form rule d None get goal slot is = λ ps cs r slot' sparing.
       let e = at_goal rule d get goal ps cs r slot' sparing in
       absurd (is.least ps cs (subst (λ j. IsSparing stock avoid (row_ask t whole j) (use_form k ps cs)) (sym e) sparing))
@@ -100,11 +94,11 @@ module _ (stock : Stock) (avoid : ℕ) (t : Term) (whole : Bool) (row : Row) (k 
   avoid_zero : (avoid == 0) ≡ true → avoid ≡ 0
   avoid_zero e = grind (arith, nat_tests)
 
-  pub offer_chain : (rule : Rule) (d q : ℕ) (found : Found) → slice_get stock.rules k ≡ Some rule → bit_and rule.clobbers avoid ≡ 0 → goal_slot rule.goal whole ≡ Some d → IsSlot whole d → takes stock rule (row_ask t whole d) ≡ Some found → rest (size_of t) (avoid == 0) found.sites ≡ Some q → (found.sites ≡ operand q t whole ∷ [] → q < 16) → IsOffer stock avoid t whole row k (Chains (record { start = q; goal = d }))
+  pub offer_chain : (rule : Rule) (d q : Slot) (found : Found) → slice_get stock.rules k ≡ Some rule → bit_and rule.clobbers avoid ≡ 0 → goal_slot rule.goal whole ≡ Some d → IsSlot whole d → takes stock rule (row_ask t whole d) ≡ Some found → rest (size_of t) (avoid == 0) found.sites ≡ Some q → IsEntry q → IsOffer stock avoid t whole row k (Chains (record { start = q; goal = d }))
   offer_chain rule d q found get spared goal slot is rests within = go (rest_some whole t (avoid == 0) found.sites q (row_small stock rule t whole d found slot is).1 rests)
     where
       -- the parts of a cover by this form
-      parts : (ps : Operands) (cs : Cuts) (r : ℕ) → IsSlot whole r → IsSparing stock avoid (row_ask t whole r) (use_form k ps cs) → (d ≡ r) × AreSparing stock avoid (operands_of found.sites) ps × AreStored stock (cuts_of found.sites) cs
+      parts : (ps : Operands) (cs : Cuts) (r : Slot) → IsSlot whole r → IsSparing stock avoid (row_ask t whole r) (use_form k ps cs) → (d ≡ r) × AreSparing stock avoid (operands_of found.sites) ps × AreStored stock (cuts_of found.sites) cs
       parts ps cs r slot' (rule', get', spared', found', is', orders, stored) =
           let e = at_goal rule d get goal ps cs r slot' (rule', get', spared', found', is', orders, stored) in
           let same : rule' ≡ rule = cc in
@@ -112,34 +106,32 @@ module _ (stock : Stock) (avoid : ℕ) (t : Term) (whole : Bool) (row : Row) (k 
           let same' : found' ≡ found = cc in
           (e, subst (λ (f : Found). AreSparing stock avoid (operands_of f.sites) ps) same' orders, subst (λ (f : Found). AreStored stock (cuts_of f.sites) cs) same' stored)
 
-      go : (found.sites ≡ operand q t whole ∷ []) ⊎ ((shape : Term) × (found.sites ≡ cut shape t ∷ []) × (whole ≡ false) × ((avoid == 0) ≡ true) × (q ≡ 16)) → IsOffer stock avoid t whole row k (Chains (record { start = q; goal = d }))
-      go (inl e) =
-          let lt = within e in
-          let at = slot_reg q lt in
-          let mine : Operand = record { id = q; tree = t; whole = whole } in
+      go : ((id : ℕ) × (found.sites ≡ operand id t whole ∷ []) × (q ≡ Register id)) ⊎ ((shape : Term) × (found.sites ≡ cut shape t ∷ []) × (whole ≡ false) × ((avoid == 0) ≡ true) × (q ≡ Temporary)) → IsOffer stock avoid t whole row k (Chains (record { start = q; goal = d }))
+      go (inl (id, e, at)) =
+          let mine : Operand = record { id = id; tree = t; whole = whole } in
           let a : operands_of found.sites ≡ mine ∷ [] = ap operands_of e in
           let b : cuts_of found.sites ≡ [] = ap cuts_of e in (
             record {
-              start = record { within = omega (arith, lt); cut = λ x. absurd (omega (arith, lt, x)) };
+              start = subst (IsSlot whole) (sym at) (subst IsEntry at within);
               goal = slot;
               lift = λ p sparing. (
                 use_form k (operand_then 0 p no_operands) no_cuts,
-                (rule, get, spared, found, is, subst (λ l. AreSparing stock avoid l (operand_then 0 p no_operands)) (sym a) (mine, refl, subst (λ x. IsSparing stock avoid (record { destination = x; tree = t; whole = whole }) p) at sparing, refl), b),
+                (rule, get, spared, found, is, subst (λ l. AreSparing stock avoid l (operand_then 0 p no_operands)) (sym a) (mine, refl, subst (λ x. IsSparing stock avoid (row_ask t whole x) p) at sparing, refl), b),
                 omega arith,
               );
             },
             λ ps cs r slot' sparing.
                 let (same, orders, stored) = parts ps cs r slot' sparing in
-                let (p, sparing', le) = sole q ps (subst (λ l. AreSparing stock avoid l ps) a orders) in
-                (same, p, subst (λ x. IsSparing stock avoid (record { destination = x; tree = t; whole = whole }) p) (sym at) sparing', omega (arith, le)),
+                let (p, sparing', le) = sole id ps (subst (λ l. AreSparing stock avoid l ps) a orders) in
+                (same, p, subst (λ x. IsSparing stock avoid (row_ask t whole x) p) (sym at) sparing', omega (arith, le)),
           )
       go (inr (shape, e, w, free, at)) =
           let zero_is = avoid_zero free in
           let a : operands_of found.sites ≡ [] = ap operands_of e in
           let b : cuts_of found.sites ≡ t ∷ [] = ap cuts_of e in
-          let there : row_ask t whole q ≡ cut_ask t = ap (λ j. row_ask t whole j) at ∙ ap (λ v. row_ask t v 16) w in (
+          let there : row_ask t whole q ≡ cut_ask t = ap (λ j. row_ask t whole j) at ∙ ap (λ v. row_ask t v Temporary) w in (
             record {
-              start = record { within = omega (arith, at); cut = λ x. w };
+              start = subst (IsSlot whole) (sym at) w;
               goal = slot;
               lift = λ p sparing. (
                 use_form k no_operands (cut_then p no_cuts),
@@ -171,7 +163,7 @@ get_either (z ∷ xs) y x zero h = inl h
 get_either (z ∷ xs) y x (suc i) h = get_either xs y x i h
 
 module _ (stock : Stock) (avoid : ℕ) (t : Term) (whole : Bool) where
-  pub tried_none : (list : List FormMatch) (row : Row) → ((r : ℕ) → entry row r ≡ None) → IsTried stock avoid t whole list 0 [] row
+  pub tried_none : (list : List FormMatch) (row : Row) → ((r : Slot) → entry row r ≡ None) → IsTried stock avoid t whole list 0 [] row
   tried_none list row blank = record {
     sound = λ r slot. subst (λ o. Reached stock avoid (row_ask t whole r) o) (sym (blank r)) tt;
     lifts = λ i m get. absurd (cc);
@@ -179,19 +171,19 @@ module _ (stock : Stock) (avoid : ℕ) (t : Term) (whole : Bool) where
   }
 
   pub lifts_within : (chains : List ChainRule) → AreLifts stock avoid t whole chains → AreWithin chains
-  lifts_within chains lifts i m get = let l = lifts i m get in (l.start.within, l.goal.within)
+  lifts_within chains lifts i m get = let l = lifts i m get in (slot_entry whole m.start l.start, slot_entry whole m.goal l.goal)
 
-  more_met : (chains : List ChainRule) (m : ChainRule) (row : Row) (r n : ℕ) → IsMet stock avoid t whole chains row r n → IsMet stock avoid t whole (chains ++ (m ∷ [])) row r n
+  more_met : (chains : List ChainRule) (m : ChainRule) (row : Row) (r : Slot) (n : ℕ) → IsMet stock avoid t whole chains row r n → IsMet stock avoid t whole (chains ++ (m ∷ [])) row r n
   more_met chains m row r n (inl h) = inl h
   more_met chains m row r n (inr (i, m', get, goal, q, sparing, le)) = inr (i, m', get_old chains m m' i get, goal, q, sparing, le)
 
-  lower_met : (chains : List ChainRule) (old new : Row) (r n : ℕ) → ((r n : ℕ) → AtMost (entry old r) n → AtMost (entry new r) n) → IsMet stock avoid t whole chains old r n → IsMet stock avoid t whole chains new r n
+  lower_met : (chains : List ChainRule) (old new : Row) (r : Slot) (n : ℕ) → ((r : Slot) (n : ℕ) → AtMost (entry old r) n → AtMost (entry new r) n) → IsMet stock avoid t whole chains old r n → IsMet stock avoid t whole chains new r n
   lower_met chains old new r n lower (inl h) = inl (lower r n h)
   lower_met chains old new r n lower (inr h) = inr h
 
   module _ (list : List FormMatch) (n : ℕ) (f : FormMatch) (here : slice_get list n ≡ Some f) where
     -- a cover that begins with a match at n begins with the form of f
-    at_match : (i : ℕ) (x : FormMatch) (ps : Operands) (cs : Cuts) (r : ℕ) → i ≡ n → slice_get list i ≡ Some x → IsSparing stock avoid (row_ask t whole r) (use_form x.form ps cs) → IsSparing stock avoid (row_ask t whole r) (use_form f.form ps cs)
+    at_match : (i : ℕ) (x : FormMatch) (ps : Operands) (cs : Cuts) (r : Slot) → i ≡ n → slice_get list i ≡ Some x → IsSparing stock avoid (row_ask t whole r) (use_form x.form ps cs) → IsSparing stock avoid (row_ask t whole r) (use_form f.form ps cs)
     at_match i x ps cs r at got sparing =
         let there : slice_get list n ≡ Some x = subst (λ j. slice_get list j ≡ Some x) at got in
         let same : x ≡ f = cc in subst (λ (y : FormMatch). IsSparing stock avoid (row_ask t whole r) (use_form y.form ps cs)) same sparing
@@ -223,7 +215,7 @@ module _ (stock : Stock) (avoid : ℕ) (t : Term) (whole : Bool) where
         subst (λ ms. IsTried stock avoid t whole list (n + 1) ms new) (sym e) (record {
           sound = λ q slot. elim (entered.others q) [
             | inl same ↦ subst (λ o. Reached stock avoid (row_ask t whole q) o) (sym same) (tried.sound q slot)
-            | inr at ↦ subst (λ o. Reached stock avoid (row_ask t whole q) o) (sym at.1) (subst (λ j. Reached stock avoid (row_ask t whole j) (Some c)) (sym at.0) reached)
+            | inr at ↦ subst (λ o. Reached stock avoid (row_ask t whole q) o) (sym at.1) (subst (λ j. Reached stock avoid (row_ask t whole j) (Some c)) (sym (place_once q d (slot_entry whole q slot) (slot_entry whole d slot_d) at.0)) reached)
           ];
           lifts = tried.lifts;
           met = λ i x ps cs r lt got slot sparing. elim (cases_eq i n) [
@@ -235,14 +227,14 @@ module _ (stock : Stock) (avoid : ℕ) (t : Term) (whole : Bool) where
 
   module _ (list : List FormMatch) (all : (k : ℕ) → Takes stock t whole k → (i : ℕ) × (m : FormMatch) × (slice_get list i ≡ Some m) × (m.form ≡ k)) (chains : List ChainRule) (old new : Row) (tried : IsTried stock avoid t whole list (length list) chains old) (closed : IsClosed chains old new) where
     -- no cover is cheaper than its entry, by induction on a bound of its cost
-    complete : (n : ℕ) (p : Plan) (r : ℕ) → cost p ≤ n → IsSlot whole r → IsSparing stock avoid (row_ask t whole r) p → AtMost (entry new r) (cost p)
+    complete : (n : ℕ) (p : Plan) (r : Slot) → cost p ≤ n → IsSlot whole r → IsSparing stock avoid (row_ask t whole r) p → AtMost (entry new r) (cost p)
     complete zero (use_form k ps cs) r le slot sparing = absurd (omega arith)
     complete (suc n) (use_form k ps cs) r le slot (rule, get, spared, found, is, orders, stored) =
         let (i, f, got, same) = all k (record { entry = r; slot = slot; rule = rule; found = found; listed = get; takes_it = is }) in
         go (complete n)
         (tried.met i f ps cs r (slice_get_within list i f got) got slot (subst (λ j. IsSparing stock avoid (row_ask t whole r) (use_form j ps cs)) (sym same) (rule, get, spared, found, is, orders, stored)))
       where
-        go : ((q : Plan) (s : ℕ) → cost q ≤ n → IsSlot whole s → IsSparing stock avoid (row_ask t whole s) q → AtMost (entry new s) (cost q)) → IsMet stock avoid t whole chains old r (cost (use_form k ps cs)) → AtMost (entry new r) (cost (use_form k ps cs))
+        go : ((q : Plan) (s : Slot) → cost q ≤ n → IsSlot whole s → IsSparing stock avoid (row_ask t whole s) q → AtMost (entry new s) (cost q)) → IsMet stock avoid t whole chains old r (cost (use_form k ps cs)) → AtMost (entry new r) (cost (use_form k ps cs))
         go ih (inl h) = closed.lower r (cost (use_form k ps cs)) h
         go ih (inr (i, m, listed, goal, q, sparing, less)) =
             let (c, at, up) = some_of (entry new m.start) (cost q) (ih q m.start (omega (arith, le, less)) (tried.lifts i m listed).start sparing) in
@@ -255,4 +247,4 @@ module _ (stock : Stock) (avoid : ℕ) (t : Term) (whole : Bool) where
 pub look_within : (stock : Stock) (avoid : ℕ) (t : Term) (whole : Bool) (row : Row) (k : ℕ) (offer : Offer) → IsOffer stock avoid t whole row k offer → IsWithin offer
 look_within stock avoid t whole row k Nothing h = tt
 look_within stock avoid t whole row k (Chains m) h = tt
-look_within stock avoid t whole row k (Reaches slot n) h = h.0.within
+look_within stock avoid t whole row k (Reaches slot n) h = slot_entry whole slot h.0

@@ -6,16 +6,22 @@ use Rattle.std.proofs.lemmas.Bool.{cases_eq}
 use Rattle.std.proofs.lemmas.List.Sums.{sum_by-set}
 use Rattle.net_model.specs.Terms.{Term}
 use Rattle.form_model.specs.Covers.{Stock}
+use Rattle.cover.specs.declared.slots.Slot.{Slot}
 use Rattle.cover.specs.declared.rows.ChainRule.{ChainRule}
 use Rattle.cover.specs.Inner.Least.{AtMost, Reached}
+use Rattle.cover.specs.Inner.Slots.{place, IsEntry}
 use Rattle.cover.specs.Inner.Rows.{Row, entry, row_ask, IsBelow, IsLift, weight, weight_of, Lower, Chained, Changed, Keeps, Swept, IsClosed, Entered}
+use Rattle.cover.proofs.SlotLemmas.{place_within, slot_entry, place_once}
 
 -- an entry after a write
-pub entry_same : (row : Row) (d : ℕ) (v : Option ℕ) → d < length row → entry (slice_set row d v) d ≡ v
-entry_same row d v h = get_or-set_same row d v None h
+pub entry_same : (row : Row) (d : Slot) (v : Option ℕ) → place d < length row → entry (slice_set row (place d) v) d ≡ v
+entry_same row d v h = get_or-set_same row (place d) v None h
 
-pub entry_other : (row : Row) (d r : ℕ) (v : Option ℕ) → r ≢ d → entry (slice_set row d v) r ≡ entry row r
-entry_other row d r v h = get_or-set_other row d r v None h
+entry_there : (row : Row) (d r : Slot) (v : Option ℕ) → place d < length row → place r ≡ place d → entry (slice_set row (place d) v) r ≡ v
+entry_there row d r v h e = ap (λ j. get_or (slice_set row (place d) v) j None) e ∙ entry_same row d v h
+
+pub entry_other : (row : Row) (d r : Slot) (v : Option ℕ) → place r ≢ place d → entry (slice_set row (place d) v) r ≡ entry row r
+entry_other row d r v h = get_or-set_other row (place d) (place r) v None h
 
 pub at_most_below : (o : Option ℕ) (m n : ℕ) → IsBelow m o → AtMost o n → m ≤ n
 at_most_below None m n b h = absurd h
@@ -25,34 +31,36 @@ lighter : (o : Option ℕ) (m : ℕ) → m < 2 ^ 64 → IsBelow m o → m < weig
 lighter None m h b = h
 lighter (Some k) m h b = b
 
-moved_weight : (m : ChainRule) (old new : Row) → length old ≡ 17 → m.goal < 17 → Chained m true old new → weight_of new < weight_of old
+moved_weight : (m : ChainRule) (old new : Row) → length old ≡ 17 → IsEntry m.goal → Chained m true old new → weight_of new < weight_of old
 moved_weight m old new len fits (c, at, small, below, e) =
-    let within : m.goal < length old = omega (arith, len, fits) in
-    let s = sum_by-set weight old m.goal (Some (c + 1)) None within in
+    let p = place_within m.goal fits in
+    let within : place m.goal < length old = omega (arith, len, p) in
+    let s = sum_by-set weight old (place m.goal) (Some (c + 1)) None within in
     let l = lighter (entry old m.goal) (c + 1) small below in
-    let w : weight_of new ≡ weight_of (slice_set old m.goal (Some (c + 1))) = ap weight_of e in
+    let w : weight_of new ≡ weight_of (slice_set old (place m.goal) (Some (c + 1))) = ap weight_of e in
     omega (arith, s, l, w)
 
-moved_lower : (m : ChainRule) (old new : Row) → length old ≡ 17 → m.goal < 17 → Chained m true old new → Lower old new
+moved_lower : (m : ChainRule) (old new : Row) → length old ≡ 17 → IsEntry m.goal → Chained m true old new → Lower old new
 moved_lower m old new len fits (c, at, small, below, e) q n h =
-    let within : m.goal < length old = omega (arith, len, fits) in
+    let p = place_within m.goal fits in
+    let within : place m.goal < length old = omega (arith, len, p) in
     subst (λ row. AtMost (entry row q) n) (sym e)
-    (elim (cases_eq q m.goal) [
-      | inl same ↦ subst (λ j. AtMost (entry (slice_set old m.goal (Some (c + 1))) j) n) (sym same)
-          (subst (λ o. AtMost o n) (sym (entry_same old m.goal (Some (c + 1)) within))
-          (at_most_below (entry old m.goal) (c + 1) n below (subst (λ j. AtMost (entry old j) n) same h)))
+    (elim (cases_eq (place q) (place m.goal)) [
+      | inl same ↦ subst (λ o. AtMost o n) (sym (entry_there old m.goal q (Some (c + 1)) within same))
+          (at_most_below (entry old m.goal) (c + 1) n below (subst (λ j. AtMost (get_or old j None) n) same h))
       | inr other ↦ subst (λ o. AtMost o n) (sym (entry_other old m.goal q (Some (c + 1)) other)) h
     ])
 
 move_reached : (stock : Stock) (avoid : ℕ) (tree : Term) (whole : Bool) (m : ChainRule) (c : ℕ) → IsLift stock avoid tree whole m → Reached stock avoid (row_ask tree whole m.start) (Some c) → Reached stock avoid (row_ask tree whole m.goal) (Some (c + 1))
 move_reached stock avoid tree whole m c is (p, sparing, e) = let (q, sparing', e') = is.lift p sparing in (q, sparing', omega (arith, e, e'))
 
-moved_sound : (chains : List ChainRule) (i : ℕ) (m : ChainRule) (old new : Row) → slice_get chains i ≡ Some m → length old ≡ 17 → m.goal < 17 → Chained m true old new → Keeps chains old new
+moved_sound : (chains : List ChainRule) (i : ℕ) (m : ChainRule) (old new : Row) → slice_get chains i ≡ Some m → length old ≡ 17 → IsEntry m.goal → Chained m true old new → Keeps chains old new
 moved_sound chains i m old new get len fits (c, at, small, below, e) stock avoid tree whole lifts sound q slot =
-    let within : m.goal < length old = omega (arith, len, fits) in
+    let p = place_within m.goal fits in
+    let within : place m.goal < length old = omega (arith, len, p) in
     subst (λ row. Reached stock avoid (row_ask tree whole q) (entry row q)) (sym e)
-    (elim (cases_eq q m.goal) [
-      | inl same ↦ subst (λ j. Reached stock avoid (row_ask tree whole j) (entry (slice_set old m.goal (Some (c + 1))) j)) (sym same)
+    (elim (cases_eq (place q) (place m.goal)) [
+      | inl same ↦ subst (λ j. Reached stock avoid (row_ask tree whole j) (entry (slice_set old (place m.goal) (Some (c + 1))) j)) (sym (place_once q m.goal (slot_entry whole q slot) fits same))
           (subst (λ o. Reached stock avoid (row_ask tree whole m.goal) o) (sym (entry_same old m.goal (Some (c + 1)) within))
           (move_reached stock avoid tree whole m c (lifts i m get) (subst (λ o. Reached stock avoid (row_ask tree whole m.start) o) at (sound m.start (lifts i m get).start))))
       | inr other ↦ subst (λ o. Reached stock avoid (row_ask tree whole q) o) (sym (entry_other old m.goal q (Some (c + 1)) other)) (sound q slot)
@@ -65,7 +73,7 @@ no_heavier chains n false old mid h = let e = ap weight_of h.0 in omega (arith, 
 pub swept_none : (chains : List ChainRule) (row : Row) → Swept chains 0 false row row
 swept_none chains row = record { sound = λ stock avoid tree whole lifts h. h; lower = λ r n h. h; change = (refl, λ i m c lt. absurd (omega arith)) }
 
-pub swept_moved : (chains : List ChainRule) (n : ℕ) (changed : Bool) (old mid new : Row) (m : ChainRule) → Swept chains n changed old mid → slice_get chains n ≡ Some m → length mid ≡ 17 → m.goal < 17 → Chained m true mid new → Swept chains (n + 1) true old new
+pub swept_moved : (chains : List ChainRule) (n : ℕ) (changed : Bool) (old mid new : Row) (m : ChainRule) → Swept chains n changed old mid → slice_get chains n ≡ Some m → length mid ≡ 17 → IsEntry m.goal → Chained m true mid new → Swept chains (n + 1) true old new
 swept_moved chains n changed old mid new m s get len fits moved = record {
   sound = λ stock avoid tree whole lifts h. moved_sound chains n m mid new get len fits moved stock avoid tree whole lifts (s.sound stock avoid tree whole lifts h);
   lower = λ r k h. moved_lower m mid new len fits moved r k (s.lower r k h);
@@ -100,22 +108,21 @@ closed_after chains old mid new sound lower s = record {
 }
 
 -- an entry that was made where it is less
-pub entered : (old new : Row) (d n : ℕ) (b : Bool) → length old ≡ 17 → d < 17 → new ≡ (if b then slice_set old d (Some n) else old) → OnTrue b (IsBelow n (entry old d)) → OnFalse b (AtMost (entry old d) n) → Entered old new d n
+pub entered : (old new : Row) (d : Slot) (n : ℕ) (b : Bool) → length old ≡ 17 → IsEntry d → new ≡ (if b then slice_set old (place d) (Some n) else old) → OnTrue b (IsBelow n (entry old d)) → OnFalse b (AtMost (entry old d) n) → Entered old new d n
 entered old new d n true len lt e below kept = subst (λ row. Entered old row d n) (sym e) (record {
-  lower = λ q k h. elim (cases_eq q d) [
-    | inl same ↦ subst (λ j. AtMost (entry (slice_set old d (Some n)) j) k) (sym same)
-        (subst (λ o. AtMost o k) (sym (entry_same old d (Some n) within)) (at_most_below (entry old d) n k below (subst (λ j. AtMost (entry old j) k) same h)))
+  lower = λ q k h. elim (cases_eq (place q) (place d)) [
+    | inl same ↦ subst (λ o. AtMost o k) (sym (entry_there old d q (Some n) within same)) (at_most_below (entry old d) n k below (subst (λ j. AtMost (get_or old j None) k) same h))
     | inr other ↦ subst (λ o. AtMost o k) (sym (entry_other old d q (Some n) other)) h
   ];
   at = subst (λ o. AtMost o n) (sym (entry_same old d (Some n) within)) (omega arith);
-  others = λ q. elim (cases_eq q d) [
-    | inl same ↦ inr (same, ap (λ j. entry (slice_set old d (Some n)) j) same ∙ entry_same old d (Some n) within)
+  others = λ q. elim (cases_eq (place q) (place d)) [
+    | inl same ↦ inr (same, entry_there old d q (Some n) within same)
     | inr other ↦ inl (entry_other old d q (Some n) other)
   ];
 })
   where
-    within : d < length old
-    within = omega (arith, len, lt)
+    within : place d < length old
+    within = let p = place_within d lt in omega (arith, len, p)
 entered old new d n false len lt e below kept = subst (λ row. Entered old row d n) (sym e) (record {
   lower = λ q k h. h;
   at = kept;

@@ -10,8 +10,10 @@ use Rattle.form_model.specs.Shapes.{is_shape, shows_below}
 use Rattle.form_model.specs.Rules.{Rule, Kind, into_reg, into_memory, jumps, branches, into, temporary}
 use Rattle.form_model.specs.Matches.{same_op1, same_op2, Site, operand, cut, Found, settled, open_if, both, shape_match, literal_match, cell_match, read_match, un_match, bin_match, slice_match, zext_match, sext_match, matched, address_match, goal_match}
 use Rattle.form_model.specs.Covers.{operands_of, cuts_of}
+use Rattle.cover.specs.declared.slots.Slot.{Slot}
+use Rattle.cover.specs.declared.slots.Slot.TheVariants.{Register, Temporary}
 use Rattle.cover.specs.Inner.Asks.{operands_size, terms_size, rank, rest}
-use Rattle.cover.specs.Inner.Rows.{goal_slot}
+use Rattle.cover.specs.Inner.Slots.{goal_slot}
 
 pub picked : {A : Type 0} (b : Bool) (x : Option A) (y : A) → (if b then x else None) ≡ Some y → (b ≡ true) × (x ≡ Some y)
 picked true x y h = (refl, h)
@@ -168,9 +170,9 @@ matched_small temps (sext a w) t whole found h =
 matched_small temps (select c a b) t whole found h = absurd (cc)
 
 -- a form into the register r
-pub into_small : (temps : ℕ) (rule : Rule) (goal : Kind) (r : ℕ) (t : Term) (whole : Bool) (found : Found) → goal_match temps rule goal (into r) t whole ≡ Some found → (goal_slot goal whole ≡ Some r) × Small whole t found.sites
+pub into_small : (temps : ℕ) (rule : Rule) (goal : Kind) (r : ℕ) (t : Term) (whole : Bool) (found : Found) → goal_match temps rule goal (into r) t whole ≡ Some found → (goal_slot goal whole ≡ Some (Register r)) × Small whole t found.sites
 into_small temps rule (into_reg d) r t whole found h =
-    let (same, m) = picked (d == r) _ found h in (ap Some (eq_is d r same), matched_small temps rule.value t whole found m)
+    let (same, m) = picked (d == r) _ found h in (ap (λ i. Some (Register i)) (eq_is d r same), matched_small temps rule.value t whole found m)
 into_small temps rule into_memory r t whole found h = absurd (cc)
 into_small temps rule (jumps reach) r t whole found h = absurd (cc)
 into_small temps rule (branches when_one to) r t whole found h = absurd (cc)
@@ -204,9 +206,9 @@ and_false false b e f = refl
 
 pub rest_small : (whole : Bool) (t : Term) (avoid : ℕ) (sites : List Site) → Small whole t sites → rest (size_of t) (avoid == 0) sites ≡ None → (operands_size (operands_of sites) < size_of t) × (terms_size (cuts_of sites) < size_of t + rank avoid)
 rest_small whole t avoid sites (inl (r, e)) none =
-    absurd (true_false (size_of t == size_of t) (eq_self (size_of t)) (some_none _ r (ap (rest (size_of t) (avoid == 0)) (sym e) ∙ none)))
+    absurd (true_false (size_of t == size_of t) (eq_self (size_of t)) (some_none _ (Register r) (ap (rest (size_of t) (avoid == 0)) (sym e) ∙ none)))
 rest_small whole t avoid sites (inr (inl (shape, e, w))) none =
-    let f : (avoid == 0) ≡ false = and_false (avoid == 0) (size_of t == size_of t) (eq_self (size_of t)) (some_none ((avoid == 0) && (size_of t == size_of t)) 16 (ap (rest (size_of t) (avoid == 0)) (sym e) ∙ none)) in
+    let f : (avoid == 0) ≡ false = and_false (avoid == 0) (size_of t == size_of t) (eq_self (size_of t)) (some_none ((avoid == 0) && (size_of t == size_of t)) Temporary (ap (rest (size_of t) (avoid == 0)) (sym e) ∙ none)) in
     let k : rank avoid ≡ 1 = ap (λ b. if b then 0 else 1) f in
     let a = ap (λ s. operands_size (operands_of s)) e in
     let b = ap (λ s. terms_size (cuts_of s)) e in
@@ -214,25 +216,25 @@ rest_small whole t avoid sites (inr (inl (shape, e, w))) none =
     (omega (arith, a, p), omega (arith, b, k))
 rest_small whole t avoid sites (inr (inr lt)) none = let p = total_parts sites in (omega (arith, p, lt), omega (arith, p, lt))
 
-taken_whole : (size : ℕ) (free : Bool) (sites : List Site) (q : ℕ) → rest size free sites ≡ Some q → total sites ≡ size
+taken_whole : (size : ℕ) (free : Bool) (sites : List Site) (q : Slot) → rest size free sites ≡ Some q → total sites ≡ size
 taken_whole size free [] q h = absurd (cc)
-taken_whole size free (operand id tree whole ∷ []) q h = let e = eq_is (size_of tree) size (picked (size_of tree == size) (Some id) q h).0 in omega (arith, e)
+taken_whole size free (operand id tree whole ∷ []) q h = let e = eq_is (size_of tree) size (picked (size_of tree == size) (Some (Register id)) q h).0 in omega (arith, e)
 taken_whole size free (operand id tree whole ∷ s ∷ sites) q h = absurd (cc)
-taken_whole size free (cut shape tree ∷ []) q h = let e = eq_is (size_of tree) size (and_right free _ (picked (free && (size_of tree == size)) (Some 16) q h).0) in omega (arith, e)
+taken_whole size free (cut shape tree ∷ []) q h = let e = eq_is (size_of tree) size (and_right free _ (picked (free && (size_of tree == size)) (Some Temporary) q h).0) in omega (arith, e)
   where
     and_right : (a b : Bool) → (a && b) ≡ true → b ≡ true
     and_right true b e = e
     and_right false b e = absurd (cc)
 taken_whole size free (cut shape tree ∷ s ∷ sites) q h = absurd (cc)
 
-pub rest_some : (whole : Bool) (t : Term) (free : Bool) (sites : List Site) (q : ℕ) → Small whole t sites → rest (size_of t) free sites ≡ Some q → (sites ≡ operand q t whole ∷ []) ⊎ ((shape : Term) × (sites ≡ cut shape t ∷ []) × (whole ≡ false) × (free ≡ true) × (q ≡ 16))
+pub rest_some : (whole : Bool) (t : Term) (free : Bool) (sites : List Site) (q : Slot) → Small whole t sites → rest (size_of t) free sites ≡ Some q → ((id : ℕ) × (sites ≡ operand id t whole ∷ []) × (q ≡ Register id)) ⊎ ((shape : Term) × (sites ≡ cut shape t ∷ []) × (whole ≡ false) × (free ≡ true) × (q ≡ Temporary))
 rest_some whole t free sites q (inl (r, e)) h =
-    let k = (picked (size_of t == size_of t) (Some r) q (ap (rest (size_of t) free) (sym e) ∙ h)).1 in
-    let same : r ≡ q = cc in inl (e ∙ ap (λ i. operand i t whole ∷ []) same)
+    let k = (picked (size_of t == size_of t) (Some (Register r)) q (ap (rest (size_of t) free) (sym e) ∙ h)).1 in
+    let same : q ≡ Register r = cc in inl (r, e, same)
 rest_some whole t free sites q (inr (inl (shape, e, w))) h =
-    let k = picked (free && (size_of t == size_of t)) (Some 16) q (ap (rest (size_of t) free) (sym e) ∙ h) in
+    let k = picked (free && (size_of t == size_of t)) (Some Temporary) q (ap (rest (size_of t) free) (sym e) ∙ h) in
     let l = k.1 in
-    let same : q ≡ 16 = cc in inr (shape, e, w, and_left free _ k.0, same)
+    let same : q ≡ Temporary = cc in inr (shape, e, w, and_left free _ k.0, same)
   where
     and_left : (a b : Bool) → (a && b) ≡ true → a ≡ true
     and_left true b e = refl

@@ -10,15 +10,17 @@ use Rattle.form_model.specs.declared.forms.Form.{Form}
 use Rattle.tree_grammar.specs.declared.parts.Match.{Match}
 use Rattle.tree_grammar.specs.Numbers.{HoldsSubtrees}
 use Rattle.tree_grammar.specs.Parts.{found_of, sites_of, AreAt, Stands}
+use Rattle.cover.specs.declared.slots.Slot.{Slot}
 use Rattle.cover.specs.declared.table.Instance.{Instance}
 use Rattle.cover.specs.Inner.Asks.{takes}
-use Rattle.cover.specs.Inner.Rows.{entry_destination, row_ask, IsSlot, goal_slot}
+use Rattle.cover.specs.Inner.Slots.{IsSlot, entry_destination, goal_slot}
+use Rattle.cover.specs.Inner.Rows.{row_ask}
 use Rattle.cover.specs.Inner.Jobs.{instance_stock}
 use Rattle.cover.proofs.SizeLemmas.{Small}
 use Rattle.cover.proofs.OfferLemmas.{row_small}
 use Rattle.cover.proofs.NodeLemmas.{slot_stands}
 
-pub record Start (instance : Instance) (form : Form) (k goal : ℕ) (t : Term) (whole : Bool) (m : Match) : Type 0 where
+pub record Start (instance : Instance) (form : Form) (k : ℕ) (goal : Slot) (t : Term) (whole : Bool) (m : Match) : Type 0 where
   pub listed : slice_get (instance_stock instance).rules k ≡ Some (rule_of form)
   pub goes : goal_slot (rule_of form).goal whole ≡ Some goal
   pub slot : IsSlot whole goal
@@ -28,7 +30,7 @@ pub record Start (instance : Instance) (form : Form) (k goal : ℕ) (t : Term) (
 pub rule_at : (instance : Instance) (k : ℕ) (form : Form) → slice_get instance.forms.now k ≡ Some form → slice_get (instance_stock instance).rules k ≡ Some (rule_of form)
 rule_at instance k form h = slice_get-map rule_of instance.forms.now k ∙ ap (option_map rule_of) h
 
-pub start_of : (instance : Instance) (form : Form) (k goal : ℕ) (t : Term) (whole : Bool) (destination : Destination) (g : Option ℕ) (o : Option Match) (m : Match) → slice_get instance.forms.now k ≡ Some form → (g ≡ goal_slot (kind_of form.goal) whole) × IfSome g (λ r. IsSlot whole r) → g ≡ Some goal → option_map found_of o ≡ taken instance.temps (rule_of form) destination t whole → o ≡ Some m → destination ≡ entry_destination goal → Start instance form k goal t whole m
+pub start_of : (instance : Instance) (form : Form) (k : ℕ) (goal : Slot) (t : Term) (whole : Bool) (destination : Destination) (g : Option Slot) (o : Option Match) (m : Match) → slice_get instance.forms.now k ≡ Some form → (g ≡ goal_slot (kind_of form.goal) whole) × IfSome g (λ r. IsSlot whole r) → g ≡ Some goal → option_map found_of o ≡ taken instance.temps (rule_of form) destination t whole → o ≡ Some m → destination ≡ entry_destination goal → Start instance form k goal t whole m
 start_of instance form k goal t whole destination g o m got goes is found some at =
     let slot : IsSlot whole goal = subst (λ x. IfSome x (λ r. IsSlot whole r)) is goes.1 in
     let t' : takes (instance_stock instance) (rule_of form) (row_ask t whole goal) ≡ Some (found_of m) =
@@ -42,7 +44,7 @@ start_of instance form k goal t whole destination g o m got goes is found some a
     }
 
 -- the numbers of a match's parts are right wherever the tree's subtrees stand
-pub start_at : (number goal : ℕ) (t : Term) (destination : Destination) (o : Option Match) (m : Match) → IfSome o (λ x. (nodes : List Term) → Stands nodes number destination t → AreAt nodes x.parts.items) → o ≡ Some m → destination ≡ entry_destination goal → (nodes : List Term) → HoldsSubtrees nodes number t → AreAt nodes m.parts.items
+pub start_at : (number : ℕ) (goal : Slot) (t : Term) (destination : Destination) (o : Option Match) (m : Match) → IfSome o (λ x. (nodes : List Term) → Stands nodes number destination t → AreAt nodes x.parts.items) → o ≡ Some m → destination ≡ entry_destination goal → (nodes : List Term) → HoldsSubtrees nodes number t → AreAt nodes m.parts.items
 start_at number goal t destination o m at some is nodes holds =
     let f : (nodes : List Term) → Stands nodes number destination t → AreAt nodes m.parts.items = subst (λ y. IfSome y (λ x. (nodes : List Term) → Stands nodes number destination t → AreAt nodes x.parts.items)) some at in
     f nodes (subst (λ p. Stands nodes number p t) (sym is) (slot_stands nodes number goal t holds))

@@ -2,6 +2,7 @@
 -- proofs speak of.
 pub mod Asks
 pub mod Least
+pub mod Slots
 pub mod Rows
 pub mod Jobs
 pub mod Matched

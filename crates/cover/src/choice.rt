@@ -7,7 +7,8 @@ ghost use Rattle.form_model.specs.Plans.{operand_then, cut_then, plan_of, operan
 ghost use Rattle.cover.specs.Inner.Asks.{rest};
 ghost use Rattle.cover.specs.Inner.Least.{AtMost, IsLeast, IsLeastOrder, IsLeastCut};
 ghost use Rattle.form_model.specs.Trees.{tree_term};
-ghost use Rattle.cover.specs.Inner.Rows.{IsSlot, row_ask};
+ghost use Rattle.cover.specs.Inner.Slots.{IsSlot};
+ghost use Rattle.cover.specs.Inner.Rows.{row_ask};
 ghost use Rattle.cover.specs.Inner.Matched.{AreMatches};
 ghost use Rattle.cover.specs.Inner.Choice.{ask_of, matches_ask, StandsWant, Begins, BeginsAt, CostsOf, CostsWithin, Starts, StartsCut, IsFirst, IsFirstOrder, IsFirstFrom, IsFirstCuts, AreFirstParts};
 ghost use Rattle.cover.specs.Inner.Jobs.{instance_stock, nodes_of, open_operands, open_cuts, OperandsAt, CutsAt};
@@ -18,6 +19,7 @@ use crate::fits::{Fit, Want, cost_of, fit_at};
 use crate::least::{cuts_cost, floor_of, least, operand_cost, orders, orders_after};
 use crate::matches::Matches;
 use crate::parts::{OpenCut, OpenOperand, put_reg, register_of, without};
+use crate::slots::Slot;
 use crate::table::{CostTable, Instance, matches_at};
 use form_model::{Cover, CoverCuts, CoverOperands, RegSet, Tree};
 use rec_bits::NoMemory;
@@ -108,7 +110,17 @@ fn first_cut<'a>(
     ensures right { OnOk result (AreRight instance.now table.new) }
 {
     let first = cuts[0];
-    let Some(m) = least(alloc, instance, table, first.tree, first.at, false, 16, 0)? else {
+    let Some(m) = least(
+        alloc,
+        instance,
+        table,
+        first.tree,
+        first.at,
+        false,
+        Slot::Temporary,
+        0,
+    )?
+    else {
         unreachable!()
     };
     Ok(m)
@@ -180,7 +192,7 @@ fn begins_at<'a>(
     instance: &Instance<'a>,
     table: &mut CostTable<'a>,
     matches: &Matches<'a>,
-    slot: u8,
+    slot: Slot,
     avoid: RegSet,
     n: u64,
     i: usize,
@@ -246,7 +258,7 @@ fn choose_entry<'a>(
     tree: &'a Tree,
     number: u64,
     whole: bool,
-    slot: u8,
+    slot: Slot,
     avoid: RegSet,
     n: u64,
 ) -> Result<Cover, NoMemory>
@@ -269,7 +281,7 @@ fn choose_among<'a>(
     instance: &Instance<'a>,
     table: &mut CostTable<'a>,
     matches: &Matches<'a>,
-    slot: u8,
+    slot: Slot,
     avoid: RegSet,
     n: u64,
 ) -> Result<Cover, NoMemory>
@@ -406,7 +418,7 @@ fn order_from<'a>(
     ensures right { OnOk result (AreRight instance.now table.new) }
 {
     let first = ops[i];
-    let slot = register_of(first.id)?;
+    let r = register_of(first.id)?;
     let later = put_reg(avoid, first.id)?;
     let here = choose_entry(
         alloc,
@@ -415,7 +427,7 @@ fn order_from<'a>(
         first.tree,
         first.at,
         first.whole,
-        slot,
+        Slot::Register(r),
         avoid,
         m,
     )?;
@@ -467,7 +479,15 @@ fn choose_cuts<'a>(
     let m = first_cut(alloc, instance, table, cuts, n)?;
     let first = cuts[0];
     let here = choose_entry(
-        alloc, instance, table, first.tree, first.at, false, 16, 0, m,
+        alloc,
+        instance,
+        table,
+        first.tree,
+        first.at,
+        false,
+        Slot::Temporary,
+        0,
+        m,
     )?;
     let later = choose_cuts(alloc, instance, table, &cuts[1..], n - m)?;
     cut_first(alloc, here, later)

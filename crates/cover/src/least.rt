@@ -5,7 +5,8 @@ ghost use Rattle.std.specs.Prelude.{◌≡◌, ◌<◌, Some, IfOk, OnOk, vec_le
 ghost use Rattle.form_model.specs.Trees.{tree_term};
 ghost use Rattle.cover.specs.Inner.Asks.{operand_ask};
 ghost use Rattle.cover.specs.Inner.Least.{IsLeast, IsLeastOrder, IsLeastAfter, IsLeastFrom, IsLeastCut, IsFloor, IsCostBelow};
-ghost use Rattle.cover.specs.Inner.Rows.{row_ask, IsSlot, IsBlank, IsLeastRow};
+ghost use Rattle.cover.specs.Inner.Slots.{IsSlot};
+ghost use Rattle.cover.specs.Inner.Rows.{row_ask, IsBlank, IsLeastRow};
 ghost use Rattle.cover.specs.Inner.Jobs.{instance_stock, nodes_of, open_operand, open_operands, open_cuts, OperandsAt, CutsAt};
 ghost use Rattle.cover.specs.Inner.Matched.{AreMatches, IsOfferAt};
 ghost use Rattle.cover.specs.Inner.Tables.{AreRight};
@@ -14,6 +15,7 @@ use crate::costs::{form_cost, is_as_dear, lesser_of, sum_of};
 use crate::matches::{Matches, start_of};
 use crate::parts::{OpenCut, OpenOperand, put_reg, register_of, without};
 use crate::rows::{ChainRule, Offer, close, known_cost, note, offer_of};
+use crate::slots::Slot;
 use crate::table::{CostTable, Instance, KeptRow, keep, kept, matches_at};
 use form_model::{RegSet, Tree};
 use rec_bits::NoMemory;
@@ -31,7 +33,7 @@ pub(crate) fn least<'a>(
     tree: &'a Tree,
     number: u64,
     whole: bool,
-    slot: u8,
+    slot: Slot,
     avoid: RegSet,
 ) -> Result<Option<u64>, NoMemory>
     requires slot { IsSlot whole slot }
@@ -46,7 +48,7 @@ pub(crate) fn least<'a>(
         return Ok(cost);
     }
     let costs = least_row(alloc, instance, table, tree, first, whole, avoid)?;
-    let cost = costs[slot as usize];
+    let cost = costs[slot.index()];
     keep(
         instance,
         table,
@@ -75,7 +77,7 @@ pub(crate) fn operand_cost<'a>(
         IsLeast (instance_stock instance.now) avoid (operand_ask (open_operand operand.entry)) o) }
     ensures right { OnOk result (AreRight instance.now table.new) }
 {
-    let slot = register_of(operand.id)?;
+    let r = register_of(operand.id)?;
     least(
         alloc,
         instance,
@@ -83,7 +85,7 @@ pub(crate) fn operand_cost<'a>(
         operand.tree,
         operand.at,
         operand.whole,
-        slot,
+        Slot::Register(r),
         avoid,
     )
 }
@@ -350,7 +352,16 @@ pub(crate) fn cuts_cost<'a>(
         return Ok(Some(0));
     }
     let first = cuts[0];
-    let m = least(alloc, instance, table, first.tree, first.at, false, 16, 0)?;
+    let m = least(
+        alloc,
+        instance,
+        table,
+        first.tree,
+        first.at,
+        false,
+        Slot::Temporary,
+        0,
+    )?;
     let n = cuts_cost(alloc, instance, table, &cuts[1..])?;
     sum_of(m, n)
 }

@@ -20,6 +20,7 @@
 //! - `covers`: what `cover` answers.
 //! - `costs`: sums and comparisons of costs.
 //! - `parts`: what a match leaves open, with the numbers of its trees, and sets of registers.
+//! - `slots`: an entry of a row, for a register or for a temporary cell, and its place there.
 //! - `rows`: a row of least costs, and its closure under chain rules.
 //! - `matches`: the forms that match a subtree, with what their matches leave open, once for all
 //!   sets of registers to avoid.
@@ -36,7 +37,7 @@
 //! - `laws`: `law_of_choices`.
 //! - `specs/`, cited by public contracts: `Best` and `Jobs`; what is promised stands in
 //!   `form_model/specs/Covers`. `specs/Inner/`: what the functions here tell one another, with
-//!   `Asks`, `Least`, `Rows` and `Choice` at the head.
+//!   `Asks`, `Least`, `Slots`, `Rows` and `Choice` at the head.
 //! - `proofs/`: named by what they are about; from costs to the promise they go `LeastLemmas`,
 //!   `RowLemmas`, `TableLemmas`, `ChoiceLemmas`, `OrderlyLemmas`, `BestLemmas`, and `OnceLemmas`
 //!   for the law.
@@ -52,6 +53,7 @@ mod least;
 mod matches;
 mod parts;
 mod rows;
+mod slots;
 mod table;
 mod takes;
 

@@ -8,6 +8,7 @@ ghost use Rattle.cover.specs.Inner.Matched.{AddsMatch, AreMatches, IsOpened, Mat
 
 use crate::parts::{OpenCut, OpenOperand, cuts_in, operands_in, rest_of};
 use crate::rows::{destination_of_entry, goal_of};
+use crate::slots::Slot;
 use crate::table::Instance;
 use crate::takes::may_take;
 use form_model::{RegSet, Tree};
@@ -21,11 +22,11 @@ pub struct FormMatch<'a> {
     /// The form's place in the list.
     pub form: usize,
     /// The entry to which it goes.
-    pub goal: u8,
+    pub goal: Slot,
     pub clobbers: RegSet,
     /// The entry from which it goes on where nothing is to be avoided, if the one part of the match
     /// is the whole tree.
-    pub start: Option<u8>,
+    pub start: Option<Slot>,
     pub operands: Vec<OpenOperand<'a>>,
     pub cuts: Vec<OpenCut<'a>>,
 }
@@ -40,14 +41,12 @@ pub struct Matches<'a> {
 
 // The entry from which a match goes on with these registers to avoid, if its one part is the whole
 // tree. A cut goes on from the entry of a temporary cell only where there is nothing to avoid.
-pub(crate) fn start_of(found: &FormMatch, avoid: RegSet) -> Option<u8>
+pub(crate) fn start_of(found: &FormMatch, avoid: RegSet) -> Option<Slot>
     ensures { result ≡ start_under found.now.start (avoid == 0) }
 {
-    let start = found.start?;
-    if avoid == 0 || start < 16 {
-        Some(start)
-    } else {
-        None
+    match found.start? {
+        Slot::Temporary if avoid != 0 => None,
+        start => Some(start),
     }
 }
 
@@ -93,7 +92,7 @@ fn open_match<'a>(
     parts: &[Part<'a>],
     number: u64,
     form: usize,
-    goal: u8,
+    goal: Slot,
     clobbers: RegSet,
 ) -> Result<FormMatch<'a>, NoMemory>
     ensures { IfOk result (λ m. IsOpened parts.now number form goal clobbers m) }

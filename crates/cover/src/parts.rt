@@ -1,14 +1,15 @@
 //! What a match leaves open, with the numbers of its trees, and registers.
 
-ghost use Rattle.std.specs.Prelude.{◌≡◌, [], ◌∷◌, ◌<◌, IfOk, OnOk, IfSome, length, remove, List, Bool};
+ghost use Rattle.std.specs.Prelude.{◌≡◌, [], ◌∷◌, ◌<◌, IfOk, OnOk, IfSome, length, remove, List};
 ghost use Rattle.net_model.specs.Terms.{Term};
 ghost use Rattle.form_model.specs.Covers.{operands_of, cuts_of};
-ghost use Rattle.form_model.specs.Matches.{operand};
-ghost use Rattle.tree_grammar.specs.Parts.{part_of, sites_of, AreAt};
+ghost use Rattle.tree_grammar.specs.Parts.{sites_of, AreAt};
 ghost use Rattle.cover.specs.Inner.Asks.{with_reg};
 ghost use Rattle.cover.specs.Inner.Jobs.{open_operands, open_cuts, OperandsAt, CutsAt, HasOperand, HasCut};
 ghost use Rattle.cover.specs.Inner.Matched.{rest_at};
+ghost use Rattle.cover.specs.Inner.Slots.{IsEntry};
 
+use crate::slots::Slot;
 use form_model::{RegSet, Tree};
 use rec_bits::NoMemory;
 use std::alloc::Global;
@@ -124,10 +125,9 @@ pub(crate) fn without<'a>(
 
 // The entry of the same tree's row from which a match goes on where there is nothing to avoid, if
 // its one part is the whole tree, which alone has the tree's number.
-pub(crate) fn rest_of(parts: &[Part], number: u64) -> Result<Option<u8>, NoMemory>
+pub(crate) fn rest_of(parts: &[Part], number: u64) -> Result<Option<Slot>, NoMemory>
     ensures is { IfOk result (λ o. o ≡ rest_at number parts.now) }
-    ensures register { IfOk result (λ o.
-        IfSome o (λ q. (t : Term) (w : Bool) → sites_of parts.now ≡ operand q t w ∷ [] → q < 16)) }
+    ensures register { IfOk result (λ o. IfSome o IsEntry) }
 {
     if parts.len() != 1 {
         return Ok(None);
@@ -135,23 +135,22 @@ pub(crate) fn rest_of(parts: &[Part], number: u64) -> Result<Option<u8>, NoMemor
     rest_of_one(parts[0], number)
 }
 
-fn rest_of_one(part: Part, number: u64) -> Result<Option<u8>, NoMemory>
+fn rest_of_one(part: Part, number: u64) -> Result<Option<Slot>, NoMemory>
     ensures is { IfOk result (λ o. o ≡ rest_at number (part.entry ∷ [])) }
-    ensures register { IfOk result (λ o. IfSome o (λ q.
-        (t : Term) (w : Bool) → part_of part.entry ∷ [] ≡ operand q t w ∷ [] → q < 16)) }
+    ensures register { IfOk result (λ o. IfSome o IsEntry) }
 {
     match part {
         Part::Operand { id, at, .. } => {
             if at != number {
                 return Ok(None);
             }
-            Ok(Some(register_of(id)?))
+            Ok(Some(Slot::Register(register_of(id)?)))
         }
         Part::Cut { at, .. } => {
             if at != number {
                 return Ok(None);
             }
-            Ok(Some(16))
+            Ok(Some(Slot::Temporary))
         }
     }
 }

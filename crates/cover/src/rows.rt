@@ -7,10 +7,12 @@ ghost use Rattle.form_model.specs.Rules.{kind_of};
 ghost use Rattle.form_model.specs.Plans.{cost};
 ghost use Rattle.tree_grammar.specs.Parts.{destination_at};
 ghost use Rattle.cover.specs.Inner.Least.{AtMost};
-ghost use Rattle.cover.specs.Inner.Rows.{entry, entry_destination, IsSlot, goal_slot, IsBelow, AreWithin, IsWithin, offer_is, Noted, Chained, Swept, IsClosed, Entered};
+ghost use Rattle.cover.specs.Inner.Slots.{entry_destination, goal_slot, place, IsEntry, IsSlot};
+ghost use Rattle.cover.specs.Inner.Rows.{entry, IsBelow, AreWithin, IsWithin, offer_is, Noted, Chained, Swept, IsClosed, Entered};
 
 use crate::costs::is_less;
 use crate::parts::register_of;
+use crate::slots::Slot;
 use form_model::{Form, Goal};
 use rec_bits::NoMemory;
 use smallvec::SmallVec;
@@ -21,9 +23,9 @@ use tree_grammar::{Destination, plus};
 #[derive(Clone, Copy, Default)]
 pub struct ChainRule {
     /// The entry that it starts from.
-    pub start: u8,
+    pub start: Slot,
     /// The entry that it makes a cover for.
-    pub goal: u8,
+    pub goal: Slot,
 }
 
 /// What a form gives for a tree's row.
@@ -32,51 +34,56 @@ pub enum Offer {
     Nothing,
     Chains(ChainRule),
     /// A cover for this entry, of this cost.
-    Reaches(u8, u64),
+    Reaches(Slot, u64),
 }
 
 // Where the tree of an entry goes.
-pub(crate) fn destination_of_entry(slot: u8) -> Destination<'static>
+pub(crate) fn destination_of_entry(slot: Slot) -> Destination<'static>
     ensures { destination_at result ≡ entry_destination slot }
 {
-    if slot < 16 {
-        Destination::Register(u32::from(slot))
-    } else {
-        Destination::Temp
+    match slot {
+        Slot::Register(r) => Destination::Register(u32::from(r)),
+        Slot::Temporary => Destination::Temp,
     }
 }
 
 // The entry of a row to which the form goes; a whole tree has none for a temporary cell.
-pub(crate) fn goal_of(form: &Form, whole: bool) -> Result<Option<u8>, NoMemory>
+pub(crate) fn goal_of(form: &Form, whole: bool) -> Result<Option<Slot>, NoMemory>
     ensures { IfOk result (λ o. (o ≡ goal_slot (kind_of form.now.goal) whole) × IfSome o (λ r. IsSlot whole r)) }
 {
     match &form.goal {
-        Goal::Reg(id) => Ok(Some(register_of(*id)?)),
-        Goal::Memory => { if whole { Ok(None) } else { Ok(Some(16)) } }
+        Goal::Reg(id) => Ok(Some(Slot::Register(register_of(*id)?))),
+        Goal::Memory => {
+            if whole {
+                Ok(None)
+            } else {
+                Ok(Some(Slot::Temporary))
+            }
+        }
         _ => Ok(None),
     }
 }
 
 // The cost in an entry of a row.
-pub(crate) fn known_cost(row: &[Option<u64>], slot: u8) -> Option<u64>
+pub(crate) fn known_cost(row: &[Option<u64>], slot: Slot) -> Option<u64>
     ensures { result ≡ entry row.now slot }
 {
-    match row.get(slot as usize) {
+    match row.get(slot.index()) {
         Some(cost) => *cost,
         None => None,
     }
 }
 
 // Enters a cost where it is less than the one that is known, and says whether it is.
-fn enter(row: &mut Vec<Option<u64>>, r: u8, n: u64) -> bool
+fn enter(row: &mut Vec<Option<u64>>, slot: Slot, n: u64) -> bool
     requires len { vec_len row.old ≡ 17 }
-    requires within { r < 17 }
+    requires within { IsEntry slot }
     ensures len { vec_len row.new ≡ 17 }
-    ensures value { row.new.items ≡ (if result then slice_set row.old.items r (Some n) else row.old.items) }
-    ensures changed { OnTrue result (IsBelow n (entry row.old.items r)) }
-    ensures kept { OnFalse result (AtMost (entry row.old.items r) n) }
+    ensures value { row.new.items ≡ (if result then slice_set row.old.items (place slot) (Some n) else row.old.items) }
+    ensures changed { OnTrue result (IsBelow n (entry row.old.items slot)) }
+    ensures kept { OnFalse result (AtMost (entry row.old.items slot) n) }
 {
-    let at = r as usize;
+    let at = slot.index();
     if is_less(n, row[at]) {
         row[at] = Some(n);
         true
@@ -86,25 +93,25 @@ fn enter(row: &mut Vec<Option<u64>>, r: u8, n: u64) -> bool
 }
 
 // The same, where it doesn't matter whether the entry has become less.
-fn enter_cost(row: &mut Vec<Option<u64>>, r: u8, n: u64)
+fn enter_cost(row: &mut Vec<Option<u64>>, slot: Slot, n: u64)
     requires len { vec_len row.old ≡ 17 }
-    requires within { r < 17 }
+    requires within { IsEntry slot }
     ensures len { vec_len row.new ≡ 17 }
-    ensures entered { Entered row.old.items row.new.items r n }
+    ensures entered { Entered row.old.items row.new.items slot n }
 {
-    enter(row, r, n);
+    enter(row, slot, n);
 }
 
 // Lowers the entry to which a chain rule leads, where the one from which it starts allows it, and
 // says whether it has.
 fn try_chain(m: ChainRule, row: &mut Vec<Option<u64>>) -> Result<bool, NoMemory>
     requires len { vec_len row.old ≡ 17 }
-    requires start { m.start < 17 }
-    requires goal { m.goal < 17 }
+    requires start { IsEntry m.start }
+    requires goal { IsEntry m.goal }
     ensures len { vec_len row.new ≡ 17 }
     ensures chained { IfOk result (λ changed. Chained m changed row.old.items row.new.items) }
 {
-    let Some(c) = row[m.start as usize] else {
+    let Some(c) = row[m.start.index()] else {
         return Ok(false);
     };
     let n = plus(c, 1)?;
@@ -163,7 +170,7 @@ pub(crate) fn note(
 }
 
 // What a form gives that goes to the entry and has covers of this least cost, if it has any.
-pub(crate) fn offer_of(goal: u8, cost: Option<u64>) -> Offer
+pub(crate) fn offer_of(goal: Slot, cost: Option<u64>) -> Offer
     ensures { result ≡ offer_is goal cost }
 {
     match cost {

@@ -3,13 +3,15 @@
 ghost use Rattle.std.specs.Prelude.{◌≡◌, ◌<◌, Some, IfOk, OnOk, IfSome, slice_get};
 ghost use Rattle.net_model.specs.Terms.{Term};
 ghost use Rattle.cover.specs.Inner.Least.{IsLeast};
-ghost use Rattle.cover.specs.Inner.Rows.{row_ask, IsSlot};
+ghost use Rattle.cover.specs.Inner.Slots.{IsEntry, IsSlot};
+ghost use Rattle.cover.specs.Inner.Rows.{row_ask};
 ghost use Rattle.form_model.specs.Trees.{tree_term};
 ghost use Rattle.cover.specs.Inner.Jobs.{instance_stock, nodes_of};
 ghost use Rattle.cover.specs.Inner.Matched.{AreMatches};
 ghost use Rattle.cover.specs.Inner.Tables.{AreEmpty, AreRight, HasMatches, IsAmong, IsKept};
 
 use crate::matches::{Matches, matches_of};
+use crate::slots::Slot;
 use form_model::{Form, RegSet, Tree};
 use rec_bits::NoMemory;
 use std::alloc::Global;
@@ -94,16 +96,17 @@ pub(crate) fn kept(
     number: u64,
     whole: bool,
     avoid: RegSet,
-    slot: u8,
+    slot: Slot,
 ) -> Option<Option<u64>>
     requires right { AreRight instance.now table.now }
-    requires slot { slot < 17 }
+    requires slot { IsEntry slot }
     ensures { IfSome result (λ o. (t : Term) → slice_get (nodes_of instance.now) number ≡ Some t → IsSlot whole slot →
         IsLeast (instance_stock instance.now) avoid (row_ask t whole slot) o) }
 {
     let rows = table.rows.get(number as usize)?;
     let row = row_in(rows, whole, avoid)?;
-    Some(row.costs[slot as usize])
+    let cost = row.costs[slot.index()];
+    Some(cost)
 }
 
 // Keeps a row of the tree of this number.

@@ -1,10 +1,12 @@
 -- What is asked for, and covers that spare a set of registers.
-use Rattle.std.specs.Prelude.{ℕ, ◌+◌, ◌≡◌, ◌^◌, ◌==◌, ◌&&◌, ◌||◌, nat_lt, Bool, false, if◌then◌else◌, List, [], ◌∷◌, Option, Some, None, slice_get, remove, bit_or, bit_and}
+use Rattle.std.specs.Prelude.{ℕ, ◌+◌, ◌≡◌, ◌^◌, ◌==◌, ◌&&◌, Bool, false, if◌then◌else◌, List, [], ◌∷◌, Option, Some, None, slice_get, remove, bit_or, bit_and}
 use Rattle.net_model.specs.Terms.{Term, size_of}
 use Rattle.form_model.specs.Rules.{Rule, Destination, into, temporary}
 use Rattle.form_model.specs.Matches.{Site, operand, cut, Found, taken}
 use Rattle.form_model.specs.Plans.{Plan, use_form, Operands, no_operands, operand_then, Cuts, no_cuts, cut_then}
 use Rattle.form_model.specs.Covers.{Stock, Operand, operands_of, cuts_of}
+use Rattle.cover.specs.declared.slots.Slot.{Slot}
+use Rattle.cover.specs.declared.slots.Slot.TheVariants.{Register, Temporary}
 
 -- a tree that goes to a destination, and whether it is whole
 pub record Ask : Type 0 where
@@ -63,14 +65,15 @@ terms_size (t ∷ ts) = size_of t + terms_size ts
 abbrev pub rank : ℕ → ℕ
 rank avoid = if avoid == 0 then 0 else 1
 
--- the entry of the same tree, of this size, from which a match goes on: a register, or 16 for a
+-- the entry of the same tree, of this size, from which a match goes on: that of a register, or of a
 -- temporary cell, where there is nothing to avoid
-abbrev pub rest : ℕ → Bool → List Site → Option ℕ
-rest size free (operand id tree whole ∷ []) = if size_of tree == size then Some id else None
-rest size free (cut shape tree ∷ []) = if free && (size_of tree == size) then Some 16 else None
+abbrev pub rest : ℕ → Bool → List Site → Option Slot
+rest size free (operand id tree whole ∷ []) = if size_of tree == size then Some (Register id) else None
+rest size free (cut shape tree ∷ []) = if free && (size_of tree == size) then Some Temporary else None
 rest size free _ = None
 
 -- the same from that where there is nothing to avoid: a register stays
-abbrev pub start_under : Option ℕ → Bool → Option ℕ
+abbrev pub start_under : Option Slot → Bool → Option Slot
 start_under None free = None
-start_under (Some q) free = if free || nat_lt q 16 then Some q else None
+start_under (Some (Register r)) free = Some (Register r)
+start_under (Some Temporary) free = if free then Some Temporary else None

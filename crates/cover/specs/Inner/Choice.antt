@@ -8,6 +8,7 @@ use Rattle.form_model.specs.declared.covers.Cover.{Cover}
 use Rattle.form_model.specs.Plans.{Plan, use_form, Operands, operand_then, Cuts, cost, operands_cost, cuts_cost, operands_plan, cuts_plan}
 use Rattle.form_model.specs.Covers.{Stock, Operand, operands_of, cuts_of, IsBefore, AreBefore, CutsBefore, IsSooner, SamePlaces}
 use Rattle.tree_grammar.specs.Parts.{destination_at, Stands}
+use Rattle.cover.specs.declared.slots.Slot.{Slot}
 use Rattle.cover.specs.declared.table.Instance.{Instance}
 use Rattle.cover.specs.declared.fits.Want.{Want}
 use Rattle.cover.specs.declared.fits.Fit.{Fit}
@@ -76,7 +77,7 @@ Begins stock avoid ask n k (Some f) =
     × (1 + f.operands_cost + f.cuts_cost ≡ n)
 
 -- what is asked for an entry of the row of the matches' tree
-abbrev pub matches_ask : Matches → ℕ → Ask
+abbrev pub matches_ask : Matches → Slot → Ask
 matches_ask ms slot = row_ask (tree_term ms.tree.now) ms.whole slot
 
 -- the two costs, where the form makes n with them
@@ -111,7 +112,7 @@ BeginsOne stock avoid ask n m (Some c) =
     Fits stock avoid ask m.form (open_operands m.operands.items) (open_cuts m.cuts.items) c.operands c.cuts
     × (1 + c.operands + c.cuts ≡ n)
 
-abbrev pub BeginsAt : Stock → ℕ → Matches → ℕ → ℕ → ℕ → Option PartCosts → Type 0
+abbrev pub BeginsAt : Stock → ℕ → Matches → Slot → ℕ → ℕ → Option PartCosts → Type 0
 BeginsAt stock avoid ms slot n i o =
     (m : FormMatch) → slice_get ms.list.items i ≡ Some m →
     BeginsOne stock avoid (matches_ask ms slot) n m o

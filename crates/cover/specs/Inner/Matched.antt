@@ -3,22 +3,25 @@ use Rattle.std.specs.Prelude.{ℕ, ◌<◌, ◌≡◌, true, Bool, List, [], ◌
 use Rattle.net_model.specs.Terms.{Term, size_of}
 use Rattle.form_model.specs.Trees.{tree_term}
 use Rattle.form_model.specs.Rules.{Rule}
-use Rattle.form_model.specs.Matches.{Found, operand}
+use Rattle.form_model.specs.Matches.{Found}
 use Rattle.form_model.specs.Covers.{Stock, operands_of, cuts_of}
 use Rattle.tree_grammar.specs.declared.parts.Part.{Part}
 use Rattle.tree_grammar.specs.declared.parts.Part.TheVariants
 use Rattle.tree_grammar.specs.Parts.{sites_of, AreAt}
 use Rattle.cover.specs.declared.table.Instance.{Instance}
+use Rattle.cover.specs.declared.slots.Slot.{Slot}
+use Rattle.cover.specs.declared.slots.Slot.TheVariants.{Register, Temporary}
 use Rattle.cover.specs.declared.rows.Offer.{Offer}
 use Rattle.cover.specs.declared.matches.FormMatch.{FormMatch}
 use Rattle.cover.specs.declared.matches.Matches.{Matches}
 use Rattle.cover.specs.Inner.Asks.{takes, rest}
-use Rattle.cover.specs.Inner.Rows.{Row, row_ask, IsSlot, goal_slot, IsOffer}
+use Rattle.cover.specs.Inner.Slots.{IsEntry, IsSlot, goal_slot}
+use Rattle.cover.specs.Inner.Rows.{Row, row_ask, IsOffer}
 use Rattle.cover.specs.Inner.Jobs.{instance_stock, nodes_of, open_operands, open_cuts, OperandsAt, CutsAt}
 
 -- the form at k takes the tree for an entry of its row
 pub record Takes (stock : Stock) (t : Term) (whole : Bool) (k : ℕ) : Type 0 where
-  pub entry : ℕ
+  pub entry : Slot
   pub slot : IsSlot whole entry
   pub rule : Rule
   pub found : Found
@@ -35,25 +38,25 @@ pub record IsFormMatch (instance : Instance) (t : Term) (whole : Bool) (m : Form
   pub slot : IsSlot whole m.goal
   pub takes_it : takes (instance_stock instance) rule (row_ask t whole m.goal) ≡ Some found
   pub start : m.start ≡ rest (size_of t) true found.sites
-  pub register : IfSome m.start (λ q. (u : Term) (w : Bool) → found.sites ≡ operand q u w ∷ [] → q < 16)
+  pub register : IfSome m.start IsEntry
   pub operands : open_operands m.operands.items ≡ operands_of found.sites
   pub cuts : open_cuts m.cuts.items ≡ cuts_of found.sites
   pub operands_at : OperandsAt (nodes_of instance) m.operands.items
   pub cuts_at : CutsAt (nodes_of instance) m.cuts.items
 
 -- the entry of the tree of this number from which a match with these parts goes on, as `rest` has it
-abbrev pub rest_at : ℕ → List Part → Option ℕ
-rest_at number (TheVariants.Operand id tree whole at ∷ []) = if at == number then Some id else None
-rest_at number (TheVariants.Cut shape tree at ∷ []) = if at == number then Some 16 else None
+abbrev pub rest_at : ℕ → List Part → Option Slot
+rest_at number (TheVariants.Operand id tree whole at ∷ []) = if at == number then Some (Register id) else None
+rest_at number (TheVariants.Cut shape tree at ∷ []) = if at == number then Some Temporary else None
 rest_at number _ = None
 
 -- a match of a form that leaves these parts open
-pub record IsOpened (parts : List Part) (number k entry clobbered : ℕ) (m : FormMatch) : Type 0 where
+pub record IsOpened (parts : List Part) (number k : ℕ) (entry : Slot) (clobbered : ℕ) (m : FormMatch) : Type 0 where
   pub form : m.form ≡ k
   pub goal : m.goal ≡ entry
   pub clobbers : m.clobbers ≡ clobbered
   pub start : m.start ≡ rest_at number parts
-  pub register : IfSome m.start (λ q. (u : Term) (w : Bool) → sites_of parts ≡ operand q u w ∷ [] → q < 16)
+  pub register : IfSome m.start IsEntry
   pub operands : open_operands m.operands.items ≡ operands_of (sites_of parts)
   pub cuts : open_cuts m.cuts.items ≡ cuts_of (sites_of parts)
   pub operands_at : (nodes : List Term) → AreAt nodes parts → OperandsAt nodes m.operands.items

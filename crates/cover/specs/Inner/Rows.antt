@@ -1,45 +1,31 @@
 -- Rows of least costs of one tree: for each register, and behind them for a temporary cell.
-use Rattle.std.specs.Prelude.{ℕ, ◌+◌, ◌<◌, ◌≤◌, ◌≡◌, ◌⊎◌, ◌^◌, Bool, true, false, nat_lt, if◌then◌else◌, List, [], ◌∷◌, ◌++◌, Option, Some, None, length, slice_get, slice_set, slice_index_or}
+use Rattle.std.specs.Prelude.{ℕ, ◌+◌, ◌<◌, ◌≤◌, ◌≡◌, ◌⊎◌, ◌^◌, Bool, true, false, List, [], ◌∷◌, ◌++◌, Option, Some, None, length, slice_get, slice_set, slice_index_or}
 use Rattle.std.specs.List.{sum_by}
 use Rattle.net_model.specs.Terms.{Term}
-use Rattle.form_model.specs.Rules.{Destination, into, temporary, Kind, into_reg, into_memory, jumps, branches}
 use Rattle.form_model.specs.Plans.{Plan, use_form, Operands, Cuts, cost}
 use Rattle.form_model.specs.Covers.{Stock}
+use Rattle.cover.specs.declared.slots.Slot.{Slot}
 use Rattle.cover.specs.declared.rows.ChainRule.{ChainRule}
 use Rattle.cover.specs.declared.rows.Offer.{Offer}
 use Rattle.cover.specs.declared.matches.FormMatch.{FormMatch}
 use Rattle.cover.specs.declared.rows.Offer.TheVariants.{Nothing, Chains, Reaches}
 use Rattle.cover.specs.Inner.Asks.{Ask, IsSparing}
 use Rattle.cover.specs.Inner.Least.{AtMost, Reached, IsLeast}
+use Rattle.cover.specs.Inner.Slots.{place, IsEntry, IsSlot, entry_destination}
 
 abbrev pub Row : Type 0
 Row = List (Option ℕ)
 
-abbrev pub entry : Row → ℕ → Option ℕ
-entry row r = slice_index_or row r None
+abbrev pub entry : Row → Slot → Option ℕ
+entry row s = slice_index_or row (place s) None
 
 -- no entry has a cost yet
 abbrev pub IsBlank : Row → Type 0
-IsBlank row = (r : ℕ) → entry row r ≡ None
+IsBlank row = (s : Slot) → entry row s ≡ None
 
--- where the tree of a row's entry goes: to one of the registers below 16, or to a temporary cell
-abbrev pub entry_destination : ℕ → Destination
-entry_destination r = if nat_lt r 16 then into r else temporary
-
-abbrev pub row_ask : Term → Bool → ℕ → Ask
-row_ask tree whole r = record { destination = entry_destination r; tree = tree; whole = whole }
-
--- an entry of a row of a tree; a whole tree isn't put into a temporary cell
-pub record IsSlot (whole : Bool) (r : ℕ) : Type 0 where
-  pub within : r < 17
-  pub cut : r ≡ 16 → whole ≡ false
-
--- the entry of a row to which a form goes
-abbrev pub goal_slot : Kind → Bool → Option ℕ
-goal_slot (into_reg id) whole = Some id
-goal_slot into_memory whole = if whole then None else Some 16
-goal_slot (jumps reach) whole = None
-goal_slot (branches when_one to) whole = None
+-- what is asked for an entry of the row of a tree
+abbrev pub row_ask : Term → Bool → Slot → Ask
+row_ask tree whole s = record { destination = entry_destination s; tree = tree; whole = whole }
 
 -- a cost is less than what is known
 abbrev pub IsBelow : ℕ → Option ℕ → Type 0
@@ -48,12 +34,12 @@ IsBelow n (Some m) = n < m
 
 -- each entry is that of some cover
 abbrev pub Sound : Stock → ℕ → Term → Bool → Row → Type 0
-Sound stock avoid tree whole row = (r : ℕ) → IsSlot whole r → Reached stock avoid (row_ask tree whole r) (entry row r)
+Sound stock avoid tree whole row = (r : Slot) → IsSlot whole r → Reached stock avoid (row_ask tree whole r) (entry row r)
 
 -- each entry is the least
 abbrev pub IsLeastRow : Stock → ℕ → Term → Bool → Row → Type 0
 IsLeastRow stock avoid tree whole row =
-    (r : ℕ) → IsSlot whole r → IsLeast stock avoid (row_ask tree whole r) (entry row r)
+    (r : Slot) → IsSlot whole r → IsLeast stock avoid (row_ask tree whole r) (entry row r)
 
 -- ---- chain rules: forms that go on from another entry of the same row
 
@@ -70,11 +56,11 @@ AreLifts stock avoid tree whole chains =
 
 -- the chain rules stay inside the row
 abbrev pub AreWithin : List ChainRule → Type 0
-AreWithin chains = (i : ℕ) (m : ChainRule) → slice_get chains i ≡ Some m → (m.start < 17) × (m.goal < 17)
+AreWithin chains = (i : ℕ) (m : ChainRule) → slice_get chains i ≡ Some m → IsEntry m.start × IsEntry m.goal
 
 -- a cover of an entry is no cheaper than the entry, or begins with a chain rule and goes on with a
 -- cover of its start
-abbrev pub IsMet : Stock → ℕ → Term → Bool → List ChainRule → Row → ℕ → ℕ → Type 0
+abbrev pub IsMet : Stock → ℕ → Term → Bool → List ChainRule → Row → Slot → ℕ → Type 0
 IsMet stock avoid tree whole chains row r n =
     AtMost (entry row r) n
     ⊎ ((i : ℕ) × (m : ChainRule) × (slice_get chains i ≡ Some m) × (m.goal ≡ r) × (q : Plan)
@@ -85,7 +71,7 @@ pub record IsTried (stock : Stock) (avoid : ℕ) (tree : Term) (whole : Bool) (l
     (n : ℕ) (chains : List ChainRule) (row : Row) : Type 0 where
   pub sound : Sound stock avoid tree whole row
   pub lifts : AreLifts stock avoid tree whole chains
-  pub met : (i : ℕ) (m : FormMatch) (ps : Operands) (cs : Cuts) (r : ℕ) → i < n →
+  pub met : (i : ℕ) (m : FormMatch) (ps : Operands) (cs : Cuts) (r : Slot) → i < n →
       slice_get list i ≡ Some m → IsSlot whole r →
       IsSparing stock avoid (row_ask tree whole r) (use_form m.form ps cs) →
       IsMet stock avoid tree whole chains row r (cost (use_form m.form ps cs))
@@ -94,18 +80,18 @@ pub record IsTried (stock : Stock) (avoid : ℕ) (tree : Term) (whole : Bool) (l
 -- a cost of its entry
 abbrev pub IsOffer : Stock → ℕ → Term → Bool → Row → ℕ → Offer → Type 0
 IsOffer stock avoid tree whole row k Nothing =
-    (ps : Operands) (cs : Cuts) (r : ℕ) → IsSlot whole r →
+    (ps : Operands) (cs : Cuts) (r : Slot) → IsSlot whole r →
     IsSparing stock avoid (row_ask tree whole r) (use_form k ps cs) →
     AtMost (entry row r) (cost (use_form k ps cs))
 IsOffer stock avoid tree whole row k (Chains m) =
     IsLift stock avoid tree whole m
-    × ((ps : Operands) (cs : Cuts) (r : ℕ) → IsSlot whole r →
+    × ((ps : Operands) (cs : Cuts) (r : Slot) → IsSlot whole r →
     IsSparing stock avoid (row_ask tree whole r) (use_form k ps cs) →
     (m.goal ≡ r) × (q : Plan) × IsSparing stock avoid (row_ask tree whole m.start) q
     × (cost q + 1 ≤ cost (use_form k ps cs)))
 IsOffer stock avoid tree whole row k (Reaches slot n) =
     IsSlot whole slot × Reached stock avoid (row_ask tree whole slot) (Some n)
-    × ((ps : Operands) (cs : Cuts) (r : ℕ) → IsSlot whole r →
+    × ((ps : Operands) (cs : Cuts) (r : Slot) → IsSlot whole r →
     IsSparing stock avoid (row_ask tree whole r) (use_form k ps cs) →
     (slot ≡ r) × (n ≤ cost (use_form k ps cs)))
 
@@ -119,13 +105,13 @@ weight_of row = sum_by weight row
 
 -- no entry has become more than it was
 abbrev pub Lower : Row → Row → Type 0
-Lower old new = (r n : ℕ) → AtMost (entry old r) n → AtMost (entry new r) n
+Lower old new = (r : Slot) (n : ℕ) → AtMost (entry old r) n → AtMost (entry new r) n
 
 -- what trying one chain rule does to a row
 abbrev pub Chained : ChainRule → Bool → Row → Row → Type 0
 Chained m true old new =
     (c : ℕ) × (entry old m.start ≡ Some c) × (c + 1 < 2 ^ 64) × IsBelow (c + 1) (entry old m.goal)
-    × (new ≡ slice_set old m.goal (Some (c + 1)))
+    × (new ≡ slice_set old (place m.goal) (Some (c + 1)))
 Chained m false old new = (new ≡ old) × ((c : ℕ) → entry old m.start ≡ Some c → AtMost (entry old m.goal) (c + 1))
 
 -- none of the first n chain rules makes an entry less
@@ -159,10 +145,10 @@ pub record IsClosed (chains : List ChainRule) (old new : Row) : Type 0 where
   pub still : ChainsBelow chains (length chains) new
 
 -- a row after a cost was entered where it is less
-pub record Entered (old new : Row) (d n : ℕ) : Type 0 where
+pub record Entered (old new : Row) (d : Slot) (n : ℕ) : Type 0 where
   pub lower : Lower old new
   pub at : AtMost (entry new d) n
-  pub others : (q : ℕ) → (entry new q ≡ entry old q) ⊎ ((q ≡ d) × (entry new q ≡ Some n))
+  pub others : (q : Slot) → (entry new q ≡ entry old q) ⊎ ((place q ≡ place d) × (entry new q ≡ Some n))
 
 -- what an offer adds to the chain rules and to a row
 abbrev pub Noted : Offer → List ChainRule → List ChainRule → Row → Row → Type 0
@@ -174,8 +160,8 @@ Noted (Reaches slot n) chains chains' old new = (chains' ≡ chains) × Entered 
 abbrev pub IsWithin : Offer → Type 0
 IsWithin Nothing = Unit {0}
 IsWithin (Chains m) = Unit {0}
-IsWithin (Reaches slot n) = slot < 17
+IsWithin (Reaches slot n) = IsEntry slot
 
-abbrev pub offer_is : ℕ → Option ℕ → Offer
+abbrev pub offer_is : Slot → Option ℕ → Offer
 offer_is goal None = Nothing
 offer_is goal (Some n) = Reaches goal n

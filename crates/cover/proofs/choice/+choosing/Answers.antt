@@ -12,13 +12,14 @@ use Rattle.cover.specs.Inner.Jobs.{instance_stock, nodes_of, open_operand, open_
 use Rattle.cover.specs.declared.matches.FormMatch.{FormMatch}
 use Rattle.cover.specs.declared.matches.Matches.{Matches}
 use Rattle.cover.specs.Inner.Least.{IsLeastCut}
-use Rattle.cover.specs.Inner.Rows.{row_ask, IsSlot}
+use Rattle.cover.specs.Inner.Slots.{IsSlot}
+use Rattle.cover.specs.Inner.Rows.{row_ask}
 use Rattle.cover.specs.Inner.Jobs.{CutsAt}
 use Rattle.cover.specs.Inner.Matched.{AreMatches}
 use Rattle.cover.specs.Inner.Choice.{matches_ask, NeverBegins, BeginsAt, Starts, StartsCut, IsFirst, IsFirstOrder, IsFirstFrom, IsFirstCuts, AreFirstParts}
 use Rattle.cover.proofs.MatchLemmas.{never_before, some_match, matches_later}
 use Rattle.cover.proofs.NodeLemmas.{input_get, inputs_remove}
-use Rattle.cover.proofs.InputLemmas.{register_ask, register_slot, cut_slot, inputs_at, inputs_without, length_inputs, no_stored, stored_split, stored_first, stored_later, no_inputs, tail_is}
+use Rattle.cover.proofs.InputLemmas.{register_ask, cut_slot, inputs_at, inputs_without, length_inputs, no_stored, stored_split, stored_first, stored_later, no_inputs, tail_is}
 use Rattle.cover.proofs.ChoiceLemmas.{first_by_form, order_exists, first_by_operand, operands_later, empty_first, empty_cuts, first_by_cut}
 use Rattle.cover.proofs.choice.+choosing.Goals as goal
 
@@ -156,10 +157,10 @@ order_from-choose_entry-requires t c =
     let get = inputs_at c.args.ops.now c.args.i c.index-ops-i.result got in
     let s = c.requires.starts in
     let same : s.0 ≡ open_operand c.index-ops-i.result = (let g = s.1 in cc) in
-    let ask = register_ask c.in_ok-slot.slot (tree_term c.index-ops-i.result.tree.now) c.index-ops-i.result.whole (open_operand c.index-ops-i.result) c.in_ok-slot.ensures refl refl in (
+    let ask = register_ask c.in_ok-r.r (open_operand c.index-ops-i.result) c.in_ok-r.ensures.0 in (
       omega (arith, s.3, c.decreases),
       (
-        register_slot _ _ _ c.in_ok-slot.ensures,
+        c.in_ok-r.ensures.1,
         (
           subst (λ x. IsLeast (instance_stock c.args.instance.now) c.args.avoid x (Some c.args.m)) (sym ask) (subst (λ x. IsLeast (instance_stock c.args.instance.now) c.args.avoid (operand_ask x) (Some c.args.m)) same s.4),
           (input_get _ _ c.args.i _ c.requires.at got, c.requires.right),
@@ -189,7 +190,7 @@ pub order_from-returns-clause-first : goal.order_from-returns-clause-first
 order_from-returns-clause-first t c =
     let got = slice_get_read _ _ _ _ refl c.requires.place c.index-ops-i.is in
     let get = inputs_at c.args.ops.now c.args.i c.index-ops-i.result got in
-    let ask = register_ask c.in_ok-slot.slot (tree_term c.index-ops-i.result.tree.now) c.index-ops-i.result.whole (open_operand c.index-ops-i.result) c.in_ok-slot.ensures refl refl in
+    let ask = register_ask c.in_ok-r.r (open_operand c.index-ops-i.result) c.in_ok-r.ensures.0 in
     let here = subst (λ x. IsFirst (instance_stock c.args.instance.now) c.args.avoid x (plan_of c.in_ok-here.here)) ask c.in_ok-here.ensures.first in
     let others : IsFirstOrder (instance_stock c.args.instance.now) (with_reg c.args.avoid c.index-ops-i.result.id) (remove (open_operands c.args.ops.now) c.args.i) (operands_plan c.in_ok-others.others) =
     subst (λ r. IsFirstOrder (instance_stock c.args.instance.now) r (remove (open_operands c.args.ops.now) c.args.i) (operands_plan c.in_ok-others.others)) c.in_ok-later.ensures c.in_ok-others.ensures.first in

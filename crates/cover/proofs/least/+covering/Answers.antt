@@ -1,4 +1,4 @@
-use Rattle.std.proofs.Common.{◌≡◌, ◌<◌, ◌-◌, length, drop, arith, rules, refl, sym, ap, ◌∙◌, subst, inl, inr, Option, Some, None, Vec, vec_len, ℕ}
+use Rattle.std.proofs.Common.{◌≡◌, ◌<◌, ◌-◌, length, drop, arith, rules, refl, sym, ap, ◌∙◌, subst, inl, inr, Option, Some, None, Vec, vec_len, ℕ, get_or}
 use Rattle.std.specs.Prelude.{slice_get, remove}
 use Rattle.std.proofs.lemmas.Bool.{OnTrue_at}
 use Rattle.std.proofs.lemmas.Option.{slice_get_read}
@@ -12,27 +12,30 @@ use Rattle.cover.specs.Inner.Least.{IsLeast, IsLeastOrder, IsLeastAfter, IsLeast
 use Rattle.cover.specs.Inner.Jobs.{instance_stock, nodes_of, open_operand, open_operands, open_cuts, OperandsAt, CutsAt}
 use Rattle.cover.proofs.SizeLemmas.{size_pos}
 use Rattle.cover.proofs.NodeLemmas.{input_get, inputs_remove}
-use Rattle.cover.proofs.InputLemmas.{inputs_at, inputs_without, length_inputs, no_inputs, inputs_split, inputs_later, size-remove, no_stored, stored_split, stored_first, stored_later, tail_is, register_slot, cut_slot, register_least, rank_le}
+use Rattle.cover.proofs.InputLemmas.{inputs_at, inputs_without, length_inputs, no_inputs, inputs_split, inputs_later, size-remove, no_stored, stored_split, stored_first, stored_later, tail_is, cut_slot, register_least, rank_le}
+use Rattle.cover.specs.declared.slots.Slot.TheVariants.{Register}
 use Rattle.cover.specs.declared.rows.Offer.TheVariants.{Nothing, Chains}
 use Rattle.cover.specs.declared.matches.Matches.{Matches}
 use Rattle.cover.specs.Inner.Rows.{row_ask, IsTried, IsClosed, IsLeastRow, IsOffer}
+use Rattle.cover.specs.Inner.Slots.{place}
 use Rattle.cover.specs.Inner.Matched.{AreMatches}
 use Rattle.cover.proofs.OfferLemmas.{blank_row, look_within, tried_none, tried_more, least_row_of}
 use Rattle.cover.proofs.MatchLemmas.{at_index, at_place, matches_all, match_sizes, offer_clobbers, offer_start, offer_below}
 use Rattle.net_model.specs.Terms.{size_of}
 use Rattle.cover.proofs.LeastLemmas.{order_one, other_left, cut_none, cut_more, order_more, order_all, order_none, from_parts, from_none, from_last}
 use Rattle.cover.specs.declared.matches.FormMatch.{FormMatch}
+use Rattle.cover.proofs.SlotLemmas.{slot_within}
 use Rattle.cover.proofs.FloorLemmas.{floor_none, floor_more}
 use Rattle.cover.proofs.TableLemmas.{same_default}
 use Rattle.cover.proofs.least.+covering.Goals as goal
 
 pub operand_cost-least-requires : goal.operand_cost-least-requires
-operand_cost-least-requires t c = (omega (arith, c.decreases), (register_slot _ _ _ c.in_ok-slot.ensures, (c.requires.number, c.requires.right)))
+operand_cost-least-requires t c = (omega (arith, c.decreases), (c.in_ok-r.ensures.1, (c.requires.number, c.requires.right)))
 
 pub operand_cost-returns-clause-least : goal.operand_cost-returns-clause-least
 operand_cost-returns-clause-least t c =
-    IfOk-weaker c.least.result (λ o. IsLeast (instance_stock c.args.instance.now) c.args.avoid (row_ask (tree_term c.args.operand.tree.now) c.args.operand.whole c.in_ok-slot.slot) o) (λ o. IsLeast (instance_stock c.args.instance.now) c.args.avoid (operand_ask (open_operand c.args.operand)) o)
-    (λ o is. register_least (instance_stock c.args.instance.now) c.args.avoid c.in_ok-slot.slot (open_operand c.args.operand) o c.in_ok-slot.ensures is) c.least.ensures.least
+    IfOk-weaker c.least.result (λ o. IsLeast (instance_stock c.args.instance.now) c.args.avoid (row_ask (tree_term c.args.operand.tree.now) c.args.operand.whole (Register c.in_ok-r.r)) o) (λ o. IsLeast (instance_stock c.args.instance.now) c.args.avoid (operand_ask (open_operand c.args.operand)) o)
+    (λ o is. register_least (instance_stock c.args.instance.now) c.args.avoid c.in_ok-r.r (open_operand c.args.operand) o c.in_ok-r.ensures.0 is) c.least.ensures.least
 
 pub least_row-row_of-requires : goal.least_row-row_of-requires
 least_row-row_of-requires t c =
@@ -302,5 +305,5 @@ pub least-returns-clause-least : goal.least-returns-clause-least
 least-returns-clause-least t c =
     let n : length c.in_ok-costs.costs.items ≡ 17 = search rules in
     subst (λ o. IsLeast (instance_stock c.args.instance.now) c.args.avoid (row_ask (tree_term c.args.tree.now) c.args.whole c.args.slot) o)
-    (same_default c.in_ok-costs.costs.items c.args.slot c.index-cost.result.now None (omega (arith, n, c.requires.slot.within)) c.index-cost.ensures)
+    (same_default c.in_ok-costs.costs.items (place c.args.slot) c.index-cost.result.now None (let w = slot_within c.args.whole c.args.slot c.requires.slot in omega (arith, n, w)) (subst (λ j. c.index-cost.result.now ≡ get_or c.in_ok-costs.costs.items j c.index-cost.result.now) c.index.ensures.is c.index-cost.ensures))
     (c.in_ok-costs.ensures.least c.args.slot c.requires.slot)

@@ -1,5 +1,6 @@
 use Rattle.std.proofs.Common.{◌≡◌, subst, Some, length, rules, get_or}
 use Rattle.std.specs.Prelude.{slice_get}
+use Rattle.cover.specs.declared.slots.Slot.TheVariants.{Register}
 use Rattle.cover.specs.declared.rows.ChainRule.{ChainRule}
 use Rattle.cover.specs.Inner.Rows.{Chained}
 use Rattle.cover.proofs.RowLemmas.{swept_moved, swept_kept, listed}
@@ -14,7 +15,7 @@ try_chain-requires-clause-goal c = (c.requires.within c.loop-m.m-index _ (listed
 
 pub loop-m-preserved : goal.loop-m-preserved
 loop-m-preserved c =
-    let d : ChainRule = record { start = 0; goal = 0 } in
+    let d : ChainRule = record { start = Register 0; goal = Register 0 } in
     let m : ChainRule = get_or c.args.chains.now c.loop-m.m-index d in
     let at : slice_get c.args.chains.now c.loop-m.m-index ≡ Some m = listed c.args.chains.now c.loop-m.m-index d c.loop-m-test.true in
     record {
