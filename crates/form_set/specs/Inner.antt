@@ -3,4 +3,5 @@
 pub mod Linear
 pub mod PatternIds
 pub mod Copies
+pub mod LevelSwaps
 pub mod Adding

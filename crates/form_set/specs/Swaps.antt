@@ -1,6 +1,6 @@
--- The operators whose operands can change places, their numbers, and the expressions with some of
+-- The operators whose operands can change places, their order, and the expressions with some of
 -- them swapped.
-use Rattle.std.specs.Prelude.{ℕ, zero, suc, ◌+◌, ◌-◌, ◌==◌, Bool, true, false, if◌then◌else◌, ◌≤◌, min, max, nat_lt, option_map, Option, Some, None, List, [], ◌∷◌, ◌++◌}
+use Rattle.std.specs.Prelude.{ℕ, zero, suc, ◌+◌, ◌-◌, ◌/◌, ◌==◌, ◌&&◌, ◌||◌, Bool, true, false, if◌then◌else◌, ◌≤◌, max, option_map, Option, Some, None, List, [], ◌∷◌, ◌++◌, map, take, length}
 use Rattle.std.specs.Int.{bit_at}
 use Rattle.rec_bits.specs.declared.operator.Op2.{Op2}
 use Rattle.rec_bits.specs.declared.operator.Op2.TheVariants.{Add, Mul, And, Or, Xor, Eq}
@@ -16,71 +16,36 @@ can_swap Xor = true
 can_swap Eq = true
 can_swap _ = false
 
--- 1 for an expression that has such an operator at its root
-abbrev pub root_swaps : Term → ℕ
-root_swaps (bin o a b) = if can_swap o then 1 else 0
-root_swaps _ = 0
+-- ---- the operators, by levels from the root and from left to right in a level
+
+-- the way from an expression down to one in it: at each step the place of the operand, from 0
+abbrev pub Path : Type 0
+Path = List ℕ
+
+-- paths from an operand on, as paths from what it is an operand of
+abbrev pub under : ℕ → List Path → List Path
+under step paths = map (λ path. step ∷ path) paths
 
 -- at the root, or below it
 abbrev pub at_level : {A : Type 0} → ℕ → A → A → A
 at_level level here below = if level == 0 then here else below
 
--- how many such operators stand in a level of an expression; the root is level 0
-abbrev pub swaps_in : ℕ → Term → ℕ
-swaps_in level (read a w) = at_level level 0 (swaps_in (level - 1) a)
-swaps_in level (un o a) = at_level level 0 (swaps_in (level - 1) a)
-swaps_in level (bin o a b) = at_level level (root_swaps (bin o a b)) (swaps_in (level - 1) a + swaps_in (level - 1) b)
-swaps_in level (slice a hi lo) = at_level level 0 (swaps_in (level - 1) a)
-swaps_in level (cat a b) = at_level level 0 (swaps_in (level - 1) a + swaps_in (level - 1) b)
-swaps_in level (zext a w) = at_level level 0 (swaps_in (level - 1) a)
-swaps_in level (sext a w) = at_level level 0 (swaps_in (level - 1) a)
-swaps_in level (select c a b) =
-    at_level level 0 (swaps_in (level - 1) c + (swaps_in (level - 1) a + swaps_in (level - 1) b))
-swaps_in level _ = 0
-
--- how many there are in all
-abbrev pub swaps_of : Term → ℕ
-swaps_of (read a w) = swaps_of a
-swaps_of (un o a) = swaps_of a
-swaps_of (bin o a b) = root_swaps (bin o a b) + (swaps_of a + swaps_of b)
-swaps_of (slice a hi lo) = swaps_of a
-swaps_of (cat a b) = swaps_of a + swaps_of b
-swaps_of (zext a w) = swaps_of a
-swaps_of (sext a w) = swaps_of a
-swaps_of (select c a b) = swaps_of c + (swaps_of a + swaps_of b)
-swaps_of _ = 0
-
--- which of two operands has a place, where the first one has so many
-abbrev pub in_two : {A : Type 0} → ℕ → ℕ → A → A → A
-in_two place count first second = if nat_lt place count then first else second
-
--- an expression with one such operator swapped: that of this place from the left in a level
-abbrev pub swap_in : ℕ → ℕ → Term → Term
-swap_in level place (read a w) = at_level level (read a w) (read (swap_in (level - 1) place a) w)
-swap_in level place (un o a) = at_level level (un o a) (un o (swap_in (level - 1) place a))
-swap_in level place (bin o a b) =
-    at_level level (bin o b a) (in_two place (swaps_in (level - 1) a) (bin o (swap_in (level - 1) place a) b)
-    (bin o a (swap_in (level - 1) (place - swaps_in (level - 1) a) b)))
-swap_in level place (slice a hi lo) = at_level level (slice a hi lo) (slice (swap_in (level - 1) place a) hi lo)
-swap_in level place (cat a b) =
-    at_level level (cat a b) (in_two place (swaps_in (level - 1) a) (cat (swap_in (level - 1) place a) b)
-    (cat a (swap_in (level - 1) (place - swaps_in (level - 1) a) b)))
-swap_in level place (zext a w) = at_level level (zext a w) (zext (swap_in (level - 1) place a) w)
-swap_in level place (sext a w) = at_level level (sext a w) (sext (swap_in (level - 1) place a) w)
-swap_in level place (select c a b) =
-    at_level level (select c a b) (in_two place (swaps_in (level - 1) c) (select (swap_in (level - 1) place c) a b)
-    (in_two (place - swaps_in (level - 1) c) (swaps_in (level - 1) a)
-    (select c (swap_in (level - 1) (place - swaps_in (level - 1) c) a) b)
-    (select c a (swap_in (level - 1) (place - swaps_in (level - 1) c - swaps_in (level - 1) a) b))))
-swap_in level place t = t
-
--- an expression with the operator of this number swapped, where they are numbered from 0 by levels
--- from the root and from left to right in a level: looked for in so many levels, from this one on
-abbrev pub swap_from : ℕ → ℕ → ℕ → Term → Term
-swap_from zero level number t = t
-swap_from (suc levels) level number t =
-    if nat_lt number (swaps_in level t) then swap_in level number t
-    else swap_from levels (level + 1) (number - swaps_in level t) t
+-- the operators that can be swapped in a level of an expression; the root is level 0
+abbrev pub level_paths : ℕ → Term → List Path
+level_paths level (read a w) = at_level level [] (under 0 (level_paths (level - 1) a))
+level_paths level (un o a) = at_level level [] (under 0 (level_paths (level - 1) a))
+level_paths level (bin o a b) =
+    at_level level (if can_swap o then [] ∷ [] else [])
+    (under 0 (level_paths (level - 1) a) ++ under 1 (level_paths (level - 1) b))
+level_paths level (slice a hi lo) = at_level level [] (under 0 (level_paths (level - 1) a))
+level_paths level (cat a b) =
+    at_level level [] (under 0 (level_paths (level - 1) a) ++ under 1 (level_paths (level - 1) b))
+level_paths level (zext a w) = at_level level [] (under 0 (level_paths (level - 1) a))
+level_paths level (sext a w) = at_level level [] (under 0 (level_paths (level - 1) a))
+level_paths level (select c a b) =
+    at_level level [] (under 0 (level_paths (level - 1) c)
+    ++ (under 1 (level_paths (level - 1) a) ++ under 2 (level_paths (level - 1) b)))
+level_paths level _ = []
 
 -- how many levels an expression has
 abbrev pub levels : Term → ℕ
@@ -94,8 +59,46 @@ levels (sext a w) = levels a + 1
 levels (select c a b) = max (levels c) (max (levels a) (levels b)) + 1
 levels _ = 1
 
-abbrev pub swap_number : ℕ → Term → Term
-swap_number number t = swap_from (levels t) 0 number t
+-- those of so many levels, from this one on
+abbrev pub paths_from : ℕ → ℕ → Term → List Path
+paths_from zero level t = []
+paths_from (suc more) level t = level_paths level t ++ paths_from more (level + 1) t
+
+-- all of an expression
+abbrev pub operator_paths : Term → List Path
+operator_paths t = paths_from (levels t) 0 t
+
+-- ---- swaps
+
+-- an operator with its operands in the other order, or as they are
+abbrev pub ordered : Bool → Op2 → Term → Term → Term
+ordered swaps o a b = if swaps then bin o b a else bin o a b
+
+-- an expression with the operands changed in their places at each operator that is chosen and can be
+-- swapped. Each operator goes by its path in the expression as it was
+abbrev pub swap_at : (Path → Bool) → Term → Term
+swap_at chosen (read a w) = read (swap_at (λ path. chosen (0 ∷ path)) a) w
+swap_at chosen (un o a) = un o (swap_at (λ path. chosen (0 ∷ path)) a)
+swap_at chosen (bin o a b) =
+    ordered (can_swap o && chosen []) o (swap_at (λ path. chosen (0 ∷ path)) a) (swap_at (λ path. chosen (1 ∷ path)) b)
+swap_at chosen (slice a hi lo) = slice (swap_at (λ path. chosen (0 ∷ path)) a) hi lo
+swap_at chosen (cat a b) = cat (swap_at (λ path. chosen (0 ∷ path)) a) (swap_at (λ path. chosen (1 ∷ path)) b)
+swap_at chosen (zext a w) = zext (swap_at (λ path. chosen (0 ∷ path)) a) w
+swap_at chosen (sext a w) = sext (swap_at (λ path. chosen (0 ∷ path)) a) w
+swap_at chosen (select c a b) =
+    select (swap_at (λ path. chosen (0 ∷ path)) c) (swap_at (λ path. chosen (1 ∷ path)) a)
+    (swap_at (λ path. chosen (2 ∷ path)) b)
+swap_at chosen t = t
+
+abbrev pub same_path : Path → Path → Bool
+same_path [] [] = true
+same_path (m ∷ p) (n ∷ q) = m == n && same_path p q
+same_path _ _ = false
+
+-- whether a path stands in a list at a place whose bit is set in the choice
+abbrev pub picks : ℕ → List Path → Path → Bool
+picks choice [] path = false
+picks choice (first ∷ rest) path = (same_path first path && bit_at choice 0 == 1) || picks (choice / 2) rest path
 
 -- ---- an address and a value together
 
@@ -112,31 +115,24 @@ pub record SidesWithin (most : ℕ) (sides : Sides) : Type 0 where
   pub addr : IsAddrWithin most sides.addr
   pub value : levels sides.value ≤ most
 
-abbrev pub addr_swaps : Option Term → ℕ
-addr_swaps None = 0
-addr_swaps (Some a) = swaps_of a
+abbrev pub addr_paths : Option Term → List Path
+addr_paths None = []
+addr_paths (Some a) = operator_paths a
 
--- those of the address come before those of the value
-abbrev pub swap_side : ℕ → Sides → Sides
-swap_side number sides =
-    if nat_lt number (addr_swaps sides.addr)
-    then (record { addr = option_map (swap_number number) sides.addr; value = sides.value })
-    else (record { addr = sides.addr; value = swap_number (number - addr_swaps sides.addr) sides.value })
+-- the operators that are swapped, by their numbers 0 to 7: those of the address before those of the
+-- value. The first step of a path is 0 to the address and 1 to the value
+abbrev pub swap_paths : Sides → List Path
+swap_paths sides = take 8 (under 0 (addr_paths sides.addr) ++ under 1 (operator_paths sides.value))
 
--- how many are swapped: those of the numbers 0 to 7
 abbrev pub swap_count : Sides → ℕ
-swap_count sides = min 8 (addr_swaps sides.addr + swaps_of sides.value)
+swap_count sides = length (swap_paths sides)
 
--- the operators below a number swapped whose bit is set in the choice. They are swapped from the
--- last to the first, since a swap moves only operators of greater numbers
-abbrev pub swap_chosen : ℕ → ℕ → Sides → Sides
-swap_chosen zero choice sides = sides
-swap_chosen (suc number) choice sides =
-    swap_chosen number choice (if bit_at choice number == 1 then swap_side number sides else sides)
-
--- the form of this number
+-- the form of this number: the operators are swapped whose bit is set in it
 abbrev pub swapped : ℕ → Sides → Sides
-swapped choice sides = swap_chosen (swap_count sides) choice sides
+swapped choice sides = record {
+  addr = option_map (swap_at (λ path. picks choice (swap_paths sides) (0 ∷ path))) sides.addr;
+  value = swap_at (λ path. picks choice (swap_paths sides) (1 ∷ path)) sides.value;
+}
 
 -- what f makes of each number below this one, in ascending order
 abbrev pub map_below : {A : Type 0} → (ℕ → A) → ℕ → List A

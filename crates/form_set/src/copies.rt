@@ -7,7 +7,7 @@ ghost use Rattle.net_model.specs.Terms.{term_of};
 ghost use Rattle.sym_expr.specs.Pools.{term_at};
 ghost use Rattle.transfer_set.specs.Entries.{IsAddrKnown};
 
-use crate::swaps::{Sides, swap_chosen, swap_count};
+use crate::swaps::{Sides, swap_count, swap_sides};
 use net_model::Expr;
 use rec_bits::NoMemory;
 use std::alloc::Global;
@@ -86,7 +86,6 @@ pub(crate) fn swapped_at(
     ensures { IfOk result (λ sides. copied_sides sides ≡ swapped choice (ids_sides pool.now addr value)) }
 {
     let mut sides = sides_at(alloc, pool, addr, value)?;
-    let count = swap_count(&sides);
-    swap_chosen(&mut sides, count, choice);
+    swap_sides(&mut sides, choice);
     Ok(sides)
 }

@@ -1,9 +1,9 @@
 //! The operators of an expression that can be swapped, by their numbers.
 
-ghost use Rattle.std.specs.Prelude.{◌≡◌, ◌+◌, ◌-◌, ◌^◌, ◌<◌, ◌≤◌, ◌==◌, if◌then◌else◌, min, option_map};
-ghost use Rattle.std.specs.Int.{bit_at};
+ghost use Rattle.std.specs.Prelude.{◌≡◌, ◌+◌, ◌-◌, ◌^◌, ◌<◌, ◌≤◌, min, option_map};
 ghost use Rattle.form_set.specs.Inner.Copies.{copied_sides};
-ghost use Rattle.form_set.specs.Swaps.{SidesWithin, IsAddrWithin, addr_swaps as addr_swaps_of, can_swap as can_swap_of, levels as levels_of, swap_chosen as swap_chosen_of, swap_count as swap_count_of, swap_from as swap_from_of, swap_in as swap_in_of, swap_number as swap_number_of, swap_side as swap_side_of, swaps_in as swaps_in_of, swaps_of as swaps_of_term};
+ghost use Rattle.form_set.specs.Swaps.{SidesWithin, IsAddrWithin, addr_paths, can_swap as can_swap_of, levels as levels_of, operator_paths, picks, swap_at, swap_count as swap_count_of, swapped};
+ghost use Rattle.form_set.specs.Inner.LevelSwaps.{addr_swaps as addr_swaps_of, left_behind, left_levels, left_of as left_of_term, swap_level as swap_level_of, swap_levels as swap_levels_of, swaps_of as swaps_of_term};
 ghost use Rattle.net_model.specs.Terms.{term_of};
 
 use net_model::Expr;
@@ -19,44 +19,48 @@ fn can_swap(op: Op2) -> bool
     }
 }
 
-// How many operators of a level of an expression can be swapped, 8 standing for more.
-fn swaps_in(expr: &Expr, level: u64) -> u8
-    ensures { result ≡ min 8 (swaps_in_of level (term_of expr.now)) }
+// What is left of a choice behind the operators of a level, whose bits are its lowest.
+fn left_of(expr: &Expr, level: u64, choice: u16) -> u16
+    ensures { result ≡ left_of_term level choice (term_of expr.now) }
 {
     match expr {
-        Expr::Word(_) | Expr::Reg(..) | Expr::Const { .. } => 0,
+        Expr::Word(_) | Expr::Reg(..) | Expr::Const { .. } => choice,
         Expr::Read(a, _)
         | Expr::Un(_, a)
         | Expr::Slice(a, _, _)
         | Expr::Zext(a, _)
         | Expr::Sext(a, _) => {
             if level == 0 {
-                0
+                choice
             } else {
-                swaps_in(a, level - 1)
+                left_of(a, level - 1, choice)
             }
         }
         Expr::Bin(op, a, b) => {
             if level > 0 {
-                (swaps_in(a, level - 1) + swaps_in(b, level - 1)).min(8)
+                let rest = left_of(a, level - 1, choice);
+                left_of(b, level - 1, rest)
             } else if can_swap(*op) {
-                1
+                choice / 2
             } else {
-                0
+                choice
             }
         }
         Expr::Cat(a, b) => {
             if level == 0 {
-                0
+                choice
             } else {
-                (swaps_in(a, level - 1) + swaps_in(b, level - 1)).min(8)
+                let rest = left_of(a, level - 1, choice);
+                left_of(b, level - 1, rest)
             }
         }
         Expr::Select(c, a, b) => {
             if level == 0 {
-                0
+                choice
             } else {
-                (swaps_in(c, level - 1) + swaps_in(a, level - 1) + swaps_in(b, level - 1)).min(8)
+                let behind = left_of(c, level - 1, choice);
+                let rest = left_of(a, level - 1, behind);
+                left_of(b, level - 1, rest)
             }
         }
     }
@@ -82,71 +86,77 @@ fn swaps_of(expr: &Expr) -> u8
     }
 }
 
-// Swaps the operator of this place from the left in a level.
-fn swap_in(expr: &mut Expr, level: u64, place: u8)
-    requires { place < 8 }
-    ensures { term_of expr.new ≡ swap_in_of level place (term_of expr.old) }
+// Swaps the chosen operators of a level, whose bits are the lowest of the choice, and gives what is
+// left of it.
+fn swap_level(expr: &mut Expr, level: u64, choice: u16) -> u16
+    ensures left { result ≡ left_of_term level choice (term_of expr.old) }
+    ensures swapped { term_of expr.new ≡ swap_level_of level choice (term_of expr.old) }
 {
     match expr {
-        Expr::Word(_) | Expr::Reg(..) | Expr::Const { .. } => {}
+        Expr::Word(_) | Expr::Reg(..) | Expr::Const { .. } => choice,
         Expr::Read(a, _) => {
-            if level > 0 {
-                swap_in(a, level - 1, place);
+            if level == 0 {
+                choice
+            } else {
+                swap_level(a, level - 1, choice)
             }
         }
         Expr::Un(_, a) => {
-            if level > 0 {
-                swap_in(a, level - 1, place);
+            if level == 0 {
+                choice
+            } else {
+                swap_level(a, level - 1, choice)
             }
         }
         Expr::Slice(a, _, _) => {
-            if level > 0 {
-                swap_in(a, level - 1, place);
+            if level == 0 {
+                choice
+            } else {
+                swap_level(a, level - 1, choice)
             }
         }
         Expr::Zext(a, _) => {
-            if level > 0 {
-                swap_in(a, level - 1, place);
+            if level == 0 {
+                choice
+            } else {
+                swap_level(a, level - 1, choice)
             }
         }
         Expr::Sext(a, _) => {
-            if level > 0 {
-                swap_in(a, level - 1, place);
+            if level == 0 {
+                choice
+            } else {
+                swap_level(a, level - 1, choice)
             }
         }
-        Expr::Bin(_, a, b) => {
-            if level == 0 {
-                std::mem::swap(a, b);
-            } else {
-                let before = swaps_in(a, level - 1);
-                if place < before {
-                    swap_in(a, level - 1, place);
-                } else {
-                    swap_in(b, level - 1, place - before);
+        Expr::Bin(op, a, b) => {
+            if level > 0 {
+                let rest = swap_level(a, level - 1, choice);
+                swap_level(b, level - 1, rest)
+            } else if can_swap(*op) {
+                if choice % 2 == 1 {
+                    std::mem::swap(a, b);
                 }
+                choice / 2
+            } else {
+                choice
             }
         }
         Expr::Cat(a, b) => {
-            if level > 0 {
-                let before = swaps_in(a, level - 1);
-                if place < before {
-                    swap_in(a, level - 1, place);
-                } else {
-                    swap_in(b, level - 1, place - before);
-                }
+            if level == 0 {
+                choice
+            } else {
+                let rest = swap_level(a, level - 1, choice);
+                swap_level(b, level - 1, rest)
             }
         }
         Expr::Select(c, a, b) => {
-            if level > 0 {
-                let first = swaps_in(c, level - 1);
-                let second = swaps_in(a, level - 1);
-                if place < first {
-                    swap_in(c, level - 1, place);
-                } else if place - first < second {
-                    swap_in(a, level - 1, place - first);
-                } else {
-                    swap_in(b, level - 1, place - first - second);
-                }
+            if level == 0 {
+                choice
+            } else {
+                let behind = swap_level(c, level - 1, choice);
+                let rest = swap_level(a, level - 1, behind);
+                swap_level(b, level - 1, rest)
             }
         }
     }
@@ -169,31 +179,30 @@ fn levels(expr: &Expr) -> u64
     }
 }
 
-// Swaps the operator of this number, which is looked for in so many levels from this one on.
-fn swap_from(expr: &mut Expr, levels: u64, level: u64, number: u8)
-    requires number { number < 8 }
-    requires levels { level + levels < 2 ^ 64 }
-    ensures { term_of expr.new ≡ swap_from_of levels level number (term_of expr.old) }
+// Swaps the chosen operators of so many levels from this one on, and gives what is left of the
+// choice. A swap moves the operators below it, so they go first.
+fn swap_levels(expr: &mut Expr, levels: u64, level: u64, choice: u16) -> u16
+    requires { level + levels < 2 ^ 64 }
+    ensures left { result ≡ left_levels levels level choice (term_of expr.old) }
+    ensures swapped { term_of expr.new ≡ swap_levels_of levels level choice (term_of expr.old) }
 {
     if levels == 0 {
-        return;
+        return choice;
     }
-    let here = swaps_in(expr, level);
-    if number < here {
-        swap_in(expr, level, number);
-    } else {
-        swap_from(expr, levels - 1, level + 1, number - here);
-    }
+    let rest = left_of(expr, level, choice);
+    let left = swap_levels(expr, levels - 1, level + 1, rest);
+    swap_level(expr, level, choice);
+    left
 }
 
-// Swaps the operator of this number.
-fn swap_number(expr: &mut Expr, number: u8)
-    requires number { number < 8 }
-    requires levels { levels_of (term_of expr.old) < 2 ^ 64 }
-    ensures { term_of expr.new ≡ swap_number_of number (term_of expr.old) }
+// Swaps the chosen operators of an expression, and gives what is left of the choice behind them.
+fn swap_expr(expr: &mut Expr, choice: u16) -> u16
+    requires { levels_of (term_of expr.old) < 2 ^ 64 }
+    ensures left { result ≡ left_behind choice (operator_paths (term_of expr.old)) }
+    ensures swapped { term_of expr.new ≡ swap_at (picks choice (operator_paths (term_of expr.old))) (term_of expr.old) }
 {
     let levels = levels(expr);
-    swap_from(expr, levels, 0, number)
+    swap_levels(expr, levels, 0, choice)
 }
 
 // The address and the value of a transfer.
@@ -213,28 +222,16 @@ fn addr_swaps(addr: &Option<Expr>) -> u8
     }
 }
 
-// Swaps the operator of this number in an address.
-fn swap_addr(addr: &mut Option<Expr>, number: u8)
-    requires number { number < 8 }
-    requires levels { IsAddrWithin (2 ^ 64 - 1) (option_map term_of addr.old) }
-    ensures { option_map term_of addr.new ≡ option_map (swap_number_of number) (option_map term_of addr.old) }
+// Swaps the chosen operators of an address, and gives what is left of the choice behind them.
+fn swap_addr(addr: &mut Option<Expr>, choice: u16) -> u16
+    requires { IsAddrWithin (2 ^ 64 - 1) (option_map term_of addr.old) }
+    ensures left { result ≡ left_behind choice (addr_paths (option_map term_of addr.old)) }
+    ensures swapped { option_map term_of addr.new
+        ≡ option_map (swap_at (picks choice (addr_paths (option_map term_of addr.old)))) (option_map term_of addr.old) }
 {
-    if let Some(addr) = addr {
-        swap_number(addr, number);
-    }
-}
-
-// Swaps the operator of this number, where those of the address come first.
-fn swap_side(sides: &mut Sides, number: u8)
-    requires number { number < 8 }
-    requires levels { SidesWithin (2 ^ 64 - 1) (copied_sides sides.old) }
-    ensures { copied_sides sides.new ≡ swap_side_of number (copied_sides sides.old) }
-{
-    let first = addr_swaps(&sides.addr);
-    if number < first {
-        swap_addr(&mut sides.addr, number);
-    } else {
-        swap_number(&mut sides.value, number - first);
+    match addr {
+        Some(addr) => swap_expr(addr, choice),
+        None => choice,
     }
 }
 
@@ -246,29 +243,13 @@ pub(crate) fn swap_count(sides: &Sides) -> u8
     (addr_swaps(&sides.addr) + swaps_of(&sides.value)).min(8)
 }
 
-// Swaps an operator where the choice says so.
-fn swap_if(sides: &mut Sides, number: u8, choice: u16)
-    requires number { number < 8 }
-    requires levels { SidesWithin (2 ^ 64 - 1) (copied_sides sides.old) }
-    ensures levels { SidesWithin (2 ^ 64 - 1) (copied_sides sides.new) }
-    ensures swapped { copied_sides sides.new ≡ (if bit_at choice number == 1
-        then swap_side_of number (copied_sides sides.old)
-        else copied_sides sides.old) }
+// Swaps the chosen operators, those of the address before those of the value.
+pub(crate) fn swap_sides(sides: &mut Sides, choice: u16)
+    requires { SidesWithin (2 ^ 64 - 1) (copied_sides sides.old) }
+    ensures { copied_sides sides.new ≡ swapped choice (copied_sides sides.old) }
 {
-    if (choice >> number) & 1 == 1 {
-        swap_side(sides, number);
-    }
-}
-
-// Swaps those of the operators below a number that the choice says.
-pub(crate) fn swap_chosen(sides: &mut Sides, number: u8, choice: u16)
-    requires number { number ≤ 8 }
-    requires levels { SidesWithin (2 ^ 64 - 1) (copied_sides sides.old) }
-    ensures { copied_sides sides.new ≡ swap_chosen_of number choice (copied_sides sides.old) }
-{
-    if number == 0 {
-        return;
-    }
-    swap_if(sides, number - 1, choice);
-    swap_chosen(sides, number - 1, choice);
+    // no more than eight operators are swapped
+    let chosen = choice % 256;
+    let rest = swap_addr(&mut sides.addr, chosen);
+    swap_expr(&mut sides.value, rest);
 }

@@ -1,15 +1,14 @@
 -- Swapped operands change no register and no bit that occurs.
-use Rattle.std.proofs.Common.{◌≡◌, ℕ, zero, suc, ◌+◌, ◌-◌, ◌<◌, ◌≤◌, ◌==◌, ◌||◌, ◌⊎◌, inl, inr, nat_lt, Bool, true, false, if◌then◌else◌, Option, Some, None, refl, sym, ◌∙◌, subst, arith}
-use Rattle.std.specs.Int.{bit_at}
+use Rattle.std.proofs.Common.{◌≡◌, ℕ, ◌&&◌, ◌||◌, Bool, true, false, [], ◌∷◌, Option, Some, None, refl, sym, ◌∙◌}
 use Rattle.std.specs.Option.{option_map}
-use Rattle.std.proofs.lemmas.Bool.{true≢false, eqb-true, eq-eqb, lt-ltb, le-ltb, ltb-true, cases_lt}
+use Rattle.std.proofs.lemmas.Bool.{true≢false}
 use Rattle.std.proofs.lemmas.Nat.{or_comm as join_comm}
 use Rattle.rec_bits.specs.declared.operator.Op1.{Op1}
 use Rattle.rec_bits.specs.declared.operator.Op2.{Op2}
 use Rattle.net_model.specs.Fields.{fields}
 use Rattle.net_model.specs.Terms.{Term, word, reg, const, read, un, bin, slice, cat, zext, sext, select}
 use Rattle.form_model.specs.Effects.{register, term_reads}
-use Rattle.form_set.specs.Swaps.{Sides, addr_swaps, at_level, in_two, levels, root_swaps, swap_chosen, swap_count, swap_from, swap_in, swap_number, swap_side, swapped, swaps_in}
+use Rattle.form_set.specs.Swaps.{Path, Sides, can_swap, ordered, picks, swap_at, swap_paths, swapped}
 use Rattle.emit_seq.specs.Cells.{ReadsWords}
 use Rattle.emit_seq.specs.Formed.{BitsApart, IsOnce, uses}
 
@@ -146,116 +145,35 @@ at_root o a b = record {
 
 -- ---- the swaps of a form
 
--- what lies in a level: at the root, or below it
-at_or_below : (level place here below : ℕ) → place < at_level level here below → ((level ≡ 0) × (place < here)) ⊎ (((level == 0) ≡ false) × (place < below))
-at_or_below level place here below h = go (level == 0) refl h
+-- swaps at any operators. A slice of the word has none in it
+pub swap_at_swapped : (chosen : Path → Bool) (t : Term) → IsSwapped t (swap_at chosen t)
+swap_at_swapped chosen (word w) = unswapped (word w)
+swap_at_swapped chosen (reg r w) = unswapped (reg r w)
+swap_at_swapped chosen (const w v) = unswapped (const w v)
+swap_at_swapped chosen (read a w) = in_read w a (swap_at (λ path. chosen (0 ∷ path)) a) (swap_at_swapped (λ path. chosen (0 ∷ path)) a)
+swap_at_swapped chosen (un o a) = in_un o a (swap_at (λ path. chosen (0 ∷ path)) a) (swap_at_swapped (λ path. chosen (0 ∷ path)) a)
+swap_at_swapped chosen (bin o a b) =
+    by (can_swap o && chosen []) (in_bin o a b c d (swap_at_swapped (λ path. chosen (0 ∷ path)) a) (swap_at_swapped (λ path. chosen (1 ∷ path)) b))
   where
-    go : (b : Bool) → (level == 0) ≡ b → place < (if b then here else below) → ((level ≡ 0) × (place < here)) ⊎ (((level == 0) ≡ false) × (place < below))
-    go true e k = inl (eqb-true level 0 e, k)
-    go false e k = inr (e, k)
+    c : Term
+    c = swap_at (λ path. chosen (0 ∷ path)) a
 
-two_places : (place first second : ℕ) → place < first + second → (place < first) ⊎ ((first ≤ place) × (place - first < second))
-two_places place first second h = elim (cases_lt place first) as (λ _. (place < first) ⊎ ((first ≤ place) × (place - first < second))) [ inl l ↦ inl l | inr l ↦ inr (l, omega arith) ]
+    d : Term
+    d = swap_at (λ path. chosen (1 ∷ path)) b
 
-below_root : {X : Type 0} (level : ℕ) (x y : X) → (level == 0) ≡ false → at_level level x y ≡ y
-below_root level x y e = rw e refl
-
-in_first : {X : Type 0} (place count : ℕ) (x y : X) → place < count → in_two place count x y ≡ x
-in_first place count x y l = rw (lt-ltb place count l) refl
-
-in_second : {X : Type 0} (place count : ℕ) (x y : X) → count ≤ place → in_two place count x y ≡ y
-in_second place count x y l = rw (le-ltb place count l) refl
-
-moved : (t u v : Term) → u ≡ v → IsSwapped t v → IsSwapped t u
-moved t u v e h = subst (λ z. IsSwapped t z) (sym e) h
-
-at_the_root : {X : Type 0} (level : ℕ) (x y : X) → level ≡ 0 → at_level level x y ≡ x
-at_the_root level x y e = rw (eq-eqb level 0 e) refl
-
--- an operator that can't be swapped itself
-one_below : (level place n : ℕ) (t x y : Term) → place < at_level level 0 n → (place < n → IsSwapped t y) → IsSwapped t (at_level level x y)
-one_below level place n t x y h f =
-    elim (at_or_below level place 0 n h) as (λ _. IsSwapped t (at_level level x y)) [
-      | inl p ↦ absurd (omega (arith, p.1))
-      | inr p ↦ moved t (at_level level x y) y (below_root level x y p.0) (f p.1)
-    ]
-
-first_or_second : (place m n : ℕ) (t x y : Term) → place < m + n → (place < m → IsSwapped t x) → (place - m < n → IsSwapped t y) → IsSwapped t (in_two place m x y)
-first_or_second place m n t x y h f g =
-    elim (two_places place m n h) as (λ _. IsSwapped t (in_two place m x y)) [
-      | inl l ↦ moved t (in_two place m x y) x (in_first place m x y l) (f l)
-      | inr l ↦ moved t (in_two place m x y) y (in_second place m x y l.0) (g l.1)
-    ]
-
-pub swap_in_swapped : (t : Term) (level place : ℕ) → place < swaps_in level t → IsSwapped t (swap_in level place t)
-swap_in_swapped (word w) level place h = absurd (omega arith)
-swap_in_swapped (reg r w) level place h = absurd (omega arith)
-swap_in_swapped (const w v) level place h = absurd (omega arith)
-swap_in_swapped (read a w) level place h =
-    one_below level place (swaps_in (level - 1) a) (read a w) (read a w) (read (swap_in (level - 1) place a) w) h
-    (λ k. in_read w a (swap_in (level - 1) place a) (swap_in_swapped a (level - 1) place k))
-swap_in_swapped (un o a) level place h =
-    one_below level place (swaps_in (level - 1) a) (un o a) (un o a) (un o (swap_in (level - 1) place a)) h
-    (λ k. in_un o a (swap_in (level - 1) place a) (swap_in_swapped a (level - 1) place k))
-swap_in_swapped (bin o a b) level place h =
-    elim (at_or_below level place (root_swaps (bin o a b)) (swaps_in (level - 1) a + swaps_in (level - 1) b) h) as (λ _. IsSwapped (bin o a b) (swap_in level place (bin o a b))) [
-      | inl p ↦ moved (bin o a b) (at_level level (bin o b a) below) (bin o b a) (at_the_root level (bin o b a) below p.0) (at_root o a b)
-      | inr p ↦ moved (bin o a b) (at_level level (bin o b a) below) below (below_root level (bin o b a) below p.0)
-          (first_or_second place (swaps_in (level - 1) a) (swaps_in (level - 1) b) (bin o a b) (bin o (swap_in (level - 1) place a) b)
-          (bin o a (swap_in (level - 1) (place - swaps_in (level - 1) a) b)) p.1
-          (λ k. in_bin o a b (swap_in (level - 1) place a) b (swap_in_swapped a (level - 1) place k) (unswapped b))
-          (λ k. in_bin o a b a (swap_in (level - 1) (place - swaps_in (level - 1) a) b) (unswapped a) (swap_in_swapped b (level - 1) (place - swaps_in (level - 1) a) k)))
-    ]
-  where
-    below : Term
-    below = in_two place (swaps_in (level - 1) a) (bin o (swap_in (level - 1) place a) b) (bin o a (swap_in (level - 1) (place - swaps_in (level - 1) a) b))
-swap_in_swapped (slice (word w) hi lo) level place h =
-    one_below level place 0 (slice (word w) hi lo) (slice (word w) hi lo) (slice (swap_in (level - 1) place (word w)) hi lo) h (λ k. absurd (omega (arith, k)))
-swap_in_swapped (slice a hi lo) level place h =
-    one_below level place (swaps_in (level - 1) a) (slice a hi lo) (slice a hi lo) (slice (swap_in (level - 1) place a) hi lo) h
-    (λ k. in_slice hi lo a (swap_in (level - 1) place a) refl (swap_in_swapped a (level - 1) place k))
-swap_in_swapped (cat a b) level place h =
-    one_below level place (swaps_in (level - 1) a + swaps_in (level - 1) b) (cat a b) (cat a b)
-    (in_two place (swaps_in (level - 1) a) (cat (swap_in (level - 1) place a) b) (cat a (swap_in (level - 1) (place - swaps_in (level - 1) a) b))) h
-    (λ l. first_or_second place (swaps_in (level - 1) a) (swaps_in (level - 1) b) (cat a b) (cat (swap_in (level - 1) place a) b)
-    (cat a (swap_in (level - 1) (place - swaps_in (level - 1) a) b)) l
-    (λ k. in_cat a b (swap_in (level - 1) place a) b (swap_in_swapped a (level - 1) place k) (unswapped b))
-    (λ k. in_cat a b a (swap_in (level - 1) (place - swaps_in (level - 1) a) b) (unswapped a) (swap_in_swapped b (level - 1) (place - swaps_in (level - 1) a) k)))
-swap_in_swapped (zext a w) level place h =
-    one_below level place (swaps_in (level - 1) a) (zext a w) (zext a w) (zext (swap_in (level - 1) place a) w) h
-    (λ k. in_zext w a (swap_in (level - 1) place a) (swap_in_swapped a (level - 1) place k))
-swap_in_swapped (sext a w) level place h =
-    one_below level place (swaps_in (level - 1) a) (sext a w) (sext a w) (sext (swap_in (level - 1) place a) w) h
-    (λ k. in_sext w a (swap_in (level - 1) place a) (swap_in_swapped a (level - 1) place k))
-swap_in_swapped (select c a b) level place h =
-    one_below level place (nc + (na + nb)) (select c a b) (select c a b)
-    (in_two place nc (select (swap_in (level - 1) place c) a b) (in_two (place - nc) na (select c (swap_in (level - 1) (place - nc) a) b)
-    (select c a (swap_in (level - 1) (place - nc - na) b)))) h
-    (λ l. first_or_second place nc (na + nb) (select c a b) (select (swap_in (level - 1) place c) a b)
-    (in_two (place - nc) na (select c (swap_in (level - 1) (place - nc) a) b) (select c a (swap_in (level - 1) (place - nc - na) b))) l
-    (λ k. in_select c a b (swap_in (level - 1) place c) a b (swap_in_swapped c (level - 1) place k) (unswapped a) (unswapped b))
-    (λ m. first_or_second (place - nc) na nb (select c a b) (select c (swap_in (level - 1) (place - nc) a) b) (select c a (swap_in (level - 1) (place - nc - na) b)) m
-    (λ k. in_select c a b c (swap_in (level - 1) (place - nc) a) b (unswapped c) (swap_in_swapped a (level - 1) (place - nc) k) (unswapped b))
-    (λ k. in_select c a b c a (swap_in (level - 1) (place - nc - na) b) (unswapped c) (unswapped a) (swap_in_swapped b (level - 1) (place - nc - na) k))))
-  where
-    nc : ℕ
-    nc = swaps_in (level - 1) c
-
-    na : ℕ
-    na = swaps_in (level - 1) a
-
-    nb : ℕ
-    nb = swaps_in (level - 1) b
-
-picked_swap : (b : Bool) (t u v : Term) → (b ≡ true → IsSwapped t u) → IsSwapped t v → IsSwapped t (if b then u else v)
-picked_swap true t u v f g = f refl
-picked_swap false t u v f g = g
-
-swap_from_swapped : (levels level number : ℕ) (t : Term) → IsSwapped t (swap_from levels level number t)
-swap_from_swapped zero level number t = unswapped t
-swap_from_swapped (suc levels) level number t =
-    picked_swap (nat_lt number (swaps_in level t)) t (swap_in level number t) (swap_from levels (level + 1) (number - swaps_in level t) t)
-    (λ q. swap_in_swapped t level number (ltb-true number (swaps_in level t) q)) (swap_from_swapped levels (level + 1) (number - swaps_in level t) t)
+    by : (swaps : Bool) → IsSwapped (bin o a b) (bin o c d) → IsSwapped (bin o a b) (ordered swaps o c d)
+    by true h = swapped_then (bin o a b) (bin o c d) (bin o d c) h (at_root o c d)
+    by false h = h
+swap_at_swapped chosen (slice (word w) hi lo) = unswapped (slice (word w) hi lo)
+swap_at_swapped chosen (slice a hi lo) = in_slice hi lo a (swap_at (λ path. chosen (0 ∷ path)) a) refl (swap_at_swapped (λ path. chosen (0 ∷ path)) a)
+swap_at_swapped chosen (cat a b) =
+    in_cat a b (swap_at (λ path. chosen (0 ∷ path)) a) (swap_at (λ path. chosen (1 ∷ path)) b) (swap_at_swapped (λ path. chosen (0 ∷ path)) a)
+    (swap_at_swapped (λ path. chosen (1 ∷ path)) b)
+swap_at_swapped chosen (zext a w) = in_zext w a (swap_at (λ path. chosen (0 ∷ path)) a) (swap_at_swapped (λ path. chosen (0 ∷ path)) a)
+swap_at_swapped chosen (sext a w) = in_sext w a (swap_at (λ path. chosen (0 ∷ path)) a) (swap_at_swapped (λ path. chosen (0 ∷ path)) a)
+swap_at_swapped chosen (select c a b) =
+    in_select c a b (swap_at (λ path. chosen (0 ∷ path)) c) (swap_at (λ path. chosen (1 ∷ path)) a) (swap_at (λ path. chosen (2 ∷ path)) b)
+    (swap_at_swapped (λ path. chosen (0 ∷ path)) c) (swap_at_swapped (λ path. chosen (1 ∷ path)) a) (swap_at_swapped (λ path. chosen (2 ∷ path)) b)
 
 -- ---- address and value
 
@@ -268,46 +186,13 @@ pub record AreSwapped (x y : Sides) : Type 0 where
   pub addr : AddrSwapped x.addr y.addr
   pub value : IsSwapped x.value y.value
 
-addr_none : (o : Option Term) → AddrSwapped o o
-addr_none None = tt
-addr_none (Some a) = unswapped a
-
-addr_then : (o p q : Option Term) → AddrSwapped o p → AddrSwapped p q → AddrSwapped o q
-addr_then None None None h k = tt
-addr_then None None (Some c) h k = absurd k
-addr_then None (Some b) q h k = absurd h
-addr_then (Some a) None q h k = absurd h
-addr_then (Some a) (Some b) None h k = absurd k
-addr_then (Some a) (Some b) (Some c) h k = swapped_then a b c h k
-
-addr_number : (number : ℕ) (o : Option Term) → AddrSwapped o (option_map (swap_number number) o)
-addr_number number None = tt
-addr_number number (Some a) = swap_from_swapped (levels a) 0 number a
-
-sides_then : (x y z : Sides) → AreSwapped x y → AreSwapped y z → AreSwapped x z
-sides_then x y z h k = record { addr = addr_then x.addr y.addr z.addr h.addr k.addr; value = swapped_then x.value y.value z.value h.value k.value }
-
-sides_none : (x : Sides) → AreSwapped x x
-sides_none x = record { addr = addr_none x.addr; value = unswapped x.value }
-
-sides_if : (b : Bool) (x y z : Sides) → AreSwapped x y → AreSwapped x z → AreSwapped x (if b then y else z)
-sides_if true x y z h k = h
-sides_if false x y z h k = k
-
-side_swapped : (number : ℕ) (x : Sides) → AreSwapped x (swap_side number x)
-side_swapped number x =
-    sides_if (nat_lt number (addr_swaps x.addr)) x (record { addr = option_map (swap_number number) x.addr; value = x.value })
-    (record { addr = x.addr; value = swap_number (number - addr_swaps x.addr) x.value })
-    (record { addr = addr_number number x.addr; value = unswapped x.value })
-    (record { addr = addr_none x.addr; value = swap_from_swapped (levels x.value) 0 (number - addr_swaps x.addr) x.value })
-
-chosen_swapped : (number choice : ℕ) (x : Sides) → AreSwapped x (swap_chosen number choice x)
-chosen_swapped zero choice x = sides_none x
-chosen_swapped (suc number) choice x =
-    let y : Sides = if bit_at choice number == 1 then swap_side number x else x in
-    let h : AreSwapped x y = sides_if (bit_at choice number == 1) x (swap_side number x) x (side_swapped number x) (sides_none x) in
-    sides_then x y (swap_chosen number choice y) h (chosen_swapped number choice y)
+addr_swapped : (chosen : Path → Bool) (o : Option Term) → AddrSwapped o (option_map (swap_at chosen) o)
+addr_swapped chosen None = tt
+addr_swapped chosen (Some a) = swap_at_swapped chosen a
 
 -- each form of a pattern is another way to write it
 pub swapped_sides : (choice : ℕ) (x : Sides) → AreSwapped x (swapped choice x)
-swapped_sides choice x = chosen_swapped (swap_count x) choice x
+swapped_sides choice x = record {
+  addr = addr_swapped (λ path. picks choice (swap_paths x) (0 ∷ path)) x.addr;
+  value = swap_at_swapped (λ path. picks choice (swap_paths x) (1 ∷ path)) x.value;
+}
