@@ -25,10 +25,10 @@
 //! - `listing`: `forms`: over the patterns once for the reach of jumps and once for the forms.
 //! - `laws`: the laws above.
 //! - `specs/`, cited by public contracts: `Laws`, `Listing`, `Promises`, `Static`, `Swaps`,
-//!   `Targets` and `Words`; `Worked` is computed. `specs/Inner/`: `PatternIds`, `Copies`, `Linear`
-//!   and `Adding`, which go with the code.
+//!   `Targets` and `Words`; `Worked` is computed. `specs/Inner/`: `PatternIds`, `Copies`,
+//!   `LevelSwaps`, `Linear` and `Adding`, which go with the code.
 //! - `proofs/`: `Chosen` and `Deciding` for words, `Classifying`, `RuleLists`, `OneList` for the
-//!   list, `FormLaws`, `Registers`, `SwapLaws`, `NoForms`, `ShapeBits` for the laws.
+//!   list, `Swapping` for swaps level by level, `FormLaws`, `Registers`, `SwapLaws`, `NoForms`, `ShapeBits` for the laws.
 #![tactic(auto)]
 
 mod branches;

@@ -18,7 +18,7 @@ use Rattle.record_core.specs.Stages.{By}
 use Rattle.record_core.specs.Inner.Statuses.{compile_status}
 use Rattle.record_core.specs.Watching.{IsWatched, LacksMemory}
 use Rattle.record_core.specs.declared.status.Status.{Status}
-use Rattle.record_core.specs.declared.status.Status.TheVariants.{Done, Usage, ReadFault, TooLong, WriteFault, NetText, Net, SrcText, Src, NoStep, NoJump, NoCover, DataFull, NoReach, ImageFull, Memory, ImageText, MemText, Clash}
+use Rattle.record_core.specs.declared.status.Status.TheVariants.{Done, Usage, ReadFault, TooLong, WriteFault, NetText, Net, SrcText, Src, NoStep, NoJump, NoCover, DataFull, NoReach, ImageFull, Memory, ImageText, MemText, Clash, AsmText, AsmWord}
 
 module _ (net src memory : List ℕ) where
   -- a memory text that is none shows that at one offset, and one that is read shows it at none
@@ -85,3 +85,5 @@ module _ (line : Status → List ℕ) (net src memory : List ℕ) (clocks : ℕ)
     memory_fault (ImageFull len size bound) is = absurd is
     memory_fault (ImageText at) is = absurd is
     memory_fault (Clash cycle bus) is = absurd is
+    memory_fault (AsmText at) is = absurd is
+    memory_fault (AsmWord number) is = absurd is

@@ -95,12 +95,16 @@ fn middle_command(words: &[String]) -> Option<Command>
     ensures named { IfSome result (λ command. file_count command < 3) }
     ensures fits { IfSome result CommandFits }
 {
-    match words[0].as_str() {
-        "compile" => Some(Command::Compile),
-        "asm" => Some(Command::Asm),
-        "dis" => Some(Command::Dis),
-        _ => None,
+    if words[0].as_str() == "compile" {
+        return Some(Command::Compile);
     }
+    if words[0].as_str() == "asm" {
+        return Some(Command::Asm);
+    }
+    if words[0].as_str() == "dis" {
+        return Some(Command::Dis);
+    }
+    None
 }
 
 // The command of five words, if they have the form of one.
