@@ -28,7 +28,8 @@
 //!   `Targets` and `Words`; `Worked` is computed. `specs/Inner/`: `PatternIds`, `Copies`,
 //!   `LevelSwaps`, `Linear` and `Adding`, which go with the code.
 //! - `proofs/`: `Chosen` and `Deciding` for words, `Classifying`, `RuleLists`, `OneList` for the
-//!   list, `Swapping` for swaps level by level, `FormLaws`, `Registers`, `SwapLaws`, `NoForms`, `ShapeBits` for the laws.
+//!   list, `Swapping` for swaps level by level, `FormLaws`, `Registers`, `SwapLaws`, `NoForms`,
+//!   `ShapeBits` for the laws.
 #![tactic(auto)]
 
 mod branches;
