@@ -112,12 +112,12 @@ fn answer<F: Shelf, S: Sink>(alloc: Global, words: &[String], shelf: &mut F, out
 /// What the words ask for, over the files of this shelf, into this output.
 ///
 /// The words are those after the program's name: `compile NET SRC`, `extract NET`, `run NET IMG MEM
-/// CYCLES`, `go NET SRC MEM CYCLES` or `make N`, where NET, SRC, IMG and MEM are names of files,
-/// CYCLES is a decimal number from 0 to 1,000,000, and N one from 1 to 1,000. On `Done` the output
-/// took the whole text: an image, the patterns of a netlist, a state, checkpoints, or a summary. On
-/// `WriteFault` it took a prefix of the text that was due, and nothing after the put that failed; on
-/// every other status it took the line of the fault. Want of memory may be answered anywhere, but
-/// where a file could not be read.
+/// CYCLES`, `go NET SRC MEM CYCLES`, `make N`, `asm NET TEXT` or `dis NET IMG`, where NET, SRC, IMG,
+/// MEM and TEXT are names of files, CYCLES is a decimal number from 0 to 1,000,000, and N one from 1
+/// to 1,000. On `Done` the output took the whole text: an image, the patterns of a netlist, a state,
+/// checkpoints, a summary, or lines of transfers. On `WriteFault` it took a prefix of the text that
+/// was due, and nothing after the put that failed; on every other status it took the line of the
+/// fault. Want of memory may be answered anywhere, but where a file could not be read.
 pub fn record_call<F: Shelf, S: Sink>(
     alloc: Global,
     words: &Vec<String>,
@@ -157,7 +157,7 @@ pub fn record_call<F: Shelf, S: Sink>(
         (result ≡ Status.Done) ⊎ (result ≡ Status.Memory) }
 
     // The main promise: what was written is the text of the command for its files, as of `compile`
-    // an image that is right code for the program on the netlist.
+    // an image that is right code for the program on the netlist, and that the netlist holds.
     ensures wrote { (command : Command) → command_of (texts_of words.now.items) ≡ Some command →
         result ≡ Status.Done →
         Wrote command (names_of command (texts_of words.now.items)) (F.state shelf.old).files
