@@ -9,16 +9,19 @@ use Rattle.form_model.specs.Covers.{Stock, operands_of, cuts_of}
 use Rattle.form_model.specs.declared.forms.Form.{Form}
 use Rattle.form_model.specs.Trees.{tree_term}
 use Rattle.tree_grammar.specs.declared.parts.Match.{Match}
-use Rattle.tree_grammar.specs.Parts.{destination_at, found_of, AreAt, Stands}
-use Rattle.cover.specs.declared.table.Instance.{Instance}
+use Rattle.tree_grammar.specs.Parts.{destination_at, found_of, sites_of, AreAt, Stands}
+use Rattle.cover.specs.declared.instance.Instance.{Instance}
 use Rattle.cover.specs.declared.fits.Want.{Want}
 use Rattle.cover.specs.declared.fits.Fit.{Fit}
-use Rattle.cover.specs.declared.parts.OpenOperand.{OpenOperand}
-use Rattle.cover.specs.declared.parts.OpenCut.{OpenCut}
+use Rattle.cover.specs.declared.opened.OpenOperand.{OpenOperand}
+use Rattle.cover.specs.declared.opened.OpenCut.{OpenCut}
 use Rattle.cover.specs.Inner.Asks.{Ask, takes}
 use Rattle.cover.specs.Inner.Least.{IsLeast, IsLeastForm, IsLeastOrder, IsLeastCut, summed}
 use Rattle.cover.specs.Inner.Jobs.{instance_stock, nodes_of, open_operands, open_cuts}
 use Rattle.cover.specs.Inner.Choice.{ask_of, StandsWant, IsFit, Fits, FitOf, FitsParts, NeverBegins, fit_cost}
+use Rattle.cover.specs.Inner.Matched.{AreLowSites}
+use Rattle.cover.proofs.LowLemmas.{taken_low}
+use Rattle.cover.proofs.StartLemmas.{rule_at}
 use Rattle.cover.proofs.LeastLemmas.{some_form}
 use Rattle.cover.proofs.ChoiceLemmas.{never_by, fits_least}
 
@@ -29,6 +32,10 @@ want_at instance w o m stands at is =
 
 pub want_takes : (instance : Instance) (form : Form) (w : Want) (o : Option Match) (m : Match) → option_map found_of o ≡ taken instance.temps (rule_of form) (destination_at w.destination) (tree_term w.tree.now) w.whole → o ≡ Some m → takes (instance_stock instance) (rule_of form) (ask_of w) ≡ Some (found_of m)
 want_takes instance form w o m found is = sym found ∙ ap (option_map found_of) is
+
+-- the operands of what a form takes go to registers that a set of registers has a bit for
+pub want_low : (instance : Instance) (form : Form) (k : ℕ) (w : Want) (m : Match) → slice_get instance.forms.now k ≡ Some form → takes (instance_stock instance) (rule_of form) (ask_of w) ≡ Some (found_of m) → AreLowSites (sites_of m.parts.items)
+want_low instance form k w m got is = taken_low instance.temps (rule_of form) (destination_at w.destination) (tree_term w.tree.now) w.whole (found_of m) is (instance.low k (rule_of form) (rule_at instance k form got))
 
 summed_none : (x : Option ℕ) → summed x None ≡ None
 summed_none None = refl

@@ -8,8 +8,8 @@ use Rattle.net_model.specs.Terms.{Term, size_of}
 use Rattle.form_model.specs.Trees.{tree_term}
 use Rattle.form_model.specs.Covers.{Stock, Operand}
 use Rattle.cover.specs.declared.slots.Slot.TheVariants.{Register, Temporary}
-use Rattle.cover.specs.declared.parts.OpenOperand.{OpenOperand}
-use Rattle.cover.specs.declared.parts.OpenCut.{OpenCut}
+use Rattle.cover.specs.declared.opened.OpenOperand.{OpenOperand}
+use Rattle.cover.specs.declared.opened.OpenCut.{OpenCut}
 use Rattle.cover.specs.Inner.Asks.{operand_ask, operands_size, rank}
 use Rattle.cover.specs.Inner.Least.{IsLeast}
 use Rattle.cover.specs.Inner.Slots.{IsSlot}
@@ -68,13 +68,6 @@ tail_is (x ∷ ts) = take_all (length (x ∷ ts) - 1) ts (omega arith)
 
 pub cut_slot : IsSlot false Temporary
 cut_slot = refl
-
--- an entry of a row as what is asked for an operand
-pub register_ask : (r : ℕ) (x : Operand) → r ≡ x.id → row_ask x.tree x.whole (Register r) ≡ operand_ask x
-register_ask r x h = ap (λ j. row_ask x.tree x.whole (Register j)) h
-
-pub register_least : (stock : Stock) (avoid r : ℕ) (x : Operand) (o : Option ℕ) → r ≡ x.id → IsLeast stock avoid (row_ask x.tree x.whole (Register r)) o → IsLeast stock avoid (operand_ask x) o
-register_least stock avoid r x o h is = subst (λ a. IsLeast stock avoid a o) (register_ask r x h) is
 
 pub rank_le : (n : ℕ) → rank n ≤ 1
 rank_le n = go (n == 0)

@@ -2,6 +2,7 @@ mod PartLemmas
 mod SlotLemmas
 mod RowLemmas
 mod SizeLemmas
+mod LowLemmas
 mod NodeLemmas
 mod LeastLemmas
 mod OfferLemmas
@@ -16,3 +17,4 @@ mod FitLemmas
 mod OrderlyLemmas
 mod BestLemmas
 mod OnceLemmas
+pub mod MadeLemmas

@@ -11,7 +11,7 @@ use Rattle.tree_grammar.proofs.NumberLemmas.{size_length, holds_here}
 use Rattle.tree_sharing.proofs.NodeLemmas.{get_split, get_right, whole_tree, from_start}
 use Rattle.cover.specs.declared.slots.Slot.{Slot}
 use Rattle.cover.specs.declared.slots.Slot.TheVariants.{Register, Temporary}
-use Rattle.cover.specs.declared.parts.OpenOperand.{OpenOperand}
+use Rattle.cover.specs.declared.opened.OpenOperand.{OpenOperand}
 use Rattle.form_model.specs.Trees.{tree_term}
 use Rattle.cover.specs.Inner.Slots.{entry_destination}
 use Rattle.cover.specs.Inner.Jobs.{OperandsAt}

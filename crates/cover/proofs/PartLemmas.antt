@@ -4,12 +4,14 @@ use Rattle.std.specs.Prelude.{slice_get}
 use Rattle.std.proofs.lemmas.List.{map-append}
 use Rattle.net_model.specs.Terms.{Term}
 use Rattle.form_model.specs.Matches.{Site, operand, cut}
-use Rattle.form_model.specs.Covers.{operands_of, cuts_of}
+use Rattle.form_model.specs.Covers.{Operand, operands_of, cuts_of}
+use Rattle.form_model.specs.Trees.{tree_term}
 use Rattle.tree_grammar.specs.declared.parts.Part.{Part}
 use Rattle.tree_grammar.specs.declared.parts.Part.TheVariants
 use Rattle.tree_grammar.specs.Parts.{part_of, sites_of, AreAt, IsPartAt}
-use Rattle.cover.specs.declared.parts.OpenOperand.{OpenOperand}
-use Rattle.cover.specs.declared.parts.OpenCut.{OpenCut}
+use Rattle.cover.specs.declared.opened.OpenOperand.{OpenOperand}
+use Rattle.cover.specs.declared.opened.OpenCut.{OpenCut}
+use Rattle.cover.specs.Inner.Matched.{AreLowSites}
 use Rattle.cover.specs.Inner.Jobs.{open_operand, open_operands, open_cuts, OperandsAt, CutsAt, HasOperand, HasCut}
 
 pub take_get : {X : Type 0} (xs : List X) (i : ℕ) (x : X) → slice_get xs i ≡ Some x → take (i + 1) xs ≡ take i xs ++ (x ∷ [])
@@ -47,7 +49,8 @@ stored_push nodes [] i h k = k
 stored_push nodes (x ∷ xs) i h k = (h.0, stored_push nodes xs i h.1 k)
 
 input_is : (p : Part) (old new : List OpenOperand) → HasOperand p old new → open_operands new ≡ open_operands old ++ operands_of (part_of p ∷ [])
-input_is (TheVariants.Operand id tree whole at) old new h = ap open_operands h ∙ map-append open_operand old _
+input_is (TheVariants.Operand id tree whole at) old new (i, e, is, h) =
+    ap open_operands e ∙ map-append open_operand old (i ∷ []) ∙ ap (λ o. open_operands old ++ (o ∷ [])) is
 input_is (TheVariants.Cut shape tree at) old new h = ap open_operands h ∙ (let xs = open_operands old in search rules)
 
 stored_is : (p : Part) (old new : List OpenCut) → HasCut p old new → open_cuts new ≡ open_cuts old ++ cuts_of (part_of p ∷ [])
@@ -63,7 +66,9 @@ stored_step p old new xs h e =
     stored_is p old new h ∙ ap (λ l. l ++ cuts_of (part_of p ∷ [])) e ∙ sym (cuts-append (sites_of xs) (part_of p ∷ [])) ∙ ap cuts_of (sym (map-append part_of xs (p ∷ [])))
 
 input_put : (nodes : List Term) (p : Part) (old new : List OpenOperand) → HasOperand p old new → IsPartAt nodes p → OperandsAt nodes old → OperandsAt nodes new
-input_put nodes (TheVariants.Operand id tree whole at) old new h here k = subst (OperandsAt nodes) (sym h) (inputs_push nodes old _ k (here, tt))
+input_put nodes (TheVariants.Operand id tree whole at) old new (i, e, is, h) here k =
+    let there : slice_get nodes i.at ≡ Some (tree_term i.tree.now) = ap (slice_get nodes) h ∙ here ∙ ap (λ (o : Operand). Some o.tree) (sym is) in
+    subst (OperandsAt nodes) (sym e) (inputs_push nodes old i k (there, tt))
 input_put nodes (TheVariants.Cut shape tree at) old new h here k = subst (OperandsAt nodes) (sym h) k
 
 stored_put : (nodes : List Term) (p : Part) (old new : List OpenCut) → HasCut p old new → IsPartAt nodes p → CutsAt nodes old → CutsAt nodes new
@@ -72,6 +77,20 @@ stored_put nodes (TheVariants.Cut shape tree at) old new h here k = subst (CutsA
 
 pub input_at : (p : Part) (old new : List OpenOperand) (xs : List Part) → HasOperand p old new → ((nodes : List Term) → AreAt nodes xs → OperandsAt nodes old) → (nodes : List Term) → AreAt nodes (xs ++ (p ∷ [])) → OperandsAt nodes new
 input_at p old new xs h before nodes are = input_put nodes p old new h (are_last nodes xs p are) (before nodes (are_first nodes xs p are))
+
+-- the parts of low sites are low
+pub low_at : (parts : List Part) (i : ℕ) (p : Part) → AreLowSites (sites_of parts) → slice_get parts i ≡ Some p → AreLowSites (part_of p ∷ [])
+low_at [] i p h get = absurd (cc)
+low_at (x ∷ parts) zero p h get = let e : x ≡ p = cc in subst (λ q. AreLowSites (part_of q ∷ [])) e (first (part_of x) (sites_of parts) h)
+  where
+    first : (s : Site) (sites : List Site) → AreLowSites (s ∷ sites) → AreLowSites (s ∷ [])
+    first (operand id tree whole) sites h = (h.0, tt)
+    first (cut shape tree) sites h = tt
+low_at (x ∷ parts) (suc i) p h get = low_at parts i p (later (part_of x) (sites_of parts) h) get
+  where
+    later : (s : Site) (sites : List Site) → AreLowSites (s ∷ sites) → AreLowSites sites
+    later (operand id tree whole) sites h = h.1
+    later (cut shape tree) sites h = h
 
 pub stored_at : (p : Part) (old new : List OpenCut) (xs : List Part) → HasCut p old new → ((nodes : List Term) → AreAt nodes xs → CutsAt nodes old) → (nodes : List Term) → AreAt nodes (xs ++ (p ∷ [])) → CutsAt nodes new
 stored_at p old new xs h before nodes are = stored_put nodes p old new h (are_last nodes xs p are) (before nodes (are_first nodes xs p are))

@@ -69,19 +69,19 @@ inner whole w t a sites lt h = inr (inr (let le = small_le w a sites h in omega 
 none_left : (whole : Bool) (t : Term) (sites : List Site) → sites ≡ [] → Small whole t sites
 none_left whole t sites e = inr (inr (let n = ap total e in let p = size_pos t in omega (arith, n, p)))
 
-settled_sites : (o : Option ℕ) (found : Found) → settled o ≡ Some found → found.sites ≡ []
+pub settled_sites : (o : Option ℕ) (found : Found) → settled o ≡ Some found → found.sites ≡ []
 settled_sites None found h = absurd (cc)
 settled_sites (Some s) found h = let e : ◌≡◌ {A = Found} (record { setting = s; sites = [] }) found = cc in sym (ap (λ (f : Found). f.sites) e)
 
-open_sites : (b : Bool) (site : Site) (found : Found) → open_if b site ≡ Some found → (b ≡ true) × (found.sites ≡ site ∷ [])
+pub open_sites : (b : Bool) (site : Site) (found : Found) → open_if b site ≡ Some found → (b ≡ true) × (found.sites ≡ site ∷ [])
 open_sites true site found h = let e : ◌≡◌ {A = Found} (record { setting = 0; sites = site ∷ [] }) found = cc in (refl, sym (ap (λ (f : Found). f.sites) e))
 open_sites false site found h = absurd (cc)
 
-shape_sites : (shape t : Term) (found : Found) → shape_match shape t ≡ Some found → found.sites ≡ []
+pub shape_sites : (shape t : Term) (found : Found) → shape_match shape t ≡ Some found → found.sites ≡ []
 shape_sites shape (const w v) found h = settled_sites _ found (picked (w == term_width shape) _ found h).1
 shape_sites shape _ found h = absurd (cc)
 
-literal_sites : (shape t : Term) (found : Found) → literal_match shape t ≡ Some found → found.sites ≡ []
+pub literal_sites : (shape t : Term) (found : Found) → literal_match shape t ≡ Some found → found.sites ≡ []
 literal_sites shape (read a w) found h = shape_sites shape a found h
 literal_sites shape _ found h = absurd (cc)
 
@@ -90,27 +90,27 @@ both_parts None b found h = absurd (cc)
 both_parts (Some f) None found h = absurd (cc)
 both_parts (Some f) (Some g) found h = (f, g, refl, refl, (let inj : (x y : Found) → Some x ≡ Some y → x ≡ y = λ x y e. cc in sym (ap (λ (x : Found). x.sites) (inj _ found h))))
 
-read_parts : (f : Term → Bool → Option Found) (w : ℕ) (t : Term) (found : Found) → read_match f w t ≡ Some found → (a : Term) × (v : ℕ) × (t ≡ read a v) × (f a (is_number a) ≡ Some found)
+pub read_parts : (f : Term → Bool → Option Found) (w : ℕ) (t : Term) (found : Found) → read_match f w t ≡ Some found → (a : Term) × (v : ℕ) × (t ≡ read a v) × (f a (is_number a) ≡ Some found)
 read_parts f w (read a v) found h = (a, v, refl, (picked (v == w) _ found h).1)
 read_parts f w _ found h = absurd (cc)
 
-un_parts : (f : Term → Bool → Option Found) (op : Op1) (t : Term) (found : Found) → un_match f op t ≡ Some found → (o : Op1) × (a : Term) × (t ≡ un o a) × (f a false ≡ Some found)
+pub un_parts : (f : Term → Bool → Option Found) (op : Op1) (t : Term) (found : Found) → un_match f op t ≡ Some found → (o : Op1) × (a : Term) × (t ≡ un o a) × (f a false ≡ Some found)
 un_parts f op (un o a) found h = (o, a, refl, (picked (same_op1 o op) _ found h).1)
 un_parts f op _ found h = absurd (cc)
 
-bin_parts : (f g : Term → Bool → Option Found) (op : Op2) (t : Term) (found : Found) → bin_match f g op t ≡ Some found → (o : Op2) × (a : Term) × (b : Term) × (t ≡ bin o a b) × (both (f a false) (g b false) ≡ Some found)
+pub bin_parts : (f g : Term → Bool → Option Found) (op : Op2) (t : Term) (found : Found) → bin_match f g op t ≡ Some found → (o : Op2) × (a : Term) × (b : Term) × (t ≡ bin o a b) × (both (f a false) (g b false) ≡ Some found)
 bin_parts f g op (bin o a b) found h = (o, a, b, refl, (picked (same_op2 o op) _ found h).1)
 bin_parts f g op _ found h = absurd (cc)
 
-slice_parts : (f : Term → Bool → Option Found) (n hi lo : ℕ) (t : Term) (found : Found) → slice_match f n hi lo t ≡ Some found → (a : Term) × (x : ℕ) × (y : ℕ) × (t ≡ slice a x y) × (f a false ≡ Some found)
+pub slice_parts : (f : Term → Bool → Option Found) (n hi lo : ℕ) (t : Term) (found : Found) → slice_match f n hi lo t ≡ Some found → (a : Term) × (x : ℕ) × (y : ℕ) × (t ≡ slice a x y) × (f a false ≡ Some found)
 slice_parts f n hi lo (slice a x y) found h = (a, x, y, refl, (picked ((term_width a == n) && ((x == hi) && (y == lo))) _ found h).1)
 slice_parts f n hi lo _ found h = absurd (cc)
 
-zext_parts : (f : Term → Bool → Option Found) (n w : ℕ) (t : Term) (found : Found) → zext_match f n w t ≡ Some found → (a : Term) × (v : ℕ) × (t ≡ zext a v) × (f a false ≡ Some found)
+pub zext_parts : (f : Term → Bool → Option Found) (n w : ℕ) (t : Term) (found : Found) → zext_match f n w t ≡ Some found → (a : Term) × (v : ℕ) × (t ≡ zext a v) × (f a false ≡ Some found)
 zext_parts f n w (zext a v) found h = (a, v, refl, (picked ((term_width a == n) && (v == w)) _ found h).1)
 zext_parts f n w _ found h = absurd (cc)
 
-sext_parts : (f : Term → Bool → Option Found) (n w : ℕ) (t : Term) (found : Found) → sext_match f n w t ≡ Some found → (a : Term) × (v : ℕ) × (t ≡ sext a v) × (f a false ≡ Some found)
+pub sext_parts : (f : Term → Bool → Option Found) (n w : ℕ) (t : Term) (found : Found) → sext_match f n w t ≡ Some found → (a : Term) × (v : ℕ) × (t ≡ sext a v) × (f a false ≡ Some found)
 sext_parts f n w (sext a v) found h = (a, v, refl, (picked ((term_width a == n) && (v == w)) _ found h).1)
 sext_parts f n w _ found h = absurd (cc)
 
@@ -125,7 +125,7 @@ cell_small temps addr w t whole found h = go (is_cell t) (picked (w == term_widt
     go true e = none_left whole t found.sites (literal_sites addr t found e)
     go false e = let (ok, is) = open_sites (not whole && shows_below addr temps) (cut addr t) found e in inr (inl (addr, is, not_whole whole _ ok))
 
-either : (b : Bool) (x y : Option Found) (found : Found) → (if b then x else y) ≡ Some found → (x ≡ Some found) ⊎ (y ≡ Some found)
+pub either : (b : Bool) (x y : Option Found) (found : Found) → (if b then x else y) ≡ Some found → (x ≡ Some found) ⊎ (y ≡ Some found)
 either true x y found h = inl h
 either false x y found h = inr h
 

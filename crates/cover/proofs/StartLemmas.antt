@@ -11,11 +11,13 @@ use Rattle.tree_grammar.specs.declared.parts.Match.{Match}
 use Rattle.tree_grammar.specs.Numbers.{HoldsSubtrees}
 use Rattle.tree_grammar.specs.Parts.{found_of, sites_of, AreAt, Stands}
 use Rattle.cover.specs.declared.slots.Slot.{Slot}
-use Rattle.cover.specs.declared.table.Instance.{Instance}
+use Rattle.cover.specs.declared.instance.Instance.{Instance}
 use Rattle.cover.specs.Inner.Asks.{takes}
 use Rattle.cover.specs.Inner.Slots.{IsSlot, entry_destination, goal_slot}
 use Rattle.cover.specs.Inner.Rows.{row_ask}
 use Rattle.cover.specs.Inner.Jobs.{instance_stock}
+use Rattle.cover.specs.Inner.Matched.{AreLowSites}
+use Rattle.cover.proofs.LowLemmas.{taken_low}
 use Rattle.cover.proofs.SizeLemmas.{Small}
 use Rattle.cover.proofs.OfferLemmas.{row_small}
 use Rattle.cover.proofs.NodeLemmas.{slot_stands}
@@ -42,6 +44,10 @@ start_of instance form k goal t whole destination g o m got goes is found some a
       takes_it = t';
       small = (row_small (instance_stock instance) (rule_of form) t whole goal (found_of m) slot t').1;
     }
+
+-- the operands of a match go to registers that a set of registers has a bit for
+pub start_low : (instance : Instance) (form : Form) (k : ℕ) (goal : Slot) (t : Term) (whole : Bool) (m : Match) → Start instance form k goal t whole m → AreLowSites (sites_of m.parts.items)
+start_low instance form k goal t whole m s = taken_low instance.temps (rule_of form) (entry_destination goal) t whole (found_of m) s.takes_it (instance.low k (rule_of form) s.listed)
 
 -- the numbers of a match's parts are right wherever the tree's subtrees stand
 pub start_at : (number : ℕ) (goal : Slot) (t : Term) (destination : Destination) (o : Option Match) (m : Match) → IfSome o (λ x. (nodes : List Term) → Stands nodes number destination t → AreAt nodes x.parts.items) → o ≡ Some m → destination ≡ entry_destination goal → (nodes : List Term) → HoldsSubtrees nodes number t → AreAt nodes m.parts.items

@@ -9,3 +9,4 @@ pub mod Matched
 pub mod Tables
 pub mod Choice
 pub mod Best
+pub mod Made

@@ -1,3 +1,4 @@
 pub mod Jobs
 pub mod Best
+pub mod Made
 pub mod Inner

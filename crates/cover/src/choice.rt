@@ -16,11 +16,13 @@ ghost use Rattle.cover.specs.Inner.Tables.{AreRight};
 
 use crate::costs::form_cost;
 use crate::fits::{Fit, Want, cost_of, fit_at};
+use crate::instance::Instance;
 use crate::least::{cuts_cost, floor_of, least, operand_cost, orders, orders_after};
 use crate::matches::Matches;
-use crate::parts::{OpenCut, OpenOperand, put_reg, register_of, without};
+use crate::opened::{OpenCut, OpenOperand};
+use crate::parts::{put_reg, without};
 use crate::slots::Slot;
-use crate::table::{CostTable, Instance, matches_at};
+use crate::table::{CostTable, matches_at};
 use form_model::{Cover, CoverCuts, CoverOperands, RegSet, Tree};
 use rec_bits::NoMemory;
 use std::alloc::Global;
@@ -418,8 +420,7 @@ fn order_from<'a>(
     ensures right { OnOk result (AreRight instance.now table.new) }
 {
     let first = ops[i];
-    let r = register_of(first.id)?;
-    let later = put_reg(avoid, first.id)?;
+    let later = put_reg(avoid, first.id);
     let here = choose_entry(
         alloc,
         instance,
@@ -427,7 +428,7 @@ fn order_from<'a>(
         first.tree,
         first.at,
         first.whole,
-        Slot::Register(r),
+        Slot::Register(first.id),
         avoid,
         m,
     )?;

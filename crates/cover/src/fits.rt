@@ -7,12 +7,15 @@ ghost use Rattle.tree_grammar.specs.Parts.{sites_of, AreAt};
 ghost use Rattle.cover.specs.Inner.Least.{IsLeast, IsLeastForm};
 ghost use Rattle.cover.specs.Inner.Choice.{ask_of, StandsWant, IsFit, FitOf, FitsParts, fit_cost};
 ghost use Rattle.cover.specs.Inner.Jobs.{instance_stock, nodes_of, OperandsAt, CutsAt};
+ghost use Rattle.cover.specs.Inner.Matched.{AreLowSites};
 ghost use Rattle.cover.specs.Inner.Tables.{AreRight};
 
 use crate::costs::lesser_of;
+use crate::instance::Instance;
 use crate::least::{cuts_cost, orders};
-use crate::parts::{OpenCut, OpenOperand, cuts_in, operands_in};
-use crate::table::{CostTable, Instance};
+use crate::opened::{OpenCut, OpenOperand};
+use crate::parts::{cuts_in, operands_in};
+use crate::table::CostTable;
 use form_model::{RegSet, Tree};
 use rec_bits::NoMemory;
 use std::alloc::Global;
@@ -80,6 +83,7 @@ fn fit_parts<'a>(
     parts: &[Part<'a>],
     avoid: RegSet,
 ) -> Result<Option<Fit<'a>>, NoMemory>
+    requires low { AreLowSites (sites_of parts.now) }
     requires at { AreAt (nodes_of instance.now) parts.now }
     requires right { AreRight instance.now table.old }
     ensures fit { IfOk result (λ o.
@@ -132,7 +136,7 @@ fn cost_if(fit: &Option<Fit>) -> Result<Option<u64>, NoMemory>
 }
 
 // The least cost of the covers that begin with the form at `k`.
-fn form_least<'a>(
+pub(crate) fn form_least<'a>(
     alloc: Global,
     instance: &Instance<'a>,
     table: &mut CostTable<'a>,

@@ -3,7 +3,8 @@
 ghost use Rattle.std.specs.Prelude.{◌≡◌, ◌<◌, Some, Err, IfOk, length, slice_get};
 ghost use Rattle.net_model.specs.Terms.{Term};
 ghost use Rattle.form_model.specs.Trees.{tree_term};
-ghost use Rattle.form_model.specs.Rules.{destination_of};
+ghost use Rattle.form_model.specs.Registers.{AreLow};
+ghost use Rattle.form_model.specs.Rules.{destination_of, rules_of};
 ghost use Rattle.form_model.specs.Covers.{IsChosen, HasNoCover, job_cost, stock_with};
 ghost use Rattle.form_model.specs.Plans.{cost, plan_of};
 ghost use Rattle.tree_grammar.specs.Parts.{destination_at};
@@ -16,7 +17,8 @@ ghost use Rattle.cover.specs.Inner.Tables.{AreRight};
 use crate::choice::choose;
 use crate::covers::{CoverFault, JobCover, TreeCover};
 use crate::fits::{Want, least_of};
-use crate::table::{CostTable, Instance, new_table};
+use crate::instance::Instance;
+use crate::table::{CostTable, new_table};
 use form_model::{Aim, Form, Forms, Job};
 use rec_bits::NoMemory;
 use std::alloc::Global;
@@ -80,6 +82,7 @@ fn best_of(
     job: &Job,
     temps: u32,
 ) -> Result<Option<JobCover>, NoMemory>
+    requires { AreLow (rules_of forms.now) }
     ensures { IfOk result (λ o. IsBest (stock_with forms.now temps) (destination_of job.now.aim)
         (trees_of job.now.trees.items) (length job.now.trees.items) o) }
 {
@@ -99,7 +102,8 @@ fn cover_tree_at(
     temps: u32,
     j: usize,
 ) -> Result<Option<TreeCover>, NoMemory>
-    requires { j < length job.now.trees.items }
+    requires low { AreLow (rules_of forms.now) }
+    requires place { j < length job.now.trees.items }
     ensures { IfOk result (λ o. (t : Term) → slice_get (trees_of job.now.trees.items) j ≡ Some t →
         IsTreeCover (stock_with forms.now temps) (root_ask (destination_of job.now.aim) t) o) }
 {
@@ -134,8 +138,7 @@ fn without_branch(aim: &Aim, c: JobCover) -> JobCover
 /// used; `NoCover` exactly where no tree of the job has an orderly cover. Covers of equal cost are
 /// ordered by the tree that they cover, then by the place of the form, then by the order of the
 /// operands, then by their covers in that order, and then by the cuts' covers. Want of memory
-/// stands also for a form of a register whose number is 16 or more, and for a cost, a tree or a
-/// setting of a form past 64 bits.
+/// stands also for a cost, a tree or a setting of a form past 64 bits.
 pub fn cover(alloc: Global, forms: &Forms, job: &Job, temps: u32) -> Result<JobCover, CoverFault>
     ensures chosen { IfOk result (λ c. IsChosen (stock_with forms.now.list.items temps)
         (destination_of job.now.aim) (trees_of job.now.trees.items) (choice_of c)) }

@@ -12,11 +12,13 @@ ghost use Rattle.cover.specs.Inner.Matched.{AreMatches, IsOfferAt};
 ghost use Rattle.cover.specs.Inner.Tables.{AreRight};
 
 use crate::costs::{form_cost, is_as_dear, lesser_of, sum_of};
+use crate::instance::Instance;
 use crate::matches::{Matches, start_of};
-use crate::parts::{OpenCut, OpenOperand, put_reg, register_of, without};
+use crate::opened::{OpenCut, OpenOperand};
+use crate::parts::{put_reg, without};
 use crate::rows::{ChainRule, Offer, close, known_cost, note, offer_of};
 use crate::slots::Slot;
-use crate::table::{CostTable, Instance, KeptRow, keep, kept, matches_at};
+use crate::table::{CostTable, KeptRow, keep, kept, matches_at};
 use form_model::{RegSet, Tree};
 use rec_bits::NoMemory;
 use smallvec::SmallVec;
@@ -77,7 +79,6 @@ pub(crate) fn operand_cost<'a>(
         IsLeast (instance_stock instance.now) avoid (operand_ask (open_operand operand.entry)) o) }
     ensures right { OnOk result (AreRight instance.now table.new) }
 {
-    let r = register_of(operand.id)?;
     least(
         alloc,
         instance,
@@ -85,7 +86,7 @@ pub(crate) fn operand_cost<'a>(
         operand.tree,
         operand.at,
         operand.whole,
-        Slot::Register(r),
+        Slot::Register(operand.id),
         avoid,
     )
 }
@@ -327,7 +328,7 @@ pub(crate) fn orders_after<'a>(
     ensures right { OnOk result (AreRight instance.now table.new) }
 {
     let first = ops[i];
-    let later = put_reg(avoid, first.id)?;
+    let later = put_reg(avoid, first.id);
     if ops.len() == 2 {
         return operand_cost(alloc, instance, table, ops[1 - i], later);
     }

@@ -4,7 +4,9 @@
 //! job (`chosen`: `IsChosen`), with its cost, which for a test leaves out the branch word (`cost`:
 //! `job_cost`), or `NoCover` where no tree of the job has an orderly cover (`none`: `HasNoCover`).
 //! `law_of_choices`: there is at most one such cover, and none where `HasNoCover` holds. So there
-//! is always one right answer.
+//! is always one right answer. `least_cost` gives the least cost of a tree's covers, and None where
+//! it has none (`IsLeastCost`); `made_parts` tells of each subtree whether it can come into some
+//! register or a temporary cell (`AreMade`).
 //!
 //! Invariant: `AreRight` in `specs/Inner/Tables`. A subtree is looked up by the least number of an
 //! equal one (`tree_sharing`), so that equal subtrees have their rows in common. Each row that the
@@ -13,13 +15,17 @@
 //! covers that write none of these. Each list of matches has all forms that match its subtree, in
 //! their order. A row is kept only once it is closed under the forms that go on from another entry
 //! of the same row, *chain rules*. `choice` reads off a cover by asking for each part whether it is
-//! one of the least cost that is left.
+//! one of the least cost that is left. Each register has an entry and a bit in a set: those that
+//! forms go to and name are below 16 (`Forms`), and so are those of the operands that matches leave
+//! open.
 //!
 //! Files:
 //!
 //! - `covers`: what `cover` answers.
+//! - `instance`: what is to be covered, and by what.
 //! - `costs`: sums and comparisons of costs.
-//! - `parts`: what a match leaves open, with the numbers of its trees, and sets of registers.
+//! - `opened`: the operands and the cuts that a match leaves open, with the numbers of their trees.
+//! - `parts`: these among a match's parts, and sets of registers.
 //! - `slots`: an entry of a row, for a register or for a temporary cell, and its place there.
 //! - `rows`: a row of least costs, and its closure under chain rules.
 //! - `matches`: the forms that match a subtree, with what their matches leave open, once for all
@@ -27,15 +33,16 @@
 //! - `takes`: which forms needn't be matched with a tree, since an operator of theirs isn't the
 //!   tree's at its place.
 //! - `table`: the rows and the lists of matches that were found, each in a list under the number of
-//!   its subtree, and `Instance`, what is to be covered by what.
+//!   its subtree.
 //! - `least`: least costs of a tree, of operands over all orders, and of cuts, and the *floor* of
 //!   operands, which no order costs less than: orders are gone through only where it can make an
 //!   entry less, and only up to one that costs no more.
 //! - `fits`: the forms that begin a cover of what is asked for, and the least cost of its covers.
 //! - `choice`: the first cover of a known least cost, from the root down.
 //! - `jobs`: `cover`: the better of a job's trees.
+//! - `made`: `least_cost`, `made_parts`, and where a form puts a part of a tree.
 //! - `laws`: `law_of_choices`.
-//! - `specs/`, cited by public contracts: `Best` and `Jobs`; what is promised stands in
+//! - `specs/`, cited by public contracts: `Best`, `Jobs` and `Made`; what is promised stands in
 //!   `form_model/specs/Covers`. `specs/Inner/`: what the functions here tell one another, with
 //!   `Asks`, `Least`, `Slots`, `Rows` and `Choice` at the head.
 //! - `proofs/`: named by what they are about; from costs to the promise they go `LeastLemmas`,
@@ -47,10 +54,13 @@ mod choice;
 mod costs;
 mod covers;
 mod fits;
+mod instance;
 mod jobs;
 mod laws;
 mod least;
+mod made;
 mod matches;
+mod opened;
 mod parts;
 mod rows;
 mod slots;
@@ -60,3 +70,4 @@ mod takes;
 pub use covers::{CoverFault, JobCover};
 pub use jobs::cover;
 pub use laws::law_of_choices;
+pub use made::{least_cost, made_parts, part_destination};

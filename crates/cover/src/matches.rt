@@ -2,14 +2,16 @@
 
 ghost use Rattle.std.specs.Prelude.{◌≡◌, ◌<◌, ◌==◌, Some, IfOk, OnOk, length, slice_get};
 ghost use Rattle.form_model.specs.Trees.{tree_term};
+ghost use Rattle.tree_grammar.specs.Parts.{sites_of};
 ghost use Rattle.cover.specs.Inner.Asks.{start_under};
 ghost use Rattle.cover.specs.Inner.Jobs.{nodes_of};
-ghost use Rattle.cover.specs.Inner.Matched.{AddsMatch, AreMatches, IsOpened, MatchesForm};
+ghost use Rattle.cover.specs.Inner.Matched.{AddsMatch, AreLowSites, AreMatches, IsOpened, MatchesForm};
 
-use crate::parts::{OpenCut, OpenOperand, cuts_in, operands_in, rest_of};
+use crate::instance::Instance;
+use crate::opened::{OpenCut, OpenOperand};
+use crate::parts::{cuts_in, operands_in, rest_of};
 use crate::rows::{destination_of_entry, goal_of};
 use crate::slots::Slot;
-use crate::table::Instance;
 use crate::takes::may_take;
 use form_model::{RegSet, Tree};
 use rec_bits::NoMemory;
@@ -67,7 +69,7 @@ fn match_form<'a>(
     if !may_take(&form.value, tree) {
         return Ok(None);
     }
-    let Some(goal) = goal_of(form, whole)? else {
+    let Some(goal) = goal_of(form, whole) else {
         return Ok(None);
     };
     let Some(found) = match_at(
@@ -95,9 +97,10 @@ fn open_match<'a>(
     goal: Slot,
     clobbers: RegSet,
 ) -> Result<FormMatch<'a>, NoMemory>
+    requires low { AreLowSites (sites_of parts.now) }
     ensures { IfOk result (λ m. IsOpened parts.now number form goal clobbers m) }
 {
-    let start = rest_of(parts, number)?;
+    let start = rest_of(parts, number);
     let operands = operands_in(alloc, parts)?;
     let cuts = cuts_in(alloc, parts)?;
     Ok(FormMatch {

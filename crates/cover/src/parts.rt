@@ -1,50 +1,27 @@
-//! What a match leaves open, with the numbers of its trees, and registers.
+//! Operands and cuts among a match's parts, where it goes on from, and sets of registers.
 
 ghost use Rattle.std.specs.Prelude.{◌≡◌, [], ◌∷◌, ◌<◌, IfOk, OnOk, IfSome, length, remove, List};
 ghost use Rattle.net_model.specs.Terms.{Term};
 ghost use Rattle.form_model.specs.Covers.{operands_of, cuts_of};
-ghost use Rattle.tree_grammar.specs.Parts.{sites_of, AreAt};
+ghost use Rattle.tree_grammar.specs.Parts.{part_of, sites_of, AreAt};
 ghost use Rattle.cover.specs.Inner.Asks.{with_reg};
 ghost use Rattle.cover.specs.Inner.Jobs.{open_operands, open_cuts, OperandsAt, CutsAt, HasOperand, HasCut};
-ghost use Rattle.cover.specs.Inner.Matched.{rest_at};
+ghost use Rattle.cover.specs.Inner.Matched.{rest_at, AreLowSites};
 ghost use Rattle.cover.specs.Inner.Slots.{IsEntry};
 
+use crate::opened::{OpenCut, OpenOperand};
 use crate::slots::Slot;
-use form_model::{RegSet, Tree};
+use form_model::RegSet;
 use rec_bits::NoMemory;
 use std::alloc::Global;
 use tree_grammar::Part;
 
-/// An operand that a match leaves open, with the number of its tree among the job's subtrees.
-#[derive(Clone, Copy)]
-pub struct OpenOperand<'a> {
-    pub id: u32,
-    pub tree: &'a Tree,
-    pub whole: bool,
-    pub at: u64,
-}
-
-/// A cut that a match leaves open, with the number of its tree among the job's subtrees.
-#[derive(Clone, Copy)]
-pub struct OpenCut<'a> {
-    pub tree: &'a Tree,
-    pub at: u64,
-}
-
-// The register's number, which is below 16; a form for another register has no bit in a set of
-// registers.
-pub(crate) fn register_of(id: u32) -> Result<u8, NoMemory>
-    ensures { IfOk result (λ r. (r ≡ id) × (r < 16)) }
-{
-    if id < 16 { Ok(id as u8) } else { Err(NoMemory) }
-}
-
 // The set with one more register.
-pub(crate) fn put_reg(avoid: RegSet, id: u32) -> Result<RegSet, NoMemory>
-    ensures { IfOk result (λ s. s ≡ with_reg avoid id) }
+pub(crate) fn put_reg(avoid: RegSet, id: u8) -> RegSet
+    requires { id < 16 }
+    ensures { result ≡ with_reg avoid id }
 {
-    let r = register_of(id)?;
-    Ok(avoid | (1 << r))
+    avoid | (1 << id)
 }
 
 // The operands among the parts, from left to right.
@@ -52,6 +29,7 @@ pub(crate) fn operands_in<'a>(
     alloc: Global,
     parts: &[Part<'a>],
 ) -> Result<Vec<OpenOperand<'a>>, NoMemory>
+    requires low { AreLowSites (sites_of parts.now) }
     ensures operands { IfOk result (λ v. open_operands v.items ≡ operands_of (sites_of parts.now)) }
     ensures at { IfOk result (λ v. (nodes : List Term) → AreAt nodes parts.now → OperandsAt nodes v.items) }
 {
@@ -63,6 +41,7 @@ pub(crate) fn operands_in<'a>(
 }
 
 fn put_operand<'a>(out: &mut Vec<OpenOperand<'a>>, part: Part<'a>) -> Result<(), NoMemory>
+    requires { AreLowSites (part_of part ∷ []) }
     ensures { OnOk result (HasOperand part.entry out.old.items out.new.items) }
 {
     match part {
@@ -73,7 +52,7 @@ fn put_operand<'a>(out: &mut Vec<OpenOperand<'a>>, part: Part<'a>) -> Result<(),
             at,
         } => {
             out.push(OpenOperand {
-                id,
+                id: id as u8,
                 tree,
                 whole,
                 at,
@@ -125,32 +104,34 @@ pub(crate) fn without<'a>(
 
 // The entry of the same tree's row from which a match goes on where there is nothing to avoid, if
 // its one part is the whole tree, which alone has the tree's number.
-pub(crate) fn rest_of(parts: &[Part], number: u64) -> Result<Option<Slot>, NoMemory>
-    ensures is { IfOk result (λ o. o ≡ rest_at number parts.now) }
-    ensures register { IfOk result (λ o. IfSome o IsEntry) }
+pub(crate) fn rest_of(parts: &[Part], number: u64) -> Option<Slot>
+    requires low { AreLowSites (sites_of parts.now) }
+    ensures is { result ≡ rest_at number parts.now }
+    ensures register { IfSome result IsEntry }
 {
     if parts.len() != 1 {
-        return Ok(None);
+        return None;
     }
     rest_of_one(parts[0], number)
 }
 
-fn rest_of_one(part: Part, number: u64) -> Result<Option<Slot>, NoMemory>
-    ensures is { IfOk result (λ o. o ≡ rest_at number (part.entry ∷ [])) }
-    ensures register { IfOk result (λ o. IfSome o IsEntry) }
+fn rest_of_one(part: Part, number: u64) -> Option<Slot>
+    requires low { AreLowSites (part_of part ∷ []) }
+    ensures is { result ≡ rest_at number (part.entry ∷ []) }
+    ensures register { IfSome result IsEntry }
 {
     match part {
         Part::Operand { id, at, .. } => {
             if at != number {
-                return Ok(None);
+                return None;
             }
-            Ok(Some(Slot::Register(register_of(id)?)))
+            Some(Slot::Register(id as u8))
         }
         Part::Cut { at, .. } => {
             if at != number {
-                return Ok(None);
+                return None;
             }
-            Ok(Some(Slot::Temporary))
+            Some(Slot::Temporary)
         }
     }
 }

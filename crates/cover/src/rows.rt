@@ -3,6 +3,7 @@
 
 ghost use Rattle.std.specs.Prelude.{◌≡◌, ◌<◌, Some, IfOk, OnOk, IfSome, vec_len, length, slice_set, if◌then◌else◌};
 ghost use Rattle.std.specs.Bool.{OnTrue, OnFalse};
+ghost use Rattle.form_model.specs.Registers.{IsLowGoal};
 ghost use Rattle.form_model.specs.Rules.{kind_of};
 ghost use Rattle.form_model.specs.Plans.{cost};
 ghost use Rattle.tree_grammar.specs.Parts.{destination_at};
@@ -11,7 +12,6 @@ ghost use Rattle.cover.specs.Inner.Slots.{entry_destination, goal_slot, place, I
 ghost use Rattle.cover.specs.Inner.Rows.{entry, IsBelow, AreWithin, IsWithin, offer_is, Noted, Chained, Swept, IsClosed, Entered};
 
 use crate::costs::is_less;
-use crate::parts::register_of;
 use crate::slots::Slot;
 use form_model::{Form, Goal};
 use rec_bits::NoMemory;
@@ -48,19 +48,15 @@ pub(crate) fn destination_of_entry(slot: Slot) -> Destination<'static>
 }
 
 // The entry of a row to which the form goes; a whole tree has none for a temporary cell.
-pub(crate) fn goal_of(form: &Form, whole: bool) -> Result<Option<Slot>, NoMemory>
-    ensures { IfOk result (λ o. (o ≡ goal_slot (kind_of form.now.goal) whole) × IfSome o (λ r. IsSlot whole r)) }
+pub(crate) fn goal_of(form: &Form, whole: bool) -> Option<Slot>
+    requires { IsLowGoal (kind_of form.now.goal) }
+    ensures is { result ≡ goal_slot (kind_of form.now.goal) whole }
+    ensures slot { IfSome result (λ r. IsSlot whole r) }
 {
     match &form.goal {
-        Goal::Reg(id) => Ok(Some(Slot::Register(register_of(*id)?))),
-        Goal::Memory => {
-            if whole {
-                Ok(None)
-            } else {
-                Ok(Some(Slot::Temporary))
-            }
-        }
-        _ => Ok(None),
+        Goal::Reg(id) => Some(Slot::Register(*id as u8)),
+        Goal::Memory => if whole { None } else { Some(Slot::Temporary) },
+        _ => None,
     }
 }
 

@@ -10,24 +10,14 @@ ghost use Rattle.cover.specs.Inner.Jobs.{instance_stock, nodes_of};
 ghost use Rattle.cover.specs.Inner.Matched.{AreMatches};
 ghost use Rattle.cover.specs.Inner.Tables.{AreEmpty, AreRight, HasMatches, IsAmong, IsKept};
 
+use crate::instance::Instance;
 use crate::matches::{Matches, matches_of};
 use crate::slots::Slot;
-use form_model::{Form, RegSet, Tree};
+use form_model::{RegSet, Tree};
 use rec_bits::NoMemory;
 use std::alloc::Global;
 use std::rc::Rc;
-use tree_grammar::Destination;
 use tree_sharing::{first_equal, first_numbers};
-
-/// What is to be covered, and by what: a tree with its destination, the forms, and the number of
-/// temporary cells.
-#[derive(Clone, Copy)]
-pub struct Instance<'a> {
-    pub forms: &'a [Form],
-    pub temps: u32,
-    pub destination: Destination<'a>,
-    pub tree: &'a Tree,
-}
 
 /// The row of least costs of a tree, whole or not, for a set of registers to avoid.
 #[derive(Drop)]

@@ -1,6 +1,7 @@
 pub mod Trees
 pub mod Shapes
 pub mod Rules
+pub mod Registers
 pub mod Matches
 pub mod Plans
 pub mod Covers

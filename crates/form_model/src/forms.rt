@@ -1,5 +1,8 @@
 //! The forms of a netlist: the transfers that code is made of.
 
+ghost use Rattle.form_model.specs.Registers.{AreLow};
+ghost use Rattle.form_model.specs.Rules.{rules_of};
+
 use net_model::Expr;
 
 /// A set of storages: bit `s` stands for the storage of number `s`, below 16.
@@ -52,6 +55,8 @@ pub struct Forms {
     pub list: Vec<Form>,
     /// The greatest reach of the jump forms, and 0 where there is none.
     pub reach: u64,
+    /// A set of registers has a bit for each register that a form goes to or names.
+    pub ghost low: { AreLow (rules_of list.items) },
 }
 
 /// A pattern with the values of its field bits.

@@ -15,10 +15,10 @@
 //! - `covers`: covers of trees by forms.
 //! - `laws`: the two laws above.
 //! - `specs/`, all cited by public contracts in the crates above: `Trees`, `Shapes` (field shapes),
-//!   `Rules` (forms as plain values), `Matches` (what a form takes of a tree), `Plans` and `Covers`
-//!   (covers, orderly ones, and the chosen one), `Steps` (the steps of a cover), `Effects` and
-//!   `Live` (what steps do and read, and live registers). `Worked` has shapes and matches,
-//!   computed.
+//!   `Rules` (forms as plain values), `Registers` (those that forms go to and name), `Matches` (what
+//!   a form takes of a tree), `Plans` and `Covers` (covers, orderly ones, and the chosen one),
+//!   `Steps` (the steps of a cover), `Effects` and `Live` (what steps do and read, and live
+//!   registers). `Worked` has shapes and matches, computed.
 //! - `proofs/`: `FieldLaws` and `ShapeLaws` carry the law of shapes, `TreeLaws` that of trees;
 //!   `Zips` is for lists in two orders, in the crates above. `WorkedCovers` is a worked choice
 //!   between the two trees of a test.

@@ -11,6 +11,7 @@ pub mod RuleLists
 pub mod ShapeBits
 pub mod SwapLaws
 pub mod FormLaws
+pub mod LowForms
 pub mod NoForms
 pub mod LinearLaws
 pub mod OneList

@@ -173,6 +173,8 @@ pub fn forms(
     ensures forms { IfOk result (λ forms. AreForms checked.now.netlist
         (row_patterns pool.now patterns.now.rows) (rules_of forms.list.items) forms.reach) }
 {
+    // the rules of the netlist say which registers its expressions name
+    let _netlist = checked.netlist();
     let reach = reach_of(alloc, checked, pool, patterns, book)?;
     let list = list_of(alloc, checked, pool, patterns, book, reach)?;
     Ok(Forms { list, reach })

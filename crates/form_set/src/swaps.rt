@@ -86,78 +86,52 @@ fn swaps_of(expr: &Expr) -> u8
     }
 }
 
+// Swaps the operator at the root, where it can be swapped and the choice's lowest bit is set, and
+// gives what is left of the choice.
+fn swap_root(expr: &mut Expr, choice: u16) -> u16
+    ensures left { result ≡ left_of_term 0 choice (term_of expr.old) }
+    ensures swapped { term_of expr.new ≡ swap_level_of 0 choice (term_of expr.old) }
+{
+    let Expr::Bin(op, a, b) = expr else {
+        return choice;
+    };
+    if !can_swap(*op) {
+        return choice;
+    }
+    if choice % 2 == 1 {
+        std::mem::swap(a, b);
+    }
+    choice / 2
+}
+
 // Swaps the chosen operators of a level, whose bits are the lowest of the choice, and gives what is
 // left of it.
 fn swap_level(expr: &mut Expr, level: u64, choice: u16) -> u16
     ensures left { result ≡ left_of_term level choice (term_of expr.old) }
     ensures swapped { term_of expr.new ≡ swap_level_of level choice (term_of expr.old) }
 {
+    if level == 0 {
+        return swap_root(expr, choice);
+    }
     match expr {
         Expr::Word(_) | Expr::Reg(..) | Expr::Const { .. } => choice,
-        Expr::Read(a, _) => {
-            if level == 0 {
-                choice
-            } else {
-                swap_level(a, level - 1, choice)
-            }
-        }
-        Expr::Un(_, a) => {
-            if level == 0 {
-                choice
-            } else {
-                swap_level(a, level - 1, choice)
-            }
-        }
-        Expr::Slice(a, _, _) => {
-            if level == 0 {
-                choice
-            } else {
-                swap_level(a, level - 1, choice)
-            }
-        }
-        Expr::Zext(a, _) => {
-            if level == 0 {
-                choice
-            } else {
-                swap_level(a, level - 1, choice)
-            }
-        }
-        Expr::Sext(a, _) => {
-            if level == 0 {
-                choice
-            } else {
-                swap_level(a, level - 1, choice)
-            }
-        }
-        Expr::Bin(op, a, b) => {
-            if level > 0 {
-                let rest = swap_level(a, level - 1, choice);
-                swap_level(b, level - 1, rest)
-            } else if can_swap(*op) {
-                if choice % 2 == 1 {
-                    std::mem::swap(a, b);
-                }
-                choice / 2
-            } else {
-                choice
-            }
+        Expr::Read(a, _) => swap_level(a, level - 1, choice),
+        Expr::Un(_, a) => swap_level(a, level - 1, choice),
+        Expr::Slice(a, _, _) => swap_level(a, level - 1, choice),
+        Expr::Zext(a, _) => swap_level(a, level - 1, choice),
+        Expr::Sext(a, _) => swap_level(a, level - 1, choice),
+        Expr::Bin(_, a, b) => {
+            let rest = swap_level(a, level - 1, choice);
+            swap_level(b, level - 1, rest)
         }
         Expr::Cat(a, b) => {
-            if level == 0 {
-                choice
-            } else {
-                let rest = swap_level(a, level - 1, choice);
-                swap_level(b, level - 1, rest)
-            }
+            let rest = swap_level(a, level - 1, choice);
+            swap_level(b, level - 1, rest)
         }
         Expr::Select(c, a, b) => {
-            if level == 0 {
-                choice
-            } else {
-                let behind = swap_level(c, level - 1, choice);
-                let rest = swap_level(a, level - 1, behind);
-                swap_level(b, level - 1, rest)
-            }
+            let behind = swap_level(c, level - 1, choice);
+            let rest = swap_level(a, level - 1, behind);
+            swap_level(b, level - 1, rest)
         }
     }
 }

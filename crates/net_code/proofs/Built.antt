@@ -47,7 +47,8 @@ use Rattle.right_code.proofs.Right.{jump_words_of, right_image}
 use Rattle.net_code.specs.declared.views.CoveredProgram.{CoveredProgram}
 use Rattle.net_code.specs.declared.views.Machine.{Machine}
 use Rattle.net_code.specs.Inner.Coded.{AreItemWords, HasWord, IsBlockCode}
-use Rattle.net_code.specs.Inner.Covering.{IsCovering, machine_netlist, machine_patterns}
+use Rattle.net_code.specs.Machines.{machine_netlist, machine_patterns}
+use Rattle.net_code.specs.Inner.Covering.{IsCovering}
 use Rattle.net_code.specs.Inner.Imaged.{ArePlaces, IsImageMade, IsLengthFault, IsNear, IsTaskImage, OfTask}
 use Rattle.net_code.specs.Refusals.{HasJumps, IsBeyondReach, IsCodeFault, IsCoverable, IsJumpless, IsReached, IsStepless, IsImageTooLong}
 use Rattle.net_code.specs.Inner.Uncovered.{IsUncovered}

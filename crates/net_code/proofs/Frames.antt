@@ -28,7 +28,8 @@ use Rattle.right_code.proofs.Tasks.{AreTests, IsTestWork, program_tests, tests_g
 use Rattle.right_code.proofs.Right.{block_words_of, job_covered, test_words_of}
 use Rattle.net_code.specs.declared.views.CoveredProgram.{CoveredProgram}
 use Rattle.net_code.specs.declared.views.Machine.{Machine}
-use Rattle.net_code.specs.Inner.Covering.{IsCovering, machine_netlist, machine_patterns}
+use Rattle.net_code.specs.Machines.{machine_netlist, machine_patterns}
+use Rattle.net_code.specs.Inner.Covering.{IsCovering}
 use Rattle.net_code.specs.Inner.Registers.{form_registers}
 use Rattle.net_code.specs.Inner.Views.{choices_in, stock_of, works_in}
 use Rattle.net_code.proofs.Conditions.{wanted_registers}

@@ -1,16 +1,15 @@
 -- A block has as many words as its trees cost, where each step has one.
-use Rattle.std.proofs.Common.{◌≡◌, ℕ, zero, suc, ◌+◌, List, [], ◌∷◌, ◌++◌, map, Option, Some, None, length, slice_get, slice_index, refl, sym, ap, ◌∙◌, arith, length-append, append_assoc}
+use Rattle.std.proofs.Common.{◌≡◌, ℕ, zero, suc, ◌+◌, List, [], ◌∷◌, ◌++◌, Option, Some, None, length, slice_get, slice_index, refl, sym, ap, ◌∙◌, arith, length-append, append_assoc}
 use Rattle.std.proofs.lemmas.List.{append-nil, length-map}
 use Rattle.net_model.specs.declared.hardware.Netlist.{Netlist}
 use Rattle.net_model.specs.Patterns.{Pattern}
-use Rattle.form_model.specs.declared.forms.Step.{Step}
 use Rattle.form_model.specs.declared.flow.Flow.{Flow}
 use Rattle.form_model.specs.declared.flow.Flow.TheVariants.{Assign, Test, Jump, End}
-use Rattle.form_model.specs.Covers.{Choice, Stock, job_cost}
-use Rattle.form_model.specs.Live.{singles}
+use Rattle.form_model.specs.Covers.{Choice, Covers, Stock, job_cost}
 use Rattle.form_model.specs.Steps.{cover_steps}
 use Rattle.src_trees.specs.Blocks.{job_at, job_list, jobs_at}
 use Rattle.src_trees.specs.Lowered.{Work}
+use Rattle.emit_seq.specs.Leaves.{IsOfJob}
 use Rattle.emit_seq.proofs.Counted.{steps_cost}
 use Rattle.branch_fix.specs.Costs.{SizesWithin, block_costs}
 use Rattle.right_code.specs.Covered.{AllChosen, job_costs}
@@ -35,10 +34,9 @@ module _ (stock : Stock) where
       ap (λ xs. job_steps stock j c ++ xs) (steps_append js ks cs ds (omega arith)) ∙ sym (append_assoc (job_steps stock j c) (jobs_steps stock js cs) (jobs_steps stock ks ds))
 
   -- the steps of a job are as many as its cover costs
-  pub job_long : (job : Work) (choice : Choice) → IsCovered stock job choice → length (job_steps stock job choice) ≡ job_cost job.destination choice.plan
-  job_long job choice c =
-      ap (λ t. length (cover_steps stock job.destination t choice.plan)) (ap tree_or_none c.covers.used)
-      ∙ steps_cost stock job.destination c.covers.tree choice.plan c.goes c.covers.orderly
+  pub job_long : (job : Work) (choice : Choice) → IsOfJob job.destination → Covers stock job.destination job.trees choice → length (job_steps stock job choice) ≡ job_cost job.destination choice.plan
+  job_long job choice goes covers =
+      ap (λ t. length (cover_steps stock job.destination t choice.plan)) (ap tree_or_none covers.used) ∙ steps_cost stock job.destination covers.tree choice.plan goes covers.orderly
 
   -- the cost of a job by its number, and 0 past the last
   cost_past : (works : List Work) (choices : List Choice) (k : ℕ) → slice_get works k ≡ None → slice_index (job_costs works choices) k ≡ 0
@@ -100,7 +98,8 @@ module _ (stock : Stock) where
     tree_long k None (Some choice) e f = sym (cost_past works choices k e)
     tree_long k (Some job) None e f = absurd (no_choice works choices k job chosen e f)
     tree_long k (Some job) (Some choice) e f =
-        ap length (append-nil (job_steps stock job choice)) ∙ job_long job choice (covered k job choice e f) ∙ sym (cost_at works choices k job choice e f)
+        let c = covered k job choice e f in
+        ap length (append-nil (job_steps stock job choice)) ∙ job_long job choice c.goes c.covers ∙ sym (cost_at works choices k job choice e f)
 
     place_long : (o : Option Flow) → length (jobs_steps stock (job_at works o) (choice_at choices o)) ≡ place_cost (job_costs works choices) o
     place_long None = refl
@@ -139,7 +138,8 @@ module _ (stock : Stock) where
         let size = sizes_at blocks (blocks_before flow at) in
         let long = k.packed.least.long in
         let few = groups_few k.packed.packing in
-        let steps = job_long t.work c.0 (covered tree t.work c.0 t.at c.1) in
+        let job = covered tree t.work c.0 t.at c.1 in
+        let steps = job_long t.work c.0 job.goes job.covers in
         let cost = cost_at works choices tree t.work c.0 t.at c.1 in
         omega (arith, size, long, few, steps, cost)))
       where

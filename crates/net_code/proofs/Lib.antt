@@ -9,8 +9,8 @@ pub mod Listing
 pub mod Making
 pub mod Memories
 pub mod NeededForms
+pub mod Packing
 pub mod Places
 pub mod Sizes
 pub mod Stepping
 pub mod Whole
-mod Packing

@@ -27,12 +27,15 @@ module _ (netlist : Netlist) (patterns : List Pattern) (are : ArePatterns netlis
       both (list_all (λ (form : Form). is_no_jump (kind_of form.goal)) list)
       (jumps_of_list list ∙ (no_jump netlist reach 0 patterns (rules_of list) forms.list).1 (none_of_list netlist patterns are (IsJump netlist) none)) lacks
 
+  pub stepless : list_all (λ (form : Form). is_control_goal (kind_of form.goal)) list ≡ true → IsStepless netlist
+  stepless e = none_of_netlist netlist patterns are (IsPlain netlist) ((no_step netlist reach 0 patterns (rules_of list) forms.list).0 (sym (control_of_list list) ∙ e))
+
+  jumpless : list_all (λ (form : Form). is_no_jump (kind_of form.goal)) list ≡ true → IsJumpless netlist
+  jumpless e = none_of_netlist netlist patterns are (IsJump netlist) ((no_jump netlist reach 0 patterns (rules_of list) forms.list).0 (sym (jumps_of_list list) ∙ e))
+
   pub formless : (fault : CodeFault) → IsKindsFault list fault → IsFormless netlist fault
-  formless NoStep e = none_of_netlist netlist patterns are (IsPlain netlist) ((no_step netlist reach 0 patterns (rules_of list) forms.list).0 (sym (control_of_list list) ∙ e))
-  formless NoJump h = (
-    some_step h.0,
-    none_of_netlist netlist patterns are (IsJump netlist) ((no_jump netlist reach 0 patterns (rules_of list) forms.list).0 (sym (jumps_of_list list) ∙ h.1)),
-  )
+  formless NoStep e = stepless e
+  formless NoJump h = (some_step h.0, jumpless h.1)
   formless (NoCover number) h = absurd h
   formless (NoReach bound reached) h = absurd h
   formless (ImageFull len size bound) h = absurd h

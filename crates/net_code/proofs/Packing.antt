@@ -1,6 +1,6 @@
 -- Each group of a packing has a step, so there are no more groups than steps; and its words' lists
--- ascend.
-use Rattle.std.proofs.Common.{ℕ, suc, ◌-◌, ◌≤◌, List, [], ◌∷◌, ◌++◌, length, arith, length-append, subst, sym}
+-- ascend. The empty set of bits is that of no registers.
+use Rattle.std.proofs.Common.{◌≡◌, ℕ, suc, ◌-◌, ◌≤◌, List, [], ◌∷◌, ◌++◌, length, arith, length-append, subst, sym}
 use Rattle.std.proofs.lemmas.List.Sorted.{length_permutation}
 use Rattle.std.specs.List.{AllByRecursion}
 use Rattle.net_model.specs.declared.hardware.Netlist.{Netlist}
@@ -9,11 +9,16 @@ use Rattle.code_model.specs.declared.image.Word.{Word}
 use Rattle.code_model.specs.ImageFits.{AscendFrom}
 use Rattle.form_model.specs.declared.forms.Step.{Step}
 use Rattle.form_model.specs.Effects.{Operation}
-use Rattle.form_model.specs.Live.{Regs, singles}
+use Rattle.form_model.specs.Live.{Regs, no_regs, regs_of, singles}
 use Rattle.branch_fix.specs.declared.laid.Item.{Item}
+use Rattle.live_sets.proofs.Bits.{regs_of_none}
 use Rattle.compaction.specs.Chosen.{Packs, ends, merges, moves, stays}
 use Rattle.compaction.specs.Packing.{all_steps}
 use Rattle.right_code.specs.Words.{EachHasStep, IsPackingOf, ListItems}
+
+-- no register's bit is set in 0
+pub none_live : regs_of 0 ≡ no_regs
+none_live = λ j r. regs_of_none r j
 
 -- a group for each step has it
 pub singles_some : (xs : List Step) → EachHasStep (singles xs)

@@ -1,5 +1,5 @@
 -- The image of a program whose jobs are covered.
-use Rattle.std.proofs.Common.{◌≡◌, ℕ, ◌≤◌, List, map, length, sym, ap, subst, ◌∙◌, arith}
+use Rattle.std.proofs.Common.{◌≡◌, ℕ, ◌≤◌, List, length, sym, ap, subst, ◌∙◌, arith}
 use Rattle.std.proofs.lemmas.List.{length-map}
 use Rattle.net_model.specs.Nets.{memory_size, word_width}
 use Rattle.net_model.specs.Patterns.{ArePatterns, Pattern}

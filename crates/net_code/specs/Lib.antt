@@ -1,2 +1,5 @@
+pub mod Machines
+pub mod Blocks
+pub mod Trials
 pub mod Refusals
 pub mod Inner

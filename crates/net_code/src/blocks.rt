@@ -12,8 +12,10 @@ ghost use Rattle.src_trees.specs.Jobs.{work_of};
 ghost use Rattle.transfer_set.specs.Ready.{IsReady};
 ghost use Rattle.right_code.specs.Images.{choices_at};
 ghost use Rattle.right_code.specs.Jobs.{jobs_steps};
-ghost use Rattle.net_code.specs.Inner.Coded.{IsBlockCode, IsOnce, IsPackedBlock, IsTestCode};
-ghost use Rattle.net_code.specs.Inner.Covering.{IsCovered, machine_netlist, machine_patterns};
+ghost use Rattle.net_code.specs.Blocks.{IsOnce, IsPackedBlock};
+ghost use Rattle.net_code.specs.Machines.{machine_netlist, machine_patterns};
+ghost use Rattle.net_code.specs.Inner.Coded.{IsBlockCode, IsTestCode};
+ghost use Rattle.net_code.specs.Inner.Covering.{IsCovered};
 ghost use Rattle.net_code.specs.Inner.Registers.{form_registers};
 ghost use Rattle.net_code.specs.Inner.Views.{IsTestAt, IsTestJob, choices_in, stock_of, works_in};
 
@@ -31,10 +33,12 @@ use rec_bits::{Items, NoMemory};
 use std::alloc::Global;
 use word_fit::Group;
 
-/// A block's groups of steps, and the word of each.
+/// A block of steps, packed.
 #[derive(Drop)]
-pub(crate) struct PackedBlock {
+pub struct PackedBlock {
+    /// The steps that one word does, for each word.
     pub groups: Items<Group>,
+    /// The words, as many as groups.
     pub words: Items<u64>,
 }
 
@@ -46,8 +50,9 @@ pub(crate) struct BlockCode {
     pub branches: Vec<(u64, u64)>,
 }
 
-// The block of these steps, where `after` are live behind it.
-fn packed(
+/// The block of these steps, each of which has a word, where the registers `after` are live behind
+/// it.
+pub fn pack_block(
     alloc: Global,
     machine: &Machine<'_>,
     book: &mut Book,
@@ -107,7 +112,7 @@ fn run_block(
     ensures once { IfOk result IsOnce }
 {
     let steps = block_steps(alloc, program, at, count)?;
-    let block = packed(alloc, machine, book, steps.as_slice(), 0)?;
+    let block = pack_block(alloc, machine, book, steps.as_slice(), 0)?;
     Ok(block)
 }
 
@@ -149,7 +154,7 @@ fn test_block(
         program.temps,
     )?;
     let after = condition_registers(program, chosen.cover.form);
-    let block = packed(alloc, machine, book, emitted.steps.as_slice(), after)?;
+    let block = pack_block(alloc, machine, book, emitted.steps.as_slice(), after)?;
     Ok((block, emitted.branch.unwrap_or(0)))
 }
 

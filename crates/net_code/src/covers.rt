@@ -1,20 +1,41 @@
 //! The covers of a program's jobs, and their costs.
 
-ghost use Rattle.std.specs.Prelude.{◌≡◌, ◌<◌, ◌^◌, IfOk, IfErr, length, map};
+ghost use Rattle.std.specs.Prelude.{◌≡◌, ◌<◌, ◌^◌, IfOk, IfErr, IfSome, length, map, option_map};
 ghost use Rattle.std.specs.List.{AllByRecursion};
 ghost use Rattle.code_model.specs.ImageFits.{CostFits};
 ghost use Rattle.cover.specs.Best.{choice_of, stock_with};
 ghost use Rattle.cover.specs.declared.covers.JobCover.{JobCover as TheCover};
-ghost use Rattle.form_model.specs.Covers.{HasNoCover, IsChosen, job_cost};
+ghost use Rattle.form_model.specs.Covers.{IsChosen, job_cost};
 ghost use Rattle.src_trees.specs.Jobs.{work_of, works_of};
 ghost use Rattle.right_code.specs.Covered.{AllChosen, job_costs, numbered};
 ghost use Rattle.net_code.specs.Inner.Uncovered.{IsOneBare, IsUncovered};
+ghost use Rattle.net_code.specs.Trials.{IsTried};
 
 use crate::fault::CodeFault;
 use cover::{CoverFault, JobCover, cover};
 use form_model::{Forms, Job};
 use rec_bits::{Items, NoMemory};
 use std::alloc::Global;
+
+/// The chosen cover of a job, with its cost, where so many temporary cells are used; None where no
+/// cover of the job is orderly.
+pub fn chosen_cover(
+    alloc: Global,
+    forms: &Forms,
+    job: &Job,
+    temps: u32,
+) -> Result<Option<JobCover>, NoMemory>
+    ensures tried { IfOk result (λ chosen.
+        IsTried (stock_with forms.now.list.items temps) (work_of job.now) (option_map choice_of chosen)) }
+    ensures cost { IfOk result (λ chosen. IfSome chosen (λ c.
+        c.cost ≡ job_cost (work_of job.now).destination (choice_of c).plan)) }
+{
+    match cover(alloc, forms, job, temps) {
+        Ok(chosen) => Ok(Some(chosen)),
+        Err(CoverFault::NoCover) => Ok(None),
+        Err(CoverFault::Memory) => Err(NoMemory),
+    }
+}
 
 // The chosen cover of the job of this number.
 fn cover_one(
@@ -29,10 +50,9 @@ fn cover_one(
     ensures cost { IfOk result (λ c. c.cost ≡ job_cost (work_of job.now).destination (choice_of c).plan) }
     ensures refused { IfErr result (IsOneBare (stock_with forms.now.list.items temps) (work_of job.now) number) }
 {
-    match cover(alloc, forms, job, temps) {
-        Ok(c) => Ok(c),
-        Err(CoverFault::NoCover) => Err(CodeFault::NoCover(number)),
-        Err(CoverFault::Memory) => Err(CodeFault::Memory),
+    match chosen_cover(alloc, forms, job, temps)? {
+        Some(chosen) => Ok(chosen),
+        None => Err(CodeFault::NoCover(number)),
     }
 }
 

@@ -33,7 +33,8 @@ fn is_no_jump(form: &Form) -> bool
     !matches!(form.goal, Goal::Jump { .. })
 }
 
-fn only_control(list: &[Form]) -> bool
+/// Whether all forms of a list are jumps or branches.
+pub fn only_control(list: &[Form]) -> bool
     ensures { result ≡ list_all (λ (form : TheForm). is_control_goal (kind_of form.goal)) list.now }
 {
     list.iter().all(|form| is_control(form))
@@ -61,8 +62,9 @@ fn check_kinds(list: &[Form]) -> Result<(), CodeFault>
     Ok(())
 }
 
-/// The forms of the netlist, of which one steps and one jumps.
-pub(crate) fn usable_forms(
+/// The forms of the netlist, of which one steps and one jumps; `NoStep` or `NoJump` comes exactly
+/// where none does, and `Memory` is want of memory.
+pub fn usable_forms(
     alloc: Global,
     checked: &Checked,
     book: &mut Book,

@@ -16,7 +16,7 @@ ghost use Rattle.cover.specs.declared.covers.JobCover.{JobCover as TheCover};
 ghost use Rattle.net_code.specs.declared.blocks.PackedBlock.{PackedBlock as TheBlock};
 ghost use Rattle.right_code.specs.Images.{IsRightImage};
 ghost use Rattle.right_code.specs.Tasks.{IsChecked, read_task};
-ghost use Rattle.net_code.specs.Inner.Covering.{machine_netlist};
+ghost use Rattle.net_code.specs.Machines.{machine_netlist};
 ghost use Rattle.net_code.specs.Inner.Imaged.{HasTask, IsImageMade, IsLengthFault, IsTaskImage, OfTask};
 ghost use Rattle.net_code.specs.Refusals.{IsCodeFault, IsReached};
 

@@ -38,8 +38,8 @@ fn addr_width(checked: &Checked) -> u8
 }
 
 /// The flow and the jobs of a program whose variables stand at the places of its layout in the
-/// netlist's data memory.
-pub(crate) fn blocks_of(
+/// netlist's data memory. The only error is want of memory.
+pub fn blocks_of(
     alloc: Global,
     checked: &Checked,
     typed: &Typed,

@@ -5,7 +5,14 @@
 //! `IsFitting`), and then none of the reasons before a full image applies (`reached`: `IsReached`).
 //! No step, no jump, no cover and no reach come exactly where they are the first that applies; a
 //! full image only where an image that is made for the task is longer than the code, and then so is
-//! the bound (`refused`: `IsCodeFault`).
+//! the bound (`refused`: `IsCodeFault`). `usable_forms` gives the netlist's forms, or the first
+//! refusal alone (`refused`: `IsFormless`), and `blocks_of` the flow and the jobs of the program
+//! (`flow`: `program_flow`, `jobs`: `task_works`), for whoever asks why there is no image.
+//!
+//! What serves without a program, too: `only_control`, whether all forms of a list are jumps or
+//! branches; `chosen_cover`, the cover of one job, or None exactly where it has none (`tried`:
+//! `IsTried`); `pack_block`, steps packed into groups, each with its word (`packed`:
+//! `IsPackedBlock`).
 //!
 //! Invariant: a `CoveredProgram` has the covers of all jobs in the order of their numbers. Blocks
 //! and tests are made in the order of the flow, a block for each place that begins one, so the
@@ -16,15 +23,16 @@
 //! - `fault`, `views`: why no image was made, and what code is made from.
 //! - `forms`: the forms of the netlist, of which one steps and one jumps.
 //! - `jobs`: the flow and the jobs of the program in the netlist's memory.
-//! - `covers`: a cover for each job, and their costs.
+//! - `covers`: `chosen_cover`, a cover for each job, and their costs.
 //! - `steps`: the steps of a block, and how long it is.
 //! - `registers`: the registers that a branch's condition reads.
-//! - `blocks`: the groups of each block and of each test's operands, with their words.
+//! - `blocks`: `pack_block`, and the groups of each block and of each test's operands, with their
+//!   words.
 //! - `words`: the words of the layout's items, with their lists.
 //! - `image`: the layout, the bound, and `image_of`.
-//! - `specs/`: `Refusals`, cited by public contracts with `right_code/specs`. `specs/Inner/`: what
-//!   goes with the code: `Covering`, `Coded`, `Imaged`, `Views`, `Uncovered`, `Registers`,
-//!   `Memories`.
+//! - `specs/`: `Refusals`, `Machines`, `Blocks` and `Trials`, cited by public contracts with
+//!   `right_code/specs`. `specs/Inner/`: what goes with the code: `Covering`, `Coded`, `Imaged`,
+//!   `Views`, `Uncovered`, `Registers`, `Memories`.
 //! - `proofs/`: `Whole` and `Making` put the image together, `Coding`, `Packing` and `Stepping` its
 //!   blocks; `Lengths` and `Sizes` for the bound, `NeededForms` and `FormLemmas` for refusals;
 //!   `Fitting`, `Frames`, `Built` and `Listing` for the task.
@@ -41,5 +49,10 @@ mod steps;
 mod views;
 mod words;
 
+pub use blocks::{PackedBlock, pack_block};
+pub use covers::chosen_cover;
 pub use fault::CodeFault;
+pub use forms::{only_control, usable_forms};
 pub use image::image_of;
+pub use jobs::blocks_of;
+pub use views::Machine;

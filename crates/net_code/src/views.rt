@@ -6,11 +6,13 @@ use net_model::Checked;
 use sym_expr::Pool;
 use transfer_set::Patterns;
 
-/// A netlist with its patterns, whose expressions are of the pool.
+/// A netlist that code is made for.
 #[derive(Clone, Copy)]
-pub(crate) struct Machine<'a> {
+pub struct Machine<'a> {
     pub checked: &'a Checked,
+    /// The expressions of the patterns.
     pub pool: &'a Pool,
+    /// The patterns of the netlist.
     pub patterns: &'a Patterns,
 }
 

@@ -6,8 +6,9 @@ ghost use Rattle.bit_bdd.specs.Diagrams.{Extends};
 ghost use Rattle.form_model.specs.Effects.{operation_of};
 ghost use Rattle.transfer_set.specs.Ready.{IsReady};
 ghost use Rattle.word_fit.specs.Fits.{FitsJump, IsLeastFit};
-ghost use Rattle.net_code.specs.Inner.Coded.{AreItemWords, HasWord, IsOnce, IsWordOf, groups_at, words_at};
-ghost use Rattle.net_code.specs.Inner.Covering.{machine_netlist, machine_patterns};
+ghost use Rattle.net_code.specs.Blocks.{IsOnce};
+ghost use Rattle.net_code.specs.Machines.{machine_netlist, machine_patterns};
+ghost use Rattle.net_code.specs.Inner.Coded.{AreItemWords, HasWord, IsWordOf, groups_at, words_at};
 
 use crate::blocks::PackedBlock;
 use crate::views::Machine;

@@ -17,7 +17,7 @@ use Rattle.right_code.proofs.OneBound.{bound_one}
 use Rattle.net_code.specs.Refusals.{HasSteps, HasJumps, IsBeyondReach, IsCodeFault, IsCoverable, IsJumpless, IsReached, IsStepless, IsImageTooLong}
 use Rattle.net_code.specs.declared.fault.CodeFault.{CodeFault}
 use Rattle.net_code.specs.declared.fault.CodeFault.TheVariants.{NoStep as Stepless, NoJump as Jumpless, NoCover as Uncovered, NoReach as Beyond, ImageFull as Overlong, Memory as CodeMemory}
-use Rattle.net_compile.specs.Code.{IsDataFull, IsCode, IsTaskFault, IsWithin, HasRoom, FailsWith}
+use Rattle.net_compile.specs.Code.{IsDataFull, IsCode, IsPlaceFault, IsTaskFault, IsWithin, HasRoom, FailsWith}
 use Rattle.net_compile.specs.Compiled.{HasNet, IsCompiled, BreaksSrc, IsCompileFault, IsSrcFault}
 use Rattle.net_compile.specs.Tasks.{IsTask, TaskHolds, data_width}
 use Rattle.net_compile.specs.Inner.Faults.{code_fault}
@@ -32,6 +32,20 @@ fault_of_image task room (Uncovered number) h = (room, h)
 fault_of_image task room (Beyond bound reach) h = (room, h)
 fault_of_image task room (Overlong len size bound) h = (room, h)
 fault_of_image task room CodeMemory h = tt
+
+-- why it has no places
+pub fault_of_places : (task : Task) (fault : CompileFault) → IsPlaceFault task fault → IsTaskFault task fault
+fault_of_places task (NetText at) h = absurd h
+fault_of_places task (Net fault) h = absurd h
+fault_of_places task (SrcText at) h = absurd h
+fault_of_places task (Src fault) h = absurd h
+fault_of_places task (DataFull need have) h = h
+fault_of_places task NoStep h = absurd h
+fault_of_places task NoJump h = absurd h
+fault_of_places task (NoCover number) h = absurd h
+fault_of_places task (NoReach bound reach) h = absurd h
+fault_of_places task (ImageFull len size bound) h = absurd h
+fault_of_places task Memory h = tt
 
 -- why the program's bytes were not taken for a netlist that was read
 pub fault_of_program : (net src : List ℕ) (checked : Ordered) (width : ℕ) → IsRoutedNet net checked → width ≡ memory_width checked.netlist.storages → (fault : CompileFault) →

@@ -61,6 +61,12 @@ IsTaskFault task (ImageFull len size bound) = HasRoom task × IsCodeFault task (
 IsTaskFault task Memory = Unit {0}
 IsTaskFault task _ = ⊥
 
--- the same, of one fault
+-- why its program has no places
+abbrev pub IsPlaceFault : Task → CompileFault → Type 0
+IsPlaceFault task (DataFull need have) = IsDataFull need have task
+IsPlaceFault task Memory = Unit {0}
+IsPlaceFault task _ = ⊥
+
+-- when each refusal comes, of one fault
 abbrev pub FailsWith : CompileFault → Property
 FailsWith fault task = IsTaskFault task fault

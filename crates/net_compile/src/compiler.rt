@@ -7,6 +7,7 @@ ghost use Rattle.net_model.specs.Nets.{memory_size, memory_width};
 ghost use Rattle.net_model.specs.Patterns.{ArePatterns};
 ghost use Rattle.net_extract.specs.Extraction.{IsExtractedFrom};
 ghost use Rattle.net_extract.specs.Extracts.{IsRoutedNet};
+ghost use Rattle.transfer_set.specs.Ready.{IsReady};
 ghost use Rattle.transfer_set.specs.Rows.{row_patterns};
 ghost use Rattle.src_model.specs.Rules.{first_fault};
 ghost use Rattle.src_model.specs.Written.{listing_of};
@@ -18,7 +19,7 @@ ghost use Rattle.code_model.specs.Places.{Apart};
 ghost use Rattle.right_code.specs.Images.{IsRightImage};
 ghost use Rattle.right_code.specs.Tasks.{IsChecked, read_task};
 ghost use Rattle.net_code.specs.Refusals.{IsReached};
-ghost use Rattle.net_compile.specs.Code.{HasRoom, IsRightFor, IsTaskFault};
+ghost use Rattle.net_compile.specs.Code.{HasRoom, IsPlaceFault, IsRightFor, IsTaskFault};
 ghost use Rattle.net_compile.specs.Read.{IsCompiledTo};
 ghost use Rattle.net_compile.specs.Compiled.{IsCompiled, IsCompileFault, IsNetFault, IsSrcFault};
 ghost use Rattle.net_compile.specs.declared.fault.CompileFault.{CompileFault};
@@ -34,8 +35,9 @@ use src_front::read_src;
 use src_model::Typed;
 use std::alloc::Global;
 
-// The netlist, which keeps all rules, and what is extracted from it.
-fn netlist(alloc: Global, net: &[u8]) -> Result<(Checked, Extracted), CompileFault>
+/// The netlist that `net` is, which keeps all rules, and what is extracted from it. The refusals are
+/// the first two, and want of memory.
+pub fn netlist(alloc: Global, net: &[u8]) -> Result<(Checked, Extracted), CompileFault>
     requires { length net.now < 2 ^ 32 }
     ensures found { IfOk result (λ both. IsRoutedNet net.now both.0) }
     ensures extracted { IfOk result (λ both. IsExtractedFrom both.0.netlist both.1) }
@@ -47,8 +49,9 @@ fn netlist(alloc: Global, net: &[u8]) -> Result<(Checked, Extracted), CompileFau
     Ok(both)
 }
 
-// The program, which was checked for words of so many bits.
-fn program(alloc: Global, src: &[u8], width: u8) -> Result<Typed, CompileFault>
+/// The program that `src` is, which was checked for words of `width` bits, 1 to 64. The refusals are
+/// `SrcText` and `Src`, and want of memory.
+pub fn program(alloc: Global, src: &[u8], width: u8) -> Result<Typed, CompileFault>
     requires short { length src.now < 2 ^ 32 }
     requires some { 1 ≤ width }
     requires most { width ≤ 64 }
@@ -60,8 +63,9 @@ fn program(alloc: Global, src: &[u8], width: u8) -> Result<Typed, CompileFault>
     Ok(typed)
 }
 
-// The places of the program's variables.
-fn places(alloc: Global, checked: &Checked, typed: &Typed) -> Result<Places, CompileFault>
+/// The places of the program's variables in the netlist's data memory. The refusals are `DataFull`
+/// and want of memory.
+pub fn places(alloc: Global, checked: &Checked, typed: &Typed) -> Result<Places, CompileFault>
     requires rules { KeepsRules checked.now.netlist checked.now.order }
     requires few { length typed.now.program.vars < 2 ^ 32 }
     requires named { AreNamed typed.now.program.vars }
@@ -69,7 +73,7 @@ fn places(alloc: Global, checked: &Checked, typed: &Typed) -> Result<Places, Com
     ensures room { IfOk result (λ _. HasRoom (read_task checked.now typed.now)) }
     ensures apart { IfOk result (λ places. Apart places.temps places.list (memory_size checked.now.netlist.storages)) }
     ensures named { IfOk result (λ places. AllByRecursion PlaceFits places.list) }
-    ensures refused { IfErr result (IsTaskFault (read_task checked.now typed.now)) }
+    ensures refused { IfErr result (IsPlaceFault (read_task checked.now typed.now)) }
 {
     let places = bind(alloc, typed, checked.memory_size())?;
     Ok(places)
@@ -91,7 +95,7 @@ fn image(
     typed: &Typed,
     places: Places,
 ) -> Result<Image, CompileFault>
-    requires extracted { IsExtractedFrom checked.now.netlist extracted.old }
+    requires ready { IsReady checked.now.netlist extracted.old.book extracted.old.pool extracted.old.patterns }
     requires patterns { ArePatterns checked.now.netlist (row_patterns extracted.old.pool extracted.old.patterns.rows) }
     requires checked { IsChecked checked.now.order (read_task checked.now typed.now) }
     requires places { places ≡ layout_of typed.now.width (listing_of typed.now.program) }
@@ -124,15 +128,15 @@ fn text(alloc: Global, checked: &Checked, image: &Image) -> Result<Vec<u8>, NoMe
     image_text::write(alloc, image)
 }
 
-// The image of the program for the netlist.
-fn image_for(
+/// The image of the program for the netlist: right code. The refusals are those from `DataFull` on.
+pub fn image_for(
     alloc: Global,
     checked: &Checked,
     extracted: &mut Extracted,
     typed: &Typed,
 ) -> Result<Image, CompileFault>
     requires rules { KeepsRules checked.now.netlist checked.now.order }
-    requires extracted { IsExtractedFrom checked.now.netlist extracted.old }
+    requires ready { IsReady checked.now.netlist extracted.old.book extracted.old.pool extracted.old.patterns }
     requires patterns { ArePatterns checked.now.netlist (row_patterns extracted.old.pool extracted.old.patterns.rows) }
     requires width { typed.now.width ≡ memory_width checked.now.netlist.storages }
     requires program { first_fault typed.now.width (listing_of typed.now.program) ≡ None }

@@ -18,7 +18,7 @@ use Rattle.record_core.specs.Stages.{By}
 use Rattle.record_core.specs.Inner.Statuses.{compile_status}
 use Rattle.record_core.specs.Watching.{IsWatched, LacksMemory}
 use Rattle.record_core.specs.declared.status.Status.{Status}
-use Rattle.record_core.specs.declared.status.Status.TheVariants.{Done, Usage, ReadFault, TooLong, WriteFault, NetText, Net, SrcText, Src, NoStep, NoJump, NoCover, DataFull, NoReach, ImageFull, Memory, ImageText, MemText, Clash, AsmText, AsmWord}
+use Rattle.record_core.specs.declared.status.Status.TheVariants.{Done, Usage, ReadFault, TooLong, WriteFault, NetText, Net, SrcText, Src, NoStep, NoJump, NoCover, DataFull, NoReach, ImageFull, Memory, ImageText, MemText, Clash, AsmText, AsmWord, TestLimit}
 
 module _ (net src memory : List ℕ) where
   -- a memory text that is none shows that at one offset, and one that is read shows it at none
@@ -35,7 +35,7 @@ module _ (line : Status → List ℕ) (net src memory : List ℕ) (clocks : ℕ)
 
   -- what is written on `Done` are the checkpoints
   pub watched_of : (text : List ℕ) → GoAnswers line net src memory clocks Done text → TaskHolds net src (IsWatched memory clocks text)
-  watched_of text answers = shown (later_of line net src (WatchAnswers line net src memory clocks) Done text tt answers)
+  watched_of text answers = shown (later_of line net src (WatchAnswers line net src memory clocks) text answers)
     where
       shown : WatchAnswers line net src memory clocks Done text → TaskHolds net src (IsWatched memory clocks text)
       shown (image, inl ((at, reason, is), same)) = absurd cc
@@ -87,3 +87,4 @@ module _ (line : Status → List ℕ) (net src memory : List ℕ) (clocks : ℕ)
     memory_fault (Clash cycle bus) is = absurd is
     memory_fault (AsmText at) is = absurd is
     memory_fault (AsmWord number) is = absurd is
+    memory_fault (TestLimit count bound) is = absurd is

@@ -1,11 +1,14 @@
 mod AnswerLemmas
 mod AsmLemmas
 mod CompileLemmas
+mod ExplainLemmas
 mod ExtractLemmas
 mod FetchLemmas
+mod FormLemmas
 mod GoLemmas
 mod MakeLemmas
 mod StageLemmas
+mod TestLemmas
 mod UniqueLemmas
 mod WordLemmas
 mod WroteLemmas

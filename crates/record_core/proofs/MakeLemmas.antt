@@ -32,4 +32,4 @@ module _ (line : Status → List ℕ) (number : ℕ) where
 
   -- what is written on `Done` is the summary
   pub summary_of : (text : List ℕ) → MakeAnswers line number Done text → IsSummary number text
-  summary_of text answers = (later_of line (job_netlist number) (job_program number) summed Done text tt answers).1
+  summary_of text answers = (later_of line (job_netlist number) (job_program number) summed text answers).1

@@ -18,6 +18,8 @@ use Rattle.net_run.specs.Runs.{ClashedAt}
 use Rattle.net_asm.proofs.AsmLaws.{one_text_fault, one_wordless}
 use Rattle.net_asm.specs.Assembled.{IsAssembled}
 use Rattle.net_asm.specs.Disassembled.{IsDisassembled}
+use Rattle.net_explain.specs.Explained.{IsExplained}
+use Rattle.net_test.proofs.TestLaws.{one_full as one_test_full, one_limit as one_test_limit, one_too_long}
 use Rattle.rec_io.specs.Causes.{Rose}
 use Rattle.rec_io.specs.Files.{Files, file_of}
 use Rattle.rec_io.specs.Shelf.{ShelfState}
@@ -26,15 +28,15 @@ use Rattle.record_core.proofs.CompileLemmas.{done_within}
 use Rattle.record_core.proofs.GoLemmas.{one_lack}
 use Rattle.record_core.proofs.NetLemmas.{NetStages-alike}
 use Rattle.record_core.proofs.StageLemmas.{AllAlike, AtMostOne, By-unique, Then-alike, Just-unique}
-use Rattle.record_core.specs.Answers.{AnswersAgree, Answers, AsmAnswers, DisAnswers, FilesAnswer, CanCompile, AreOfImages, CodeAnswers, CodeEnds, ExtractAnswers, WatchAnswers, netlist_in, RunEnds, RunAnswers, TextAnswers, CommandAnswers, file_at, file_limit, place_from, AreFiles, IsFileReadFault, IsFileTooLong, IsFile, IsAnswer, IsExact, IsAccepted}
+use Rattle.record_core.specs.Answers.{AnswersAgree, Answers, AsmAnswers, DisAnswers, FilesAnswer, CanCompile, AreOfImages, AreOfTests, CodeAnswers, CodeEnds, ExtractAnswers, FormAnswers, WatchAnswers, netlist_in, RunEnds, RunAnswers, TestAnswers, TestEnds, TextAnswers, CommandAnswers, file_at, file_limit, place_from, AreFiles, IsFileReadFault, IsFileTooLong, IsFile, IsAnswer, IsExact, IsAccepted}
 use Rattle.record_core.specs.Lines.{due_line}
 use Rattle.record_core.specs.Stages.{Then}
 use Rattle.record_core.specs.Watching.{IsWatched}
 use Rattle.record_core.specs.Words.{command_of, names_of}
 use Rattle.record_core.specs.declared.words.Command.{Command}
-use Rattle.record_core.specs.declared.words.Command.TheVariants.{Compile, Extract, Run, Go, Make, Asm, Dis}
+use Rattle.record_core.specs.declared.words.Command.TheVariants.{Compile, Extract, Run, Go, Make, Asm, Dis, Test, Explain}
 use Rattle.record_core.specs.declared.status.Status.{Status}
-use Rattle.record_core.specs.declared.status.Status.TheVariants.{Done, Usage, ReadFault, TooLong, NetText, Net, SrcText, Src, NoStep, NoJump, NoCover, DataFull, NoReach, ImageFull, ImageText, MemText, Clash, AsmText, AsmWord, Memory}
+use Rattle.record_core.specs.declared.status.Status.TheVariants.{Done, Usage, ReadFault, TooLong, NetText, Net, SrcText, Src, NoStep, NoJump, NoCover, DataFull, NoReach, ImageFull, ImageText, MemText, Clash, AsmText, AsmWord, TestLimit, Memory}
 
 one_read : (names : List (List ℕ)) (before now : ShelfState) (x y : ℕ) → IsFileReadFault names before now x → IsFileReadFault names before now y → x ≡ y
 one_read names before now x y p q = let a = p.place in let b = q.place in cc
@@ -55,6 +57,25 @@ equal (Some (Go clocks)) s t e = inl e
 equal (Some (Make number)) s t e = inl e
 equal (Some Asm) s t e = e
 equal (Some Dis) s t e = e
+equal (Some Test) s t e = inl e
+equal (Some Explain) s t e = e
+
+-- ---- stages
+
+module _ (Alike : Status → Status → Type 0) (same : (s t : Status) → s ≡ t → Alike s t) (line : Status → List ℕ) where
+  -- a stage that refuses with one status, before others that are alike
+  stage : (Refuses : Status → Type 0) (Rest : Status → List ℕ → Type 0) → ((s t : Status) → Refuses s → Refuses t → s ≡ t) →
+      AllAlike Alike Rest → AllAlike Alike (Then line Refuses Rest)
+  stage Refuses Rest one = Then-alike Alike line Refuses Rest (λ s t p q. same s t (one s t p q))
+
+  FormAnswers-alike : (net src : List ℕ) (Later : Status → List ℕ → Type 0) → AllAlike Alike Later → AllAlike Alike (FormAnswers line net src Later)
+  FormAnswers-alike net src Later later =
+      NetStages-alike line net _ Alike same (
+      stage _ _ (By-unique SrcText _ (one_src_fault src)) (
+      stage _ _ (By-unique Src _ (one_broken net src)) (
+      stage _ _ (By-unique (λ (p : ℕ × ℕ). DataFull p.0 p.1) _ (one_full net src)) (
+      stage _ _ (Just-unique NoStep _) (
+      stage _ _ (Just-unique NoJump _) later)))))
 
 -- ---- commands that make code
 
@@ -76,21 +97,11 @@ module _ (line : Status → List ℕ) (net src : List ℕ) (Later : Status → L
   CodeEnds-agree s t a b (inr p) (inl (len, size, bound, q, also, y)) = rw also (inr (of.beside s a p len size bound).0)
   CodeEnds-agree s t a b (inr p) (inr q) = inl (of.one s t a b p q)
 
-  -- a stage that refuses with one status, before others that agree
-  stage : (Refuses : Status → Type 0) (Rest : Status → List ℕ → Type 0) → ((s t : Status) → Refuses s → Refuses t → s ≡ t) →
-      AllAlike CodeAgree Rest → AllAlike CodeAgree (Then line Refuses Rest)
-  stage Refuses Rest one = Then-alike CodeAgree line Refuses Rest (λ s t p q. inl (one s t p q))
-
   CodeAnswers-agree : AllAlike CodeAgree (CodeAnswers line net src Later)
   CodeAnswers-agree =
-      NetStages-alike line net _ CodeAgree (λ s t e. inl e) (
-      stage _ _ (By-unique SrcText _ (one_src_fault src)) (
-      stage _ _ (By-unique Src _ (one_broken net src)) (
-      stage _ _ (By-unique (λ (p : ℕ × ℕ). DataFull p.0 p.1) _ (one_full net src)) (
-      stage _ _ (Just-unique NoStep _) (
-      stage _ _ (Just-unique NoJump _) (
-      stage _ _ (By-unique NoCover _ (one_uncovered net src)) (
-      stage _ _ (By-unique (λ (p : ℕ × ℕ). NoReach p.0 p.1) _ (one_beyond net src)) CodeEnds-agree)))))))
+      FormAnswers-alike CodeAgree (λ s t e. inl e) line net src _ (
+      stage CodeAgree (λ s t e. inl e) line _ _ (By-unique NoCover _ (one_uncovered net src)) (
+      stage CodeAgree (λ s t e. inl e) line _ _ (By-unique (λ (p : ℕ × ℕ). NoReach p.0 p.1) _ (one_beyond net src)) CodeEnds-agree))
 
 -- what is written is beside an image that is too long
 done_beside : (Written : List ℕ → Type 0) → IsOfImage (λ status text. (status ≡ Done) × Written text)
@@ -148,6 +159,30 @@ DisAnswers-unique line net image =
     NetStages-alike line net _ (λ s t. s ≡ t) (λ s t e. e) (
     Then-alike (λ s t. s ≡ t) line _ _ (By-unique ImageText _ (one_image_fault net image)) (done_only (IsDisassembled net image)))
 
+-- ---- `test`
+
+module _ (line : Status → List ℕ) (net : List ℕ) where
+  -- one answer, or two of words made for one netlist
+  abbrev TestsAgree : Status → Status → Type 0
+  TestsAgree s t = (s ≡ t) ⊎ AreOfTests s t
+
+  TestEnds-agree : AllAlike TestsAgree (TestEnds line net)
+  TestEnds-agree s t a b (inl (len, size, bound, p, is, x)) (inl (other, room, most, q, also, y)) = rw (is, also) (inr (one_too_long net len size bound other room most p q))
+  TestEnds-agree s t a b (inl (len, size, bound, p, is, x)) (inr (inl (count, most, q, also, y))) = rw (is, also) (inr tt)
+  TestEnds-agree s t a b (inl (len, size, bound, p, is, x)) (inr (inr (also, q))) = rw (is, also) (inr tt)
+  TestEnds-agree s t a b (inr (inl (count, bound, p, is, x))) (inl (len, size, most, q, also, y)) = rw (is, also) (inr tt)
+  TestEnds-agree s t a b (inr (inl (count, bound, p, is, x))) (inr (inl (other, most, q, also, y))) = rw (is, also) (inr (one_test_limit net count bound other most p q))
+  TestEnds-agree s t a b (inr (inl (count, bound, p, is, x))) (inr (inr (also, q))) = rw (is, also) (inr tt)
+  TestEnds-agree s t a b (inr (inr (is, p))) (inl (len, size, bound, q, also, y)) = rw (is, also) (inr tt)
+  TestEnds-agree s t a b (inr (inr (is, p))) (inr (inl (count, bound, q, also, y))) = rw (is, also) (inr tt)
+  TestEnds-agree s t a b (inr (inr (is, p))) (inr (inr (also, q))) = inl (is ∙ sym also)
+
+  TestAnswers-agree : AllAlike TestsAgree (TestAnswers line net)
+  TestAnswers-agree =
+      NetStages-alike line net _ TestsAgree (λ s t e. inl e) (
+      stage TestsAgree (λ s t e. inl e) line _ _ (By-unique (λ (p : ℕ × ℕ). DataFull p.0 p.1) _ (one_test_full net)) (
+      stage TestsAgree (λ s t e. inl e) line _ _ (Just-unique NoStep _) TestEnds-agree))
+
 -- ---- all commands
 
 TextAnswers-agree : (line : Option ℕ → Status → List ℕ) (command : Command) (files : List (List ℕ)) → AllAlike (AnswersAgree (Some command)) (TextAnswers line command files)
@@ -160,6 +195,9 @@ TextAnswers-agree line (Go clocks) files =
 TextAnswers-agree line (Make number) files = CodeAnswers-agree (line None) (job_netlist number) (job_program number) _ (done_beside (IsSummary number))
 TextAnswers-agree line Asm files = AsmAnswers-unique (line None) (file_at files 0) (file_at files 1)
 TextAnswers-agree line Dis files = DisAnswers-unique (line None) (file_at files 0) (file_at files 1)
+TextAnswers-agree line Test files = TestAnswers-agree (line None) (file_at files 0)
+TextAnswers-agree line Explain files =
+    FormAnswers-alike (λ s t. s ≡ t) (λ s t e. e) (line None) (file_at files 0) (file_at files 1) _ (done_only (IsExplained (file_at files 0) (file_at files 1)))
 
 -- the bytes of a file that is told
 one_file : (files : Option Files) (name a b : List ℕ) → IsSome files → IsFile files name a → IsFile files name b → a ≡ b
@@ -251,6 +289,8 @@ accepted_by words before now can calm (Some (Go clocks)) is status text answers 
 accepted_by words before now can calm (Some (Make number)) is status text answers = absurd cc
 accepted_by words before now can calm (Some Asm) is status text answers = absurd cc
 accepted_by words before now can calm (Some Dis) is status text answers = absurd cc
+accepted_by words before now can calm (Some Test) is status text answers = absurd cc
+accepted_by words before now can calm (Some Explain) is status text answers = absurd cc
 accepted_by words before now can calm (Some Compile) is status text (inl ((file, fault, e), t)) = absurd (calm fault.rose)
 accepted_by words before now can calm (Some Compile) is status text (inr (a, inl ((at, long, e), t))) =
     absurd (no_long_file before.files can.known (names_of Compile words) can.files before now refl can.are at long)

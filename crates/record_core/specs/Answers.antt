@@ -16,6 +16,9 @@ use Rattle.job_gen.specs.SrcText.{src_text as job_program}
 use Rattle.net_make.specs.Summaries.{IsSummary}
 use Rattle.net_asm.specs.Assembled.{IsAssembled, IsNoAsmFile, IsWordless}
 use Rattle.net_asm.specs.Disassembled.{IsDisassembled}
+use Rattle.net_explain.specs.Explained.{IsExplained}
+use Rattle.net_test.specs.Refusals.{IsBeyondLimit, IsTestDataFull, IsTestTooLong}
+use Rattle.net_test.specs.Texts.{IsTested, NetHolds}
 use Rattle.net_run.specs.Runs.{IsNoImageFile, IsNoMemoryFile, ClashedAt, Clashes, ShowsState}
 use Rattle.rec_io.specs.Causes.{Rose}
 use Rattle.rec_io.specs.Files.{Files, file_of}
@@ -28,9 +31,9 @@ use Rattle.record_core.specs.Stages.{By, Just, Then}
 use Rattle.record_core.specs.Watching.{IsWatched, LacksMemory}
 use Rattle.record_core.specs.Words.{command_of, names_of}
 use Rattle.record_core.specs.declared.words.Command.{Command}
-use Rattle.record_core.specs.declared.words.Command.TheVariants.{Compile, Extract, Run, Go, Make, Asm, Dis}
+use Rattle.record_core.specs.declared.words.Command.TheVariants.{Compile, Extract, Run, Go, Make, Asm, Dis, Test, Explain}
 use Rattle.record_core.specs.declared.status.Status.{Status}
-use Rattle.record_core.specs.declared.status.Status.TheVariants.{Done, Usage, ReadFault, TooLong, WriteFault, NetText, Net, SrcText, Src, NoStep, NoJump, NoCover, DataFull, NoReach, ImageFull, Memory, ImageText, MemText, Clash, AsmText, AsmWord}
+use Rattle.record_core.specs.declared.status.Status.TheVariants.{Done, Usage, ReadFault, TooLong, WriteFault, NetText, Net, SrcText, Src, NoStep, NoJump, NoCover, DataFull, NoReach, ImageFull, Memory, ImageText, MemText, Clash, AsmText, AsmWord, TestLimit}
 
 -- the most bytes of a file
 abbrev pub file_limit : ℕ
@@ -81,24 +84,34 @@ CodeEnds line net src Later status text =
     × (status ≡ ImageFull len size bound) × (text ≡ line (ImageFull len size bound)))
     ⊎ Later status text
 
--- what a command answers that makes code of these two texts, and what the later stages answer once
--- there is an image
-abbrev pub CodeAnswers : (Status → List ℕ) → List ℕ → List ℕ → (Status → List ℕ → Type 0) → Status → List ℕ → Type 0
-CodeAnswers line net src Later =
+-- what a command answers that covers the program of the second text by forms of the netlist of the
+-- first, and what the later stages answer where code can be made of them
+abbrev pub FormAnswers : (Status → List ℕ) → List ℕ → List ℕ → (Status → List ℕ → Type 0) → Status → List ℕ → Type 0
+FormAnswers line net src Later =
     Then line (By NetText (IsNoNetText net)) (
     Then line (By Net (BreaksAnyRule net)) (
     Then line (By SrcText (IsNoSrcText src)) (
     Then line (By Src (BreaksSrc net src)) (
     Then line (By (λ (p : ℕ × ℕ). DataFull p.0 p.1) (λ (p : ℕ × ℕ). TaskHolds net src (IsDataFull p.0 p.1))) (
     Then line (Just NoStep (TaskHolds net src (λ task. IsStepless task.netlist))) (
-    Then line (Just NoJump (TaskHolds net src (λ task. IsJumpless task.netlist))) (
+    Then line (Just NoJump (TaskHolds net src (λ task. IsJumpless task.netlist))) Later))))))
+
+-- what a command answers that makes code of these two texts, and what the later stages answer once
+-- there is an image
+abbrev pub CodeAnswers : (Status → List ℕ) → List ℕ → List ℕ → (Status → List ℕ → Type 0) → Status → List ℕ → Type 0
+CodeAnswers line net src Later =
+    FormAnswers line net src (
     Then line (By NoCover (λ (tree : ℕ). TaskHolds net src (HasBareTree tree))) (
     Then line (By (λ (p : ℕ × ℕ). NoReach p.0 p.1) (λ (p : ℕ × ℕ). TaskHolds net src (IsBeyondReach p.0 p.1))) (
-    CodeEnds line net src Later)))))))))
+    CodeEnds line net src Later)))
 
 -- what `compile` answers for these two texts
 abbrev pub CompileAnswers : (Status → List ℕ) → List ℕ → List ℕ → Status → List ℕ → Type 0
 CompileAnswers line net src = CodeAnswers line net src (λ status text. (status ≡ Done) × IsCompiled net src text)
+
+-- what `explain` answers for these two texts; a cover that is missing is no refusal
+abbrev pub ExplainAnswers : (Status → List ℕ) → List ℕ → List ℕ → Status → List ℕ → Type 0
+ExplainAnswers line net src = FormAnswers line net src (λ status text. (status ≡ Done) × IsExplained net src text)
 
 -- what `extract` answers for this text
 abbrev pub ExtractAnswers : (Status → List ℕ) → List ℕ → Status → List ℕ → Type 0
@@ -158,6 +171,27 @@ DisAnswers line net image =
     Then line (By ImageText (IsNoImageFile net image)) (
     λ status text. (status ≡ Done) × IsDisassembled net image text)))
 
+-- how a self-test ends: words that are made for it are more than the code has; others take more
+-- evaluations than may be; or there is a right self-test, of which the report is written. Words that
+-- are made for one netlist may differ in number, so more than one may apply
+abbrev pub TestEnds : (Status → List ℕ) → List ℕ → Status → List ℕ → Type 0
+TestEnds line net status text =
+    ((len : ℕ) × (size : ℕ) × (bound : ℕ) × NetHolds net (λ netlist. IsTestTooLong netlist len size bound)
+    × (status ≡ ImageFull len size bound) × (text ≡ line (ImageFull len size bound)))
+    ⊎ (((count : ℕ) × (bound : ℕ) × NetHolds net (λ netlist. IsBeyondLimit netlist count bound)
+    × (status ≡ TestLimit count bound) × (text ≡ line (TestLimit count bound)))
+    ⊎ ((status ≡ Done) × IsTested net text))
+
+-- what `test` answers for this text
+abbrev pub TestAnswers : (Status → List ℕ) → List ℕ → Status → List ℕ → Type 0
+TestAnswers line net =
+    Then line (By NetText (IsNoNetText net)) (
+    Then line (By Net (BreaksAnyRule net)) (
+    Then line (By (λ (p : ℕ × ℕ). DataFull p.0 p.1)
+    (λ (p : ℕ × ℕ). NetHolds net (λ netlist. IsTestDataFull netlist p.0 p.1))) (
+    Then line (Just NoStep (NetHolds net IsStepless)) (
+    TestEnds line net))))
+
 -- the bytes of the file at this place
 abbrev pub file_at : List (List ℕ) → ℕ → List ℕ
 file_at files place = slice_index_or files place []
@@ -171,6 +205,8 @@ TextAnswers line (Go clocks) files = GoAnswers (line None) (file_at files 0) (fi
 TextAnswers line (Make number) files = MakeAnswers (line None) number
 TextAnswers line Asm files = AsmAnswers (line None) (file_at files 0) (file_at files 1)
 TextAnswers line Dis files = DisAnswers (line None) (file_at files 0) (file_at files 1)
+TextAnswers line Test files = TestAnswers (line None) (file_at files 0)
+TextAnswers line Explain files = ExplainAnswers (line None) (file_at files 0) (file_at files 1)
 
 -- the netlist's text of a command: the first file, and of `make` that of its number
 abbrev pub netlist_in : Command → List (List ℕ) → List ℕ
@@ -245,11 +281,26 @@ AreOfImages (ImageFull len size bound) (MemText at) = ⊤
 AreOfImages (ImageFull len size bound) (ImageFull other room most) = (size ≡ room) × (bound ≡ most)
 AreOfImages _ _ = ⊥
 
--- one answer; of the commands that make code, or two of images made for one task
+-- two answers that words of a self-test have which are made for one netlist: they are as many as
+-- may be, or too many, for one code with one bound, or of too many evaluations, with one bound
+abbrev pub AreOfTests : Status → Status → Type 0
+AreOfTests Done (ImageFull len size bound) = ⊤
+AreOfTests (ImageFull len size bound) Done = ⊤
+AreOfTests Done (TestLimit count bound) = ⊤
+AreOfTests (TestLimit count bound) Done = ⊤
+AreOfTests (ImageFull len size bound) (TestLimit count most) = ⊤
+AreOfTests (TestLimit count most) (ImageFull len size bound) = ⊤
+AreOfTests (ImageFull len size bound) (ImageFull other room most) = (size ≡ room) × (bound ≡ most)
+AreOfTests (TestLimit count bound) (TestLimit other most) = bound ≡ most
+AreOfTests _ _ = ⊥
+
+-- one answer; of the commands that make code, or two of images made for one task; of `test`, or two
+-- of words made for one netlist
 abbrev pub AnswersAgree : Option Command → Status → Status → Type 0
 AnswersAgree (Some Compile) status other = (status ≡ other) ⊎ AreOfImages status other
 AnswersAgree (Some (Go clocks)) status other = (status ≡ other) ⊎ AreOfImages status other
 AnswersAgree (Some (Make number)) status other = (status ≡ other) ⊎ AreOfImages status other
+AnswersAgree (Some Test) status other = (status ≡ other) ⊎ AreOfTests status other
 AnswersAgree _ status other = status ≡ other
 
 -- where an answer applies, nothing else is returned but one that agrees with it, want of memory or
@@ -276,7 +327,9 @@ pub record CanCompile (words : List (List ℕ)) (given : Option Files) : Type 0 
 -- `run`: the state that the clocks reach. Of `go`: the checkpoints that the netlist shows on the
 -- words of an image that is right code. Of `make`: the summary of the made-up texts of the number.
 -- Of `asm`: the image of the least words of the lines. Of `dis`: a line for each word of the image,
--- of which it is one of the words, and what is assembled of the text clocks as the image does
+-- of which it is one of the words, and what is assembled of the text clocks as the image does. Of
+-- `test`: the report of a right self-test of the netlist. Of `explain`: what covers the program's
+-- jobs, and what in them no form makes
 abbrev pub IsText : Command → List (List ℕ) → List ℕ → Type 0
 IsText Compile files = IsCompiled (file_at files 0) (file_at files 1)
 IsText Extract files = IsExtracted (file_at files 0)
@@ -285,6 +338,8 @@ IsText (Go clocks) files = λ out. TaskHolds (file_at files 0) (file_at files 1)
 IsText (Make number) files = IsSummary number
 IsText Asm files = IsAssembled (file_at files 0) (file_at files 1)
 IsText Dis files = IsShownText (file_at files 0) (file_at files 1)
+IsText Test files = IsTested (file_at files 0)
+IsText Explain files = IsExplained (file_at files 0) (file_at files 1)
 
 -- the bytes that were taken are the text of the command for the files of these names
 pub record HasText (command : Command) (names : List (List ℕ)) (known : Files) (old new : List ℕ) : Type 0 where

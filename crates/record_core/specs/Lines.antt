@@ -2,10 +2,12 @@
 use Rattle.std.specs.Prelude.{ℕ, ◌+◌, List, [], ◌∷◌, Option, None, codes, slice_index_or}
 use Rattle.std.specs.Fmt.{decimal}
 use Rattle.std.specs.List.{concat}
+use Rattle.net_compile.specs.declared.fault.CompileFault.TheVariants.{NoCover as Uncovered, NoReach as Beyond, ImageFull as Overlong}
+use Rattle.net_explain.specs.Lines.{end_line}
 use Rattle.record_core.specs.NetLines.{net_line, name_place, name_from}
 use Rattle.record_core.specs.SrcLines.{src_line}
 use Rattle.record_core.specs.declared.status.Status.{Status}
-use Rattle.record_core.specs.declared.status.Status.TheVariants.{Done, Usage, ReadFault, TooLong, WriteFault, NetText, Net, SrcText, Src, NoStep, NoJump, NoCover, DataFull, NoReach, ImageFull, Memory, ImageText, MemText, Clash, AsmText, AsmWord}
+use Rattle.record_core.specs.declared.status.Status.TheVariants.{Done, Usage, ReadFault, TooLong, WriteFault, NetText, Net, SrcText, Src, NoStep, NoJump, NoCover, DataFull, NoReach, ImageFull, Memory, ImageText, MemText, Clash, AsmText, AsmWord, TestLimit}
 
 -- the word that names this file
 abbrev pub name_of_file : List (List ℕ) → ℕ → List ℕ
@@ -26,14 +28,11 @@ status_line words name (SrcText at) = concat (codes "error source text " ∷ dec
 status_line words name (Src fault) = src_line fault
 status_line words name NoStep = codes "error no step\n"
 status_line words name NoJump = codes "error no jump\n"
-status_line words name (NoCover tree) = concat (codes "error no cover " ∷ decimal tree ∷ codes "\n" ∷ [])
+status_line words name (NoCover tree) = end_line (Uncovered tree)
 status_line words name (DataFull need have) =
     concat (codes "error data full " ∷ decimal need ∷ codes " " ∷ decimal have ∷ codes "\n" ∷ [])
-status_line words name (NoReach bound reach) =
-    concat (codes "error no reach " ∷ decimal bound ∷ codes " " ∷ decimal reach ∷ codes "\n" ∷ [])
-status_line words name (ImageFull len size bound) =
-    concat (codes "error image full " ∷ decimal len ∷ codes " " ∷ decimal size ∷ codes " "
-    ∷ decimal bound ∷ codes "\n" ∷ [])
+status_line words name (NoReach bound reach) = end_line (Beyond bound reach)
+status_line words name (ImageFull len size bound) = end_line (Overlong len size bound)
 status_line words name Memory = codes "error memory\n"
 status_line words name (ImageText at) = concat (codes "error image text " ∷ decimal at ∷ codes "\n" ∷ [])
 status_line words name (MemText at) = concat (codes "error memory text " ∷ decimal at ∷ codes "\n" ∷ [])
@@ -41,6 +40,8 @@ status_line words name (Clash cycle bus) =
     concat (codes "error clash " ∷ decimal cycle ∷ codes " " ∷ name ∷ codes "\n" ∷ [])
 status_line words name (AsmText at) = concat (codes "error asm text " ∷ decimal at ∷ codes "\n" ∷ [])
 status_line words name (AsmWord line) = concat (codes "error asm word " ∷ decimal line ∷ codes "\n" ∷ [])
+status_line words name (TestLimit count bound) =
+    concat (codes "error test limit " ∷ decimal count ∷ codes " " ∷ decimal bound ∷ codes "\n" ∷ [])
 
 -- where the name stands that a line tells: the item's of a broken rule, or that of the bus which
 -- clashes

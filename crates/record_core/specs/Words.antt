@@ -6,7 +6,7 @@ use Rattle.std.specs.Option.{option_map_or}
 use Rattle.std.specs.Str.{bytes_eq}
 use Rattle.text_lines.specs.Fields.{number_of}
 use Rattle.record_core.specs.declared.words.Command.{Command}
-use Rattle.record_core.specs.declared.words.Command.TheVariants.{Compile, Extract, Run, Go, Make, Asm, Dis}
+use Rattle.record_core.specs.declared.words.Command.TheVariants.{Compile, Extract, Run, Go, Make, Asm, Dis, Test, Explain}
 
 -- the words as texts
 abbrev pub texts_of : List (String Global) → List (List ℕ)
@@ -36,15 +36,21 @@ within_jobs (Some job) = if nat_le 1 job && nat_le job job_limit then Some job e
 abbrev pub job_number : List ℕ → Option ℕ
 job_number word = within_jobs (number_of word)
 
+-- the command of two files that a word names, if it names one
+abbrev pub pair_command : List ℕ → Option Command
+pair_command word =
+    if bytes_eq word (codes "compile") then Some Compile
+    else (if bytes_eq word (codes "asm") then Some Asm
+    else (if bytes_eq word (codes "dis") then Some Dis
+    else (if bytes_eq word (codes "explain") then Some Explain else None)))
+
 -- the command that the words ask for, if they have the form of one
 abbrev pub command_of : List (List ℕ) → Option Command
 command_of (word ∷ other ∷ []) =
     if bytes_eq word (codes "extract") then Some Extract
-    else (if bytes_eq word (codes "make") then option_map Make (job_number other) else None)
-command_of (word ∷ net ∷ other ∷ []) =
-    if bytes_eq word (codes "compile") then Some Compile
-    else (if bytes_eq word (codes "asm") then Some Asm
-    else (if bytes_eq word (codes "dis") then Some Dis else None))
+    else (if bytes_eq word (codes "test") then Some Test
+    else (if bytes_eq word (codes "make") then option_map Make (job_number other) else None))
+command_of (word ∷ net ∷ other ∷ []) = pair_command word
 command_of (word ∷ net ∷ other ∷ memory ∷ clocks ∷ []) =
     if bytes_eq word (codes "run") then option_map Run (clocks_of clocks)
     else (if bytes_eq word (codes "go") then option_map Go (clocks_of clocks) else None)
@@ -64,6 +70,8 @@ file_count (Go clocks) = 3
 file_count (Make number) = 0
 file_count Asm = 2
 file_count Dis = 2
+file_count Test = 1
+file_count Explain = 2
 
 -- how many files the words ask for
 abbrev pub files_asked : List (List ℕ) → ℕ

@@ -112,10 +112,11 @@ fn answer<F: Shelf, S: Sink>(alloc: Global, words: &[String], shelf: &mut F, out
 /// What the words ask for, over the files of this shelf, into this output.
 ///
 /// The words are those after the program's name: `compile NET SRC`, `extract NET`, `run NET IMG MEM
-/// CYCLES`, `go NET SRC MEM CYCLES`, `make N`, `asm NET TEXT` or `dis NET IMG`, where NET, SRC, IMG,
-/// MEM and TEXT are names of files, CYCLES is a decimal number from 0 to 1,000,000, and N one from 1
-/// to 1,000. On `Done` the output took the whole text: an image, the patterns of a netlist, a state,
-/// checkpoints, a summary, or lines of transfers. On `WriteFault` it took a prefix of the text that
+/// CYCLES`, `go NET SRC MEM CYCLES`, `make N`, `asm NET TEXT`, `dis NET IMG`, `test NET` or `explain
+/// NET SRC`, where NET, SRC, IMG, MEM and TEXT are names of files, CYCLES is a decimal number from 0
+/// to 1,000,000, and N one from 1 to 1,000. On `Done` the output took the whole text: an image, the
+/// patterns of a netlist, a state, checkpoints, a summary, lines of transfers, the report of a
+/// self-test, or what covers the jobs of a program. On `WriteFault` it took a prefix of the text that
 /// was due, and nothing after the put that failed; on every other status it took the line of the
 /// fault. Want of memory may be answered anywhere, but where a file could not be read.
 pub fn record_call<F: Shelf, S: Sink>(
@@ -139,8 +140,8 @@ pub fn record_call<F: Shelf, S: Sink>(
     ensures gives { IsAnswer (texts_of words.now.items) (F.state shelf.old) (F.state shelf.new)
         (S.state out.old) (S.state out.new) result }
 
-    // Where the files are told, nothing else is answered than what applies; where code is made more
-    // than one answer may, since images made for one task may differ in length.
+    // Where the files are told, nothing else is answered than what applies; where code or a self-test
+    // is made more than one answer may, since what is made for one task may differ in length.
     ensures exactly { IsSome (F.state shelf.old).files →
         IsExact (texts_of words.now.items) (F.state shelf.old) (F.state shelf.new) result }
 

@@ -9,11 +9,13 @@ ghost use Rattle.record_core.specs.declared.status.Status.{Status};
 
 use crate::asm::{assembled_text, shown_text};
 use crate::compile::compile_text;
+use crate::explain::explained_text;
 use crate::extract::extract_text;
 use crate::go::go;
 use crate::make::make_text;
 use crate::run::run_text;
 use crate::stop::Stop;
+use crate::test::test_text;
 use crate::words::Command;
 use rec_io::{Sink, WriteFault, put_all};
 use std::alloc::Global;
@@ -28,7 +30,8 @@ pub fn file(files: &[Vec<u8>], place: usize) -> &[u8]
     }
 }
 
-/// Puts a whole text.
+/// Puts a whole text. `WriteFault` comes exactly where the output failed, which took a prefix of the
+/// text (`Puts`).
 pub fn put<S: Sink>(out: &mut S, text: &[u8]) -> Result<(), WriteFault>
     ensures { Puts (S.state out.old) (S.state out.new) text.now result }
 {
@@ -95,6 +98,14 @@ pub fn put_command<S: Sink>(
         }
         Command::Dis => {
             let text = shown_text(alloc, file(files, 0), file(files, 1))?;
+            Ok(put(out, &text))
+        }
+        Command::Test => {
+            let text = test_text(alloc, file(files, 0))?;
+            Ok(put(out, text.as_slice()))
+        }
+        Command::Explain => {
+            let text = explained_text(alloc, file(files, 0), file(files, 1))?;
             Ok(put(out, &text))
         }
     }

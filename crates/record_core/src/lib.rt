@@ -18,7 +18,8 @@
 //! - `status`, `stop`: how a call ends, and why a command has no text.
 //! - `words`: the command that the words ask for.
 //! - `fetch`: the files of a command.
-//! - `compile`, `extract`, `run`, `go`, `make`, `asm`: one command each, `asm` with `dis`.
+//! - `compile`, `extract`, `run`, `go`, `make`, `asm`, `test`, `explain`: one command each, `asm`
+//!   with `dis`.
 //! - `commands`: the arm of each command, and its text put.
 //! - `line`: the lines of the faults.
 //! - `refusal`: why nothing else is written, with its line, and how that is put.
@@ -34,6 +35,7 @@ mod asm;
 mod call;
 mod commands;
 mod compile;
+mod explain;
 mod extract;
 mod fetch;
 mod go;
@@ -43,6 +45,7 @@ mod refusal;
 mod run;
 mod status;
 mod stop;
+mod test;
 mod words;
 
 pub use call::record_call;

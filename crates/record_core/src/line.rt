@@ -224,5 +224,8 @@ pub fn fault_line(
         Status::Clash { cycle, .. } => format!(in alloc; "error clash {cycle} {name}\n"),
         Status::AsmText(at) => format!(in alloc; "error asm text {at}\n"),
         Status::AsmWord(line) => format!(in alloc; "error asm word {line}\n"),
+        Status::TestLimit { count, bound } => {
+            format!(in alloc; "error test limit {count} {bound}\n")
+        }
     }
 }

@@ -57,7 +57,7 @@ fn put_read_line<S: Sink>(out: &mut S, words: &[String], file: u8) -> Result<(),
 
 impl Refusal {
     /// What the call answers where its line was put.
-    pub fn status(&self) -> Status
+    pub(crate) fn status(&self) -> Status
         ensures { result ≡ status_of self.now }
     {
         match self {
@@ -67,8 +67,9 @@ impl Refusal {
         }
     }
 
-    /// Puts its line, of a call with these words. Takes no memory.
-    pub fn put<S: Sink>(&self, words: &[String], out: &mut S) -> Result<(), WriteFault>
+    /// Puts its line, of a call with these words. `WriteFault` comes exactly where the output failed,
+    /// which took a prefix of the line (`Puts`). Takes no memory.
+    pub(crate) fn put<S: Sink>(&self, words: &[String], out: &mut S) -> Result<(), WriteFault>
         ensures { Puts (S.state out.old) (S.state out.new) (text_of (texts_of words.now) self.now) result }
     {
         match self {

@@ -6,6 +6,7 @@ use net_asm::{AsmFault, DisFault};
 use net_compile::CompileFault;
 use net_front::NetRefusal;
 use net_model::NetFault;
+use net_test::TestFault;
 use rec_bits::NoMemory;
 use src_model::SrcFault;
 use std::alloc::{AllocError, AllocFailed};
@@ -38,11 +39,11 @@ pub enum Status {
     NoJump,
     /// This tree of the program is the first that the netlist's forms don't cover.
     NoCover(u32),
-    /// The program needs more cells than the memory has.
+    /// The program, or the self-test, needs more cells than the memory has.
     DataFull { need: u64, have: u64 },
     /// The code may have more words than the jumps reach.
     NoReach { bound: u64, reach: u64 },
-    /// The image has more words than there is room for; it might have `bound`.
+    /// The image, or the self-test, has more words than there is room for; it might have `bound`.
     ImageFull { len: u64, size: u64, bound: u64 },
     /// Want of memory.
     Memory,
@@ -58,6 +59,9 @@ pub enum Status {
     /// No instruction word does what this line of the assembler text says, counted from 0, and each
     /// line before it has one.
     AsmWord(u64),
+    /// The self-test would take `count` evaluations: its faults times its words times the nets. They
+    /// may be `bound`.
+    TestLimit { count: u64, bound: u64 },
 }
 
 impl Status {
@@ -83,6 +87,7 @@ impl Status {
             Status::Clash { .. } => 13,
             Status::AsmText(_) => 16,
             Status::AsmWord(_) => 17,
+            Status::TestLimit { .. } => 18,
         }
     }
 }
@@ -178,6 +183,25 @@ impl From<DisFault> for Status {
             DisFault::Net(fault) => Status::Net(fault),
             DisFault::ImageText(at) => Status::ImageText(at),
             DisFault::Memory => Status::Memory,
+        }
+    }
+}
+
+impl From<TestFault> for Status {
+    ghost from_gives = { λ fault status. status ≡ test_status fault };
+
+    ghost use Rattle.std.specs.Prelude.{◌≡◌};
+    ghost use Rattle.record_core.specs.Inner.Statuses.{test_status};
+
+    fn from(fault: TestFault) -> Status {
+        match fault {
+            TestFault::NetText(at) => Status::NetText(at),
+            TestFault::Net(fault) => Status::Net(fault),
+            TestFault::DataFull { need, have } => Status::DataFull { need, have },
+            TestFault::NoStep => Status::NoStep,
+            TestFault::ImageFull { len, size, bound } => Status::ImageFull { len, size, bound },
+            TestFault::TestLimit { count, bound } => Status::TestLimit { count, bound },
+            TestFault::Memory => Status::Memory,
         }
     }
 }

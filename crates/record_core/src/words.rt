@@ -1,6 +1,6 @@
 //! The words of the command line.
 ghost use Rattle.std.specs.Prelude.{◌≡◌, ◌<◌, ◌≤◌, IfSome, length};
-ghost use Rattle.record_core.specs.Words.{CommandFits, texts_of, clocks_of, command_of, file_count, job_limit, job_number};
+ghost use Rattle.record_core.specs.Words.{CommandFits, texts_of, clocks_of, command_of, file_count, job_limit, job_number, pair_command};
 
 use text_lines::number;
 
@@ -29,6 +29,10 @@ pub enum Command {
     Asm,
     /// `dis NET IMG`: the assembler text of an image for a netlist.
     Dis,
+    /// `test NET`: the self-test of a netlist, and what it shows of stuck bits.
+    Test,
+    /// `explain NET SRC`: what each job of a program is covered by, or why it isn't.
+    Explain,
 }
 
 impl Command {
@@ -41,8 +45,8 @@ impl Command {
         ensures few { result ≤ 8 }
     {
         match self {
-            Command::Compile | Command::Asm | Command::Dis => 2,
-            Command::Extract => 1,
+            Command::Compile | Command::Asm | Command::Dis | Command::Explain => 2,
+            Command::Extract | Command::Test => 1,
             Command::Run(_) | Command::Go(_) => 3,
             Command::Make(_) => 0,
         }
@@ -80,6 +84,9 @@ fn short_command(words: &[String]) -> Option<Command>
     if words[0].as_str() == "extract" {
         return Some(Command::Extract);
     }
+    if words[0].as_str() == "test" {
+        return Some(Command::Test);
+    }
     if words[0].as_str() == "make" {
         if let Some(number) = job(words[1].as_str()) {
             return Some(Command::Make(number));
@@ -88,23 +95,19 @@ fn short_command(words: &[String]) -> Option<Command>
     None
 }
 
-// The command of three words, if they have the form of one.
-fn middle_command(words: &[String]) -> Option<Command>
-    requires { length words.now ≡ 3 }
-    ensures command { result ≡ command_of (texts_of words.now) }
+// The command of two files that this word names, if it names one.
+fn pair_command(word: &str) -> Option<Command>
+    ensures command { result ≡ pair_command word.now }
     ensures named { IfSome result (λ command. file_count command < 3) }
     ensures fits { IfSome result CommandFits }
 {
-    if words[0].as_str() == "compile" {
-        return Some(Command::Compile);
+    match word {
+        "compile" => Some(Command::Compile),
+        "asm" => Some(Command::Asm),
+        "dis" => Some(Command::Dis),
+        "explain" => Some(Command::Explain),
+        _ => None,
     }
-    if words[0].as_str() == "asm" {
-        return Some(Command::Asm);
-    }
-    if words[0].as_str() == "dis" {
-        return Some(Command::Dis);
-    }
-    None
 }
 
 // The command of five words, if they have the form of one.
@@ -137,7 +140,7 @@ pub fn command_of(words: &[String]) -> Option<Command>
         return short_command(words);
     }
     if words.len() == 3 {
-        return middle_command(words);
+        return pair_command(words[0].as_str());
     }
     if words.len() == 5 {
         return long_command(words);

@@ -13,16 +13,13 @@ use Rattle.form_model.specs.Steps.{OperandCells, CutCells, cut_count, operands_c
 use Rattle.spill.specs.Filled.{woven_cells, filled_cells, filled_in_operands, filled_by_cuts}
 use Rattle.form_model.proofs.Zips.{zip_put, zip_at, map-remove, get_mapped, length_in, length_out, total, total-insert}
 
-range_joined : (a m n : ℕ) → range_with_len a m ++ range_with_len (a + m) n ≡ range_with_len a (m + n)
+pub range_joined : (a m n : ℕ) → range_with_len a m ++ range_with_len (a + m) n ≡ range_with_len a (m + n)
 range_joined a zero n = ap (λ b. range_with_len b n) (omega arith) ∙ ap (range_with_len a) (omega arith)
 range_joined a (suc m) n =
     let h : range_with_len (a + 1) m ++ range_with_len (a + suc m) n ≡ range_with_len (a + 1) (m + n) =
     subst (λ b. range_with_len (a + 1) m ++ range_with_len b n ≡ range_with_len (a + 1) (m + n)) (omega arith) (range_joined (a + 1) m n) in
     let e : suc (m + n) ≡ suc m + n = omega arith in
     ap (λ (z : List ℕ). a ∷ z) h ∙ ap (range_with_len a) e
-
-pub range_more : (n : ℕ) → range_with_len 0 n ++ (n ∷ []) ≡ range_with_len 0 (n + 1)
-range_more n = ap (λ (b : ℕ). range_with_len 0 n ++ (b ∷ [])) (omega arith) ∙ range_joined 0 n 1
 
 -- ---- the trees and the counts of a form's sites
 

@@ -4,5 +4,5 @@
 /// order of the tree from left to right, and each after those inside it.
 #[derive(Drop)]
 pub struct Cells {
-    pub list: Vec<u32>,
+    pub list: Vec<usize>,
 }

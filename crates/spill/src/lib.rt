@@ -8,7 +8,7 @@
 //! Files:
 //!
 //! - `cut_cells`: `Cells`, the list that is answered.
-//! - `numbering`: how many cuts a cover has, and their cells.
+//! - `numbering`: the cells, added one by one.
 //! - `laws`: `law_of_cells`.
 //! - `specs/`: `Filled`, cited by public contracts: the steps of `form_model/specs/Steps` with the
 //!   cell of each cut in place of its steps.

@@ -1,3 +1,4 @@
 pub mod NodeLemmas
 pub mod SharingLemmas
 mod EntryLemmas
+mod ListingLemmas

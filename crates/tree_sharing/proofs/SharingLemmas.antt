@@ -32,12 +32,12 @@ use Rattle.tree_sharing.proofs.EntryLemmas.{each_found, each_added, any_weaker, 
 
 -- ---- equal roots are the same
 
-exact_op1 : (a b : Op1) → op1_eq.eq a b ≡ true → a ≡ b
+pub exact_op1 : (a b : Op1) → op1_eq.eq a b ≡ true → a ≡ b
 exact_op1 Not Not h = refl
 exact_op1 Neg Neg h = refl
 exact_op1 a b h = absurd (true≢false (sym h))
 
-exact_op2 : (a b : Op2) → op2_eq.eq a b ≡ true → a ≡ b
+pub exact_op2 : (a b : Op2) → op2_eq.eq a b ≡ true → a ≡ b
 exact_op2 Add Add h = refl
 exact_op2 Sub Sub h = refl
 exact_op2 Mul Mul h = refl

@@ -84,7 +84,7 @@ fn root_of(tree: &Tree, first: u64, second: u64) -> Root
     }
 }
 
-fn first_operand(tree: &Tree) -> Option<&Tree>
+pub(crate) fn first_operand(tree: &Tree) -> Option<&Tree>
     ensures { operand_term result ≡ first_of (tree_term tree.now) }
 {
     match tree {
@@ -98,7 +98,7 @@ fn first_operand(tree: &Tree) -> Option<&Tree>
     }
 }
 
-fn second_operand(tree: &Tree) -> Option<&Tree>
+pub(crate) fn second_operand(tree: &Tree) -> Option<&Tree>
     ensures { operand_term result ≡ second_of (tree_term tree.now) }
 {
     match tree {

@@ -9,15 +9,15 @@ use Rattle.form_model.specs.Plans.{Plan, use_form, Operands, operand_then, Cuts,
 use Rattle.form_model.specs.Covers.{Stock, Operand, operands_of, cuts_of, IsBefore, AreBefore, CutsBefore, IsSooner, SamePlaces}
 use Rattle.tree_grammar.specs.Parts.{destination_at, Stands}
 use Rattle.cover.specs.declared.slots.Slot.{Slot}
-use Rattle.cover.specs.declared.table.Instance.{Instance}
+use Rattle.cover.specs.declared.instance.Instance.{Instance}
 use Rattle.cover.specs.declared.fits.Want.{Want}
 use Rattle.cover.specs.declared.fits.Fit.{Fit}
 use Rattle.cover.specs.declared.choice.PartCosts.{PartCosts}
 use Rattle.cover.specs.declared.matches.FormMatch.{FormMatch}
 use Rattle.cover.specs.declared.matches.Matches.{Matches}
 use Rattle.cover.specs.Inner.Rows.{row_ask}
-use Rattle.cover.specs.declared.parts.OpenOperand.{OpenOperand}
-use Rattle.cover.specs.declared.parts.OpenCut.{OpenCut}
+use Rattle.cover.specs.declared.opened.OpenOperand.{OpenOperand}
+use Rattle.cover.specs.declared.opened.OpenCut.{OpenCut}
 use Rattle.cover.specs.Inner.Asks.{Ask, operand_ask, cut_ask, with_reg, takes, IsSparing, AreSparing, AreStored}
 use Rattle.cover.specs.Inner.Least.{AtMost, IsLeast, IsLeastForm, IsLeastOrder, IsLeastCut, IsFloor, summed}
 use Rattle.cover.specs.Inner.Jobs.{nodes_of, open_operands, open_cuts}

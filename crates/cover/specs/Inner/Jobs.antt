@@ -8,9 +8,9 @@ use Rattle.tree_grammar.specs.Parts.{destination_at}
 use Rattle.tree_grammar.specs.declared.parts.Part.{Part}
 use Rattle.tree_grammar.specs.declared.parts.Part.TheVariants.{Cut}
 use Rattle.tree_grammar.specs.declared.parts.Part.TheVariants
-use Rattle.cover.specs.declared.table.Instance.{Instance}
-use Rattle.cover.specs.declared.parts.OpenOperand.{OpenOperand}
-use Rattle.cover.specs.declared.parts.OpenCut.{OpenCut}
+use Rattle.cover.specs.declared.instance.Instance.{Instance}
+use Rattle.cover.specs.declared.opened.OpenOperand.{OpenOperand}
+use Rattle.cover.specs.declared.opened.OpenCut.{OpenCut}
 
 -- what an instance is to be covered by
 abbrev pub instance_stock : Instance → Stock
@@ -40,7 +40,8 @@ CutsAt nodes (s ∷ ss) = (slice_get nodes s.at ≡ Some (tree_term s.tree.now))
 -- the list has one more item where the part is an operand
 abbrev pub HasOperand : Part → List OpenOperand → List OpenOperand → Type 0
 HasOperand (TheVariants.Operand id tree whole at) old new =
-    new ≡ old ++ (record { id = id; tree = tree; whole = whole; at = at } ∷ [])
+    (i : OpenOperand) × (new ≡ old ++ (i ∷ []))
+    × (open_operand i ≡ record { id = id; tree = tree_term tree.now; whole = whole }) × (i.at ≡ at)
 HasOperand (Cut shape tree at) old new = new ≡ old
 
 abbrev pub HasCut : Part → List OpenCut → List OpenCut → Type 0

@@ -3,12 +3,12 @@ use Rattle.std.specs.Prelude.{ℕ, ◌<◌, ◌≡◌, true, Bool, List, [], ◌
 use Rattle.net_model.specs.Terms.{Term, size_of}
 use Rattle.form_model.specs.Trees.{tree_term}
 use Rattle.form_model.specs.Rules.{Rule}
-use Rattle.form_model.specs.Matches.{Found}
+use Rattle.form_model.specs.Matches.{Site, operand, cut, Found}
 use Rattle.form_model.specs.Covers.{Stock, operands_of, cuts_of}
 use Rattle.tree_grammar.specs.declared.parts.Part.{Part}
 use Rattle.tree_grammar.specs.declared.parts.Part.TheVariants
 use Rattle.tree_grammar.specs.Parts.{sites_of, AreAt}
-use Rattle.cover.specs.declared.table.Instance.{Instance}
+use Rattle.cover.specs.declared.instance.Instance.{Instance}
 use Rattle.cover.specs.declared.slots.Slot.{Slot}
 use Rattle.cover.specs.declared.slots.Slot.TheVariants.{Register, Temporary}
 use Rattle.cover.specs.declared.rows.Offer.{Offer}
@@ -43,6 +43,12 @@ pub record IsFormMatch (instance : Instance) (t : Term) (whole : Bool) (m : Form
   pub cuts : open_cuts m.cuts.items ≡ cuts_of found.sites
   pub operands_at : OperandsAt (nodes_of instance) m.operands.items
   pub cuts_at : CutsAt (nodes_of instance) m.cuts.items
+
+-- a set of registers has a bit for that of each operand
+abbrev pub AreLowSites : List Site → Type 0
+AreLowSites [] = Unit {0}
+AreLowSites (operand id tree whole ∷ sites) = (id < 16) × AreLowSites sites
+AreLowSites (cut shape tree ∷ sites) = AreLowSites sites
 
 -- the entry of the tree of this number from which a match with these parts goes on, as `rest` has it
 abbrev pub rest_at : ℕ → List Part → Option Slot

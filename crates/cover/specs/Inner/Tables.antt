@@ -5,7 +5,7 @@ use Rattle.std.specs.declared.rc.Rc.{Rc}
 use Rattle.std.specs.declared.alloc.Global.{Global}
 use Rattle.net_model.specs.Terms.{Term}
 use Rattle.form_model.specs.Trees.{tree_term}
-use Rattle.cover.specs.declared.table.Instance.{Instance}
+use Rattle.cover.specs.declared.instance.Instance.{Instance}
 use Rattle.cover.specs.declared.table.KeptRow.{KeptRow}
 use Rattle.cover.specs.declared.table.CostTable.{CostTable}
 use Rattle.cover.specs.declared.matches.Matches.{Matches}

@@ -8,7 +8,7 @@ use Rattle.branch_fix.specs.declared.laid.Item.TheVariants.{Group, Jump}
 use Rattle.net_model.specs.declared.hardware.Netlist.{Netlist}
 use Rattle.net_model.specs.Patterns.{Pattern}
 use Rattle.form_model.specs.Covers.{Choice, Stock}
-use Rattle.form_model.specs.Live.{Regs, no_regs}
+use Rattle.form_model.specs.Live.{no_regs}
 use Rattle.form_model.specs.declared.forms.Step.{Step}
 use Rattle.form_model.specs.Rules.{tested}
 use Rattle.form_model.specs.Steps.{branch_setting}
@@ -21,8 +21,9 @@ use Rattle.branch_fix.specs.Parts.{branch_or_zero, blocks_before, tests_before}
 use Rattle.right_code.specs.Forks.{plan_rule}
 use Rattle.right_code.specs.Images.{choices_at}
 use Rattle.right_code.specs.Jobs.{job_steps, jobs_steps, tree_used}
-use Rattle.right_code.specs.Words.{AreGroupWords, IsItemWord, IsPackingOf, item_steps}
-use Rattle.compaction.specs.Lists.{EachHasPatternsOnce, IsPatternList}
+use Rattle.right_code.specs.Words.{IsItemWord, item_steps}
+use Rattle.compaction.specs.Lists.{IsPatternList}
+use Rattle.net_code.specs.Blocks.{IsPackedBlock}
 use Rattle.net_code.specs.declared.blocks.PackedBlock.{PackedBlock}
 
 -- ---- blocks
@@ -40,13 +41,6 @@ words_at blocks block = (block_at blocks block).words
 
 abbrev pub groups_at : List PackedBlock → ℕ → List (List Step)
 groups_at blocks block = (block_at blocks block).groups
-
--- steps are packed into the groups of a block, behind which these registers are live, and each
--- group has its word
-pub record IsPackedBlock (netlist : Netlist) (patterns : List Pattern) (steps : List Step)
-    (after : Regs) (block : PackedBlock) : Type 0 where
-  pub packing : IsPackingOf netlist patterns steps after block.groups
-  pub least : AreGroupWords netlist patterns block.groups after block.words
 
 -- the block of a test's operands, and its branch: the place of its form and the setting of its
 -- condition's bits
@@ -71,10 +65,6 @@ pub record IsBlockCode (netlist : Netlist) (patterns : List Pattern) (stock : St
       (job : Work) (choice : Choice) → slice_get works tree ≡ Some job → slice_get choices tree ≡ Some choice →
       IsTestCode netlist patterns stock job choice (block_at blocks (blocks_before flow at))
       (branch_or_zero (slice_get branches (tests_before flow at)))
-
--- no group of a block has two steps of one pattern
-abbrev pub IsOnce : PackedBlock → Type 0
-IsOnce block = EachHasPatternsOnce block.groups
 
 -- ---- the words of a layout
 

@@ -1,24 +1,16 @@
 -- A program with the covers of its jobs, on a netlist with its patterns.
-use Rattle.std.specs.Prelude.{◌≡◌, List, map}
-use Rattle.net_model.specs.declared.hardware.Netlist.{Netlist}
-use Rattle.net_model.specs.Patterns.{ArePatterns, Pattern}
+use Rattle.std.specs.Prelude.{◌≡◌, map}
+use Rattle.net_model.specs.Patterns.{ArePatterns}
 use Rattle.src_model.specs.Rules.{temp_count}
 use Rattle.cover.specs.declared.covers.JobCover.{JobCover}
 use Rattle.form_set.specs.Listing.{AreForms}
 use Rattle.src_trees.specs.Flows.{program_flow}
-use Rattle.transfer_set.specs.Rows.{row_patterns}
 use Rattle.right_code.specs.Covered.{AllChosen, job_costs}
 use Rattle.right_code.specs.Tasks.{IsChecked, Task, task_works}
 use Rattle.net_code.specs.declared.views.CoveredProgram.{CoveredProgram}
 use Rattle.net_code.specs.declared.views.Machine.{Machine}
+use Rattle.net_code.specs.Machines.{machine_netlist, machine_patterns}
 use Rattle.net_code.specs.Inner.Views.{choices_in, stock_of, works_in}
-
--- the netlist, and its patterns
-abbrev pub machine_netlist : Machine → Netlist
-machine_netlist machine = machine.checked.now.netlist
-
-abbrev pub machine_patterns : Machine → List Pattern
-machine_patterns machine = row_patterns machine.pool.now machine.patterns.now.rows
 
 -- the flow and the jobs are those of a task's program, the forms are those of its netlist, and each
 -- job has its chosen cover

@@ -8,12 +8,14 @@ use Rattle.net_asm.specs.declared.fault.AsmFault.{AsmFault}
 use Rattle.net_asm.specs.declared.fault.AsmFault.TheVariants as assembling
 use Rattle.net_asm.specs.declared.fault.DisFault.{DisFault}
 use Rattle.net_asm.specs.declared.fault.DisFault.TheVariants as showing
+use Rattle.net_test.specs.declared.fault.TestFault.{TestFault}
+use Rattle.net_test.specs.declared.fault.TestFault.TheVariants as testing
 use Rattle.net_run.specs.declared.machine.RunFault.{RunFault}
 use Rattle.net_run.specs.declared.machine.RunFault.TheVariants.{NetText as RunNetText, Net as RunNet, ImageText as NoImage, MemText as NoMemoryText, Clash as Clashed, Memory as RunMemory}
 use Rattle.rec_bits.specs.declared.fault.ParseFault.{ParseFault}
 use Rattle.rec_bits.specs.declared.fault.ParseFault.TheVariants.{Text as NoState, Memory as NoStateMemory}
 use Rattle.record_core.specs.declared.status.Status.{Status}
-use Rattle.record_core.specs.declared.status.Status.TheVariants.{NetText, Net, SrcText, Src, NoStep, NoJump, NoCover, DataFull, NoReach, ImageFull, Memory, ImageText, MemText, Clash, AsmText, AsmWord}
+use Rattle.record_core.specs.declared.status.Status.TheVariants.{NetText, Net, SrcText, Src, NoStep, NoJump, NoCover, DataFull, NoReach, ImageFull, Memory, ImageText, MemText, Clash, AsmText, AsmWord, TestLimit}
 use Rattle.record_core.specs.declared.stop.Stop.{Stop}
 
 -- of the compiler
@@ -55,6 +57,16 @@ dis_status (showing.NetText at) = NetText at
 dis_status (showing.Net broken) = Net broken
 dis_status (showing.ImageText at) = ImageText at
 dis_status showing.Memory = Memory
+
+-- of a self-test
+abbrev pub test_status : TestFault → Status
+test_status (testing.NetText at) = NetText at
+test_status (testing.Net broken) = Net broken
+test_status (testing.DataFull need have) = DataFull need have
+test_status testing.NoStep = NoStep
+test_status (testing.ImageFull len size bound) = ImageFull len size bound
+test_status (testing.TestLimit count bound) = TestLimit count bound
+test_status testing.Memory = Memory
 
 -- a status that is about no bus
 abbrev pub without_bus : Status → Stop

@@ -1,10 +1,11 @@
 -- Roots of trees among numbered ones, and what is known of the numbers on the way.
-use Rattle.std.specs.Prelude.{ℕ, ◌+◌, ◌<◌, ◌≤◌, ◌≡◌, List, Option, Some, None, slice_get}
+use Rattle.std.specs.Prelude.{ℕ, ◌+◌, ◌<◌, ◌≤◌, ◌≡◌, List, [], Option, Some, None, slice_get}
 use Rattle.std.specs.Borrow.{Bor}
 use Rattle.net_model.specs.Terms.{Term, const, read, un, bin, slice, zext, sext, size_of}
 use Rattle.form_model.specs.Trees.{tree_term}
 use Rattle.form_model.specs.declared.trees.Tree.{Tree}
-use Rattle.tree_grammar.specs.Numbers.{HoldsSubtrees}
+use Rattle.form_model.specs.Rules.{Destination, into, cell, stored, temporary, tested}
+use Rattle.tree_grammar.specs.Numbers.{subtrees, HoldsSubtrees}
 use Rattle.tree_sharing.specs.Sharing.{IsFirst}
 use Rattle.tree_sharing.specs.Inner.Entries.{EachEntry, AnyKey}
 use Rattle.tree_sharing.specs.declared.sharing.Root.{Root}
@@ -120,6 +121,18 @@ operand_term (Some tree) = Some (tree_term tree.now)
 abbrev pub operand_size : Option Term → ℕ
 operand_size None = 0
 operand_size (Some t) = size_of t
+
+abbrev pub operand_subtrees : Option Term → List Term
+operand_subtrees None = []
+operand_subtrees (Some t) = subtrees t
+
+-- the subtrees of a store's address
+abbrev pub address_nodes : Destination → List Term
+address_nodes (stored address) = subtrees address
+address_nodes (into id) = []
+address_nodes (cell address) = []
+address_nodes temporary = []
+address_nodes tested = []
 
 -- the least numbers of the tree's operands
 abbrev pub AreFirstOperands : List Term → Term → ℕ → ℕ → Type 0

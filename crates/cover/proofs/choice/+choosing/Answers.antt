@@ -19,7 +19,7 @@ use Rattle.cover.specs.Inner.Matched.{AreMatches}
 use Rattle.cover.specs.Inner.Choice.{matches_ask, NeverBegins, BeginsAt, Starts, StartsCut, IsFirst, IsFirstOrder, IsFirstFrom, IsFirstCuts, AreFirstParts}
 use Rattle.cover.proofs.MatchLemmas.{never_before, some_match, matches_later}
 use Rattle.cover.proofs.NodeLemmas.{input_get, inputs_remove}
-use Rattle.cover.proofs.InputLemmas.{register_ask, cut_slot, inputs_at, inputs_without, length_inputs, no_stored, stored_split, stored_first, stored_later, no_inputs, tail_is}
+use Rattle.cover.proofs.InputLemmas.{cut_slot, inputs_at, inputs_without, length_inputs, no_stored, stored_split, stored_first, stored_later, no_inputs, tail_is}
 use Rattle.cover.proofs.ChoiceLemmas.{first_by_form, order_exists, first_by_operand, operands_later, empty_first, empty_cuts, first_by_cut}
 use Rattle.cover.proofs.choice.+choosing.Goals as goal
 
@@ -156,13 +156,12 @@ order_from-choose_entry-requires t c =
     let got = slice_get_read _ _ _ _ refl c.requires.place c.index-ops-i.is in
     let get = inputs_at c.args.ops.now c.args.i c.index-ops-i.result got in
     let s = c.requires.starts in
-    let same : s.0 ≡ open_operand c.index-ops-i.result = (let g = s.1 in cc) in
-    let ask = register_ask c.in_ok-r.r (open_operand c.index-ops-i.result) c.in_ok-r.ensures.0 in (
+    let same : s.0 ≡ open_operand c.index-ops-i.result = (let g = s.1 in cc) in (
       omega (arith, s.3, c.decreases),
       (
-        c.in_ok-r.ensures.1,
+        c.index-ops-i.result.low,
         (
-          subst (λ x. IsLeast (instance_stock c.args.instance.now) c.args.avoid x (Some c.args.m)) (sym ask) (subst (λ x. IsLeast (instance_stock c.args.instance.now) c.args.avoid (operand_ask x) (Some c.args.m)) same s.4),
+          subst (λ x. IsLeast (instance_stock c.args.instance.now) c.args.avoid (operand_ask x) (Some c.args.m)) same s.4,
           (input_get _ _ c.args.i _ c.requires.at got, c.requires.right),
         ),
       ),
@@ -180,7 +179,7 @@ order_from-order_without-requires t c =
       (
         c.requires.place,
         (
-          subst (λ r. IsLeastOrder (instance_stock c.args.instance.now) r (remove (open_operands c.args.ops.now) c.args.i) (Some (c.args.n - c.args.m))) (sym c.in_ok-later.ensures) others,
+          subst (λ r. IsLeastOrder (instance_stock c.args.instance.now) r (remove (open_operands c.args.ops.now) c.args.i) (Some (c.args.n - c.args.m))) (sym c.put_reg-later.ensures) others,
           (c.requires.at, c.in_ok-here.ensures.right),
         ),
       ),
@@ -190,12 +189,10 @@ pub order_from-returns-clause-first : goal.order_from-returns-clause-first
 order_from-returns-clause-first t c =
     let got = slice_get_read _ _ _ _ refl c.requires.place c.index-ops-i.is in
     let get = inputs_at c.args.ops.now c.args.i c.index-ops-i.result got in
-    let ask = register_ask c.in_ok-r.r (open_operand c.index-ops-i.result) c.in_ok-r.ensures.0 in
-    let here = subst (λ x. IsFirst (instance_stock c.args.instance.now) c.args.avoid x (plan_of c.in_ok-here.here)) ask c.in_ok-here.ensures.first in
     let others : IsFirstOrder (instance_stock c.args.instance.now) (with_reg c.args.avoid c.index-ops-i.result.id) (remove (open_operands c.args.ops.now) c.args.i) (operands_plan c.in_ok-others.others) =
-    subst (λ r. IsFirstOrder (instance_stock c.args.instance.now) r (remove (open_operands c.args.ops.now) c.args.i) (operands_plan c.in_ok-others.others)) c.in_ok-later.ensures c.in_ok-others.ensures.first in
+    subst (λ r. IsFirstOrder (instance_stock c.args.instance.now) r (remove (open_operands c.args.ops.now) c.args.i) (operands_plan c.in_ok-others.others)) c.put_reg-later.ensures c.in_ok-others.ensures.first in
     IfOk-weaker c.operand_first.result (λ x. operands_plan x ≡ operand_then c.args.i (plan_of c.in_ok-here.here) (operands_plan c.in_ok-others.others)) (λ x. IsFirstFrom (instance_stock c.args.instance.now) c.args.avoid (open_operands c.args.ops.now) c.args.i (operands_plan x))
-    (λ x is. (open_operand c.index-ops-i.result, plan_of c.in_ok-here.here, operands_plan c.in_ok-others.others, get, here, others, is)) c.operand_first.ensures
+    (λ x is. (open_operand c.index-ops-i.result, plan_of c.in_ok-here.here, operands_plan c.in_ok-others.others, get, c.in_ok-here.ensures.first, others, is)) c.operand_first.ensures
 
 pub order_without-choose_order-requires : goal.order_without-choose_order-requires
 order_without-choose_order-requires t c =

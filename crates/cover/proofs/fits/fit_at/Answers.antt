@@ -11,13 +11,22 @@ use Rattle.cover.specs.Inner.Jobs.{instance_stock, nodes_of}
 use Rattle.cover.specs.Inner.Choice.{ask_of, FitsParts, IsFit}
 use Rattle.cover.proofs.RowLemmas.{listed}
 use Rattle.cover.proofs.StartLemmas.{rule_at}
-use Rattle.cover.proofs.FitLemmas.{want_at, want_takes, parts_fit}
+use Rattle.cover.specs.Inner.Matched.{AreLowSites}
+use Rattle.cover.proofs.FitLemmas.{want_at, want_takes, want_low, parts_fit}
 use Rattle.cover.proofs.fits.fit_at.Goals as goal
 
 pub fit_parts-requires-clause-at : goal.fit_parts-requires-clause-at
 fit_parts-requires-clause-at c =
     subst (AreAt (nodes_of c.args.instance.now)) (sym c.deref.ensures.value)
     (want_at c.args.instance.now c.args.want.now c.in_ok-found.field-0 c.in-Some.found c.requires.stands c.in_ok-found.ensures.at c.in-Some.is)
+
+pub fit_parts-requires-clause-low : goal.fit_parts-requires-clause-low
+fit_parts-requires-clause-low c =
+    let form : Form = get_or c.args.instance.now.forms.now c.args.k c.index-instance-k.result in
+    let got : slice_get c.args.instance.now.forms.now c.args.k ≡ Some form = listed _ _ _ c.requires.form in
+    subst (λ l. AreLowSites (sites_of l)) (sym c.deref.ensures.value)
+    (want_low c.args.instance.now form c.args.k c.args.want.now c.in-Some.found got
+    (want_takes c.args.instance.now form c.args.want.now c.in_ok-found.field-0 c.in-Some.found c.in_ok-found.ensures.found c.in-Some.is))
 
 pub returns-clause-fit : goal.returns-clause-fit
 returns-clause-fit c =

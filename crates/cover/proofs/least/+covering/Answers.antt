@@ -12,7 +12,7 @@ use Rattle.cover.specs.Inner.Least.{IsLeast, IsLeastOrder, IsLeastAfter, IsLeast
 use Rattle.cover.specs.Inner.Jobs.{instance_stock, nodes_of, open_operand, open_operands, open_cuts, OperandsAt, CutsAt}
 use Rattle.cover.proofs.SizeLemmas.{size_pos}
 use Rattle.cover.proofs.NodeLemmas.{input_get, inputs_remove}
-use Rattle.cover.proofs.InputLemmas.{inputs_at, inputs_without, length_inputs, no_inputs, inputs_split, inputs_later, size-remove, no_stored, stored_split, stored_first, stored_later, tail_is, cut_slot, register_least, rank_le}
+use Rattle.cover.proofs.InputLemmas.{inputs_at, inputs_without, length_inputs, no_inputs, inputs_split, inputs_later, size-remove, no_stored, stored_split, stored_first, stored_later, tail_is, cut_slot, rank_le}
 use Rattle.cover.specs.declared.slots.Slot.TheVariants.{Register}
 use Rattle.cover.specs.declared.rows.Offer.TheVariants.{Nothing, Chains}
 use Rattle.cover.specs.declared.matches.Matches.{Matches}
@@ -30,12 +30,7 @@ use Rattle.cover.proofs.TableLemmas.{same_default}
 use Rattle.cover.proofs.least.+covering.Goals as goal
 
 pub operand_cost-least-requires : goal.operand_cost-least-requires
-operand_cost-least-requires t c = (omega (arith, c.decreases), (c.in_ok-r.ensures.1, (c.requires.number, c.requires.right)))
-
-pub operand_cost-returns-clause-least : goal.operand_cost-returns-clause-least
-operand_cost-returns-clause-least t c =
-    IfOk-weaker c.least.result (λ o. IsLeast (instance_stock c.args.instance.now) c.args.avoid (row_ask (tree_term c.args.operand.tree.now) c.args.operand.whole (Register c.in_ok-r.r)) o) (λ o. IsLeast (instance_stock c.args.instance.now) c.args.avoid (operand_ask (open_operand c.args.operand)) o)
-    (λ o is. register_least (instance_stock c.args.instance.now) c.args.avoid c.in_ok-r.r (open_operand c.args.operand) o c.in_ok-r.ensures.0 is) c.least.ensures.least
+operand_cost-least-requires t c = (omega (arith, c.decreases), (c.args.operand.low, (c.requires.number, c.requires.right)))
 
 pub least_row-row_of-requires : goal.least_row-row_of-requires
 least_row-row_of-requires t c =
@@ -234,7 +229,7 @@ orders_after-orders-requires t c =
     let h = size-remove (open_operands c.args.ops.now) c.args.i (open_operand c.index-ops-i.result) get in
     let d : c.deref.result.now ≡ remove c.args.ops.now c.args.i = c.deref.ensures.value ∙ c.in_ok-rest.ensures in
     let e : open_operands c.deref.result.now ≡ remove (open_operands c.args.ops.now) c.args.i = ap open_operands d ∙ inputs_without c.args.ops.now c.args.i in
-    (omega (arith, h, ap operands_size e, size_pos (tree_term c.index-ops-i.result.tree.now), c.decreases), (subst (OperandsAt (nodes_of c.args.instance.now)) (sym d) (inputs_remove (nodes_of c.args.instance.now) c.args.ops.now c.args.i c.requires.at), (floor_none (instance_stock c.args.instance.now) c.in_ok-later.later (open_operands c.deref.result.now), c.requires.right)))
+    (omega (arith, h, ap operands_size e, size_pos (tree_term c.index-ops-i.result.tree.now), c.decreases), (subst (OperandsAt (nodes_of c.args.instance.now)) (sym d) (inputs_remove (nodes_of c.args.instance.now) c.args.ops.now c.args.i c.requires.at), (floor_none (instance_stock c.args.instance.now) c.put_reg-later.result (open_operands c.deref.result.now), c.requires.right)))
 
 pub orders_after-operand_cost-requires : goal.orders_after-operand_cost-requires
 orders_after-operand_cost-requires t c =
@@ -242,7 +237,7 @@ orders_after-operand_cost-requires t c =
     let got : slice_get c.args.ops.now (1 - c.args.i) ≡ Some c.index-ops-i-then-ops-eq2.result = slice_get_read c.args.ops.now (length c.args.ops.now) (1 - c.args.i) _ refl (let lt = c.requires.place in omega (arith, two, lt)) c.index-ops-i-then-ops-eq2.is in
     let get = inputs_at c.args.ops.now (1 - c.args.i) c.index-ops-i-then-ops-eq2.result got in
     let h = size-remove (open_operands c.args.ops.now) (1 - c.args.i) (open_operand c.index-ops-i-then-ops-eq2.result) get in
-    (omega (arith, h, c.decreases, rank_le c.in_ok-later.later), (input_get _ _ (1 - c.args.i) _ c.requires.at got, c.requires.right))
+    (omega (arith, h, c.decreases, rank_le c.put_reg-later.result), (input_get _ _ (1 - c.args.i) _ c.requires.at got, c.requires.right))
 
 pub orders_after-returns-then-ops-eq2-clause-least : goal.orders_after-returns-then-ops-eq2-clause-least
 orders_after-returns-then-ops-eq2-clause-least t c =
@@ -254,13 +249,13 @@ orders_after-returns-then-ops-eq2-clause-least t c =
     let got' : slice_get c.args.ops.now (1 - c.args.i) ≡ Some c.index-ops-i-then-ops-eq2.result = slice_get_read c.args.ops.now (length c.args.ops.now) (1 - c.args.i) _ refl (omega (arith, two, lt)) c.index-ops-i-then-ops-eq2.is in
     let get' = inputs_at c.args.ops.now (1 - c.args.i) c.index-ops-i-then-ops-eq2.result got' in
     let left = other_left (open_operands c.args.ops.now) c.args.i (open_operand c.index-ops-i-then-ops-eq2.result) (omega (arith, two, n)) (omega (arith, two, lt)) get' in
-    IfOk-weaker c.operand_cost.result (λ o. IsLeast (instance_stock c.args.instance.now) c.in_ok-later.later (operand_ask (open_operand c.index-ops-i-then-ops-eq2.result)) o) (λ o. IsLeastAfter (instance_stock c.args.instance.now) c.args.avoid (open_operands c.args.ops.now) c.args.i o)
+    IfOk-weaker c.operand_cost.result (λ o. IsLeast (instance_stock c.args.instance.now) c.put_reg-later.result (operand_ask (open_operand c.index-ops-i-then-ops-eq2.result)) o) (λ o. IsLeastAfter (instance_stock c.args.instance.now) c.args.avoid (open_operands c.args.ops.now) c.args.i o)
     (λ o least x here.
     let same : open_operand c.index-ops-i.result ≡ x = cc in
     subst (λ (y : Operand). IsLeastOrder (instance_stock c.args.instance.now) (with_reg c.args.avoid y.id) (remove (open_operands c.args.ops.now) c.args.i) o) same
     (subst (λ xs. IsLeastOrder (instance_stock c.args.instance.now) (with_reg c.args.avoid c.index-ops-i.result.id) xs o) (sym left)
     (order_one (instance_stock c.args.instance.now) (with_reg c.args.avoid c.index-ops-i.result.id) (open_operand c.index-ops-i-then-ops-eq2.result) o
-    (subst (λ s. IsLeast (instance_stock c.args.instance.now) s (operand_ask (open_operand c.index-ops-i-then-ops-eq2.result)) o) c.in_ok-later.ensures least)))) c.operand_cost.ensures.least
+    (subst (λ s. IsLeast (instance_stock c.args.instance.now) s (operand_ask (open_operand c.index-ops-i-then-ops-eq2.result)) o) c.put_reg-later.ensures least)))) c.operand_cost.ensures.least
 
 pub orders_after-returns-clause-least : goal.orders_after-returns-clause-least
 orders_after-returns-clause-least t c =
@@ -268,12 +263,12 @@ orders_after-returns-clause-least t c =
     let get = inputs_at c.args.ops.now c.args.i c.index-ops-i.result got in
     let d : c.deref.result.now ≡ remove c.args.ops.now c.args.i = c.deref.ensures.value ∙ c.in_ok-rest.ensures in
     let e : open_operands c.deref.result.now ≡ remove (open_operands c.args.ops.now) c.args.i = ap open_operands d ∙ inputs_without c.args.ops.now c.args.i in
-    IfOk-weaker c.orders.result (λ o. IsLeastOrder (instance_stock c.args.instance.now) c.in_ok-later.later (open_operands c.deref.result.now) o) (λ o. IsLeastAfter (instance_stock c.args.instance.now) c.args.avoid (open_operands c.args.ops.now) c.args.i o)
+    IfOk-weaker c.orders.result (λ o. IsLeastOrder (instance_stock c.args.instance.now) c.put_reg-later.result (open_operands c.deref.result.now) o) (λ o. IsLeastAfter (instance_stock c.args.instance.now) c.args.avoid (open_operands c.args.ops.now) c.args.i o)
     (λ o least x here.
     let same : open_operand c.index-ops-i.result ≡ x = cc in
     subst (λ (y : Operand). IsLeastOrder (instance_stock c.args.instance.now) (with_reg c.args.avoid y.id) (remove (open_operands c.args.ops.now) c.args.i) o) same
     (subst (λ xs. IsLeastOrder (instance_stock c.args.instance.now) (with_reg c.args.avoid c.index-ops-i.result.id) xs o) e
-    (subst (λ s. IsLeastOrder (instance_stock c.args.instance.now) s (open_operands c.deref.result.now) o) c.in_ok-later.ensures least))) c.orders.ensures.least
+    (subst (λ s. IsLeastOrder (instance_stock c.args.instance.now) s (open_operands c.deref.result.now) o) c.put_reg-later.ensures least))) c.orders.ensures.least
 
 pub cuts_cost-returns-then-is_empty-clause-least : goal.cuts_cost-returns-then-is_empty-clause-least
 cuts_cost-returns-then-is_empty-clause-least t c = cut_none _ _ (let n : length c.args.cuts.now ≡ 0 = search rules in no_stored c.args.cuts.now n)

@@ -2,6 +2,7 @@ use Rattle.bit_bdd.proofs.CallerLemmas.{extends_trans}
 use Rattle.form_model.specs.Rules.{rules_of}
 use Rattle.transfer_set.specs.Rows.{row_patterns}
 use Rattle.transfer_set.proofs.ReadyLaws.{ready_later}
+use Rattle.form_set.proofs.LowForms.{forms_low}
 use Rattle.form_set.proofs.RuleLists.{greatest_is}
 use Rattle.form_set.proofs.listing.forms.Goals as goal
 
@@ -28,3 +29,9 @@ pub returns-in_err-list-clause-ready : goal.returns-in_err-list-clause-ready
 returns-in_err-list-clause-ready c =
     ready_later c.args.checked.now.netlist c.args.book.now c.list_of.new.book c.args.pool.now c.args.patterns.now
     (extends_trans c.args.book.now c.reach_of.new.book c.list_of.new.book c.reach_of.ensures.grows c.list_of.ensures.grows) c.requires.ready
+
+pub invariant_of-result : goal.invariant_of-result
+invariant_of-result c = record {
+  low = forms_low c.args.checked.now.netlist c.args.checked.now.order c.netlist-netlist.ensures.kept c.in_ok-reach.reach (row_patterns c.args.pool.now c.args.patterns.now.rows)
+      (rules_of c.in_ok-list.list.items) c.requires.ready.patterns.each c.in_ok-list.ensures.list;
+}

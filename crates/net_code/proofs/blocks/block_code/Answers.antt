@@ -2,8 +2,9 @@ use Rattle.bit_bdd.proofs.CallerLemmas.{extends_trans}
 use Rattle.std.proofs.lemmas.Result.{IfOk-from_err}
 use Rattle.std.proofs.Common.{◌≡◌, [], arith, length, rules, subst, sym}
 use Rattle.std.specs.List.{AllByRecursion}
-use Rattle.net_code.specs.Inner.Coded.{IsBlockCode, IsOnce}
-use Rattle.net_code.specs.Inner.Covering.{machine_netlist, machine_patterns}
+use Rattle.net_code.specs.Blocks.{IsOnce}
+use Rattle.net_code.specs.Inner.Coded.{IsBlockCode}
+use Rattle.net_code.specs.Machines.{machine_netlist, machine_patterns}
 use Rattle.net_code.specs.Inner.Views.{choices_in, stock_of, works_in}
 use Rattle.net_code.proofs.Coding.{nothing_coded}
 use Rattle.net_code.proofs.blocks.block_code.Goals as goal

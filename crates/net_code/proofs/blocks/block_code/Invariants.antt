@@ -1,8 +1,9 @@
 use Rattle.bit_bdd.specs.Diagrams.{Extends}
 use Rattle.transfer_set.specs.Ready.{IsReady}
 use Rattle.std.specs.List.{AllByRecursion}
-use Rattle.net_code.specs.Inner.Coded.{IsBlockCode, IsOnce}
-use Rattle.net_code.specs.Inner.Covering.{machine_netlist, machine_patterns}
+use Rattle.net_code.specs.Blocks.{IsOnce}
+use Rattle.net_code.specs.Inner.Coded.{IsBlockCode}
+use Rattle.net_code.specs.Machines.{machine_netlist, machine_patterns}
 use Rattle.net_code.specs.Inner.Views.{choices_in, stock_of, works_in}
 use Rattle.net_code.proofs.blocks.block_code.Given as goal
 

@@ -5,7 +5,7 @@ use Rattle.form_model.specs.declared.flow.Flow.{Flow}
 use Rattle.form_model.specs.declared.flow.Flow.TheVariants.{Assign, End, Jump}
 use Rattle.src_trees.specs.Blocks.{continues, is_assign}
 use Rattle.net_code.specs.Inner.Coded.{IsBlockCode}
-use Rattle.net_code.specs.Inner.Covering.{machine_netlist, machine_patterns}
+use Rattle.net_code.specs.Machines.{machine_netlist, machine_patterns}
 use Rattle.branch_fix.specs.Parts.{place_blocks, place_tests}
 use Rattle.net_code.specs.Inner.Views.{choices_in, stock_of, works_in}
 use Rattle.net_code.proofs.Coding.{skipped}

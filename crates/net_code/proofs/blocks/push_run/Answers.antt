@@ -1,7 +1,7 @@
 use Rattle.std.proofs.lemmas.Result.{IfOk-from_err}
 use Rattle.std.proofs.Common.{◌+◌, slice_get, sym, subst}
 use Rattle.net_code.specs.Inner.Coded.{IsBlockCode}
-use Rattle.net_code.specs.Inner.Covering.{machine_netlist, machine_patterns}
+use Rattle.net_code.specs.Machines.{machine_netlist, machine_patterns}
 use Rattle.net_code.specs.Inner.Views.{choices_in, stock_of, works_in}
 use Rattle.net_code.proofs.Coding.{no_test, run_more}
 use Rattle.net_code.proofs.blocks.push_run.Goals as goal

@@ -10,7 +10,7 @@ use Rattle.form_model.specs.Covers.{Choice}
 use Rattle.src_trees.specs.Jobs.{work_of}
 use Rattle.src_trees.specs.Lowered.{Work}
 use Rattle.net_code.specs.Inner.Coded.{IsBlockCode}
-use Rattle.net_code.specs.Inner.Covering.{machine_netlist, machine_patterns}
+use Rattle.net_code.specs.Machines.{machine_netlist, machine_patterns}
 use Rattle.net_code.specs.Inner.Views.{IsTestJob, choices_in, stock_of, works_in}
 use Rattle.net_code.proofs.Coding.{test_more}
 use Rattle.net_code.proofs.Frames.{choice_of_job, same_some, test_job}

@@ -1,33 +1,30 @@
 use Rattle.std.proofs.lemmas.Result.{IfOk-from_err}
-use Rattle.std.proofs.Common.{◌≡◌, ◌∙◌, subst, sym}
+use Rattle.std.proofs.Common.{◌∙◌, subst, sym}
 use Rattle.form_model.specs.Effects.{operation_of}
-use Rattle.form_model.specs.Live.{Regs, no_regs, regs_of, singles}
-use Rattle.live_sets.proofs.Bits.{regs_of_none}
+use Rattle.form_model.specs.Live.{Regs, regs_of, singles}
 use Rattle.src_trees.specs.Blocks.{jobs_at}
 use Rattle.word_fit.specs.Fits.{fits_over}
 use Rattle.word_fit.specs.Groups.{AllHaveWords}
 use Rattle.right_code.specs.Images.{choices_at}
 use Rattle.right_code.specs.Jobs.{jobs_steps}
-use Rattle.net_code.specs.Inner.Coded.{IsPackedBlock}
+use Rattle.net_code.specs.Blocks.{IsPackedBlock}
 use Rattle.right_code.proofs.Covering.{chosen_length}
-use Rattle.net_code.specs.Inner.Covering.{machine_netlist, machine_patterns}
+use Rattle.net_code.specs.Machines.{machine_netlist, machine_patterns}
 use Rattle.net_code.specs.Inner.Views.{choices_in, stock_of, works_in}
 use Rattle.net_code.proofs.Frames.{run_have}
+use Rattle.net_code.proofs.Packing.{none_live}
 use Rattle.net_code.proofs.blocks.run_block.Goals as goal
 
 pub block_steps-requires-clause-even : goal.block_steps-requires-clause-even
 block_steps-requires-clause-even c = chosen_length (stock_of c.args.program.now) (works_in c.args.program.now) (choices_in c.args.program.now) c.requires.covering.1.chosen
 
-pub packed-requires-clause-words : goal.packed-requires-clause-words
-packed-requires-clause-words c =
+pub pack_block-requires-clause-words : goal.pack_block-requires-clause-words
+pack_block-requires-clause-words c =
     let machine = c.args.machine.now in
     let program = c.args.program.now in
     subst (λ xs. AllHaveWords (operation_of (machine_patterns machine)) (fits_over (machine_netlist machine) (operation_of (machine_patterns machine))) (singles xs) (regs_of 0))
     (sym (c.as_slice.ensures ∙ c.in_ok-steps.ensures))
     (run_have machine program c.requires.covering.0 c.requires.covering.1 c.args.at c.args.count)
-
-none_live : regs_of 0 ≡ no_regs
-none_live = λ j r. regs_of_none r j
 
 pub returns-clause-packed : goal.returns-clause-packed
 returns-clause-packed c =

@@ -12,15 +12,15 @@ use Rattle.src_trees.specs.Jobs.{work_of}
 use Rattle.word_fit.specs.Fits.{fits_over}
 use Rattle.word_fit.specs.Groups.{AllHaveWords}
 use Rattle.right_code.specs.Jobs.{job_steps, tree_or_none, tree_used}
-use Rattle.net_code.specs.Inner.Coded.{IsPackedBlock}
-use Rattle.net_code.specs.Inner.Covering.{machine_netlist, machine_patterns}
+use Rattle.net_code.specs.Blocks.{IsPackedBlock}
+use Rattle.net_code.specs.Machines.{machine_netlist, machine_patterns}
 use Rattle.net_code.specs.Inner.Views.{choices_in, stock_of, works_in}
 use Rattle.net_code.proofs.Frames.{root_form, test_have, wanted_is}
 use Rattle.net_code.proofs.Stepping.{chosen_at}
 use Rattle.net_code.proofs.blocks.test_block.Goals as goal
 
-pub packed-requires-clause-words : goal.packed-requires-clause-words
-packed-requires-clause-words c =
+pub pack_block-requires-clause-words : goal.pack_block-requires-clause-words
+pack_block-requires-clause-words c =
     let machine = c.args.machine.now in
     let program = c.args.program.now in
     let stock = stock_of program in

@@ -2,7 +2,7 @@ use Rattle.std.proofs.Common.{◌≡◌, ◌∙◌, ◌≤◌, ap, arith, length
 use Rattle.branch_fix.specs.Bounds.{bound_of}
 use Rattle.net_model.specs.CheckedRules.{code_size}
 use Rattle.net_model.specs.declared.hardware.Netlist.{Netlist}
-use Rattle.net_code.specs.Inner.Covering.{machine_netlist}
+use Rattle.net_code.specs.Machines.{machine_netlist}
 use Rattle.net_code.proofs.Built.{beyond, is_fitting, is_right, near, too_long}
 use Rattle.net_code.proofs.image.covered_image.Goals as goal
 

@@ -1,10 +1,10 @@
-use Rattle.std.proofs.Common.{◌∙◌, ◌+◌, ◌≤◌, ap, length, map, refl, subst, sym}
+use Rattle.std.proofs.Common.{◌∙◌, ◌+◌, ◌≤◌, ap, map, refl, subst, sym}
 use Rattle.std.specs.List.{AllByRecursion}
 use Rattle.branch_fix.specs.Bounds.{bound_of, control_words, sum_of}
 use Rattle.branch_fix.specs.Laid.{IsLaid, outline}
 use Rattle.cover.specs.declared.covers.JobCover.{JobCover}
 use Rattle.net_code.specs.Inner.Coded.{AreItemWords, HasWord}
-use Rattle.net_code.specs.Inner.Covering.{machine_netlist, machine_patterns}
+use Rattle.net_code.specs.Machines.{machine_netlist, machine_patterns}
 use Rattle.net_model.specs.Nets.{word_width}
 use Rattle.right_code.specs.Covered.{numbered}
 use Rattle.net_code.proofs.Making.{sizes}

@@ -4,7 +4,7 @@ use Rattle.std.proofs.lemmas.List.{take_more}
 use Rattle.bit_bdd.proofs.CallerLemmas.{extends_trans}
 use Rattle.branch_fix.specs.declared.laid.Item.TheVariants.{Group}
 use Rattle.net_code.specs.Inner.Coded.{AreItemWords}
-use Rattle.net_code.specs.Inner.Covering.{machine_netlist, machine_patterns}
+use Rattle.net_code.specs.Machines.{machine_netlist, machine_patterns}
 use Rattle.net_code.proofs.Listing.{words_more}
 use Rattle.net_code.proofs.words.words_of_items.Goals as goal
 

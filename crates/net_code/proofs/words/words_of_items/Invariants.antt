@@ -2,7 +2,7 @@ use Rattle.std.proofs.Common.{take}
 use Rattle.transfer_set.specs.Ready.{IsReady}
 use Rattle.bit_bdd.specs.Diagrams.{Extends}
 use Rattle.net_code.specs.Inner.Coded.{AreItemWords}
-use Rattle.net_code.specs.Inner.Covering.{machine_netlist, machine_patterns}
+use Rattle.net_code.specs.Machines.{machine_netlist, machine_patterns}
 use Rattle.net_code.proofs.words.words_of_items.Given as goal
 
 abbrev pub invariant-loop-item : goal.invariant-loop-item

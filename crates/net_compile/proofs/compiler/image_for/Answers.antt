@@ -1,4 +1,7 @@
 use Rattle.std.proofs.Common.{sym}
+use Rattle.std.proofs.lemmas.Result.{err_from_is_err_and}
+use Rattle.right_code.specs.Tasks.{read_task}
+use Rattle.net_compile.proofs.TaskLemmas.{fault_of_places}
 use Rattle.net_compile.proofs.compiler.image_for.Goals as goal
 
 pub image-requires-clause-checked : goal.image-requires-clause-checked
@@ -11,3 +14,8 @@ returns-clause-image c = record {
   right = c.in_ok-image.ensures.right;
   fits = c.in_ok-image.ensures.fits;
 }
+
+pub returns-in_err-places-clause-refused : goal.returns-in_err-places-clause-refused
+returns-in_err-places-clause-refused c =
+    let p = err_from_is_err_and c.from_residual.result c.from_residual.ensures.1 in
+    rw (p.1, p.2) (fault_of_places (read_task c.args.checked.now c.args.typed.now) _ c.in_err-places.ensures.refused)

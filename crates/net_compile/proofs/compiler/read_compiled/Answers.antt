@@ -12,6 +12,9 @@ use Rattle.net_compile.proofs.compiler.read_compiled.Goals as goal
 pub image_for-requires-clause-rules : goal.image_for-requires-clause-rules
 image_for-requires-clause-rules c = c.in_ok-checked.ensures.found.netlist.rules
 
+pub image_for-requires-clause-ready : goal.image_for-requires-clause-ready
+image_for-requires-clause-ready c = c.in_ok-checked.ensures.extracted.ready
+
 pub image_for-requires-clause-program : goal.image_for-requires-clause-program
 image_for-requires-clause-program c =
     subst (λ (n : ℕ). first_fault n (listing_of c.in_ok-typed.typed.program) ≡ None) (sym c.in_ok-typed.ensures.width) c.in_ok-typed.ensures.found.kept

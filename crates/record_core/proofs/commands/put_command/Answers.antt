@@ -44,6 +44,16 @@ returns-in_err-text-in-Dis-clause-refused g c = λ line.
     let p = err_from_is_err_and c.from_residual-in_err-text-in-Dis.result c.from_residual-in_err-text-in-Dis.ensures.1 in
     rw (p.1, p.2, c.in-Dis.is) (rw (c.file-in-Dis.ensures, c.file-in-Dis-2.ensures) at (c.in_err-text-in-Dis.ensures.refused (line None)))
 
+pub returns-in_err-text-in-Test-clause-refused : goal.returns-in_err-text-in-Test-clause-refused
+returns-in_err-text-in-Test-clause-refused g c = λ line.
+    let p = err_from_is_err_and c.from_residual-in_err-text-in-Test.result c.from_residual-in_err-text-in-Test.ensures.1 in
+    rw (p.1, p.2, c.in-Test.is) (rw c.file-in-Test.ensures at (c.in_err-text-in-Test.ensures.refused (line None)))
+
+pub returns-in_err-text-in-Explain-clause-refused : goal.returns-in_err-text-in-Explain-clause-refused
+returns-in_err-text-in-Explain-clause-refused g c = λ line.
+    let p = err_from_is_err_and c.from_residual-in_err-text-in-Explain.result c.from_residual-in_err-text-in-Explain.ensures.1 in
+    rw (p.1, p.2, c.in-Explain.is) (rw (c.file-in-Explain.ensures, c.file-in-Explain-2.ensures) at (c.in_err-text-in-Explain.ensures.refused (line None)))
+
 pub returns-in_ok-text-in-Compile-clause-done : goal.returns-in_ok-text-in-Compile-clause-done
 returns-in_ok-text-in-Compile-clause-done g c = λ line. record {
   text = c.in_ok-text-in-Compile.text.items;
@@ -93,4 +103,18 @@ returns-in_ok-text-in-Dis-clause-done g c = λ line. record {
   text = c.in_ok-text-in-Dis.text.items;
   answers = rw c.in-Dis.is (rw (c.file-in-Dis.ensures, c.file-in-Dis-2.ensures) at (c.in_ok-text-in-Dis.ensures.ok (line None)));
   puts = rw c.deref-in-Dis.ensures.value at c.put-in-Dis.ensures;
+}
+
+pub returns-in_ok-text-in-Test-clause-done : goal.returns-in_ok-text-in-Test-clause-done
+returns-in_ok-text-in-Test-clause-done g c = λ line. record {
+  text = c.in_ok-text-in-Test.text;
+  answers = rw c.in-Test.is (rw c.file-in-Test.ensures at (c.in_ok-text-in-Test.ensures.ok (line None)));
+  puts = rw c.as_slice.ensures at c.put-in-Test.ensures;
+}
+
+pub returns-in_ok-text-in-Explain-clause-done : goal.returns-in_ok-text-in-Explain-clause-done
+returns-in_ok-text-in-Explain-clause-done g c = λ line. record {
+  text = c.in_ok-text-in-Explain.text.items;
+  answers = rw c.in-Explain.is (rw (c.file-in-Explain.ensures, c.file-in-Explain-2.ensures) at (c.in_ok-text-in-Explain.ensures.ok (line None)));
+  puts = rw c.deref-in-Explain.ensures.value at c.put-in-Explain.ensures;
 }

@@ -1,0 +1,99 @@
+-- The registers of the operands that a form's match leaves open occur in the form.
+use Rattle.std.proofs.Common.{◌≡◌, ℕ, ◌<◌, List, [], ◌∷◌, ◌++◌, Option, Some, None, Bool, true, false, refl, sym, ap, subst, inl, inr}
+use Rattle.std.specs.Prelude.{if◌then◌else◌, ◌==◌, ◌||◌, ◌&&◌, not}
+use Rattle.net_model.specs.Occurs.{occurs}
+use Rattle.net_model.specs.Terms.{Term, word, reg, const, read, un, bin, slice, cat, zext, sext, select, term_width}
+use Rattle.form_model.specs.Trees.{is_number, is_cell}
+use Rattle.form_model.specs.Shapes.{is_shape, shows_below}
+use Rattle.form_model.specs.Rules.{Rule, Kind, into_reg, into_memory, jumps, branches, Destination, into, cell, stored, temporary, tested}
+use Rattle.form_model.specs.Matches.{Site, operand, cut, Found, both, open_if, shape_match, literal_match, cell_match, read_match, slice_match, zext_match, sext_match, matched, address_match, goal_match, taken}
+use Rattle.form_model.specs.Registers.{IsLow, IsLowTerm}
+use Rattle.cover.specs.Inner.Matched.{AreLowSites}
+use Rattle.cover.proofs.SizeLemmas.{picked, eq_self, settled_sites, open_sites, shape_sites, literal_sites, both_parts, read_parts, un_parts, bin_parts, slice_parts, zext_parts, sext_parts, either}
+
+none_low : (sites : List Site) → sites ≡ [] → AreLowSites sites
+none_low sites e = subst AreLowSites (sym e) tt
+
+low-append : (xs ys : List Site) → AreLowSites xs → AreLowSites ys → AreLowSites (xs ++ ys)
+low-append [] ys h k = k
+low-append (operand id tree whole ∷ xs) ys h k = (h.0, low-append xs ys h.1 k)
+low-append (cut shape tree ∷ xs) ys h k = low-append xs ys h k
+
+both_low : (a b : Option Found) (found : Found) → both a b ≡ Some found → ((f : Found) → a ≡ Some f → AreLowSites f.sites) → ((g : Found) → b ≡ Some g → AreLowSites g.sites) → AreLowSites found.sites
+both_low a b found h of_a of_b =
+    let (f, g, ef, eg, is) = both_parts a b found h in
+    subst AreLowSites (sym is) (low-append f.sites g.sites (of_a f ef) (of_b g eg))
+
+left_of : (a b : Bool) → a ≡ true → (a || b) ≡ true
+left_of a b e = ap (λ x. x || b) e
+
+right_of : (a b : Bool) → b ≡ true → (a || b) ≡ true
+right_of true b e = refl
+right_of false b e = e
+
+cell_low : (temps : ℕ) (addr : Term) (w : ℕ) (t : Term) (whole : Bool) (found : Found) → cell_match temps addr w t whole ≡ Some found → AreLowSites found.sites
+cell_low temps addr w t whole found h = go (is_cell t) (picked (w == term_width t) _ found h).1
+  where
+    go : (b : Bool) → (if b then literal_match addr t else open_if (not whole && shows_below addr temps) (cut addr t)) ≡ Some found → AreLowSites found.sites
+    go true e = none_low found.sites (literal_sites addr t found e)
+    go false e = subst AreLowSites (sym (open_sites (not whole && shows_below addr temps) (cut addr t) found e).1) tt
+
+matched_low : (temps : ℕ) (e t : Term) (whole : Bool) (found : Found) → matched temps e t whole ≡ Some found → IsLowTerm e → AreLowSites found.sites
+matched_low temps (word w) t whole found h low = none_low found.sites (shape_sites (word w) t found h)
+matched_low temps (const w v) t whole found h low = none_low found.sites (shape_sites (const w v) t found h)
+matched_low temps (reg r w) t whole found h low =
+    subst AreLowSites (sym (open_sites (w == term_width t) (operand r t whole) found h).1) (low r (eq_self r), tt)
+matched_low temps (read a w) t whole found h low =
+    elim (either (is_shape a) (cell_match temps a w t whole) (read_match (matched temps a) w t) found h) [
+      | inl c ↦ cell_low temps a w t whole found c
+      | inr r ↦ (let (b, v, e, m) = read_parts (matched temps a) w t found r in matched_low temps a b (is_number b) found m low)
+    ]
+matched_low temps (un o a) t whole found h low = let (p, b, e, m) = un_parts (matched temps a) o t found h in matched_low temps a b false found m low
+matched_low temps (bin o a b) t whole found h low =
+    let (p, c, d, e, m) = bin_parts (matched temps a) (matched temps b) o t found h in
+    both_low (matched temps a c false) (matched temps b d false) found m
+    (λ f is. matched_low temps a c false f is (λ q k. low q (left_of (occurs q a) (occurs q b) k)))
+    (λ g is. matched_low temps b d false g is (λ q k. low q (right_of (occurs q a) (occurs q b) k)))
+matched_low temps (slice a hi lo) t whole found h low =
+    elim (either (is_shape (slice a hi lo)) (shape_match (slice a hi lo) t) (slice_match (matched temps a) (term_width a) hi lo t) found h) [
+      | inl c ↦ none_low found.sites (shape_sites (slice a hi lo) t found c)
+      | inr r ↦ (let (b, x, y, e, m) = slice_parts (matched temps a) (term_width a) hi lo t found r in matched_low temps a b false found m low)
+    ]
+matched_low temps (cat a b) t whole found h low = absurd (cc)
+matched_low temps (zext a w) t whole found h low =
+    elim (either (is_shape (zext a w)) (shape_match (zext a w) t) (zext_match (matched temps a) (term_width a) w t) found h) [
+      | inl c ↦ none_low found.sites (shape_sites (zext a w) t found c)
+      | inr r ↦ (let (b, v, e, m) = zext_parts (matched temps a) (term_width a) w t found r in matched_low temps a b false found m low)
+    ]
+matched_low temps (sext a w) t whole found h low =
+    elim (either (is_shape (sext a w)) (shape_match (sext a w) t) (sext_match (matched temps a) (term_width a) w t) found h) [
+      | inl c ↦ none_low found.sites (shape_sites (sext a w) t found c)
+      | inr r ↦ (let (b, v, e, m) = sext_parts (matched temps a) (term_width a) w t found r in matched_low temps a b false found m low)
+    ]
+matched_low temps (select c a b) t whole found h low = absurd (cc)
+
+address_low : (temps : ℕ) (addr : Option Term) (destination : Destination) (found : Found) → address_match temps addr destination ≡ Some found → ((a : Term) → addr ≡ Some a → IsLowTerm a) → AreLowSites found.sites
+address_low temps None destination found h low = absurd (cc)
+address_low temps (Some a) (cell address) found h low = none_low found.sites (settled_sites _ found (picked (is_shape a) _ found h).1)
+address_low temps (Some a) (stored address) found h low = matched_low temps a address false found h (low a refl)
+address_low temps (Some a) temporary found h low = none_low found.sites (settled_sites (Some 0) found (picked (is_shape a && shows_below a temps) _ found h).1)
+address_low temps (Some a) (into id) found h low = absurd (cc)
+address_low temps (Some a) tested found h low = absurd (cc)
+
+goal_low : (temps : ℕ) (rule : Rule) (goal : Kind) (destination : Destination) (t : Term) (whole : Bool) (found : Found) → goal_match temps rule goal destination t whole ≡ Some found → IsLow rule → AreLowSites found.sites
+goal_low temps rule (into_reg r) (into id) t whole found h low = matched_low temps rule.value t whole found (picked (r == id) _ found h).1 low.2
+goal_low temps rule into_memory (cell address) t whole found h low =
+    both_low (address_match temps rule.addr (cell address)) (matched temps rule.value t true) found h
+    (λ f is. address_low temps rule.addr (cell address) f is low.1) (λ g is. matched_low temps rule.value t true g is low.2)
+goal_low temps rule into_memory (stored address) t whole found h low =
+    both_low (address_match temps rule.addr (stored address)) (matched temps rule.value t false) found h
+    (λ f is. address_low temps rule.addr (stored address) f is low.1) (λ g is. matched_low temps rule.value t false g is low.2)
+goal_low temps rule into_memory temporary t whole found h low =
+    both_low (address_match temps rule.addr temporary) (matched temps rule.value t false) found h
+    (λ f is. address_low temps rule.addr temporary f is low.1) (λ g is. matched_low temps rule.value t false g is low.2)
+goal_low temps rule (branches when_one to) tested t whole found h low = matched_low temps rule.value t true found h low.2
+goal_low temps rule _ _ t whole found h low = absurd (cc)
+
+-- what a low form leaves open is low
+pub taken_low : (temps : ℕ) (rule : Rule) (destination : Destination) (t : Term) (whole : Bool) (found : Found) → taken temps rule destination t whole ≡ Some found → IsLow rule → AreLowSites found.sites
+taken_low temps rule destination t whole found h low = goal_low temps rule rule.goal destination t whole found h low

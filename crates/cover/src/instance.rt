@@ -1,0 +1,19 @@
+//! What is to be covered, and by what.
+
+ghost use Rattle.form_model.specs.Registers.{AreLow};
+ghost use Rattle.form_model.specs.Rules.{rules_of};
+
+use form_model::{Form, Tree};
+use tree_grammar::Destination;
+
+/// What is to be covered, and by what: a tree with its destination, the forms, and the number of
+/// temporary cells.
+#[derive(Clone, Copy)]
+pub struct Instance<'a> {
+    pub forms: &'a [Form],
+    pub temps: u32,
+    pub destination: Destination<'a>,
+    pub tree: &'a Tree,
+    /// A set of registers has a bit for each register that a form names.
+    ghost low: { AreLow (rules_of forms.now) },
+}

@@ -1,0 +1,5 @@
+mod Lists
+mod AskLemmas
+mod FlagLemmas
+mod ListedLemmas
+mod JobLemmas

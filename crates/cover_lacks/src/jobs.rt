@@ -1,0 +1,128 @@
+//! What is lacking of a job.
+
+ghost use Rattle.std.specs.Prelude.{◌≡◌, ◌<◌, ℕ, [], Some, IfOk, OnOk, length, slice_get, vec_len};
+ghost use Rattle.net_model.specs.Terms.{Term};
+ghost use Rattle.form_model.specs.Trees.{tree_term};
+ghost use Rattle.form_model.specs.Rules.{destination_of};
+ghost use Rattle.form_model.specs.Covers.{stock_with};
+ghost use Rattle.tree_grammar.specs.Parts.{destination_at};
+ghost use Rattle.tree_sharing.specs.Sharing.{job_nodes, terms_at};
+ghost use Rattle.cover.specs.Jobs.{trees_of};
+ghost use Rattle.cover_lacks.specs.Lacks.{AreLacking, IsUncovered, all_nodes};
+ghost use Rattle.cover_lacks.specs.Inner.Flags.{IsLackingIn};
+ghost use Rattle.cover_lacks.specs.Inner.Listed.{AddsRoot, AreAdded};
+
+use crate::asks::Search;
+use crate::flags::lacking_flags;
+use crate::listed::in_order;
+use cover::{least_cost, made_parts};
+use form_model::{Forms, Job, Tree};
+use rec_bits::NoMemory;
+use std::alloc::Global;
+use tree_grammar::Destination;
+use tree_sharing::numbered;
+
+// For the number of each subtree of a job's tree whether it is lacking, where the tree has no
+// cover.
+fn flags_of(
+    alloc: Global,
+    forms: &Forms,
+    temps: u32,
+    destination: Destination,
+    tree: &Tree,
+    nodes: &[&Tree],
+) -> Result<Vec<bool>, NoMemory>
+    requires { terms_at nodes.now ≡ job_nodes (destination_at destination) (tree_term tree.now) }
+    ensures { IfOk result (λ flags. IsLackingIn (stock_with forms.now.list.items temps)
+        (destination_at destination.entry) (tree_term tree.now) flags.items) }
+{
+    if least_cost(alloc, forms, destination, tree, true, temps)?.is_some() {
+        return Ok(vec![in alloc; false; nodes.len()]?);
+    }
+    let made = made_parts(alloc, forms, destination, tree, temps)?;
+    let search = Search {
+        forms: &forms.list,
+        temps,
+        destination,
+        tree,
+        nodes,
+        made: &made,
+    };
+    lacking_flags(alloc, &search)
+}
+
+// Adds the subtrees of a job's tree, with their flags.
+fn add_root<'a>(
+    alloc: Global,
+    forms: &Forms,
+    temps: u32,
+    destination: Destination<'a>,
+    tree: &'a Tree,
+    nodes: &mut Vec<&'a Tree>,
+    flags: &mut Vec<bool>,
+) -> Result<(), NoMemory>
+    ensures { OnOk result (AddsRoot (stock_with forms.now.list.items temps) (destination_at destination.entry)
+        (tree_term tree.now) nodes.old.items nodes.new.items flags.old.items flags.new.items) }
+{
+    let subtrees = numbered(alloc, destination, tree)?;
+    let lacking = flags_of(alloc, forms, temps, destination, tree, &subtrees)?;
+    nodes.extend_from_slice(&subtrees)?;
+    flags.extend_from_slice(&lacking)?;
+    Ok(())
+}
+
+// The same of all trees of the job.
+fn add_roots<'a>(
+    alloc: Global,
+    forms: &Forms,
+    job: &'a Job,
+    temps: u32,
+    nodes: &mut Vec<&'a Tree>,
+    flags: &mut Vec<bool>,
+) -> Result<(), NoMemory>
+    requires nodes { nodes.old.items ≡ [] }
+    requires flags { flags.old.items ≡ [] }
+    ensures nodes { OnOk result (terms_at nodes.new.items
+        ≡ all_nodes (destination_of job.now.aim) (trees_of job.now.trees.items)) }
+    ensures added { OnOk result (AreAdded (stock_with forms.now.list.items temps) (destination_of job.now.aim)
+        (trees_of job.now.trees.items) (length job.now.trees.items) (terms_at nodes.new.items) flags.new.items) }
+{
+    for j in 0..job.trees.len() {
+        let destination = Destination::of(&job.aim);
+        add_root(
+            alloc,
+            forms,
+            temps,
+            destination,
+            &job.trees[j],
+            nodes,
+            flags,
+        )?;
+    }
+    Ok(())
+}
+
+/// The subtrees that are lacking of a job without a cover, where so many temporary cells are used:
+/// those that come into no register and no temporary cell, though all does that forms ask of them;
+/// and a tree of the job itself, where all does that forms ask of it and it still has no cover.
+/// They are looked for from the root down, through what is asked for and isn't made. Each is named
+/// once, in the order of their first places, those of a store's address first. A tree that has no
+/// cover lacks something. Want of memory stands for what it does in `cover`.
+pub fn lacking<'a>(
+    alloc: Global,
+    forms: &Forms,
+    job: &'a Job,
+    temps: u32,
+) -> Result<Vec<&'a Tree>, NoMemory>
+    ensures list { IfOk result (λ list. AreLacking (stock_with forms.now.list.items temps)
+        (destination_of job.now.aim) (trees_of job.now.trees.items) (terms_at list.items)) }
+    ensures some { IfOk result (λ list. (which : ℕ) (root : Term) →
+        slice_get (trees_of job.now.trees.items) which ≡ Some root →
+        IsUncovered (stock_with forms.now.list.items temps) (destination_of job.now.aim) root →
+        0 < vec_len list) }
+{
+    let mut nodes = Vec::new(alloc);
+    let mut flags = Vec::new(alloc);
+    add_roots(alloc, forms, job, temps, &mut nodes, &mut flags)?;
+    in_order(alloc, &nodes, &flags)
+}

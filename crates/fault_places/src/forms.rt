@@ -1,0 +1,14 @@
+//! The forms of words.
+
+/// The forms of words of the program, one a line.
+pub const FORMS: &str = "record compile NET SRC
+record explain NET SRC
+record extract NET
+record run NET IMG MEM CYCLES
+record go NET SRC MEM CYCLES
+record make N
+record asm NET TEXT
+record dis NET IMG
+record test NET
+record --help
+";

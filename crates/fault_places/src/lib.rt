@@ -1,0 +1,27 @@
+//! Where a fault stands in the file that it is told of, for somebody who reads it.
+//!
+//! Promise: `note` gives the place of an offset with its line, a reason and a caret (`note_text`).
+//! Which offset a status tells of, and the reason, are tested only: `spot_of` tells the file and
+//! what is known of the place there, `offset_in` the offset in the file's text, and `reason_of` the
+//! words. `FORMS` has the forms of words, one a line.
+//!
+//! Files:
+//!
+//! - `spot`: what a status tells of a place, and its offset in a text.
+//! - `reason`: what is wrong there, in words.
+//! - `notes`: the text that is shown.
+//! - `forms`: the forms of words.
+//! - `specs/`: `Notes`, cited by a public contract.
+#![tactic(auto)]
+
+mod forms;
+mod notes;
+mod reason;
+mod spot;
+#[cfg(test)]
+mod tests;
+
+pub use forms::FORMS;
+pub use notes::note;
+pub use reason::reason_of;
+pub use spot::{Spot, offset_in, spot_of};

@@ -1,0 +1,101 @@
+//! Where a fault stands.
+
+ghost use Rattle.std.specs.Prelude.{◌<◌, ◌^◌, length};
+
+use job_places::places_of;
+use net_model::NetFault;
+use rec_bits::NoMemory;
+use record_core::Status;
+use src_model::SrcFault;
+use std::alloc::Global;
+
+/// What a status tells of a place in a file.
+#[derive(Clone, Copy, Debug, PartialEq, Eq)]
+pub enum Spot {
+    /// The offset.
+    At(u64),
+    /// The line, counted from 0.
+    Line(u64),
+    /// The statement of the program's tree of this number.
+    Tree(u32),
+}
+
+// The offset of the item that a broken rule names.
+fn net_offset(fault: NetFault) -> Option<u64> {
+    match fault {
+        NetFault::Duplicate(at)
+        | NetFault::Unknown(at)
+        | NetFault::Width(at)
+        | NetFault::Driver(at)
+        | NetFault::Cycle(at)
+        | NetFault::Enable(at)
+        | NetFault::ControlOp(at)
+        | NetFault::WideSelect(at)
+        | NetFault::PatternLarge(at)
+        | NetFault::TooMany(at) => Some(at),
+        NetFault::Role(_) | NetFault::AlwaysClash | NetFault::Limit { .. } => None,
+    }
+}
+
+fn src_offset(fault: SrcFault) -> Option<u64> {
+    match fault {
+        SrcFault::Duplicate(at)
+        | SrcFault::Unknown(at)
+        | SrcFault::Width(at)
+        | SrcFault::Index(at)
+        | SrcFault::Counter(at) => Some(at),
+        SrcFault::Limit { .. } => None,
+    }
+}
+
+/// The file that a status tells of, by its place among the words that name files, from 0, and what
+/// it tells of the place there. None where it tells of no place.
+pub fn spot_of(status: Status) -> Option<(usize, Spot)> {
+    let (file, spot) = match status {
+        Status::NetText(at) => (0, Spot::At(at)),
+        Status::Net(fault) => (0, Spot::At(net_offset(fault)?)),
+        Status::SrcText(at) | Status::ImageText(at) | Status::AsmText(at) => (1, Spot::At(at)),
+        Status::Src(fault) => (1, Spot::At(src_offset(fault)?)),
+        Status::NoCover(tree) => (1, Spot::Tree(tree)),
+        Status::AsmWord(line) => (1, Spot::Line(line)),
+        Status::MemText(at) => (2, Spot::At(at)),
+        _ => return None,
+    };
+    Some((file, spot))
+}
+
+// The offset at which the line of this number begins.
+fn line_offset(text: &[u8], number: u64) -> Option<u64> {
+    let mut line = 0;
+    for (at, byte) in text.iter().enumerate() {
+        if line == number {
+            return Some(at as u64);
+        }
+        if *byte == b'\n' {
+            line += 1;
+        }
+    }
+    None
+}
+
+// The offset of the statement of the program's tree of this number.
+fn tree_offset(alloc: Global, text: &[u8], tree: u32) -> Result<Option<u64>, NoMemory>
+    requires { length text.now < 2 ^ 32 }
+{
+    let Ok(program) = src_parser::read(alloc, text) else {
+        return Ok(None);
+    };
+    let places = places_of(alloc, &program)?;
+    Ok(places.get(tree as usize).map(|place| place.at))
+}
+
+/// The offset of a place in the file's text. None where the text has no such place.
+pub fn offset_in(alloc: Global, text: &[u8], spot: Spot) -> Result<Option<u64>, NoMemory>
+    requires { length text.now < 2 ^ 32 }
+{
+    match spot {
+        Spot::At(at) => Ok(Some(at)),
+        Spot::Line(number) => Ok(line_offset(text, number)),
+        Spot::Tree(tree) => tree_offset(alloc, text, tree),
+    }
+}

@@ -1,0 +1,144 @@
+-- The registers that the forms of a netlist go to and name are registers of the netlist.
+use Rattle.std.proofs.Common.{◌≡◌, ℕ, ◌+◌, ◌<◌, ◌==◌, ◌&&◌, Bool, true, false, true≢false, [], ◌∷◌, List, Option, Some, None, slice_get, refl, sym, ap, subst, ◌∙◌, arith, inl, inr}
+use Rattle.std.specs.Prelude.{◌⊎◌, ◌||◌, All, if◌then◌else◌}
+use Rattle.std.proofs.lemmas.Bool.{cases_lt}
+use Rattle.std.proofs.lemmas.List.Elements.{All-get_or}
+use Rattle.std.proofs.lemmas.Option.{get_or_from_slice_get, slice_get_within}
+use Rattle.net_model.specs.declared.hardware.Netlist.{Netlist}
+use Rattle.net_model.specs.CheckedRules.{KeepsRules}
+use Rattle.net_model.specs.Nets.{memory_id}
+use Rattle.net_model.specs.Occurs.{move_occurs, occurs}
+use Rattle.net_model.specs.Patterns.{IsPattern, Pattern}
+use Rattle.net_model.specs.Terms.{Term, word, reg, const, read, un, bin, slice, cat, zext, sext, select, Move, keep, write, write_at}
+use Rattle.net_model.proofs.Far.{reads_far}
+use Rattle.net_model.proofs.KeptRules.{few_storages, sound_of}
+use Rattle.net_model.proofs.Storages.{storage_within}
+use Rattle.rec_bits.specs.declared.operator.Op2.{Op2}
+use Rattle.transfer_set.specs.declared.stepping.Counter.{Counter}
+use Rattle.transfer_set.specs.Stepping.{is_next}
+use Rattle.form_model.specs.Registers.{AreLow, IsLow, IsLowGoal, IsLowTerm}
+use Rattle.form_model.specs.Rules.{BranchTarget, Rule, into_memory, into_reg}
+use Rattle.form_set.specs.Listing.{AreRules, counter_at, sides_of}
+use Rattle.form_set.specs.Promises.{IsFormOf, of_branch, of_jump, of_plain}
+use Rattle.form_set.specs.Swaps.{Path, can_swap, ordered, picks, swap_at, swap_paths, swapped}
+use Rattle.form_set.specs.Targets.{Branch, allowed_target, branch_if, first_of, term_branch}
+use Rattle.form_set.proofs.FormLaws.{form_at}
+
+-- ---- swaps
+
+or_turned : (a b : Bool) → (b || a) ≡ (a || b)
+or_turned true true = refl
+or_turned true false = refl
+or_turned false true = refl
+or_turned false false = refl
+
+either_left : (a b : Bool) → a ≡ true → (a || b) ≡ true
+either_left a b e = ap (λ x. x || b) e
+
+either_right : (a b : Bool) → b ≡ true → (a || b) ≡ true
+either_right true b e = refl
+either_right false b e = e
+
+module _ (q : ℕ) where
+  turned : (o : Op2) (a b : Term) (swaps : Bool) → occurs q (ordered swaps o a b) ≡ (occurs q a || occurs q b)
+  turned o a b true = or_turned (occurs q a) (occurs q b)
+  turned o a b false = refl
+
+  -- the same registers occur after swaps
+  swap_occurs : (chosen : Path → Bool) (t : Term) → occurs q (swap_at chosen t) ≡ occurs q t
+  swap_occurs chosen (word w) = refl
+  swap_occurs chosen (reg r w) = refl
+  swap_occurs chosen (const w v) = refl
+  swap_occurs chosen (read a w) = swap_occurs (λ path. chosen (0 ∷ path)) a
+  swap_occurs chosen (un o a) = swap_occurs (λ path. chosen (0 ∷ path)) a
+  swap_occurs chosen (slice a hi lo) = swap_occurs (λ path. chosen (0 ∷ path)) a
+  swap_occurs chosen (zext a w) = swap_occurs (λ path. chosen (0 ∷ path)) a
+  swap_occurs chosen (sext a w) = swap_occurs (λ path. chosen (0 ∷ path)) a
+  swap_occurs chosen (bin o a b) =
+      turned o (swap_at (λ path. chosen (0 ∷ path)) a) (swap_at (λ path. chosen (1 ∷ path)) b) (can_swap o && chosen [])
+      ∙ (λ j. swap_occurs (λ path. chosen (0 ∷ path)) a j || swap_occurs (λ path. chosen (1 ∷ path)) b j)
+  swap_occurs chosen (cat a b) = (λ j. swap_occurs (λ path. chosen (0 ∷ path)) a j || swap_occurs (λ path. chosen (1 ∷ path)) b j)
+  swap_occurs chosen (select c a b) =
+      (λ j. swap_occurs (λ path. chosen (0 ∷ path)) c j || (swap_occurs (λ path. chosen (1 ∷ path)) a j || swap_occurs (λ path. chosen (2 ∷ path)) b j))
+
+-- ---- the condition of a branch
+
+first_some : {A : Type 0} (x y : Option A) (v : A) → first_of x y ≡ Some v → (x ≡ Some v) ⊎ (y ≡ Some v)
+first_some (Some x) y v e = inl e
+first_some None y v e = inr e
+
+if_test : (b when_one : Bool) (c : Term) (to : Option BranchTarget) (parts : Branch) → branch_if b when_one c to ≡ Some parts → c ≡ parts.test
+if_test true when_one c (Some to) parts e =
+    let is : ◌≡◌ {A = Branch} (record { when_one = when_one; test = c; to = to }) parts = cc in ap (λ (x : Branch). x.test) is
+if_test true when_one c None parts e = absurd (cc)
+if_test false when_one c to parts e = absurd (cc)
+
+-- what occurs in it occurs in the value of its pattern
+test_occurs : (q : ℕ) (pc : Counter) (reach : ℕ) (t : Term) (parts : Branch) → term_branch pc reach t ≡ Some parts → occurs q parts.test ≡ true → occurs q t ≡ true
+test_occurs q pc reach (select c a b) parts e k = either_left (occurs q c) (occurs q a || occurs q b) (ap (occurs q) test ∙ k)
+  where
+    test : c ≡ parts.test
+    test = elim (first_some (branch_if (is_next pc b) true c (allowed_target pc reach a)) (branch_if (is_next pc a) false c (allowed_target pc reach b)) parts e) [
+      | inl x ↦ if_test (is_next pc b) true c (allowed_target pc reach a) parts x
+      | inr y ↦ if_test (is_next pc a) false c (allowed_target pc reach b) parts y
+    ]
+test_occurs q pc reach _ parts e k = absurd (cc)
+
+-- ---- forms
+
+goal_low : (storage memory : ℕ) → storage < 16 → IsLowGoal (if storage == memory then into_memory else into_reg storage)
+goal_low storage memory lt = by (storage == memory)
+  where
+    by : (b : Bool) → IsLowGoal (if b then into_memory else into_reg storage)
+    by true q e = absurd (cc)
+    by false q e = let same : storage ≡ q = cc in subst (λ n. n < 16) same lt
+
+-- the registers of an address and of a value
+addr_low : (choice : ℕ) (m : Move) → ((q : ℕ) → move_occurs q m ≡ true → q < 16) → (a : Term) → (swapped choice (sides_of m)).addr ≡ Some a → IsLowTerm a
+addr_low choice keep low a e = absurd (cc)
+addr_low choice (write v) low a e = absurd (cc)
+addr_low choice (write_at x v) low a e =
+    let chosen : Path → Bool = λ path. picks choice (swap_paths (sides_of (write_at x v))) (0 ∷ path) in
+    let same : swap_at chosen x ≡ a = cc in
+    λ q k. low q (either_left (occurs q x) (occurs q v) (sym (swap_occurs q chosen x) ∙ ap (occurs q) same ∙ k))
+
+value_low : (choice : ℕ) (m : Move) → ((q : ℕ) → move_occurs q m ≡ true → q < 16) → IsLowTerm (swapped choice (sides_of m)).value
+value_low choice keep low q k = absurd (true≢false (sym k))
+value_low choice (write v) low q k = low q (sym (swap_occurs q (λ path. picks choice (swap_paths (sides_of (write v))) (1 ∷ path)) v) ∙ k)
+value_low choice (write_at a v) low q k =
+    low q (either_right (occurs q a) (occurs q v) (sym (swap_occurs q (λ path. picks choice (swap_paths (sides_of (write_at a v))) (1 ∷ path)) v) ∙ k))
+
+module _ (netlist : Netlist) (order : List ℕ) (keeps : KeepsRules netlist order) where
+  pattern_low : (p : Pattern) → IsPattern netlist p → (q : ℕ) → move_occurs q p.move ≡ true → q < 16
+  pattern_low p is q k = elim (cases_lt q 16) [
+    | inl lt ↦ lt
+    | inr ge ↦ absurd (true≢false (sym k ∙ sym (ap (move_occurs q) is.given.gives)
+        ∙ reads_far q netlist (omega (arith, few_storages netlist order keeps, ge)) (sound_of netlist order keeps).typed is.word p.storage))
+  ]
+
+  of_low : (reach number : ℕ) (p : Pattern) (rule : Rule) → IsPattern netlist p → IsFormOf netlist reach number p rule → IsLow rule
+  of_low reach number p rule is (of_plain choice clobbers plain are e) =
+      subst IsLow (sym e) (
+        goal_low p.storage (memory_id netlist.storages) (let within = storage_within netlist p is in omega (arith, within, few_storages netlist order keeps)),
+        addr_low choice p.move (pattern_low p is),
+        value_low choice p.move (pattern_low p is),
+      )
+  of_low reach number p rule is (of_jump h e) =
+      subst IsLow (sym e) ((λ q x. absurd (cc)), (λ a x. absurd (cc)), (λ q k. pattern_low p is q (ap (move_occurs q) h.move ∙ k)))
+  of_low reach number p rule is (of_branch choice parts b e) =
+      let chosen : Path → Bool = λ path. picks choice (swap_paths (record { addr = None; value = parts.test })) (1 ∷ path) in
+      subst IsLow (sym e) (
+        (λ q x. absurd (cc)),
+        (λ a x. absurd (cc)),
+        (λ q k. pattern_low p is q (ap (move_occurs q) b.move
+            ∙ test_occurs q (counter_at netlist) reach b.value parts b.parts (sym (swap_occurs q chosen parts.test) ∙ k))),
+      )
+
+  pattern_at : (patterns : List Pattern) (i : ℕ) (p : Pattern) → All (IsPattern netlist) patterns → slice_get patterns i ≡ Some p → IsPattern netlist p
+  pattern_at patterns i p each at =
+      subst (IsPattern netlist) (get_or_from_slice_get patterns i p p at) (All-get_or (IsPattern netlist) patterns i p (slice_get_within patterns i p at) each)
+
+  pub forms_low : (reach : ℕ) (patterns : List Pattern) (rules : List Rule) → All (IsPattern netlist) patterns → AreRules netlist reach 0 patterns rules → AreLow rules
+  forms_low reach patterns rules each list k rule at =
+      let f = form_at netlist reach 0 patterns rules list k rule at in
+      of_low reach (0 + f.place) f.pattern rule (pattern_at patterns f.place f.pattern each f.at) f.of

@@ -1,0 +1,43 @@
+use Rattle.bit_bdd.proofs.CallerLemmas.{extends_trans}
+use Rattle.std.proofs.lemmas.Result.{IfOk-from_err}
+use Rattle.std.proofs.Common.{List, subst}
+use Rattle.form_model.specs.declared.forms.Step.{Step}
+use Rattle.form_model.specs.Live.{regs_of, singles}
+use Rattle.word_fit.specs.Fits.{fits_over}
+use Rattle.word_fit.specs.Steps.{step_operation}
+use Rattle.right_code.specs.Words.{AreGroupWords}
+use Rattle.net_code.specs.Machines.{machine_netlist, machine_patterns}
+use Rattle.net_code.proofs.Packing.{packs_some, singles_some}
+use Rattle.net_code.proofs.blocks.pack_block.Goals as goal
+
+pub returns-clause-packed : goal.returns-clause-packed
+returns-clause-packed c =
+    let machine = c.args.machine.now in
+    let operation = step_operation machine.pool.now machine.patterns.now in
+    let made = c.in_ok-groups.ensures in
+    let some =
+    packs_some operation (fits_over (machine_netlist machine) operation) (regs_of c.args.after) 0 (singles c.args.steps.now) c.in_ok-groups.groups (singles_some c.args.steps.now) made.chosen in
+    record {
+      packing = record { some = some; holds = made.steps; means = made.meaning; packed = made.packed };
+      least =
+          subst (λ (groups : List (List Step)). AreGroupWords (machine_netlist machine) (machine_patterns machine) groups (regs_of c.args.after) c.in_ok-words.words) c.as_slice.ensures
+          c.in_ok-words.ensures.least;
+    }
+
+pub returns-in_err-groups-clause-once : goal.returns-in_err-groups-clause-once
+returns-in_err-groups-clause-once c = IfOk-from_err c.from_residual.result _ c.from_residual.ensures.0
+
+pub returns-in_err-groups-clause-packed : goal.returns-in_err-groups-clause-packed
+returns-in_err-groups-clause-packed c = IfOk-from_err c.from_residual.result _ c.from_residual.ensures.0
+
+pub returns-in_err-words-clause-once : goal.returns-in_err-words-clause-once
+returns-in_err-words-clause-once c = IfOk-from_err c.from_residual-in_err-words.result _ c.from_residual-in_err-words.ensures.0
+
+pub returns-in_err-words-clause-packed : goal.returns-in_err-words-clause-packed
+returns-in_err-words-clause-packed c = IfOk-from_err c.from_residual-in_err-words.result _ c.from_residual-in_err-words.ensures.0
+
+pub returns-in_err-words-clause-grows : goal.returns-in_err-words-clause-grows
+returns-in_err-words-clause-grows c = extends_trans c.args.book.now c.pack.new.book c.words_of.new.book c.pack.ensures.grows c.words_of.ensures.grows
+
+pub returns-clause-grows : goal.returns-clause-grows
+returns-clause-grows c = extends_trans c.args.book.now c.pack.new.book c.words_of.new.book c.pack.ensures.grows c.words_of.ensures.grows

@@ -1,0 +1,2 @@
+mod Early
+mod Growing

@@ -1,0 +1,119 @@
+-- What is explained of two texts: each job with its cover or with what lacks one, and what
+-- `compile` answers.
+use Rattle.std.specs.Prelude.{ℕ, ◌+◌, ◌≡◌, ◌≢◌, ◌⊎◌, List, [], ◌∷◌, ◌++◌, map}
+use Rattle.std.specs.List.{AllByRecursion, concat}
+use Rattle.net_model.specs.declared.hardware.Netlist.{Netlist}
+use Rattle.net_model.specs.Terms.{Term}
+use Rattle.form_model.specs.Covers.{Choice, HasNoCover, IsChosen, Stock, job_cost}
+use Rattle.form_model.specs.Rules.{Rule}
+use Rattle.src_trees.specs.Lowered.{Work}
+use Rattle.job_places.specs.Places.{Spot, program_spots}
+use Rattle.cover_lacks.specs.Lacks.{AreLacking}
+use Rattle.right_code.specs.Forms.{AreFormsOf}
+use Rattle.right_code.specs.Tasks.{Task, task_stock, task_works}
+use Rattle.net_code.specs.Refusals.{HasJumps}
+use Rattle.net_compile.specs.Code.{HasRightCode, HasRoom, IsTaskFault}
+use Rattle.net_compile.specs.Compiled.{IsCompileFault}
+use Rattle.net_compile.specs.Tasks.{TaskHolds}
+use Rattle.net_compile.specs.declared.fault.CompileFault.{CompileFault}
+use Rattle.net_compile.specs.declared.fault.CompileFault.TheVariants.{NoCover, NoReach, ImageFull}
+use Rattle.net_explain.specs.Lines.{bare_line, cost_line, done_line, end_line, job_head, lack_line, near_line}
+
+-- ---- what is open: the wording of near forms
+
+-- one line's bytes
+abbrev pub IsInner : List ℕ → Type 0
+IsInner rest = AllByRecursion (λ byte. byte ≢ 10) rest
+
+-- any lines that begin with `near `
+pub record AreNearLines (text : List ℕ) : Type 0 where
+  pub rests : List (List ℕ)
+  pub inner : AllByRecursion IsInner rests
+  pub lines : text ≡ concat (map near_line rests)
+
+-- ---- jobs
+
+-- the subtrees that nothing makes, in their order, each with lines on near forms behind it
+abbrev pub AreLackLines : Netlist → List Term → List ℕ → Type 0
+AreLackLines netlist [] text = text ≡ []
+AreLackLines netlist (tree ∷ trees) text =
+    (near : List ℕ) × AreNearLines near × (later : List ℕ) × AreLackLines netlist trees later
+    × (text ≡ concat (lack_line netlist tree ∷ near ∷ later ∷ []))
+
+-- the job has an orderly cover, and the text is the cost of the chosen one
+pub record ShowsCost (stock : Stock) (job : Work) (text : List ℕ) : Type 0 where
+  pub choice : Choice
+  pub chosen : IsChosen stock job.destination job.trees choice
+  pub line : text ≡ cost_line (job_cost job.destination choice.plan)
+
+-- it has none, and the text tells the smallest subtrees that nothing makes
+pub record ShowsLacks (netlist : Netlist) (stock : Stock) (job : Work) (text : List ℕ) : Type 0 where
+  pub none : HasNoCover stock job.destination job.trees
+  pub lacks : List Term
+  pub are : AreLacking stock job.destination job.trees lacks
+  pub rest : List ℕ
+  pub told : AreLackLines netlist lacks rest
+  pub lines : text ≡ bare_line ++ rest
+
+-- one of the two
+abbrev pub IsCoverText : Netlist → Stock → Work → List ℕ → Type 0
+IsCoverText netlist stock job text = ShowsCost stock job text ⊎ ShowsLacks netlist stock job text
+
+-- the text of a job of this number, with its place in the program's text
+pub record IsJobText (netlist : Netlist) (stock : Stock) (src : List ℕ) (number : ℕ) (spot : Spot)
+    (job : Work) (text : List ℕ) : Type 0 where
+  pub cover : List ℕ
+  pub shown : IsCoverText netlist stock job cover
+  pub lines : text ≡ job_head netlist src number spot job ++ cover
+
+-- the texts of jobs, which are numbered from one on, one behind the other
+abbrev pub AreJobTexts : Netlist → Stock → List ℕ → ℕ → List Spot → List Work → List ℕ → Type 0
+AreJobTexts netlist stock src number [] [] text = text ≡ []
+AreJobTexts netlist stock src number (spot ∷ spots) (job ∷ jobs) text =
+    (own : List ℕ) × IsJobText netlist stock src number spot job own
+    × (later : List ℕ) × AreJobTexts netlist stock src (number + 1) spots jobs later × (text ≡ own ++ later)
+AreJobTexts netlist stock src number _ _ text = ⊥
+
+-- ---- the end
+
+-- `compile` refuses the task with this fault, behind the refusals that `explain` has too
+abbrev pub IsLateFault : Task → CompileFault → Type 0
+IsLateFault task (NoCover number) = IsTaskFault task (NoCover number)
+IsLateFault task (NoReach bound reach) = IsTaskFault task (NoReach bound reach)
+IsLateFault task (ImageFull len size bound) = IsTaskFault task (ImageFull len size bound)
+IsLateFault task _ = ⊥
+
+-- the line of an answer of `compile`: there is right code for the task, or a refusal. Images made
+-- for one task may differ in length, so both may apply
+abbrev pub IsEnding : Task → List ℕ → Type 0
+IsEnding task text =
+    (HasRightCode task × (text ≡ done_line))
+    ⊎ ((fault : CompileFault) × IsLateFault task fault × (text ≡ end_line fault))
+
+-- ---- the whole
+
+-- the task has room and its netlist a step and a jump, and the text tells of each job of the
+-- program, by the netlist's forms, and of what `compile` answers
+pub record IsExplainedTask (src text : List ℕ) (task : Task) : Type 0 where
+  pub room : HasRoom task
+  pub jumps : HasJumps task
+  pub rules : List Rule
+  pub reach : ℕ
+  pub forms : AreFormsOf task.netlist rules reach
+  pub jobs : List ℕ
+  pub told : AreJobTexts task.netlist (task_stock rules task) src 0 (program_spots task.listing) (task_works task) jobs
+  pub ending : List ℕ
+  pub ends : IsEnding task ending
+  pub lines : text ≡ jobs ++ ending
+
+-- the third bytes explain the program of the second on the netlist of the first
+abbrev pub IsExplained : List ℕ → List ℕ → List ℕ → Type 0
+IsExplained net src text = TaskHolds net src (IsExplainedTask src text)
+
+-- when each refusal comes: as of `compile`, up to NoJump; a tree without a cover, and code that is
+-- too long, refuse nothing
+abbrev pub IsExplainFault : List ℕ → List ℕ → CompileFault → Type 0
+IsExplainFault net src (NoCover number) = ⊥
+IsExplainFault net src (NoReach bound reach) = ⊥
+IsExplainFault net src (ImageFull len size bound) = ⊥
+IsExplainFault net src fault = IsCompileFault net src fault

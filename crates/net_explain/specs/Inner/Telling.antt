@@ -1,0 +1,48 @@
+-- Texts that grow, and what is told in them.
+use Rattle.std.specs.Prelude.{ℕ, ◌≡◌, List, ◌++◌}
+use Rattle.net_model.specs.declared.hardware.Netlist.{Netlist}
+use Rattle.form_model.specs.Covers.{Stock, stock_with}
+use Rattle.form_model.specs.Rules.{Rule}
+use Rattle.job_places.specs.Places.{program_spots}
+use Rattle.right_code.specs.Forms.{AreFormsOf}
+use Rattle.right_code.specs.Tasks.{Task, task_stock, task_works}
+use Rattle.net_code.specs.Refusals.{HasJumps}
+use Rattle.net_compile.specs.Code.{HasRoom, IsTaskFault}
+use Rattle.net_compile.specs.declared.fault.CompileFault.{CompileFault}
+use Rattle.net_compile.specs.declared.fault.CompileFault.TheVariants.{NoCover, NoReach, ImageFull}
+use Rattle.net_explain.specs.Explained.{AreJobTexts}
+use Rattle.net_explain.specs.declared.subject.Subject.{Subject}
+
+abbrev pub netlist_of : Subject → Netlist
+netlist_of subject = subject.checked.now.netlist
+
+abbrev pub stock_of : Subject → Stock
+stock_of subject = stock_with subject.forms.now.list.items subject.temps
+
+-- what was added to a text is such a text
+pub record Adds (Is : List ℕ → Type 0) (old new : List ℕ) : Type 0 where
+  pub more : List ℕ
+  pub is : Is more
+  pub text : new ≡ old ++ more
+
+-- what was added to a text is such a text once what is left has its own behind it
+pub record Begins (Left Whole : List ℕ → Type 0) (old new : List ℕ) : Type 0 where
+  pub more : List ℕ
+  pub on : (later : List ℕ) → Left later → Whole (more ++ later)
+  pub text : new ≡ old ++ more
+
+-- the task has room and its netlist a step and a jump, and the text tells of all jobs
+pub record IsTold (src text : List ℕ) (task : Task) : Type 0 where
+  pub room : HasRoom task
+  pub jumps : HasJumps task
+  pub rules : List Rule
+  pub reach : ℕ
+  pub forms : AreFormsOf task.netlist rules reach
+  pub told : AreJobTexts task.netlist (task_stock rules task) src 0 (program_spots task.listing) (task_works task) text
+
+-- why the task's jobs are not told of; nothing is said where memory ran out
+abbrev pub IsEarlyFault : Task → CompileFault → Type 0
+IsEarlyFault task (NoCover number) = ⊥
+IsEarlyFault task (NoReach bound reach) = ⊥
+IsEarlyFault task (ImageFull len size bound) = ⊥
+IsEarlyFault task fault = IsTaskFault task fault

@@ -1,0 +1,107 @@
+//! What is told of a job's cover: its cost, or what lacks one.
+
+ghost use Rattle.std.specs.Prelude.{◌≡◌, ◌++◌, OnOk};
+ghost use Rattle.form_model.specs.Covers.{HasNoCover};
+ghost use Rattle.src_trees.specs.Jobs.{work_of};
+ghost use Rattle.net_explain.specs.Explained.{AreLackLines, AreNearLines, IsCoverText, ShowsLacks};
+ghost use Rattle.net_explain.specs.Inner.Telling.{Adds, netlist_of, stock_of};
+ghost use Rattle.net_explain.specs.Lines.{cost_line, near_line};
+ghost use Rattle.tree_sharing.specs.Sharing.{terms_at};
+
+use crate::heading::add_tree_line;
+use crate::subject::Subject;
+use crate::text::{add_bytes, add_number};
+use cover::{CoverFault, cover};
+use cover_lacks::lacking;
+use form_model::{Job, Tree};
+use near_forms::near_texts;
+use rec_bits::NoMemory;
+use std::alloc::Global;
+use text_places::line_around;
+
+// The line of a cost.
+fn add_cost(text: &mut Vec<u8>, cost: u64) -> Result<(), NoMemory>
+    ensures { OnOk result (text.new.items ≡ text.old.items ++ cost_line cost) }
+{
+    add_bytes(text, b"cost ")?;
+    add_number(text, cost)?;
+    add_bytes(text, b"\n")
+}
+
+// A line on a near form.
+fn add_near(text: &mut Vec<u8>, rest: &[u8]) -> Result<(), NoMemory>
+    ensures { OnOk result (text.new.items ≡ text.old.items ++ near_line rest.now) }
+{
+    add_bytes(text, b"near ")?;
+    add_bytes(text, rest)?;
+    add_bytes(text, b"\n")
+}
+
+// Lines on the forms that are nearest to a tree of the job.
+fn add_near_lines(
+    alloc: Global,
+    text: &mut Vec<u8>,
+    subject: &Subject<'_>,
+    job: &Job,
+    tree: &Tree,
+) -> Result<(), NoMemory>
+    ensures { OnOk result (Adds AreNearLines text.old.items text.new.items) }
+{
+    let near = near_texts(alloc, subject.names(), subject.means(), job, tree)?;
+    for told in &near {
+        // its wording is tested only, so that it is one line is seen to here
+        add_near(text, line_around(told, 0))?;
+    }
+    Ok(())
+}
+
+// The lines of trees of a job that nothing makes.
+fn add_trees(
+    alloc: Global,
+    text: &mut Vec<u8>,
+    subject: &Subject<'_>,
+    job: &Job,
+    trees: &[&Tree],
+) -> Result<(), NoMemory>
+    ensures { OnOk result (Adds (AreLackLines (netlist_of subject.now) (terms_at trees.now))
+        text.old.items text.new.items) }
+{
+    for tree in trees {
+        add_tree_line(text, subject.checked, b"lacks", tree)?;
+        add_near_lines(alloc, text, subject, job, tree)?;
+    }
+    Ok(())
+}
+
+// What a job lacks that has no cover.
+fn add_lacks(
+    alloc: Global,
+    text: &mut Vec<u8>,
+    subject: &Subject<'_>,
+    job: &Job,
+) -> Result<(), NoMemory>
+    requires { HasNoCover (stock_of subject.now) (work_of job.now).destination (work_of job.now).trees }
+    ensures { OnOk result (Adds (ShowsLacks (netlist_of subject.now) (stock_of subject.now) (work_of job.now))
+        text.old.items text.new.items) }
+{
+    let trees = lacking(alloc, subject.forms, job, subject.temps)?;
+    add_bytes(text, b"no cover\n")?;
+    add_trees(alloc, text, subject, job, &trees)
+}
+
+/// The lines of a job's cover.
+pub(crate) fn add_cover(
+    alloc: Global,
+    text: &mut Vec<u8>,
+    subject: &Subject<'_>,
+    job: &Job,
+) -> Result<(), NoMemory>
+    ensures { OnOk result (Adds (IsCoverText (netlist_of subject.now) (stock_of subject.now) (work_of job.now))
+        text.old.items text.new.items) }
+{
+    match cover(alloc, subject.forms, job, subject.temps) {
+        Ok(found) => add_cost(text, found.cost),
+        Err(CoverFault::NoCover) => add_lacks(alloc, text, subject, job),
+        Err(CoverFault::Memory) => Err(NoMemory),
+    }
+}

@@ -1,0 +1,37 @@
+//! Why a program has the covers that it has: an explanation of each of its jobs.
+//!
+//! Promise: `explain` gives a text that tells of each job of the program, in order, its number, its
+//! place in the program's text, what it is there, its trees, and the cost of its chosen cover; or,
+//! exactly where it has no orderly cover, the smallest subtrees that nothing makes (`explained`:
+//! `IsExplained`). Behind each of these come lines on the forms that are nearest, of which nothing
+//! is promised but that they are lines which begin with `near `. The text ends with the line of an
+//! answer of `compile`. Refusals are those of `compile` up to NoJump, in its order (`refused`:
+//! `IsExplainFault`).
+//!
+//! Invariant: the places of jobs and the jobs have the same numbers (`law_of_places`).
+//!
+//! Files:
+//!
+//! - `text`: bytes and numbers in a text.
+//! - `tree_text`: the text of a tree.
+//! - `heading`: what is told of a job whatever its cover is.
+//! - `covering`: the cost of its cover, or what lacks one.
+//! - `subject`: what is told of.
+//! - `telling`: all jobs, one behind the other.
+//! - `ending`: what `compile` answers.
+//! - `explaining`: the parts in their order: `explain`.
+//! - `specs/`: `Lines` and `Explained`, cited by the public contract. `specs/Inner/`: `Telling`,
+//!   what the functions tell one another.
+//! - `proofs/`: `Growing`: texts that grow line by line.
+#![tactic(auto)]
+
+mod covering;
+mod ending;
+mod explaining;
+mod heading;
+mod subject;
+mod telling;
+mod text;
+mod tree_text;
+
+pub use explaining::explain;

@@ -1,0 +1,3 @@
+-- What no public contract cites: what the functions of the crate tell one another.
+pub mod Codes
+pub mod Faults

@@ -1,0 +1,71 @@
+-- The steps of a job of a self-test have words, and words of groups fit the netlist.
+use Rattle.std.proofs.Common.{ℕ, suc, ◌<◌, List, [], ◌∷◌, length, slice_index, get_or, refl, sym, subst, append-nil, arith}
+use Rattle.std.specs.List.{AllByRecursion}
+use Rattle.std.proofs.lemmas.Option.{slice_get-get_or}
+use Rattle.net_model.specs.CheckedRules.{KeepsRules}
+use Rattle.net_model.specs.declared.hardware.Netlist.{Netlist}
+use Rattle.net_model.specs.Nets.{memory_width, word_width}
+use Rattle.net_model.specs.Patterns.{ArePatterns, Pattern}
+use Rattle.net_model.specs.Terms.{size_of}
+use Rattle.net_model.specs.Widths.{WordFits}
+use Rattle.net_model.proofs.WordWidths.{has_bits}
+use Rattle.form_model.specs.Covers.{Choice, IsChosen, Stock}
+use Rattle.form_model.specs.declared.forms.Step.{Step}
+use Rattle.form_model.specs.Effects.{operation_of}
+use Rattle.form_model.specs.Live.{Regs, regs_of, singles}
+use Rattle.form_model.specs.Rules.{Rule}
+use Rattle.form_set.specs.Listing.{AreForms}
+use Rattle.emit_seq.specs.Cells.{AllReadWords}
+use Rattle.src_trees.specs.Lowered.{Work}
+use Rattle.src_trees.specs.Measures.{IsSmall}
+use Rattle.word_fit.specs.Fits.{fits_over}
+use Rattle.word_fit.specs.Groups.{AllHaveWords}
+use Rattle.right_code.specs.Inner.Jobs.{HasOne}
+use Rattle.right_code.specs.Inner.Known.{AreKnown}
+use Rattle.right_code.specs.Jobs.{IsCovered, job_steps}
+use Rattle.right_code.specs.Words.{AreGroupWords}
+use Rattle.right_code.proofs.Covered.{covered_of}
+use Rattle.right_code.proofs.Known.{known_of}
+use Rattle.right_code.proofs.Listed.{all_read}
+use Rattle.right_code.proofs.Worded.{block_words}
+use Rattle.test_code.specs.Inner.Jobs.{IsCellJob}
+
+-- a job of one tree is small
+small : (bits temps : ℕ) (job : Work) (j : IsCellJob bits temps job) → IsSmall bits temps (size_of j.tree) job
+small bits temps job j = subst (IsSmall bits temps (size_of j.tree)) (sym j.is) (record { destination = tt; trees = (j.plain, j.few, omega arith, tt) })
+
+module _ (netlist : Netlist) (order : List ℕ) (keeps : KeepsRules netlist order) (patterns : List Pattern) (are : ArePatterns netlist patterns) (rules : List Rule) (reach : ℕ) (forms : AreForms netlist patterns rules reach) where
+  some : 0 < word_width netlist
+  some = has_bits netlist order keeps
+
+  known : AreKnown netlist patterns
+  known = known_of netlist order keeps patterns are
+
+  reads : AllReadWords (memory_width netlist.storages) rules
+  reads = all_read netlist order keeps some patterns known reach rules forms.list
+
+  module _ (temps : ℕ) (job : Work) (choice : Choice) (j : IsCellJob (memory_width netlist.storages) temps job) where
+    abbrev stock : Stock
+    stock = record { rules = rules; temps = temps }
+
+    pub job_covered : IsChosen stock job.destination job.trees choice → IsCovered stock job choice
+    job_covered c = covered_of (memory_width netlist.storages) stock reads (size_of j.tree) job choice (small (memory_width netlist.storages) temps job j) c
+
+    one : HasOne job.destination job.trees
+    one = subst (λ (x : Work). HasOne x.destination x.trees) (sym j.is) (j.tree, refl)
+
+    -- each step of the job has a word
+    pub job_have : IsChosen stock job.destination job.trees choice → AllHaveWords (operation_of patterns) (fits_over netlist (operation_of patterns)) (singles (job_steps stock job choice)) (regs_of 0)
+    job_have c =
+        subst (λ (steps : List Step). AllHaveWords (operation_of patterns) (fits_over netlist (operation_of patterns)) (singles steps) (regs_of 0)) (append-nil (job_steps stock job choice))
+        (block_words netlist order keeps some patterns known reach stock forms.list (job ∷ []) (choice ∷ []) (job_covered c, one, tt))
+
+-- words of groups fit
+module _ (netlist : Netlist) where
+  each_fit : (words : List ℕ) → ((k : ℕ) → k < length words → WordFits netlist (slice_index words k)) → AllByRecursion (WordFits netlist) words
+  each_fit [] h = tt
+  each_fit (w ∷ words) h = (h 0 (omega arith), each_fit words (λ k lt. h (suc k) (omega (arith, lt))))
+
+  pub words_fit : (patterns : List Pattern) (groups : List (List Step)) (after : Regs) (words : List ℕ) → AreGroupWords netlist patterns groups after words → AllByRecursion (WordFits netlist) words
+  words_fit patterns groups after words least =
+      each_fit words (λ k lt. (least.least k (get_or groups k []) (slice_get-get_or groups k [] (let n = least.long in omega (arith, lt, n)))).is.clean.fits)

@@ -1,0 +1,4 @@
+pub mod Adding
+pub mod Fitting
+pub mod Lengths
+pub mod Plain

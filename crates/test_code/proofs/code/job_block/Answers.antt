@@ -1,0 +1,66 @@
+use Rattle.std.proofs.Common.{◌≡◌, ◌∙◌, List, ap, subst, sym}
+use Rattle.std.proofs.lemmas.Result.{IfOk-from_err}
+use Rattle.cover.specs.Best.{choice_of, stock_with}
+use Rattle.form_model.specs.declared.forms.Step.{Step}
+use Rattle.form_model.specs.Effects.{operation_of}
+use Rattle.form_model.specs.Live.{Regs, no_regs, regs_of, singles}
+use Rattle.form_model.specs.Rules.{rules_of}
+use Rattle.form_model.specs.Steps.{cover_steps}
+use Rattle.src_trees.specs.Jobs.{work_of}
+use Rattle.word_fit.specs.Fits.{fits_over}
+use Rattle.word_fit.specs.Groups.{AllHaveWords}
+use Rattle.right_code.specs.Jobs.{job_steps, tree_or_none}
+use Rattle.net_code.specs.Blocks.{IsPackedBlock}
+use Rattle.net_code.specs.Machines.{machine_netlist, machine_patterns}
+use Rattle.net_code.proofs.Packing.{none_live}
+use Rattle.test_code.proofs.Fitting.{job_have, words_fit}
+use Rattle.test_code.proofs.code.job_block.Goals as goal
+
+pub emit-requires : goal.emit-requires
+emit-requires c = c.requires.chosen.covers
+
+pub pack_block-requires-clause-words : goal.pack_block-requires-clause-words
+pack_block-requires-clause-words c =
+    let netlist = machine_netlist c.args.machine.now in
+    let patterns = machine_patterns c.args.machine.now in
+    let forms = c.args.forms.now in
+    let stock = stock_with forms.list.items c.args.temps in
+    let job = work_of c.args.job.now in
+    let choice = choice_of c.args.chosen.now in
+    let emitted = c.in_ok-emitted.ensures in
+    let is : c.as_slice.result.now ≡ job_steps stock job choice =
+    c.as_slice.ensures ∙ emitted.steps ∙ ap (λ x. cover_steps stock job.destination x choice.plan) (sym (ap tree_or_none emitted.used)) in
+    subst (λ (steps : List Step). AllHaveWords (operation_of patterns) (fits_over netlist (operation_of patterns)) (singles steps) (regs_of 0)) (sym is)
+    (job_have netlist c.args.machine.now.checked.now.order c.netlist-netlist.ensures.kept patterns c.requires.patterns (rules_of forms.list.items) forms.reach c.requires.forms c.args.temps job choice c.requires.job c.requires.chosen)
+
+pub returns-clause-words : goal.returns-clause-words
+returns-clause-words c =
+    let netlist = machine_netlist c.args.machine.now in
+    let patterns = machine_patterns c.args.machine.now in
+    let stock = stock_with c.args.forms.now.list.items c.args.temps in
+    let job = work_of c.args.job.now in
+    let choice = choice_of c.args.chosen.now in
+    let emitted = c.in_ok-emitted.ensures in
+    let is : c.as_slice.result.now ≡ job_steps stock job choice =
+    c.as_slice.ensures ∙ emitted.steps ∙ ap (λ x. cover_steps stock job.destination x choice.plan) (sym (ap tree_or_none emitted.used)) in
+    let packed : IsPackedBlock netlist patterns (job_steps stock job choice) no_regs c.in_ok-block.block =
+    subst (λ (after : Regs). IsPackedBlock netlist patterns (job_steps stock job choice) after c.in_ok-block.block) none_live
+    (subst (λ (steps : List Step). IsPackedBlock netlist patterns steps (regs_of 0) c.in_ok-block.block) is c.in_ok-block.ensures.packed) in
+    record { groups = c.in_ok-block.block.groups; packing = packed.packing; least = packed.least }
+
+pub returns-clause-fit : goal.returns-clause-fit
+returns-clause-fit c =
+    let packed = c.in_ok-block.ensures.packed in
+    words_fit (machine_netlist c.args.machine.now) (machine_patterns c.args.machine.now) c.in_ok-block.block.groups (regs_of 0) c.in_ok-block.block.words packed.least
+
+pub returns-in_err-block-clause-words : goal.returns-in_err-block-clause-words
+returns-in_err-block-clause-words c = IfOk-from_err c.from_residual-in_err-block.result _ c.from_residual-in_err-block.ensures.0
+
+pub returns-in_err-block-clause-fit : goal.returns-in_err-block-clause-fit
+returns-in_err-block-clause-fit c = IfOk-from_err c.from_residual-in_err-block.result _ c.from_residual-in_err-block.ensures.0
+
+pub returns-in_err-emitted-clause-words : goal.returns-in_err-emitted-clause-words
+returns-in_err-emitted-clause-words c = IfOk-from_err c.from_residual.result _ c.from_residual.ensures.0
+
+pub returns-in_err-emitted-clause-fit : goal.returns-in_err-emitted-clause-fit
+returns-in_err-emitted-clause-fit c = IfOk-from_err c.from_residual.result _ c.from_residual.ensures.0
