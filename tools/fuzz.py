@@ -77,7 +77,7 @@ def main():
                          ['asm', 'rtn', 'asm'], ['dis', 'rtn', 'img']):
                 try:
                     run = subprocess.run([binary, *call], cwd=folder, capture_output=True, timeout=1)
-                    status, ok = run.returncode, run.returncode in STATUSES and bool(run.stdout or call[0] == 'dis') and not run.stderr
+                    status, ok = run.returncode, run.returncode in STATUSES and bool(run.stdout or call[0] == 'dis') and not (run.returncode == 0 and run.stderr)
                 except subprocess.TimeoutExpired:
                     status, ok = 'none within a second', False
                 seen[status] = seen.get(status, 0) + 1
