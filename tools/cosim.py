@@ -27,10 +27,10 @@ WIDEST = 64
 
 
 class Maker:
-    """A random netlist, item by item; what is made may be used by what comes later, and the text has them in any order."""
+    """A random netlist, item by item, with a register file if asked; what is made may be used by what comes later, and the text has them in any order."""
 
-    def __init__(self, pick):
-        self.pick = pick
+    def __init__(self, pick, with_file=False):
+        self.pick, self.with_file = pick, with_file
         self.word_width = pick.choice([4, 8, 16, 24, 33, 64])
         self.counter_width = pick.randint(1, 6)
         self.address_width = pick.choice([1, 2, 4, 5, 8])
@@ -42,6 +42,10 @@ class Maker:
         self.registers = {f'R{k}': pick.choice(WIDTHS) for k in range(pick.randint(1, 4))}
         self.known = [('I', self.word_width), ('PC', self.counter_width), *self.registers.items()]
         self.items = []
+        if with_file:
+            self.file_address_width = pick.choice([1, 2, 3, 5])
+            self.file_width = pick.choice(WIDTHS)
+            self.file_cells = pick.randint(1, min(32, 1 << self.file_address_width))
 
     def number(self, width):
         return self.pick.choice([0, 1, (1 << width) - 1, 1 << width - 1, self.pick.getrandbits(width)]) & (1 << width) - 1
@@ -101,6 +105,8 @@ class Maker:
             return self.case(self.value, width, depth - 1)
         if kind < 0.36:
             return self.choice(width, depth - 1)
+        if self.with_file and kind < 0.41:
+            return self.fitted(f'read(F, {self.control(self.file_address_width)})', self.file_width, width)
         if kind < 0.46:
             return self.fitted(f'read(M, {self.value(self.address_width, depth - 1)})', self.cell_width, width)
         if kind < 0.56:
@@ -183,9 +189,13 @@ class Maker:
         when = f' when {self.control(1)}' if self.pick.random() < 0.7 else ''
         self.items.append(f'memory M : {self.cell_width} size {self.cells} addr {self.address_width} write {self.value(self.cell_width)} '
                           f'at {self.value(self.address_width)}{when};')
+        if self.with_file:
+            when = f' when {self.control(1)}' if self.pick.random() < 0.7 else ''
+            self.items.append(f'file F : {self.file_width} size {self.file_cells} addr {self.file_address_width} write {self.value(self.file_width)} '
+                              f'at {self.control(self.file_address_width)}{when};')
         self.items.append(f'code I : {self.word_width} size {self.words} at PC;')
         self.pick.shuffle(self.items)
-        return '\n'.join(self.items) + '\n'
+        return '\n'.join(['version 2;'] * self.with_file + self.items) + '\n'
 
     def image(self):
         """Random words, and the end mark and a place now and then."""
@@ -200,6 +210,8 @@ class Maker:
     def memory(self):
         lines = [f'{name} {self.number(width)}' for name, width in self.registers.items() if self.pick.random() < 0.8]
         lines += [f'M {at} {self.number(self.cell_width)}' for at in range(self.cells) if self.pick.random() < 0.8]
+        if self.with_file:
+            lines += [f'F {at} {self.number(self.file_width)}' for at in range(self.file_cells) if self.pick.random() < 0.8]
         return ''.join(line + '\n' for line in lines)
 
 
@@ -228,7 +240,7 @@ def differences(binary, count, first):
     with tempfile.TemporaryDirectory() as folder:
         for seed in range(first, first + count):
             pick = random.Random(seed)
-            maker = Maker(pick)
+            maker = Maker(pick, with_file=seed % 3 == 2)
             net = maker.text()
             said, benched = both(binary, pathlib.Path(folder), net, maker.image(), maker.memory(), pick.choice([0, 1, 2, 5, 20, 60]))
             if benched is None:

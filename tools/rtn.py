@@ -3,6 +3,7 @@ import re
 
 RESERVED = frozenset('''code register memory net bus module part size at in out when addr write case else read slice zext sext cat
 add sub mul and or xor not neg shl shr sar eq ltu lts'''.split())
+ADDED = {2: 'file'}   # the item that each later edition adds
 UNARY = ('not', 'neg')
 BINARY = ('add', 'sub', 'mul', 'and', 'or', 'xor', 'shl', 'shr', 'sar', 'eq', 'ltu', 'lts', 'cat')
 WIRING = ('slice', 'zext', 'sext')
@@ -19,15 +20,17 @@ class Reader:
     """A netlist text by the grammar of docs/RTN.md. Expressions become tuples whose first part says what they are."""
 
     def __init__(self, text):
-        self.text, self.place = text, 0
+        self.text, self.place, self.reserved, self.added = text, 0, RESERVED, ()
         self.advance()
+        if (self.kind, self.word) == ('name', 'version'):
+            self.edition()
 
     def advance(self):
         found = TOKEN.match(self.text, self.place)
         self.kind = found.lastgroup or 'end'
         self.word = found.group(self.kind) if found.lastgroup else ''
         self.start, self.place = found.end() - len(self.word), found.end()
-        if self.kind == 'name' and self.word in RESERVED:
+        if self.kind == 'name' and self.word in self.reserved:
             self.kind = 'reserved'
         if (self.kind == 'name' and len(self.word) > 32) or (self.kind == 'number' and int(self.word, 0 if self.word[:2] == '0x' else 10) >> 64):
             self.kind = 'bad'
@@ -66,10 +69,19 @@ class Reader:
         self.need(':')
         return self.number()
 
+    def edition(self):
+        """The number behind `version`, whose edition reserves its own words."""
+        self.advance()
+        if self.kind != 'number' or int(self.word, 0 if self.word[:2] == '0x' else 10) not in ADDED:
+            self.fail()
+        added = ADDED[self.number()]
+        self.added, self.reserved = (added,), RESERVED | {'version', added}
+        self.need(';')
+
     def items(self):
         items = []
         while not items or self.kind != 'end':
-            kind = self.need('code', 'register', 'memory', 'net', 'bus', 'module', 'part')
+            kind = self.need('code', 'register', 'memory', 'net', 'bus', 'module', 'part', *self.added)
             name = self.name()
             items.append((kind, name, *getattr(self, kind)()))
         return items
@@ -92,6 +104,8 @@ class Reader:
         value = self.expr()
         self.need('at')
         return self.ended(width, size, addresses, value, self.expr(), self.expr() if self.take('when') else None)
+
+    file = memory
 
     def net(self):
         width = self.size()

@@ -5,7 +5,7 @@ Usage: verilog.py NET.rtn [IMAGE.img [MEMORY.mem]] > out.v
        iverilog -g2001 -o out out.v && vvp -n out [+cycles=N] [+vcd=out.vcd]
 
 The text is Verilog-2001. Its first module has the file's name and is the processor, for simulation and synthesis: a register, net and bus has its
-own name, a memory is an array of registers, and a bus has the wires BUS_enabled and BUS_clash beside it. A module of the netlist is a module, and a
+own name, a memory or register file is an array of registers, and a bus has the wires BUS_enabled and BUS_clash beside it. A module of the netlist is a module, and a
 part an instance of it. A value that a slice, an extension or a case is taken of gets a wire, called after what it is for. What is no name in Verilog,
 or is another one's, gets a number behind it. The ports are
 
@@ -189,7 +189,7 @@ class Processor:
         self.file_names = Names('bench', 'variables')
         self.name = self.file_names.new(name)
         self.scope = Scope(Names('clk', 'reset', 'clash'))
-        self.codes, self.registers, self.buses, self.memory = [], [], [], []
+        self.codes, self.registers, self.buses, self.memory, self.files = [], [], [], [], []
         self.declare()
 
     def of_kind(self, *kinds):
@@ -198,11 +198,11 @@ class Processor:
     def declare(self):
         """Gives each item its name, before any is used."""
         scope = self.scope
-        for kind, name, *parts in self.of_kind('code', 'register', 'memory'):
+        for kind, name, *parts in self.of_kind('code', 'register', 'memory', 'file'):
             own = scope.names.new(name)
-            if kind == 'memory':
+            if kind in ('memory', 'file'):
                 scope.memories[name] = own, parts[0], parts[1]
-                self.memory.append((own, *parts))
+                (self.memory if kind == 'memory' else self.files).append((own, *parts))
                 continue
             scope.known['name', name] = own, parts[0]
             (self.codes if kind == 'code' else self.registers).append((own, *parts))
@@ -256,7 +256,7 @@ class Processor:
         for own, width, value, when in self.registers:
             text = f'{own} <= {self.input(own, width, value)};'
             lines.append(f'if ({scope.value(when, f"{own}_when")}) {text}' if when else text)
-        for own, width, size, address_width, value, address, when in self.memory:
+        for own, width, size, address_width, value, address, when in self.files + self.memory:
             at, wide = scope.named(address, f'{own}_at')
             tests = [scope.text(when, f'{own}_when')[0]] if when else []
             tests += [f"({at} < {wide + 1}'d{size})"] if size < 1 << wide else []
@@ -282,14 +282,15 @@ class Processor:
         for _, name, width, drivers in self.of_kind('bus'):
             self.bus(name, width, drivers)
         edges = self.edges()
-        (code, code_width, _, _), (memory, width, size, *_) = self.codes[0], self.memory[0]
+        code, code_width, _, _ = self.codes[0]
         heads = ['  input clk', '  input reset', f'  input {span(code_width)}{code}']
         heads += [f'  output reg {span(own_width)}{own}' for own, own_width, *_ in self.registers]
         heads += [f'  output {span(len(self.buses))}clash'] if self.buses else []
         if self.buses:
             clashes = [clash for _, clash in reversed(self.buses)]
             self.scope.assign('clash', '{' + ', '.join(clashes) + '}' if len(clashes) > 1 else clashes[0])
-        yield from [f'module {self.name} (', ',\n'.join(heads), ');', f'  reg {span(width)}{memory} [0:{size - 1}];']
+        yield from [f'module {self.name} (', ',\n'.join(heads), ');']
+        yield from [f'  reg {span(width)}{own} [0:{size - 1}];' for own, width, size, *_ in self.files + self.memory]
         yield from [*self.scope.wires, *parts, *self.scope.assigns]
         yield from ['  always @(posedge clk)', f'    if (reset) {self.counter()} <= 0;', '    else begin']
         yield from [*(f'      {line}' for line in edges), '    end']
@@ -329,15 +330,17 @@ class Bench:
 
     def start(self):
         """The state that the netlist starts in: 0, and then line by line what the memory text says."""
-        array, width, size = self.processor.memory[0][:3]
-        yield f"    for (k = 0; k < {size}; k = k + 1) core.{array}[k] = {width}'d0;"
+        arrays = self.processor.scope.memories
+        for array, width, size in arrays.values():
+            yield f"    for (k = 0; k < {size}; k = k + 1) core.{array}[k] = {width}'d0;"
         widths = {}
         for own, register_width, *_ in self.processor.registers:
             widths[own] = register_width
             yield f"    core.{own} = {register_width}'d0;"
         for line in self.memory.splitlines():
             name, *numbers = line.split(' ')
-            if len(numbers) == 2:
+            if len(numbers) == 2 and name in arrays:
+                array, width, _ = arrays[name]
                 yield f"    core.{array}[{numbers[0]}] = {width}'d{numbers[1]};"
             elif len(numbers) == 1 and ('name', name) in self.processor.scope.known:
                 own = self.processor.scope.known['name', name][0]
@@ -347,14 +350,14 @@ class Bench:
 
     def state(self):
         """Writes the state in the form of `record run`."""
-        array, width, size = self.processor.memory[0][:3]
         names = {self.processor.scope.known['name', name][0]: name for _, name, *_ in self.processor.of_kind('register')}
-        memory = next(name for _, name, *_ in self.processor.of_kind('memory'))
         yield '    $display("cycles %0d", cycle);'
         for own, name in names.items():
             yield f'    $display("{name} %0d", core.{own});'
-        yield f'    for (k = 0; k < {size}; k = k + 1)'
-        yield f'      if (core.{array}[k] != 0) $display("{memory} %0d %0d", k, core.{array}[k]);'
+        for name in [name for kind in ('file', 'memory') for _, name, *_ in self.processor.of_kind(kind)]:
+            array, _, size = self.processor.scope.memories[name]
+            yield f'    for (k = 0; k < {size}; k = k + 1)'
+            yield f'      if (core.{array}[k] != 0) $display("{name} %0d %0d", k, core.{array}[k]);'
         yield '    $display("done");'
 
     def clashes(self):

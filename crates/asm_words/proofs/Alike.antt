@@ -4,6 +4,7 @@ use Rattle.std.proofs.Math.Nat.{mod-eq_of_lt}
 use Rattle.std.proofs.lemmas.Bool.{eqb-true}
 use Rattle.std.specs.List.{AllByRecursion, filter}
 use Rattle.rec_bits.specs.Operators.{apply1_of, slice_of, sext_of}
+use Rattle.net_model.specs.Nets.{held}
 use Rattle.net_model.specs.declared.states.State.{State}
 use Rattle.net_model.specs.Fields.{WordFitsMove, WordFitsTerm}
 use Rattle.net_model.specs.Meaning.{mean}
@@ -43,14 +44,14 @@ pub mean_alike : (t : Term) (s : State) (i j : ℕ) → WordFitsTerm t i → Wor
 mean_alike (word w) s i j f g h = same_word i j w f g h.0
 mean_alike (reg r w) s i j f g h = refl
 mean_alike (const w v) s i j f g h = refl
-mean_alike (read a w) s i j f g h = ap (λ k. slice_index s.cells k) (mean_alike a s i j f g h)
+mean_alike (read space a w) s i j f g h = ap (λ k. slice_index (held s space) k) (mean_alike a s i j f g h)
 mean_alike (un o a) s i j f g h = ap (λ x. apply1_of o (term_width a) x) (mean_alike a s i j f g h)
 mean_alike (bin o a b) s i j f g h =
     cc (mean_alike a s i j f.0 g.0 (all_left i j (slices a) (slices b) h), mean_alike b s i j f.1 g.1 (all_right i j (slices a) (slices b) h))
 mean_alike (slice (word w) hi lo) s i j f g h = h.0
 mean_alike (slice (reg r w) hi lo) s i j f g h = refl
 mean_alike (slice (const w v) hi lo) s i j f g h = refl
-mean_alike (slice (read a w) hi lo) s i j f g h = ap (λ x. slice_of x hi lo) (mean_alike (read a w) s i j f g h)
+mean_alike (slice (read space a w) hi lo) s i j f g h = ap (λ x. slice_of x hi lo) (mean_alike (read space a w) s i j f g h)
 mean_alike (slice (un o a) hi lo) s i j f g h = ap (λ x. slice_of x hi lo) (mean_alike (un o a) s i j f g h)
 mean_alike (slice (bin o a b) hi lo) s i j f g h = ap (λ x. slice_of x hi lo) (mean_alike (bin o a b) s i j f g h)
 mean_alike (slice (slice a k l) hi lo) s i j f g h = ap (λ x. slice_of x hi lo) (mean_alike (slice a k l) s i j f g h)
@@ -73,10 +74,10 @@ reg_alike keep s i j id f g h = refl
 reg_alike (write e) s i j id f g h = mean_alike e s i j f g h
 reg_alike (write_at a e) s i j id f g h = refl
 
-pub cells_alike : (m : Move) (s : State) (i j : ℕ) → WordFitsMove m i → WordFitsMove m j → AllAlike i j (move_slices m) → cells_moved m s i ≡ cells_moved m s j
-cells_alike keep s i j f g h = refl
-cells_alike (write e) s i j f g h = refl
-cells_alike (write_at a e) s i j f g h =
+pub cells_alike : (m : Move) (s : State) (i j : ℕ) (olds : List ℕ) → WordFitsMove m i → WordFitsMove m j → AllAlike i j (move_slices m) → cells_moved m s i olds ≡ cells_moved m s j olds
+cells_alike keep s i j olds f g h = refl
+cells_alike (write e) s i j olds f g h = refl
+cells_alike (write_at a e) s i j olds f g h =
     cc (mean_alike a s i j f.0 g.0 (all_left i j (slices a) (slices e) h), mean_alike e s i j f.1 g.1 (all_right i j (slices a) (slices e) h))
 
 -- ---- each slice once is enough

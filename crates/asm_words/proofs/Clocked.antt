@@ -1,12 +1,14 @@
 -- Each word of a word's line has the clock of that word.
 use Rattle.std.proofs.Common.{◌≡◌, ℕ, List, slice_get, slice_index, sym, ap, subst, ◌∙◌}
 use Rattle.std.proofs.lemmas.Grind.{same_number_lists}
+use Rattle.net_model.specs.declared.hardware.Space.{Space}
+use Rattle.net_model.specs.declared.hardware.Space.TheVariants.{Memory as InMemory, File as InFile}
 use Rattle.net_model.specs.declared.hardware.Netlist.{Netlist}
 use Rattle.net_model.specs.declared.states.State.{State}
 use Rattle.net_model.specs.CheckedRules.{KeepsRules}
 use Rattle.net_model.specs.Clock.{Next, clash_in, clock, step, word_at}
 use Rattle.net_model.specs.Fields.{WordFitsMove}
-use Rattle.net_model.specs.Nets.{IsRegister, memory_id}
+use Rattle.net_model.specs.Nets.{IsRegister, held, place_in}
 use Rattle.net_model.specs.Terms.{Move}
 use Rattle.net_model.specs.Transfers.{IsClean, Moved, cells_moved, move_at, reg_moved}
 use Rattle.net_model.specs.Value.{value_of}
@@ -51,16 +53,18 @@ module _ (netlist : Netlist) (order : List ℕ) (keeps : KeepsRules netlist orde
       ∙ reg_alike (move_at netlist word id) s other word id (fits_other id) (fits id) (alike id) ∙ sym (a.regs id r))
       (λ n. other_entry netlist codes s b.next id b.clocked n ∙ sym (other_entry netlist code s a.next id a.clocked n))
 
-  cells : b.next.cells ≡ a.next.cells
-  cells =
-      let m : ℕ = memory_id netlist.storages in
-      b.cells ∙ ap (λ (k : Move). cells_moved k s other) (same m)
-      ∙ cells_alike (move_at netlist word m) s other word (fits_other m) (fits m) (alike m) ∙ sym a.cells
+  cells : (space : Space) → held b.next space ≡ held a.next space
+  cells space =
+      let m : ℕ = place_in space netlist.storages in
+      b.cells space ∙ ap (λ (k : Move). cells_moved k s other (held s space)) (same m)
+      ∙ cells_alike (move_at netlist word m) s other word (held s space) (fits_other m) (fits m) (alike m) ∙ sym (a.cells space)
 
   next_same : b.next ≡ a.next
   next_same =
       let regs : b.next.regs ≡ a.next.regs = same_number_lists b.next.regs a.next.regs (b.state.regs ∙ sym a.state.regs) (λ id lt. entries id) in
-      (λ j. record { regs = regs j; cells = cells j })
+      let memory : b.next.cells ≡ a.next.cells = cells InMemory in
+      let file : b.next.file ≡ a.next.file = cells InFile in
+      (λ j. record { regs = regs j; cells = memory j; file = file j })
 
   pub clocks_alike : clock netlist codes s ≡ clock netlist code s
   clocks_alike = b.clocked ∙ ap Next next_same ∙ sym a.clocked

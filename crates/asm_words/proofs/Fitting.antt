@@ -24,13 +24,13 @@ pub slices_fit : (t : Term) → TermFits t → All SliceFits (slices t)
 slices_fit (word w) f = one (record { hi = w - 1; lo = 0 }) (record { order = omega arith; within = omega (arith, f.0, f.1) })
 slices_fit (reg r w) f = none
 slices_fit (const w v) f = none
-slices_fit (read a w) f = slices_fit a f.0
+slices_fit (read space a w) f = slices_fit a f.0
 slices_fit (un o a) f = slices_fit a f
 slices_fit (bin o a b) f = All-append SliceFits (slices a) (slices b) (slices_fit a f.0) (slices_fit b f.1)
 slices_fit (slice (word w) hi lo) f = one (record { hi = hi; lo = lo }) (record { order = f.1.0; within = omega (arith, f.0.1, f.1.1) })
 slices_fit (slice (reg r w) hi lo) f = none
 slices_fit (slice (const w v) hi lo) f = none
-slices_fit (slice (read a w) hi lo) f = slices_fit (read a w) f.0
+slices_fit (slice (read space a w) hi lo) f = slices_fit (read space a w) f.0
 slices_fit (slice (un o a) hi lo) f = slices_fit (un o a) f.0
 slices_fit (slice (bin o a b) hi lo) f = slices_fit (bin o a b) f.0
 slices_fit (slice (slice a k l) hi lo) f = slices_fit (slice a k l) f.0

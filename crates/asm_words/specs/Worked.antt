@@ -1,6 +1,7 @@
 -- Worked lines over the processor a16: words that are theirs and words that aren't.
 use Rattle.std.specs.Prelude.{◌≡◌, ℕ, ◌^◌, ◌<◌, false, List, [], ◌∷◌, refl, slice_get}
 use Rattle.std.proofs.Common.{zero, suc, arith}
+use Rattle.net_model.specs.declared.hardware.Space.TheVariants.{Memory as InMemory}
 use Rattle.net_model.specs.Nets.{code_bits}
 use Rattle.rec_bits.specs.declared.operator.Op2.TheVariants.{Add}
 use Rattle.net_model.specs.Patterns.{Pattern}
@@ -19,7 +20,7 @@ pattern storage move = record { storage = storage; move = move }
 abbrev pub patterns : List Pattern
 patterns =
     pattern 0 (write (bin Add (reg 0 8) (const 8 1))) ∷ pattern 0 (write (slice (word 12) 7 0))
-    ∷ pattern 1 (write (read (slice (word 12) 7 0) 16)) ∷ []
+    ∷ pattern 1 (write (read InMemory (slice (word 12) 7 0) 16)) ∷ []
 
 abbrev pub item : ℕ → ℕ → ℕ → Item
 item hi lo value = record { hi = hi; lo = lo; value = value }

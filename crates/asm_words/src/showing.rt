@@ -45,9 +45,11 @@ fn add_slices(pool: &Pool, found: &mut Items<Slice>, expr: ExprId) -> Result<(),
             },
         ),
         Node::Reg(..) | Node::Const { .. } => Ok(()),
-        Node::Read(a, _) | Node::Un(_, a) | Node::Zext(a, _) | Node::Sext(a, _) => {
-            add_slices(pool, found, a)
-        }
+        Node::Read(a, _)
+        | Node::Cell(a, _)
+        | Node::Un(_, a)
+        | Node::Zext(a, _)
+        | Node::Sext(a, _) => { add_slices(pool, found, a) }
         Node::Bin(_, a, b) | Node::Cat(a, b) => {
             add_slices(pool, found, a)?;
             add_slices(pool, found, b)

@@ -1,5 +1,6 @@
 -- Clocks through the words of a block, a test and a jump.
 use Rattle.std.proofs.Common.{ℕ, zero, suc, ◌≡◌, ◌≤◌, ◌<◌, ◌+◌, ◌==◌, Bool, if◌then◌else◌, None, refl, ◌∙◌, ap, subst, arith, slice_index}
+use Rattle.net_model.specs.declared.hardware.Space.TheVariants.{Memory as InMemory}
 use Rattle.net_model.specs.declared.hardware.Netlist.{Netlist}
 use Rattle.net_model.specs.declared.states.State.{State}
 use Rattle.net_model.specs.Terms.{Term}
@@ -71,7 +72,7 @@ module _ (netlist : Netlist) (image : Image) where
           next = m.next;
           clocked = m.clocked;
           here = record { state = m.state; counter = m.regs (counter_of netlist.codes) sound.counter ∙ rw does.jump.move (fixed_is does.jump.to_term i to s does.jump.to_is) };
-          same = m.cells ∙ rw does.keeps.move refl;
+          same = m.cells InMemory ∙ rw does.keeps.move refl;
         }
 
     -- ---- one clock of a branch word
@@ -101,5 +102,5 @@ module _ (netlist : Netlist) (image : Image) where
           clocked = m.clocked;
           one = λ e. record { state = m.state; counter = counter ∙ chosen (mean condition s i) _ _ e ∙ does.on_one s here };
           none = λ e. record { state = m.state; counter = counter ∙ not_chosen (mean condition s i) _ _ e ∙ does.on_zero s here };
-          same = m.cells ∙ rw does.keeps.move refl;
+          same = m.cells InMemory ∙ rw does.keeps.move refl;
         }

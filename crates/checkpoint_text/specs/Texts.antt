@@ -1,7 +1,7 @@
 -- The text of checkpoints: a line for each, with the cells that changed since the line before, and
 -- a last line that tells whether the end was seen. A store is the list of the cells of all
 -- variables, in order of place.
-use Rattle.std.specs.Prelude.{ℕ, ◌+◌, ◌==◌, ◌||◌, if◌then◌else◌, Bool, true, false, List, [], ◌∷◌, ◌++◌, codes, drop, replicate, take, Option, Some, None}
+use Rattle.std.specs.Prelude.{ℕ, ◌+◌, ◌==◌, ◌||◌, if◌then◌else◌, Bool, true, false, List, [], ◌∷◌, ◌++◌, codes, drop, take, Option, Some, None}
 use Rattle.std.specs.List.{concat}
 use Rattle.std.specs.Fmt.{decimal}
 use Rattle.src_model.specs.declared.checkpoint.Checkpoint.{Checkpoint}

@@ -32,7 +32,7 @@ counted = record { name = codes "a"; at = 4; len = None } ∷ []
 
 -- a starts as this number
 abbrev start : ℕ → State
-start a = record { regs = 0 ∷ 0 ∷ 0 ∷ []; cells = 0 ∷ 0 ∷ 0 ∷ a ∷ 0 ∷ [] }
+start a = record { regs = 0 ∷ 0 ∷ 0 ∷ []; cells = 0 ∷ 0 ∷ 0 ∷ a ∷ 0 ∷ []; file = [] }
 
 -- the text of ten cycles
 abbrev text_of : Traced → List ℕ

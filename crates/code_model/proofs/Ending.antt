@@ -1,5 +1,6 @@
 -- What the end's word does, and that reached states fit.
 use Rattle.std.proofs.Common.{ℕ, zero, suc, ◌≡◌, ◌+◌, refl, ◌∙◌, ap, subst, Option, Some, None, slice_index}
+use Rattle.net_model.specs.declared.hardware.Space.TheVariants.{Memory as InMemory}
 use Rattle.net_model.specs.declared.hardware.Netlist.{Netlist}
 use Rattle.net_model.specs.declared.states.State.{State}
 use Rattle.code_model.specs.declared.image.Image.{Image}
@@ -33,7 +34,7 @@ module _ (netlist : Netlist) (image : Image) (sound : IsSound netlist) where
           state = m.state;
           counter = m.regs (counter_of netlist.codes) sound.counter ∙ rw does.jump.move (fixed_is does.jump.to_term end last s does.jump.to_is);
         };
-        same = ap (cells_at image.places) (m.cells ∙ rw does.keeps.move refl);
+        same = ap (cells_at image.places) (m.cells InMemory ∙ rw does.keeps.move refl);
       }
 
   run_step : (s t : State) (c n : ℕ) → clock netlist (words_of image) s ≡ Next t → run_from c netlist (words_of image) s (suc n) ≡ run_from (c + 1) netlist (words_of image) t n

@@ -11,7 +11,7 @@ pub fixed_mean : (e : Term) (s r : State) (i : ℕ) → is_fixed e ≡ true → 
 fixed_mean (word w) s r i f = refl
 fixed_mean (reg n w) s r i f = cc
 fixed_mean (const w v) s r i f = refl
-fixed_mean (read a w) s r i f = cc
+fixed_mean (read space a w) s r i f = cc
 fixed_mean (un o a) s r i f = rw (fixed_mean a s r i f) refl
 fixed_mean (bin o a b) s r i f = let p : (is_fixed a ≡ true) × (is_fixed b ≡ true) = both (is_fixed a) (is_fixed b) f in rw (fixed_mean a s r i p.0, fixed_mean b s r i p.1) refl
 fixed_mean (slice a hi lo) s r i f = rw (fixed_mean a s r i f) refl

@@ -11,7 +11,7 @@ abbrev pub is_fixed : Term → Bool
 is_fixed (word w) = true
 is_fixed (reg r w) = false
 is_fixed (const w v) = true
-is_fixed (read a w) = false
+is_fixed (read space a w) = false
 is_fixed (un o a) = is_fixed a
 is_fixed (bin o a b) = is_fixed a && is_fixed b
 is_fixed (slice a hi lo) = is_fixed a

@@ -3,6 +3,7 @@ use Rattle.std.proofs.Common.{◌≡◌, ℕ, ◌||◌, Bool, true, false, if◌
 use Rattle.std.proofs.lemmas.Bool.{true≢false, eqb-false, or_parts}
 use Rattle.std.proofs.lemmas.List.{get_or-set_other}
 use Rattle.rec_bits.specs.Operators.{apply1_of, slice_of, sext_of}
+use Rattle.net_model.specs.declared.hardware.Space.TheVariants.{Memory as InMemory, File as InFile}
 use Rattle.net_model.specs.declared.states.State.{State}
 use Rattle.net_model.specs.Terms.{Term, word, reg, const, read, un, bin, slice, cat, zext, sext, select, term_width, Move, keep, write, write_at}
 use Rattle.net_model.specs.Symbolic.{no_state}
@@ -35,13 +36,15 @@ mean_apart (word w) i storage setting move o n e = refl
 mean_apart (reg r w) i storage setting (write v) o n e = get_or-set_other n.regs storage r (mean v o setting) 0 (λ k. eqb-false storage r e (sym k))
 mean_apart (reg r w) i storage setting (write_at b v) o n e = refl
 mean_apart (const w v) i storage setting move o n e = refl
-mean_apart (read a w) i storage setting (write v) o n e =
+mean_apart (read InMemory a w) i storage setting (write v) o n e =
     let p : (may_see (location_at i a) (register storage) ≡ false) × (term_reads i a (register storage) ≡ false) = or_parts (may_see (location_at i a) (register storage)) (term_reads i a (register storage)) e in
     ap (λ k. slice_index n.cells k) (mean_apart a i storage setting (write v) o n p.1)
-mean_apart (read a w) i storage setting (write_at b v) o n e =
+mean_apart (read InMemory a w) i storage setting (write_at b v) o n e =
     let p : (may_see (location_at i a) (location_at setting b) ≡ false) × (term_reads i a (location_at setting b) ≡ false) = or_parts (may_see (location_at i a) (location_at setting b)) (term_reads i a (location_at setting b)) e in
     ap (λ k. slice_index (slice_set n.cells (mean b o setting) (mean v o setting)) k) (mean_apart a i storage setting (write_at b v) o n p.1)
     ∙ get_or-set_other n.cells (mean b o setting) (mean a n i) (mean v o setting) 0 (addresses_differ i a n setting b o p.0)
+mean_apart (read InFile a w) i storage setting (write v) o n e = ap (slice_index n.file) (mean_apart a i storage setting (write v) o n e)
+mean_apart (read InFile a w) i storage setting (write_at b v) o n e = ap (slice_index n.file) (mean_apart a i storage setting (write_at b v) o n e)
 mean_apart (un op a) i storage setting move o n e = ap (λ x. apply1_of op (term_width a) x) (mean_apart a i storage setting move o n e)
 mean_apart (bin op a b) i storage setting move o n e =
     let p : (term_reads i a (move_location storage setting move) ≡ false) × (term_reads i b (move_location storage setting move) ≡ false) = or_parts _ _ e in

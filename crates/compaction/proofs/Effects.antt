@@ -14,13 +14,13 @@ use Rattle.compaction.proofs.Apart.{mean_apart}
 move_apart : (move : Move) (storage setting : ℕ) (q : Operation) (o n k : State) → move_reads setting move (location_of q) ≡ false → apply_move storage move setting (apply_operation q o n) k ≡ apply_move storage move setting n k
 move_apart keep storage setting q o n k e = refl
 move_apart (write v) storage setting q o n k e =
-    ap (λ x. let s : State = record { regs = slice_set k.regs storage x; cells = k.cells } in s) (mean_apart v setting q.storage q.setting q.move o n e)
+    ap (λ x. let s : State = record { regs = slice_set k.regs storage x; cells = k.cells; file = k.file } in s) (mean_apart v setting q.storage q.setting q.move o n e)
 move_apart (write_at a v) storage setting q o n k e =
     let p : (term_reads setting a (location_of q) ≡ false) × (term_reads setting v (location_of q) ≡ false) = or_parts _ _ e in
     let f = mean_apart a setting q.storage q.setting q.move o n p.0 in
     let g = mean_apart v setting q.storage q.setting q.move o n p.1 in
-    ap (λ x. let s : State = record { regs = k.regs; cells = slice_set k.cells x (mean v (apply_operation q o n) setting) } in s) f
-    ∙ ap (λ x. let s : State = record { regs = k.regs; cells = slice_set k.cells (mean a n setting) x } in s) g
+    ap (λ x. let s : State = record { regs = k.regs; cells = slice_set k.cells x (mean v (apply_operation q o n) setting); file = k.file } in s) f
+    ∙ ap (λ x. let s : State = record { regs = k.regs; cells = slice_set k.cells (mean a n setting) x; file = k.file } in s) g
 
 apply_apart : (p q : Operation) (o n k : State) → reads p (location_of q) ≡ false → apply_operation p (apply_operation q o n) k ≡ apply_operation p n k
 apply_apart p q o n k e = move_apart p.move p.storage p.setting q o n k e
@@ -61,7 +61,7 @@ move_comm a b keep q i j o n e = refl
 move_comm a b (write v) keep i j o n e = refl
 move_comm a b (write_at c v) keep i j o n e = refl
 move_comm a b (write v) (write w) i j o n e =
-    ap (λ (z : List ℕ). let s : State = record { regs = z; cells = n.cells } in s) (set_comm n.regs b a (mean w o j) (mean v o i) (λ k. eqb-false a b e (sym k)))
+    ap (λ (z : List ℕ). let s : State = record { regs = z; cells = n.cells; file = n.file } in s) (set_comm n.regs b a (mean w o j) (mean v o i) (λ k. eqb-false a b e (sym k)))
 move_comm a b (write v) (write_at c w) i j o n e = refl
 move_comm a b (write_at c v) (write w) i j o n e = refl
 move_comm a b (write_at c v) (write_at d w) i j o n e = absurd (true≢false e)

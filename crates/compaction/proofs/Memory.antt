@@ -16,7 +16,7 @@ term_unread : (t : Term) (i : ℕ) (p : Location) → IsCell p → has_read t �
 term_unread (word w) i p h e = refl
 term_unread (reg r w) i p h e = h r
 term_unread (const w v) i p h e = refl
-term_unread (read a w) i p h e = absurd (true≢false e)
+term_unread (read space a w) i p h e = absurd (true≢false e)
 term_unread (un o a) i p h e = term_unread a i p h e
 term_unread (bin o a b) i p h e =
     let q : (has_read a ≡ false) × (has_read b ≡ false) = or_parts (has_read a) (has_read b) e in

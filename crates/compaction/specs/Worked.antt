@@ -1,16 +1,17 @@
 -- Worked steps: which of them read what others write, and which have one destination.
 use Rattle.std.specs.Prelude.{◌≡◌, ℕ, true, false, [], ◌∷◌, refl}
+use Rattle.net_model.specs.declared.hardware.Space.TheVariants.{Memory as InMemory}
 use Rattle.net_model.specs.Terms.{word, reg, read, slice, write, write_at}
 use Rattle.form_model.specs.Effects.{Operation}
 use Rattle.compaction.specs.Packing.{all_differ, is_read_by, reads_across, shares_destination}
 
 -- register 0 takes the cell whose address the low four bits of the word give
 abbrev pub fetches : ℕ → Operation
-fetches setting = record { storage = 0; move = write (read (slice (word 8) 3 0) 16); setting = setting }
+fetches setting = record { storage = 0; move = write (read InMemory (slice (word 8) 3 0) 16); setting = setting }
 
 -- register 1 takes the cell whose address is in register 2
 abbrev pub loads : Operation
-loads = record { storage = 1; move = write (read (reg 2 8) 16); setting = 0 }
+loads = record { storage = 1; move = write (read InMemory (reg 2 8) 16); setting = 0 }
 
 -- the cell whose address the low four bits of the word give takes register 1
 abbrev pub stores : ℕ → Operation

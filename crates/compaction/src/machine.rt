@@ -21,11 +21,11 @@ pub(crate) struct Machine<'a> {
     pub patterns: &'a Patterns,
     /// For each expression of the pool the registers that it reads.
     pub registers: &'a [RegSet],
-    /// And whether it reads the memory.
+    /// And whether it reads the memory or the file.
     pub memory: &'a [bool],
 }
 
-// Whether an expression reads the memory, from whether its parts do.
+// Whether an expression reads the memory or the file, from whether its parts do.
 fn node_reads_memory(pool: &Pool, flags: &[bool], id: ExprId) -> bool
     requires within { id < length pool.now }
     requires long { length flags.now ≡ id }
@@ -34,7 +34,7 @@ fn node_reads_memory(pool: &Pool, flags: &[bool], id: ExprId) -> bool
 {
     match pool.node(id) {
         Node::Word(_) | Node::Const { .. } | Node::Reg(..) => false,
-        Node::Read(..) => true,
+        Node::Read(..) | Node::Cell(..) => true,
         Node::Un(_, a) | Node::Slice(a, ..) | Node::Zext(a, _) | Node::Sext(a, _) => {
             flag_at(flags, a)
         }
@@ -43,7 +43,7 @@ fn node_reads_memory(pool: &Pool, flags: &[bool], id: ExprId) -> bool
     }
 }
 
-/// For each expression of a pool whether it reads the memory.
+/// For each expression of a pool whether it reads the memory or the file.
 pub(crate) fn memory_table(alloc: Global, pool: &Pool) -> Result<Items<bool>, NoMemory>
     ensures long { IfOk result (λ flags. length flags ≡ length pool.now) }
     ensures readers { IfOk result (λ flags. AreReaders pool.now flags) }
@@ -56,7 +56,7 @@ pub(crate) fn memory_table(alloc: Global, pool: &Pool) -> Result<Items<bool>, No
     Ok(flags)
 }
 
-/// Whether a step reads the memory.
+/// Whether a step reads the memory or the file.
 pub(crate) fn reads_memory(machine: &Machine<'_>, step: Step) -> bool
     requires { HasTables machine.now }
     ensures { result ≡ move_has_read (operation_in machine.now step).move }

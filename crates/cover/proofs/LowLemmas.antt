@@ -2,6 +2,7 @@
 use Rattle.std.proofs.Common.{◌≡◌, ℕ, ◌<◌, List, [], ◌∷◌, ◌++◌, Option, Some, None, Bool, true, false, refl, sym, ap, subst, inl, inr}
 use Rattle.std.specs.Prelude.{if◌then◌else◌, ◌==◌, ◌||◌, ◌&&◌, not}
 use Rattle.net_model.specs.Occurs.{occurs}
+use Rattle.net_model.specs.declared.hardware.Space.TheVariants.{Memory as InMemory, File as InFile}
 use Rattle.net_model.specs.Terms.{Term, word, reg, const, read, un, bin, slice, cat, zext, sext, select, term_width}
 use Rattle.form_model.specs.Trees.{is_number, is_cell}
 use Rattle.form_model.specs.Shapes.{is_shape, shows_below}
@@ -43,7 +44,8 @@ matched_low temps (word w) t whole found h low = none_low found.sites (shape_sit
 matched_low temps (const w v) t whole found h low = none_low found.sites (shape_sites (const w v) t found h)
 matched_low temps (reg r w) t whole found h low =
     subst AreLowSites (sym (open_sites (w == term_width t) (operand r t whole) found h).1) (low r (eq_self r), tt)
-matched_low temps (read a w) t whole found h low =
+matched_low temps (read InFile a w) t whole found h low = absurd (cc)
+matched_low temps (read InMemory a w) t whole found h low =
     elim (either (is_shape a) (cell_match temps a w t whole) (read_match (matched temps a) w t) found h) [
       | inl c ↦ cell_low temps a w t whole found c
       | inr r ↦ (let (b, v, e, m) = read_parts (matched temps a) w t found r in matched_low temps a b (is_number b) found m low)

@@ -2,6 +2,7 @@
 use Rattle.std.proofs.Common.{◌≡◌, ℕ, ◌+◌, ◌<◌, ◌≤◌, List, [], ◌∷◌, ◌++◌, Option, Some, None, Bool, true, false, refl, sym, ap, ◌∙◌, subst, arith, inl, inr, ◌⊎◌, zero-add}
 use Rattle.std.specs.Prelude.{if◌then◌else◌, ◌==◌, ◌&&◌, not}
 use Rattle.std.proofs.lemmas.Bool.Decides.{nat_tests}
+use Rattle.net_model.specs.declared.hardware.Space.TheVariants.{Memory as InMemory, File as InFile}
 use Rattle.net_model.specs.Terms.{Term, word, reg, const, read, un, bin, slice, cat, zext, sext, select, term_width, size_of}
 use Rattle.rec_bits.specs.declared.operator.Op1.{Op1}
 use Rattle.rec_bits.specs.declared.operator.Op2.{Op2}
@@ -29,7 +30,7 @@ pub size_pos : (t : Term) → 1 ≤ size_of t
 size_pos (word w) = omega arith
 size_pos (reg r w) = omega arith
 size_pos (const w v) = omega arith
-size_pos (read a w) = omega arith
+size_pos (read space a w) = omega arith
 size_pos (un o a) = omega arith
 size_pos (bin o a b) = omega arith
 size_pos (slice a h l) = omega arith
@@ -82,7 +83,7 @@ shape_sites shape (const w v) found h = settled_sites _ found (picked (w == term
 shape_sites shape _ found h = absurd (cc)
 
 pub literal_sites : (shape t : Term) (found : Found) → literal_match shape t ≡ Some found → found.sites ≡ []
-literal_sites shape (read a w) found h = shape_sites shape a found h
+literal_sites shape (read InMemory a w) found h = shape_sites shape a found h
 literal_sites shape _ found h = absurd (cc)
 
 pub both_parts : (a b : Option Found) (found : Found) → both a b ≡ Some found → (f : Found) × (g : Found) × (a ≡ Some f) × (b ≡ Some g) × (found.sites ≡ f.sites ++ g.sites)
@@ -90,8 +91,8 @@ both_parts None b found h = absurd (cc)
 both_parts (Some f) None found h = absurd (cc)
 both_parts (Some f) (Some g) found h = (f, g, refl, refl, (let inj : (x y : Found) → Some x ≡ Some y → x ≡ y = λ x y e. cc in sym (ap (λ (x : Found). x.sites) (inj _ found h))))
 
-pub read_parts : (f : Term → Bool → Option Found) (w : ℕ) (t : Term) (found : Found) → read_match f w t ≡ Some found → (a : Term) × (v : ℕ) × (t ≡ read a v) × (f a (is_number a) ≡ Some found)
-read_parts f w (read a v) found h = (a, v, refl, (picked (v == w) _ found h).1)
+pub read_parts : (f : Term → Bool → Option Found) (w : ℕ) (t : Term) (found : Found) → read_match f w t ≡ Some found → (a : Term) × (v : ℕ) × (t ≡ read InMemory a v) × (f a (is_number a) ≡ Some found)
+read_parts f w (read InMemory a v) found h = (a, v, refl, (picked (v == w) _ found h).1)
 read_parts f w _ found h = absurd (cc)
 
 pub un_parts : (f : Term → Bool → Option Found) (op : Op1) (t : Term) (found : Found) → un_match f op t ≡ Some found → (o : Op1) × (a : Term) × (t ≡ un o a) × (f a false ≡ Some found)
@@ -133,7 +134,8 @@ pub matched_small : (temps : ℕ) (e t : Term) (whole : Bool) (found : Found) �
 matched_small temps (word w) t whole found h = none_left whole t found.sites (shape_sites (word w) t found h)
 matched_small temps (const w v) t whole found h = none_left whole t found.sites (shape_sites (const w v) t found h)
 matched_small temps (reg r w) t whole found h = inl (r, (open_sites (w == term_width t) (operand r t whole) found h).1)
-matched_small temps (read a w) t whole found h =
+matched_small temps (read InFile a w) t whole found h = absurd (cc)
+matched_small temps (read InMemory a w) t whole found h =
     elim (either (is_shape a) (cell_match temps a w t whole) (read_match (matched temps a) w t) found h) [
       | inl c ↦ cell_small temps a w t whole found c
       | inr r ↦ (let (b, v, e, m) = read_parts (matched temps a) w t found r in

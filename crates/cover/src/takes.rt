@@ -74,6 +74,7 @@ pub(crate) fn may_take(value: &Expr, tree: &Tree) -> bool
         Expr::Slice(_, _, _) => may_be_shown(tree) || is_slice(tree),
         Expr::Zext(_, _) => may_be_shown(tree) || is_zext(tree),
         Expr::Sext(_, _) => may_be_shown(tree) || is_sext(tree),
+        Expr::Cell(_, _) => false,
         Expr::Cat(_, _) => false,
         Expr::Select(_, _, _) => false,
     }

@@ -14,6 +14,7 @@ use Rattle.rec_bits.specs.declared.operator.Op1.{Op1}
 use Rattle.rec_bits.specs.declared.operator.Op1.TheVariants.{Not, Neg}
 use Rattle.rec_bits.specs.declared.operator.Op2.{Op2}
 use Rattle.rec_bits.specs.declared.operator.Op2.TheVariants.{Add, Sub, Mul, And, Or, Xor, Shl, Shr, Sar, Eq, Ltu, Lts}
+use Rattle.net_model.specs.declared.hardware.Space.TheVariants.{Memory as InMemory}
 use Rattle.net_model.specs.Terms.{Term, const, read, un, bin, slice, zext, sext}
 use Rattle.form_model.specs.Matches.{same_op1, same_op2}
 use Rattle.form_model.specs.Trees.{tree_term}
@@ -34,11 +35,11 @@ same_exact (const w v) (const x u) h =
     let ew : w ≡ x = eqb-true w x p.0 in
     let ev : v ≡ u = eqb-true v u p.1 in
     (λ j. const (ew j) (ev j))
-same_exact (read a w) (read b x) h =
+same_exact (read InMemory a w) (read InMemory b x) h =
     let p = both (w == x) (same_trees a b) h in
     let ew : w ≡ x = eqb-true w x p.0 in
     let ea = same_exact a b p.1 in
-    (λ j. read (ea j) (ew j))
+    (λ j. read InMemory (ea j) (ew j))
 same_exact (un o a) (un p b) h =
     let q = both (same_op1 o p) (same_trees a b) h in
     let eo : o ≡ p = exact_op1 o p q.0 in

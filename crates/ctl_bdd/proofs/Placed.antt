@@ -8,7 +8,7 @@ use Rattle.rec_bits.specs.Faults.{gather}
 use Rattle.net_model.specs.declared.hardware.Netlist.{Netlist}
 use Rattle.net_model.specs.declared.hardware.Net.{Net}
 use Rattle.net_model.specs.declared.hardware.Storage.{Storage}
-use Rattle.net_model.specs.declared.hardware.Storage.TheVariants.{Register, Memory}
+use Rattle.net_model.specs.declared.hardware.Storage.TheVariants.{Register, Memory, File}
 use Rattle.net_model.specs.declared.hardware.Gate.{Gate}
 use Rattle.net_model.specs.declared.hardware.Gate.TheVariants.{Case, Bus}
 use Rattle.net_model.specs.Widths.{GateFits, NetFits, StorageFits, WhenFits, DriversFit, IsTyped}
@@ -117,7 +117,8 @@ module _ (netlist : Netlist) where
 
   storage_inside : (storage : Storage) → StorageFits netlist storage → Inside (storage_enables storage)
   storage_inside (Register name width input when) h = when_inside when h.1
-  storage_inside (Memory name width size addr_width value addr when) h = when_inside when h.2
+  storage_inside (Memory cells) h = when_inside cells.when h.2
+  storage_inside (File cells) h = when_inside cells.when h.2
 
   drivers_inside : (width : ℕ) (drivers : List (ℕ × ℕ)) → DriversFit netlist width drivers → Inside (map (λ (driver : ℕ × ℕ). driver.1) drivers)
   drivers_inside width [] h = tt

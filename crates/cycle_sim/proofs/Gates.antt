@@ -16,7 +16,7 @@ use Rattle.net_model.specs.declared.hardware.Netlist.{Netlist}
 use Rattle.net_model.specs.declared.hardware.Gate.{Gate}
 use Rattle.net_model.specs.declared.hardware.Gate.TheVariants.{Word, Reg, Read, Const, Wire, Un, Bin, Slice, Cat, Zext, Sext, Case, Bus}
 use Rattle.net_model.specs.declared.states.State.{State}
-use Rattle.net_model.specs.Nets.{width_at, row_nets, driver_nets, gate_nets}
+use Rattle.net_model.specs.Nets.{width_at, row_nets, driver_nets, gate_nets, held, space_at}
 use Rattle.net_model.specs.Value.{bus_value, case_value, gate_value}
 use Rattle.net_model.specs.Widths.{GateFits, IsTyped}
 use Rattle.net_model.proofs.Fits.{typed_width}
@@ -120,7 +120,7 @@ module _ (netlist : Netlist) (typed : IsTyped netlist) (f : ℕ → ℕ) where
   pub gives : (v w : ℕ → ℕ) (s : State) (word width : ℕ) (gate : Gate) → v 4294967295 ≡ 0 → ((m : ℕ) → w m < 2 ^ width_at netlist m) → GateFits netlist width gate → width ≤ 64 → Stands v f w (gate_nets gate) → Gives v w netlist s word width gate (decoded netlist f width gate)
   gives v w s word width (Word code) z fits g high h = λ p x e. e
   gives v w s word width (Reg id) z fits g high h = λ p x e. e
-  gives v w s word width (Read memory addr) z fits g high h = ap (slice_index s.cells) h.0
+  gives v w s word width (Read memory addr) z fits g high h = ap (slice_index (held s (space_at netlist memory))) h.0
   gives v w s word width (Const c) z fits g high h = λ p x e. e
   gives v w s word width (Wire a) z fits g high h = λ p x e. absurd p
   gives v w s word width (Un op a) z fits g high h =

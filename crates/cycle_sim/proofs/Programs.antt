@@ -5,15 +5,19 @@ use Rattle.std.specs.List.{position_from}
 use Rattle.std.proofs.lemmas.Iterator.Adapters.{position_from-zero}
 use Rattle.std.proofs.lemmas.List.{get_or_past}
 use Rattle.std.proofs.lemmas.Option.{slice_get_cases}
+use Rattle.net_model.specs.Nets.{array_in}
 use Rattle.net_model.specs.declared.hardware.Netlist.{Netlist}
 use Rattle.net_model.specs.declared.hardware.Net.{Net}
 use Rattle.net_model.specs.declared.hardware.Gate.{Gate}
 use Rattle.net_model.specs.declared.hardware.Gate.TheVariants.{Const, Bus}
 use Rattle.net_model.specs.declared.hardware.Storage.{Storage}
-use Rattle.net_model.specs.declared.hardware.Storage.TheVariants.{Register, Memory}
+use Rattle.net_model.specs.declared.hardware.Storage.TheVariants.{Register, Memory, File}
+use Rattle.net_model.specs.declared.hardware.Cells.{Cells}
+use Rattle.net_model.specs.declared.hardware.Space.{Space}
+use Rattle.net_model.specs.declared.hardware.Space.TheVariants.{Memory as InMemory}
 use Rattle.net_model.specs.declared.states.State.{State}
 use Rattle.net_model.specs.Value.{gate_value, net_value, value_within, value_of}
-use Rattle.net_model.specs.Clock.{clash_in, enabled_count, gate_clashes, is_enabled, next_cells, next_regs, word_at}
+use Rattle.net_model.specs.Clock.{clash_in, enabled_count, gate_clashes, is_enabled, next_cells, next_regs, word_at, written}
 use Rattle.net_model.specs.Widths.{IsState, IsTyped, StateFits, WordFits}
 use Rattle.net_model.specs.Order.{IsOrder}
 use Rattle.net_model.proofs.Orders.{value_is}
@@ -24,7 +28,7 @@ use Rattle.cycle_sim.specs.Clocks.{cell_net}
 use Rattle.cycle_sim.specs.Inner.Decoding.{buses_from, buses_with, constant_of, constants_of, drivers_by, inlets_from, latches_by, optional, port_by, source_in}
 use Rattle.cycle_sim.specs.Inner.Operations.{AreWithin, filled, run_of}
 use Rattle.cycle_sim.specs.Inner.Ports.{cell_by, cells_by, port_of, memory_port_width, HasPortWidth}
-use Rattle.cycle_sim.specs.Inner.Programs.{clash_by, regs_by, AreSources, RunsAs, HoldsNet, HoldsGate, IsFilled, IsPlain, IsPlainGate, IsProgram, IsRoom, Runs}
+use Rattle.cycle_sim.specs.Inner.Programs.{clash_by, regs_by, AreSources, RunsAs, HoldsNet, HoldsGate, IsFilled, IsPlain, IsPlainGate, IsProgram, IsRoom, Runs, port_at}
 use Rattle.cycle_sim.specs.Inner.Running.{IsRunning}
 use Rattle.cycle_sim.proofs.Edges.{words_fit_at}
 use Rattle.cycle_sim.proofs.Inlets.{inlets_below, is_filled}
@@ -53,17 +57,16 @@ module _ (v f : ℕ → ℕ) where
   regs_are [] regs = refl
   regs_are (storage ∷ storages) [] = refl
   regs_are (Register name width input when ∷ storages) (old ∷ olds) = rw (enabled_by when, regs_are storages olds) refl
-  regs_are (Memory name width size addr_width value addr when ∷ storages) (old ∷ olds) = rw (regs_are storages olds) refl
+  regs_are (Memory cells ∷ storages) (old ∷ olds) = rw (regs_are storages olds) refl
+  regs_are (File cells ∷ storages) (old ∷ olds) = rw (regs_are storages olds) refl
 
-  cells_are : (storages : List Storage) (cells : List ℕ) → cells_by v (port_by f (port_of storages)) cells ≡ next_cells (λ m. v (f m)) storages cells
-  cells_are [] cells = refl
-  cells_are (Register name width input when ∷ storages) cells = cells_are storages cells
-  cells_are (Memory name width size addr_width value addr when ∷ storages) cells = rw (enabled_by when) refl
+  cells_are : (array : Option Cells) (olds : List ℕ) → cells_by v (port_by f (port_of array)) olds ≡ written (λ m. v (f m)) array olds
+  cells_are None olds = refl
+  cells_are (Some cells) olds = rw (enabled_by cells.when) refl
 
-  cell_is : (storages : List Storage) (size : ℕ) → cell_by v (port_by f (port_of storages)) size ≡ cell_net (λ m. v (f m)) storages size
-  cell_is [] size = refl
-  cell_is (Register name width input when ∷ storages) size = cell_is storages size
-  cell_is (Memory name width _ addr_width value addr when ∷ storages) size = rw (enabled_by when) refl
+  cell_is : (array : Option Cells) (size : ℕ) → cell_by v (port_by f (port_of array)) size ≡ cell_net (λ m. v (f m)) array size
+  cell_is None size = refl
+  cell_is (Some cells) size = rw (enabled_by cells.when) refl
 
 pub width_by : (f : ℕ → ℕ) (port : Option Port) → memory_port_width (port_by f port) ≡ memory_port_width port
 width_by f None = refl
@@ -118,7 +121,7 @@ module _ (netlist : Netlist) (order : List ℕ) (o : IsOrder netlist order) (typ
         ];
   }
 
-  pub follows : (sources : List ℕ) → AreSources netlist order sources → program.latches ≡ latches_by (source_in sources) netlist.storages → program.buses ≡ buses_from (source_in sources) 0 netlist.nets → program.port ≡ port_by (source_in sources) (port_of netlist.storages) → RunsAs netlist s word (run_of s program.instructions room) program
+  pub follows : (sources : List ℕ) → AreSources netlist order sources → program.latches ≡ latches_by (source_in sources) netlist.storages → program.buses ≡ buses_from (source_in sources) 0 netlist.nets → ((space : Space) → port_at program space ≡ port_by (source_in sources) (port_of (array_in space netlist.storages))) → RunsAs netlist s word (run_of s program.instructions room) program
   follows sources places l b p =
       let v : ℕ → ℕ = slice_index (run_of s program.instructions room) in
       let all : (λ m. v (source_in sources m)) ≡ value_of netlist s word = fun_ext (stand sources places) in
@@ -130,11 +133,11 @@ module _ (netlist : Netlist) (order : List ℕ) (o : IsOrder netlist order) (typ
             ∙ sym (position_from-zero (λ (net : Net). gate_clashes (λ m. v (source_in sources m)) net.gate) netlist.nets)
             ∙ ap (λ u. clash_in u netlist.nets) all;
         regs = λ regs. ap (λ x. regs_by v x regs) l ∙ regs_are v (source_in sources) netlist.storages regs ∙ ap (λ u. next_regs u netlist.storages regs) all;
-        cells = λ cells. ap (λ x. cells_by v x cells) p ∙ cells_are v (source_in sources) netlist.storages cells ∙ ap (λ u. next_cells u netlist.storages cells) all;
-        written = λ size. ap (λ x. cell_by v x size) p ∙ cell_is v (source_in sources) netlist.storages size ∙ ap (λ u. cell_net u netlist.storages size) all;
+        cells = λ space olds. ap (λ x. cells_by v x olds) (p space) ∙ cells_are v (source_in sources) (array_in space netlist.storages) olds ∙ ap (λ u. next_cells u space netlist.storages olds) all;
+        written = λ size. ap (λ x. cell_by v x size) (p InMemory) ∙ cell_is v (source_in sources) (array_in InMemory netlist.storages) size ∙ ap (λ u. cell_net u (array_in InMemory netlist.storages) size) all;
       }
 
-pub is_program : (netlist : Netlist) (order : List ℕ) → IsOrder netlist order → IsTyped netlist → (program : Program) → Runs netlist program.instructions → program.inlets ≡ inlets_from 0 netlist.nets → (sources : List ℕ) → AreSources netlist order sources → program.latches ≡ latches_by (source_in sources) netlist.storages → program.buses ≡ buses_from (source_in sources) 0 netlist.nets → program.port ≡ port_by (source_in sources) (port_of netlist.storages) → IsProgram netlist program
+pub is_program : (netlist : Netlist) (order : List ℕ) → IsOrder netlist order → IsTyped netlist → (program : Program) → Runs netlist program.instructions → program.inlets ≡ inlets_from 0 netlist.nets → (sources : List ℕ) → AreSources netlist order sources → program.latches ≡ latches_by (source_in sources) netlist.storages → program.buses ≡ buses_from (source_in sources) 0 netlist.nets → ((space : Space) → port_at program space ≡ port_by (source_in sources) (port_of (array_in space netlist.storages))) → IsProgram netlist program
 is_program netlist order o typed program r i sources places l b p = record {
   within = subst (λ inlets. AreWithin (length netlist.nets) inlets) (sym i) (inlets_below 0 netlist.nets (length netlist.nets) (omega arith));
   ready = r.ready;

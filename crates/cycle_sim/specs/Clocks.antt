@@ -1,8 +1,11 @@
 -- What a clock of a simulator answers and leaves, and what is read from it.
-use Rattle.std.specs.Prelude.{ℕ, ◌≡◌, ◌&&◌, nat_lt, if◌then◌else◌, List, [], ◌∷◌, Option, Some, None, length, slice_get, slice_index}
+use Rattle.std.specs.Prelude.{ℕ, ◌≡◌, ◌&&◌, nat_lt, if◌then◌else◌, List, Option, Some, None, length, slice_get, slice_index}
 use Rattle.net_model.specs.declared.hardware.Netlist.{Netlist}
 use Rattle.net_model.specs.declared.hardware.Storage.{Storage}
-use Rattle.net_model.specs.declared.hardware.Storage.TheVariants.{Register, Memory}
+use Rattle.net_model.specs.declared.hardware.Storage.TheVariants.{Register}
+use Rattle.net_model.specs.declared.hardware.Cells.{Cells}
+use Rattle.net_model.specs.declared.hardware.Space.TheVariants.{Memory as InMemory}
+use Rattle.net_model.specs.Nets.{array_in}
 use Rattle.net_model.specs.declared.states.State.{State}
 use Rattle.net_model.specs.Value.{value_of}
 use Rattle.net_model.specs.Clock.{clock, is_enabled, word_at, Next, Clash}
@@ -13,15 +16,15 @@ use Rattle.cycle_sim.specs.Shown.{Shown}
 
 -- the cell of the data memory that is written, where v gives the values of the nets: there is one
 -- where the memory has no `when` or a `when` of value 1, and its address lies below the size
-abbrev pub cell_net : (ℕ → ℕ) → List Storage → ℕ → Option ℕ
-cell_net v [] size = None
-cell_net v (Register name width input when ∷ storages) size = cell_net v storages size
-cell_net v (Memory name width _ addr_width value addr when ∷ storages) size =
-    if is_enabled v when && nat_lt (v addr) size then Some (v addr) else None
+abbrev pub cell_net : (ℕ → ℕ) → Option Cells → ℕ → Option ℕ
+cell_net v None size = None
+cell_net v (Some cells) size =
+    if is_enabled v cells.when && nat_lt (v cells.addr) size then Some (v cells.addr) else None
 
 -- the cell that a clock without clash writes
 abbrev pub written_cell : Netlist → List ℕ → State → Option ℕ
-written_cell netlist words s = cell_net (value_of netlist s (word_at netlist words s)) netlist.storages (length s.cells)
+written_cell netlist words s =
+    cell_net (value_of netlist s (word_at netlist words s)) (array_in InMemory netlist.storages) (length s.cells)
 
 -- a clock that answers `Stepped` leaves the next state and has written that cell; one that answers
 -- `Clash` clashed at that bus, left the state as it was and wrote nothing

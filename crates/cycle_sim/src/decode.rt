@@ -53,7 +53,10 @@ pub(crate) fn decode(
         ≡ decoded netlist.now (source_in sources.now) net.now.width net.now.gate) }
 {
     match &net.gate {
-        Gate::Read { memory: _, addr } => Ok(Some(Operation::Recall(source_at(sources, *addr)))),
+        Gate::Read { memory, addr } => {
+            let space = netlist.space(*memory);
+            Ok(Some(Operation::Recall(space, source_at(sources, *addr))))
+        }
         Gate::Word(_) | Gate::Reg(_) | Gate::Const(_) | Gate::Wire(_) | Gate::Zext(_) => Ok(None),
         Gate::Un(op, a) => Ok(Some(Operation::Unary {
             op: *op,
@@ -227,7 +230,7 @@ fn latch_of(sources: &[u32], storage: &Storage) -> Latch
             input: source_at(sources, *input),
             when: optional_source(sources, *when),
         },
-        Storage::Memory { .. } => Latch::Held,
+        Storage::Memory(_) | Storage::File(_) => Latch::Held,
     }
 }
 

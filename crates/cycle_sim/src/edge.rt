@@ -1,19 +1,20 @@
 // A clock edge, from the values of all nets: whether a bus clashes, and what the storages become.
 
 ghost use Rattle.std.specs.Prelude.{◌≡◌, ◌<◌, ◌^◌, IfSome, length, slice_index};
+ghost use Rattle.net_model.specs.Nets.{array_in, storage_array};
 ghost use Rattle.net_model.specs.Clock.{clash_in, enabled_count, gate_clashes, is_enabled};
 ghost use Rattle.cycle_sim.specs.Inner.Ports.{cell_by, cells_by, port_of};
 ghost use Rattle.cycle_sim.specs.Inner.Programs.{clash_by, latched, regs_by};
 
 use crate::values::value_at;
-use net_model::{Gate, Net, Storage};
+use net_model::{Gate, Net, Space, Storage};
 use rec_bits::Items;
 
 // How many drivers of a bus may be enabled.
 const ENABLED_AT_MOST: usize = 1;
 
-// How a clock writes the data memory: the width of its cells and the nets of the value, of the
-// address and of the enable.
+// How a clock writes the data memory, or the register file: the width of its cells and the nets of
+// the value, of the address and of the enable.
 #[derive(Clone, Copy)]
 pub(crate) struct Port {
     pub width: u8,
@@ -38,28 +39,31 @@ pub(crate) struct BusDrivers {
     pub drivers: Items<(u32, u32)>,
 }
 
-// How the data memory is written.
-pub(crate) fn find_port(storages: &[Storage]) -> Option<Port>
-    ensures { result ≡ port_of storages.now }
+// How the cells of a space are written.
+pub(crate) fn find_port(space: Space, storages: &[Storage]) -> Option<Port>
+    ensures { result ≡ port_of (array_in space storages.now) }
 {
     for storage in storages {
-        if let Storage::Memory {
-            width,
-            value,
-            addr,
-            when,
-            ..
-        } = storage
-        {
-            return Some(Port {
-                width: *width,
-                value: *value,
-                addr: *addr,
-                when: *when,
-            });
+        if storage.is_in(space) {
+            return port_to(storage);
         }
     }
     None
+}
+
+// How the cells of a storage are written.
+fn port_to(storage: &Storage) -> Option<Port>
+    ensures { result ≡ port_of (storage_array storage.now) }
+{
+    match storage {
+        Storage::Register { .. } => None,
+        Storage::Memory(cells) | Storage::File(cells) => Some(Port {
+            width: cells.width,
+            value: cells.value,
+            addr: cells.addr,
+            when: cells.when,
+        }),
+    }
 }
 
 /// The first bus that clashes, by the values of all nets: more than one of its drivers is enabled.
@@ -139,7 +143,7 @@ pub(crate) fn clock_registers(values: &[u64], storages: &[Latch], regs: &mut Ite
     }
 }
 
-// Clocks the data memory, and tells the cell that is written.
+// Clocks the cells of a space, and tells the one that is written.
 pub(crate) fn clock_cells(values: &[u64], port: Option<Port>, cells: &mut Items<u64>) -> Option<u32>
     requires { length cells.old < 2 ^ 32 }
     ensures cells { cells.new ≡ cells_by (slice_index values.now) port cells.old }

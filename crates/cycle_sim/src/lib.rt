@@ -5,12 +5,12 @@
 //! bus that clashes and changes nothing (`clocks`: `Clocks`, by `clock` of
 //! `net_model/specs/Clock`). `evaluate` gives the value of each net (`value_of`), `gate_of` that of
 //! one net's gate from those of the nets that it names, `find_clash` the first bus that clashes.
-//! `pc`, `reg`, `cell` and `last_write` tell what the simulator holds. No call of a `Sim` but `new`
-//! takes memory.
+//! `pc`, `reg`, `cell`, `file` and `last_write` tell what the simulator holds. No call of a `Sim`
+//! but `new` takes memory.
 //!
 //! Invariant: a `Sim` keeps `IsRunning`: its words and its state fit the netlist, and its program
 //! is one of the netlist (`IsProgram`): run from any state under any word, the program's array
-//! gives registers, memory and buses what the values of the nets give them.
+//! gives registers, memory, file and buses what the values of the nets give them.
 //!
 //! A netlist is decoded once, when its simulator is made. Wires, and nets with zeros above another,
 //! have no place in the array, since what names them goes to their source; constants are written
@@ -25,7 +25,7 @@
 //! - `operation`: what inlets and instructions are, and a run of many.
 //! - `decode`: gates, storages and buses turned into operations over places of one array.
 //! - `program`: the instructions of a netlist, in the order of its nets.
-//! - `edge`: what a clock does, given the array: clashes, registers, the memory.
+//! - `edge`: what a clock does, given the array: clashes, registers, the memory, the file.
 //! - `sim`: `Sim`, with its clock.
 //! - `specs/`, cited by public contracts: `Clocks` and `Shown` (what contracts see of a simulator).
 //!   `specs/Inner/`: `Running`, `Ports`, `Operations`, `Decoding` and `Programs`, for the

@@ -5,7 +5,7 @@ ghost use Rattle.rec_bits.specs.Operators.{apply1_of, apply2_of, sext_of};
 ghost use Rattle.cycle_sim.specs.Inner.Operations.{AreReady, AreWithin, HasOperands, filled, inlet_value, operation_value, run_of};
 
 use crate::values::{bus_of, case_of, number_at, value_at};
-use net_model::State;
+use net_model::{Space, State};
 use rec_bits::{Items, Op1, Op2, apply1, apply2, mask, sext};
 
 /// A place past the end of each array: 0 is read there.
@@ -15,8 +15,8 @@ pub(crate) const NOWHERE: u32 = 4_294_967_295;
 /// of the result.
 #[derive(Drop)]
 pub(crate) enum Operation {
-    /// The data memory's cell at an address.
-    Recall(u32),
+    /// The cell at an address, of the data memory or of the register file.
+    Recall(Space, u32),
     Sum {
         a: u32,
         b: u32,
@@ -133,7 +133,9 @@ fn operate(operation: &Operation, state: &State, values: &[u64]) -> u64
     ensures { result ≡ operation_value (slice_index values.now) state.now operation.now }
 {
     match operation {
-        Operation::Recall(addr) => number_at(state.cells.as_slice(), operand(values, *addr)),
+        Operation::Recall(space, addr) => {
+            number_at(state.cells_in(*space).as_slice(), operand(values, *addr))
+        }
         Operation::Sum { a, b, mask } => {
             operand(values, *a).wrapping_add(operand(values, *b)) & *mask
         }

@@ -9,12 +9,12 @@ ghost use Rattle.cycle_sim.specs.Inner.Programs.{added, AreSources, IsProgram, R
 use crate::decode::{buses, decode, inlets, latches, routed, source_of};
 use crate::edge::{BusDrivers, Latch, Port, find_port};
 use crate::operation::{Inlet, Instruction, Operation, fill, run};
-use net_model::{Checked, State};
+use net_model::{Checked, Space, State};
 use rec_bits::{Items, NoMemory};
 use std::alloc::Global;
 
-/// The nets as instructions, and where storages, buses and the data memory's port take their
-/// values.
+/// The nets as instructions, and where storages, buses and the ports of the data memory and of the
+/// register file take their values.
 #[derive(Drop)]
 pub(crate) struct Program {
     pub inlets: Items<Inlet>,
@@ -22,6 +22,7 @@ pub(crate) struct Program {
     pub latches: Items<Latch>,
     pub buses: Items<BusDrivers>,
     pub port: Option<Port>,
+    pub file_port: Option<Port>,
 }
 
 impl Program {
@@ -57,13 +58,15 @@ pub(crate) fn program_of(alloc: Global, checked: &Checked) -> Result<Program, No
     let storages = netlist.storages.as_slice();
     let latches = latches(alloc, sources, storages)?;
     let buses = buses(alloc, sources, nets)?;
-    let port = routed(sources, find_port(storages));
+    let port = routed(sources, find_port(Space::Memory, storages));
+    let file_port = routed(sources, find_port(Space::File, storages));
     Ok(Program {
         inlets,
         instructions,
         latches,
         buses,
         port,
+        file_port,
     })
 }
 

@@ -3,7 +3,7 @@
 ghost use Rattle.std.specs.Prelude.{◌≡◌, ◌<◌, ◌^◌, ◌↔◌, IsTrue, IfOk, None, length, slice_get, slice_set};
 ghost use Rattle.std.specs.List.{AllByRecursion};
 ghost use Rattle.std.specs.Bool.{OnTrue, OnFalse};
-ghost use Rattle.net_model.specs.Nets.{memory_width};
+ghost use Rattle.net_model.specs.Nets.{held, memory_width};
 ghost use Rattle.net_model.specs.Widths.{IsState, WordFits};
 ghost use Rattle.net_model.specs.Clock.{counter_in, word_at};
 ghost use Rattle.cycle_sim.specs.Clocks.{Clocks, register_in};
@@ -13,7 +13,7 @@ use crate::decode::constants;
 use crate::edge::{Port, clock_cells, clock_registers, first_clash};
 use crate::program::{Program, program_of};
 use crate::values::{number_at, value_at};
-use net_model::{Checked, Netlist, State, Storage};
+use net_model::{Checked, Netlist, Space, State, Storage};
 use rec_bits::{Items, NoMemory, mask};
 use std::alloc::Global;
 use std::marker::Model;
@@ -102,6 +102,8 @@ impl<'a> Sim<'a> {
                 clock_registers(values, storages, &mut self.state.regs);
                 let port = self.program.port;
                 self.last_write = clock_cells(values, port, &mut self.state.cells);
+                let file_port = self.program.file_port;
+                let _written = clock_cells(values, file_port, &mut self.state.file);
                 Clocked::Stepped
             }
         }
@@ -125,15 +127,30 @@ impl<'a> Sim<'a> {
         }
     }
 
+    /// The value of the cell at this address of the data memory or of the register file, or None
+    /// where there is no such cell.
+    pub fn cell_in(&self, space: Space, address: u32) -> Option<u64>
+        ensures { result ≡ slice_get (held self.now.state space) address }
+    {
+        self.state.cells_in(space).get(address as usize).copied()
+    }
+
     /// The value of the data memory's cell at this address, or None where there is no such cell.
     pub fn cell(&self, address: u32) -> Option<u64>
         ensures { result ≡ slice_get self.now.state.cells address }
     {
-        self.state.cells.get(address as usize).copied()
+        self.cell_in(Space::Memory, address)
     }
 
-    /// Puts a value into a cell and answers true; answers false, and changes nothing, where there
-    /// is no such cell or the value is too wide for it.
+    /// The value of the register file's cell at this address, or None where there is no such cell.
+    pub fn file(&self, address: u32) -> Option<u64>
+        ensures { result ≡ slice_get self.now.state.file address }
+    {
+        self.cell_in(Space::File, address)
+    }
+
+    /// Puts a value into a cell of the data memory and answers true; answers false, and changes
+    /// nothing, where there is no such cell or the value is too wide for it.
     pub fn set_cell(&mut self, address: u32, value: u64) -> bool
         ensures fits { IsTrue result ↔ ((address < length self.old.state.cells)
             × (value < 2 ^ memory_width self.old.netlist.storages)) }

@@ -70,8 +70,9 @@ pub fn gate_of(netlist: &Netlist, state: &State, word: u64, values: &[u64], net:
     match &net.gate {
         Gate::Word(_) => word,
         Gate::Reg(id) => value_at(state.regs.as_slice(), *id),
-        Gate::Read { memory: _, addr } => {
-            number_at(state.cells.as_slice(), value_at(values, *addr))
+        Gate::Read { memory, addr } => {
+            let cells = state.cells_in(netlist.space(*memory)).as_slice();
+            number_at(cells, value_at(values, *addr))
         }
         Gate::Const(value) => *value,
         Gate::Wire(a) | Gate::Zext(a) => value_at(values, *a),

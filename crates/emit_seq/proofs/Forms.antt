@@ -25,18 +25,18 @@ OwnBelow destination own temps = Unit {0}
 module _ (temps : ℕ) (before now : State) (same : (c : ℕ) → temps ≤ c → slice_index now.cells c ≡ slice_index before.cells c) (patterns : List Pattern) (count : ℕ) where
   -- a step of a register
   reg_step : (rule : Rule) (r v setting : ℕ) (f : IsIntoReg patterns count rule r) → mean rule.value now setting ≡ v
-      → steps_effect (operation_of patterns) (record { pattern = rule.pattern; setting = setting } ∷ []) now ≡ record { regs = slice_set now.regs r v; cells = now.cells }
+      → steps_effect (operation_of patterns) (record { pattern = rule.pattern; setting = setting } ∷ []) now ≡ record { regs = slice_set now.regs r v; cells = now.cells; file = now.file }
   reg_step rule r v setting f e =
       ap (λ (p : Option Pattern). apply_operation (operation_or_none p setting) now now) f.is
-      ∙ ap (λ x. record { regs = slice_set now.regs r x; cells = now.cells }) (sym (f.alike.means now setting) ∙ e)
+      ∙ ap (λ x. record { regs = slice_set now.regs r x; cells = now.cells; file = now.file }) (sym (f.alike.means now setting) ∙ e)
 
   -- a step of the memory
   memory_step : (rule : Rule) (a v setting : ℕ) (f : IsIntoMemory patterns rule) → mean f.at now setting ≡ a → mean rule.value now setting ≡ v
-      → steps_effect (operation_of patterns) (record { pattern = rule.pattern; setting = setting } ∷ []) now ≡ record { regs = now.regs; cells = slice_set now.cells a v }
+      → steps_effect (operation_of patterns) (record { pattern = rule.pattern; setting = setting } ∷ []) now ≡ record { regs = now.regs; cells = slice_set now.cells a v; file = now.file }
   memory_step rule a v setting f ea e =
       ap (λ (p : Option Pattern). apply_operation (operation_or_none p setting) now now) f.is
-      ∙ ap (λ x. record { regs = now.regs; cells = slice_set now.cells x (mean f.value now setting) }) (sym (f.alike_addr.means now setting) ∙ ea)
-      ∙ ap (λ x. record { regs = now.regs; cells = slice_set now.cells a x }) (sym (f.alike_value.means now setting) ∙ e)
+      ∙ ap (λ x. record { regs = now.regs; cells = slice_set now.cells x (mean f.value now setting); file = now.file }) (sym (f.alike_addr.means now setting) ∙ ea)
+      ∙ ap (λ x. record { regs = now.regs; cells = slice_set now.cells a x; file = now.file }) (sym (f.alike_value.means now setting) ∙ e)
 
   -- the value alone, whose setting has no other bits
   value_means : (e t : Term) (whole : Bool) (f : Found) (cuts : List CutCells) → matched temps e t whole ≡ Some f → IsOnce e → ReadsFrom temps before t → Holds temps before now f.sites cuts
@@ -63,7 +63,7 @@ module _ (temps : ℕ) (before now : State) (same : (c : ℕ) → temps ≤ c �
       → ((x : Found) (rs : List CutCells) → o ≡ Some x → Holds temps before now x.sites rs → IsMeant temps before now f.at at_tree x rs)
       → ReadsFrom temps before tree → Holds temps before now found.sites cuts
       → steps_effect (operation_of patterns) (record { pattern = rule.pattern; setting = bit_or (bits_in found cuts) 0 } ∷ []) now
-      ≡ record { regs = now.regs; cells = slice_set now.cells (mean at_tree before 0) (mean tree before 0) }
+      ≡ record { regs = now.regs; cells = slice_set now.cells (mean at_tree before 0) (mean tree before 0); file = now.file }
   address_done rule f at_tree tree whole o found cuts h g r k =
       let j : Joined o (matched temps rule.value tree whole) found = joined _ _ _ h in
       let s : Split temps before now j.first.sites j.second.sites cuts =
@@ -81,7 +81,7 @@ module _ (temps : ℕ) (before now : State) (same : (c : ℕ) → temps ≤ c �
       → both (address_match temps (Some f.at) temporary) (matched temps rule.value tree false) ≡ Some found
       → ReadsFrom temps before tree → Holds temps before now found.sites cuts → own < temps
       → steps_effect (operation_of patterns) (record { pattern = rule.pattern; setting = bit_or (bits_in found cuts) (address_setting (Some f.at) own) } ∷ []) now
-      ≡ record { regs = now.regs; cells = slice_set now.cells own (mean tree before 0) }
+      ≡ record { regs = now.regs; cells = slice_set now.cells own (mean tree before 0); file = now.file }
   temp_done rule f tree found cuts own h r k l =
       let j : Joined (address_match temps (Some f.at) temporary) (matched temps rule.value tree false) found = joined _ _ _ h in
       let p : ((is_shape f.at && shows_below f.at temps) ≡ true) × (settled (Some 0) ≡ Some j.first) = picked (is_shape f.at && shows_below f.at temps) (settled (Some 0)) j.first j.is_first in
@@ -112,7 +112,7 @@ module _ (temps : ℕ) (before now : State) (same : (c : ℕ) → temps ≤ c �
   form_done rule (into_reg q) (into id) tree whole found cuts own f h r p k l =
       let c : ((q == id) ≡ true) × (matched temps rule.value tree whole ≡ Some found) = picked (q == id) (matched temps rule.value tree whole) found h in
       reg_step rule q (mean tree before 0) (bit_or (bits_in found cuts) 0) f (value_means rule.value tree whole found cuts c.1 f.once r k)
-      ∙ ap (λ n. record { regs = slice_set now.regs n (mean tree before 0); cells = now.cells }) (eqb-true q id c.0)
+      ∙ ap (λ n. record { regs = slice_set now.regs n (mean tree before 0); cells = now.cells; file = now.file }) (eqb-true q id c.0)
   form_done rule into_memory (cell a) tree whole found cuts own f h r p k l =
       address_done rule f (const (term_width f.at) a) tree true (address_match temps rule.addr (cell a)) found cuts h
       (λ x rs e v. shape_address f.at a x rs (ap (λ z. address_match temps z (cell a)) (sym f.has) ∙ e) v) r k

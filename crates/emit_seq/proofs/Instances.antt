@@ -1,6 +1,7 @@
 -- The accumulator machine's forms are as the laws want them, so its covers leave their trees'
 -- values.
 use Rattle.std.proofs.Common.{◌≡◌, ◌∙◌, ◌%◌, ◌^◌, ◌||◌, Bool, false, ℕ, zero, suc, ◌≤◌, ◌<◌, ◌+◌, List, [], ◌∷◌, length, Some, true, refl, ap, subst, sym, slice_get, arith}
+use Rattle.net_model.specs.declared.hardware.Space.TheVariants.{Memory as InMemory}
 use Rattle.net_model.specs.declared.states.State.{State}
 use Rattle.std.specs.Int.{bit_at}
 use Rattle.std.proofs.lemmas.Bool.{true≢false}
@@ -112,7 +113,7 @@ acc_each = (
     zero_term = const 16 0
 
     mem : Term
-    mem = read field 16
+    mem = read InMemory field 16
 
 acc_formed : AreFormed acc_patterns 3 acc_rules
 acc_formed k rule e = each_at (λ (r : Rule). IsFormed acc_patterns 3 r r.goal) acc_rules k rule e acc_each

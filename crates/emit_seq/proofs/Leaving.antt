@@ -55,7 +55,7 @@ module _ (stock : Stock) (patterns : List Pattern) (count : ℕ) (formed : AreFo
     regs : length t.regs ≡ length s.regs
     cells : length t.cells ≡ length s.cells
 
-  put_into : (s mid t : State) (a v : ℕ) → t ≡ record { regs = mid.regs; cells = slice_set mid.cells a v } → length mid.regs ≡ length s.regs → length mid.cells ≡ length s.cells
+  put_into : (s mid t : State) (a v : ℕ) → t ≡ record { regs = mid.regs; cells = slice_set mid.cells a v; file = mid.file } → length mid.regs ≡ length s.regs → length mid.cells ≡ length s.cells
       → ((c : ℕ) → stock.temps ≤ c → slice_index mid.cells c ≡ slice_index s.cells c) → a < length s.cells → IsPut s t a v
   put_into s mid t a v e r l same w =
       subst (λ z. IsPut s z a v) (sym e) (record {

@@ -8,6 +8,7 @@ use Rattle.rec_bits.specs.declared.operator.Op1.{Op1}
 use Rattle.rec_bits.specs.declared.operator.Op1.TheVariants.{Not, Neg}
 use Rattle.rec_bits.specs.declared.operator.Op2.{Op2}
 use Rattle.rec_bits.specs.declared.operator.Op2.TheVariants.{Add, Sub, Mul, And, Or, Xor, Shl, Shr, Sar, Eq, Ltu, Lts}
+use Rattle.net_model.specs.declared.hardware.Space.TheVariants.{Memory as InMemory, File as InFile}
 use Rattle.net_model.specs.declared.states.State.{State}
 use Rattle.net_model.specs.Terms.{Term, word, reg, const, read, un, bin, slice, cat, zext, sext, select, term_width}
 use Rattle.net_model.specs.Meaning.{mean}
@@ -246,8 +247,8 @@ module _ (temps : ℕ) (before now : State) (same : (c : ℕ) → temps ≤ c �
   bin_meant a b op iha ihb ab ba t f cuts h r k = absurd (cc)
 
   read_meant : (a : Term) (w : ℕ) → Sound a → (t : Term) (f : Found) (cuts : List CutCells) → read_match (matched temps a) w t ≡ Some f → ReadsFrom temps before t
-      → Holds temps before now f.sites cuts → IsMeant temps before now (read a w) t f cuts
-  read_meant a w ih (read b v) f cuts h r k =
+      → Holds temps before now f.sites cuts → IsMeant temps before now (read InMemory a w) t f cuts
+  read_meant a w ih (read InMemory b v) f cuts h r k =
       let p : ((v == w) ≡ true) × (matched temps a b (is_number b) ≡ Some f) = picked _ _ _ h in
       let m : IsMeant temps before now a b f cuts = ih b (is_number b) f cuts p.1 r.1 k in
       record {
@@ -259,8 +260,8 @@ module _ (temps : ℕ) (before now : State) (same : (c : ℕ) → temps ≤ c �
 
   -- a read at a number
   at_number : (a : Term) (w : ℕ) (t : Term) (f : Found) (cuts : List CutCells) → w ≡ term_width t → literal_match a t ≡ Some f → ReadsFrom temps before t
-      → Holds temps before now f.sites cuts → IsMeant temps before now (read a w) t f cuts
-  at_number a w (read b v) f cuts e h r k =
+      → Holds temps before now f.sites cuts → IsMeant temps before now (read InMemory a w) t f cuts
+  at_number a w (read InMemory b v) f cuts e h r k =
       let m : IsMeant temps before now a b f cuts = shape_meant temps before now a b f cuts h k in
       record {
         width = e;
@@ -272,7 +273,7 @@ module _ (temps : ℕ) (before now : State) (same : (c : ℕ) → temps ≤ c �
   -- a cut in its cell
   at_cut : (a : Term) (w : ℕ) (t : Term) (b : Bool) (f : Found) (cuts : List CutCells) → w ≡ term_width t
       → open_if (b && shows_below a temps) (cut a t) ≡ Some f
-      → Holds temps before now f.sites cuts → IsMeant temps before now (read a w) t f cuts
+      → Holds temps before now f.sites cuts → IsMeant temps before now (read InMemory a w) t f cuts
   at_cut a w t b f [] e h k =
       let p : ((b && shows_below a temps) ≡ true) × (record { setting = 0; sites = cut a t ∷ [] } ≡ f) = opened _ _ _ h in
       absurd (subst (λ (z : Found). Holds temps before now z.sites []) (sym p.1) k)
@@ -296,12 +297,12 @@ module _ (temps : ℕ) (before now : State) (same : (c : ℕ) → temps ≤ c �
       }
 
   cell_meant : (a : Term) (w : ℕ) (t : Term) (whole : Bool) (f : Found) (cuts : List CutCells) → cell_match temps a w t whole ≡ Some f → ReadsFrom temps before t
-      → Holds temps before now f.sites cuts → IsMeant temps before now (read a w) t f cuts
+      → Holds temps before now f.sites cuts → IsMeant temps before now (read InMemory a w) t f cuts
   cell_meant a w t whole f cuts h r k =
       let p : ((w == term_width t) ≡ true)
       × ((if is_cell t then literal_match a t else open_if (not whole && shows_below a temps) (cut a t)) ≡ Some f) = picked _ _ _ h in
       elim (either (is_cell t) (literal_match a t) (open_if (not whole && shows_below a temps) (cut a t)) f p.1)
-      as (λ _. IsMeant temps before now (read a w) t f cuts) [
+      as (λ _. IsMeant temps before now (read InMemory a w) t f cuts) [
         | inl l ↦ at_number a w t f cuts (eqb-true w (term_width t) p.0) l r k
         | inr l ↦ at_cut a w t (not whole) f cuts (eqb-true w (term_width t) p.0) l k
       ]
@@ -347,11 +348,12 @@ module _ (temps : ℕ) (before now : State) (same : (c : ℕ) → temps ≤ c �
   matched_meant (word w) o t whole f cuts h r k = shape_meant temps before now (word w) t f cuts h k
   matched_meant (const w v) o t whole f cuts h r k = shape_meant temps before now (const w v) t f cuts h k
   matched_meant (reg id w) o t whole f cuts h r k = reg_meant id w t whole f cuts h r k
-  matched_meant (read a w) o t whole f cuts h r k =
-      elim (either (is_shape a) (cell_match temps a w t whole) (read_match (matched temps a) w t) f h) as (λ _. IsMeant temps before now (read a w) t f cuts) [
+  matched_meant (read InMemory a w) o t whole f cuts h r k =
+      elim (either (is_shape a) (cell_match temps a w t whole) (read_match (matched temps a) w t) f h) as (λ _. IsMeant temps before now (read InMemory a w) t f cuts) [
         | inl l ↦ cell_meant a w t whole f cuts l r k
         | inr l ↦ read_meant a w (matched_meant a o) t f cuts l r k
       ]
+  matched_meant (read InFile a w) o t whole f cuts h r k = absurd (cc)
   matched_meant (un op a) o t whole f cuts h r k = un_meant a op (matched_meant a o) t f cuts h r k
   matched_meant (bin op a b) o t whole f cuts h r k = bin_meant a b op (matched_meant a o.0) (matched_meant b o.1) o.2 o.3 t f cuts h r k
   matched_meant (slice (word w) hi lo) o t whole f cuts h r k = shape_meant temps before now (slice (word w) hi lo) t f cuts h k

@@ -3,6 +3,7 @@ use Rattle.std.proofs.Common.{◌≡◌, ℕ, ◌+◌, ◌≤◌, ◌==◌, ◌&
 use Rattle.std.proofs.lemmas.Bool.{and_parts, eq-eqb, eqb-true}
 use Rattle.rec_bits.specs.declared.operator.Op1.{Op1}
 use Rattle.rec_bits.specs.declared.operator.Op2.{Op2}
+use Rattle.net_model.specs.declared.hardware.Space.TheVariants.{Memory as InMemory, File as InFile}
 use Rattle.net_model.specs.Terms.{Term, word, reg, const, read, un, bin, slice, cat, zext, sext, select, term_width}
 use Rattle.form_model.specs.Trees.{is_number, is_cell}
 use Rattle.form_model.specs.Shapes.{is_shape, shape_setting, shows_below}
@@ -74,13 +75,13 @@ module _ (temps bits : ℕ) where
   bin_kind a b op iha ihb t whole f h = absurd (cc)
 
   read_kind : (a : Term) (w : ℕ) → MatchKinds a → (t : Term) (whole : Bool) (f : Found) → read_match (matched temps a) w t ≡ Some f → MatchKind t whole f
-  read_kind a w ih (read b v) whole f h =
+  read_kind a w ih (read InMemory b v) whole f h =
       let p : ((v == w) ≡ true) × (matched temps a b (is_number b) ≡ Some f) = picked _ _ _ h in
       parts (kind_sum b (is_number b) f (ih b (is_number b) f p.1))
   read_kind a w ih t whole f h = absurd (cc)
 
   number_kind : (a t : Term) (whole : Bool) (f : Found) → literal_match a t ≡ Some f → MatchKind t whole f
-  number_kind a (read b v) whole f h =
+  number_kind a (read InMemory b v) whole f h =
       let l : Literal a b f = literal a b f h in
       let q : sites_sum f.sites ≡ 0 = ap (λ (z : Found). sites_sum z.sites) (sym l.is) in
       parts (omega (arith, q))
@@ -125,11 +126,12 @@ module _ (temps bits : ℕ) where
   matched_kind (word w) o t whole f h = shape_kind (word w) t whole f h
   matched_kind (const w v) o t whole f h = shape_kind (const w v) t whole f h
   matched_kind (reg id w) o t whole f h = reg_kind id w t whole f h
-  matched_kind (read a w) o t whole f h =
+  matched_kind (read InMemory a w) o t whole f h =
       elim (pick (is_shape a) (cell_match temps a w t whole) (read_match (matched temps a) w t) f h) as (λ _. MatchKind t whole f) [
         | inl l ↦ cell_kind a w t whole f o.0 l
         | inr l ↦ read_kind a w (matched_kind a o.1) t whole f l
       ]
+  matched_kind (read InFile a w) o t whole f h = absurd (cc)
   matched_kind (un op a) o t whole f h = un_kind a op (matched_kind a o) t whole f h
   matched_kind (bin op a b) o t whole f h = bin_kind a b op (matched_kind a o.0) (matched_kind b o.1) t whole f h
   matched_kind (slice a hi lo) o t whole f h =

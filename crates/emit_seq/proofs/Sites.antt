@@ -3,6 +3,7 @@ use Rattle.std.proofs.Common.{◌≡◌, ℕ, ◌==◌, ◌||◌, ◌&&◌, ◌�
 use Rattle.std.proofs.lemmas.Bool.{true≢false, eqb-true}
 use Rattle.rec_bits.specs.declared.operator.Op1.{Op1}
 use Rattle.rec_bits.specs.declared.operator.Op2.{Op2}
+use Rattle.net_model.specs.declared.hardware.Space.TheVariants.{Memory as InMemory, File as InFile}
 use Rattle.net_model.specs.declared.states.State.{State}
 use Rattle.net_model.specs.Terms.{Term, word, reg, const, read, un, bin, slice, cat, zext, sext, select, term_width}
 use Rattle.form_model.specs.Trees.{is_number, is_cell}
@@ -120,20 +121,20 @@ module _ (temps : ℕ) (before : State) where
       }
   bin_taken a b op iha ihb t f h = absurd (cc)
 
-  read_taken : (a : Term) (w : ℕ) → Takes a → (t : Term) (f : Found) → read_match (matched temps a) w t ≡ Some f → IsTaken (read a w) t f
-  read_taken a w ih (read b v) f h =
+  read_taken : (a : Term) (w : ℕ) → Takes a → (t : Term) (f : Found) → read_match (matched temps a) w t ≡ Some f → IsTaken (read InMemory a w) t f
+  read_taken a w ih (read InMemory b v) f h =
       let p : ((v == w) ≡ true) × (matched temps a b (is_number b) ≡ Some f) = picked _ _ _ h in
       let m : IsTaken a b f = ih b (is_number b) f p.1 in
       record { sites = λ k. m.sites k.1; given = m.given }
   read_taken a w ih t f h = absurd (cc)
 
-  number_taken : (a : Term) (w : ℕ) (t : Term) (f : Found) → is_shape a ≡ true → literal_match a t ≡ Some f → IsTaken (read a w) t f
-  number_taken a w (read b v) f e h =
+  number_taken : (a : Term) (w : ℕ) (t : Term) (f : Found) → is_shape a ≡ true → literal_match a t ≡ Some f → IsTaken (read InMemory a w) t f
+  number_taken a w (read InMemory b v) f e h =
       let m : IsTaken a b f = shape_taken a b f (λ i r. shape_unread a i r e) h in
       record { sites = λ k. m.sites k.1; given = m.given }
   number_taken a w t f e h = absurd (cc)
 
-  cut_taken : (a : Term) (w : ℕ) (t : Term) (b : Bool) (f : Found) → is_shape a ≡ true → open_if b (cut a t) ≡ Some f → IsTaken (read a w) t f
+  cut_taken : (a : Term) (w : ℕ) (t : Term) (b : Bool) (f : Found) → is_shape a ≡ true → open_if b (cut a t) ≡ Some f → IsTaken (read InMemory a w) t f
   cut_taken a w t b f e h =
       let p : (b ≡ true) × (record { setting = 0; sites = cut a t ∷ [] } ≡ f) = opened _ _ _ h in
       record {
@@ -141,12 +142,12 @@ module _ (temps : ℕ) (before : State) where
         given = λ i r k. absurd (true≢false (sym k ∙ shape_unread a i r e));
       }
 
-  cell_taken : (a : Term) (w : ℕ) (t : Term) (whole : Bool) (f : Found) → is_shape a ≡ true → cell_match temps a w t whole ≡ Some f → IsTaken (read a w) t f
+  cell_taken : (a : Term) (w : ℕ) (t : Term) (whole : Bool) (f : Found) → is_shape a ≡ true → cell_match temps a w t whole ≡ Some f → IsTaken (read InMemory a w) t f
   cell_taken a w t whole f e h =
       let p : ((w == term_width t) ≡ true)
       × ((if is_cell t then literal_match a t else open_if (not whole && shows_below a temps) (cut a t)) ≡ Some f) = picked _ _ _ h in
       elim (chosen (is_cell t) (literal_match a t) (open_if (not whole && shows_below a temps) (cut a t)) f p.1)
-      as (λ _. IsTaken (read a w) t f) [
+      as (λ _. IsTaken (read InMemory a w) t f) [
         | inl l ↦ number_taken a w t f e l.1
         | inr l ↦ cut_taken a w t _ f e l
       ]
@@ -176,11 +177,12 @@ module _ (temps : ℕ) (before : State) where
   matched_taken (word w) t whole f h = shape_taken (word w) t f (λ i r. refl) h
   matched_taken (const w v) t whole f h = shape_taken (const w v) t f (λ i r. refl) h
   matched_taken (reg id w) t whole f h = reg_taken id w t whole f h
-  matched_taken (read a w) t whole f h =
-      elim (chosen (is_shape a) (cell_match temps a w t whole) (read_match (matched temps a) w t) f h) as (λ _. IsTaken (read a w) t f) [
+  matched_taken (read InMemory a w) t whole f h =
+      elim (chosen (is_shape a) (cell_match temps a w t whole) (read_match (matched temps a) w t) f h) as (λ _. IsTaken (read InMemory a w) t f) [
         | inl l ↦ cell_taken a w t whole f l.0 l.1
         | inr l ↦ read_taken a w (matched_taken a) t f l
       ]
+  matched_taken (read InFile a w) t whole f h = absurd (cc)
   matched_taken (un op a) t whole f h = un_taken a op (matched_taken a) t f h
   matched_taken (bin op a b) t whole f h = bin_taken a b op (matched_taken a) (matched_taken b) t f h
   matched_taken (slice a hi lo) t whole f h =

@@ -5,6 +5,7 @@ use Rattle.std.specs.Int.{bit_at}
 use Rattle.std.proofs.lemmas.Nat.Bits.{bit_at-zero, bit_at_or, bit_at_above, bit_at_mask_inside, bit_at_ones}
 use Rattle.std.proofs.lemmas.Bool.{ltb-true, cases_lt}
 use Rattle.rec_bits.specs.Operators.{sext_of}
+use Rattle.net_model.specs.declared.hardware.Space.TheVariants.{Memory as InMemory, File as InFile}
 use Rattle.net_model.specs.Terms.{Term, word, reg, const, read, un, bin, slice, cat, zext, sext, select, term_width}
 use Rattle.net_model.specs.Fields.{fields, bits_between}
 use Rattle.form_model.specs.Trees.{is_number, is_cell}
@@ -139,12 +140,12 @@ module _ (temps : ℕ) where
   bin_in a b op iha ihb t f cuts h n = absurd (cc)
 
   read_in : (a : Term) (w : ℕ) → IsKept a → (t : Term) (f : Found) (cuts : List CutCells) → read_match (matched temps a) w t ≡ Some f → Named f.sites cuts → IsIn (fields a) f cuts
-  read_in a w ih (read b v) f cuts h n =
+  read_in a w ih (read InMemory b v) f cuts h n =
       let p : ((v == w) ≡ true) × (matched temps a b (is_number b) ≡ Some f) = picked _ _ _ h in ih b (is_number b) f cuts p.1 n
   read_in a w ih t f cuts h n = absurd (cc)
 
   number_in : (a t : Term) (f : Found) (cuts : List CutCells) → literal_match a t ≡ Some f → Named f.sites cuts → IsIn (fields a) f cuts
-  number_in a (read b v) f cuts h n = shape_in a b f cuts h n
+  number_in a (read InMemory b v) f cuts h n = shape_in a b f cuts h n
   number_in a t f cuts h n = absurd (cc)
 
   cut_in : (a t : Term) (b : Bool) (f : Found) (cuts : List CutCells) → open_if b (cut a t) ≡ Some f → Named f.sites cuts → IsIn (fields a) f cuts
@@ -189,11 +190,12 @@ module _ (temps : ℕ) where
   matched_in (word w) t whole f cuts h n = shape_in (word w) t f cuts h n
   matched_in (const w v) t whole f cuts h n = shape_in (const w v) t f cuts h n
   matched_in (reg id w) t whole f cuts h n = reg_in id w t whole f cuts h n
-  matched_in (read a w) t whole f cuts h n =
+  matched_in (read InMemory a w) t whole f cuts h n =
       elim (either (is_shape a) (cell_match temps a w t whole) (read_match (matched temps a) w t) f h) as (λ _. IsIn (fields a) f cuts) [
         | inl l ↦ cell_in a w t whole f cuts l n
         | inr l ↦ read_in a w (matched_in a) t f cuts l n
       ]
+  matched_in (read InFile a w) t whole f cuts h n = absurd (cc)
   matched_in (un op a) t whole f cuts h n = un_in a op (matched_in a) t f cuts h n
   matched_in (bin op a b) t whole f cuts h n = bin_in a b op (matched_in a) (matched_in b) t f cuts h n
   matched_in (slice (word w) hi lo) t whole f cuts h n = shape_in (slice (word w) hi lo) t f cuts h n

@@ -150,7 +150,7 @@ module _ (stock : Stock) (patterns : List Pattern) (before : State) where
             let own : List Step = own_steps stock p cells.first (into id) cells.operand.tree cells.operand.whole in
             let later : List Step = operand_steps stock ps (remove left i) in
             let d : IsDone p cells.first (into id) cells.operand.tree cells.operand.whole s = operand_done i p ps good left c f z s k y in
-            let t : State = record { regs = slice_set d.mid.regs id v; cells = d.mid.cells } in
+            let t : State = record { regs = slice_set d.mid.regs id v; cells = d.mid.cells; file = d.mid.file } in
             let long : length t.regs ≡ length s.regs = length-set d.mid.regs id v ∙ d.regs in
             let kt : IsKept low before t = record {
               regs = long ∙ k.regs;
@@ -209,10 +209,10 @@ module _ (stock : Stock) (patterns : List Pattern) (before : State) where
         let kt : IsKept low before t = kept_local low before cells.first (cells.first + cut_count p) s t (omega (arith, f.1, z)) k l in
         let d : IsDone p cells.first temporary cells.tree false t =
         good.works cells.first temporary cells.tree false c f.0 tt (omega (arith, f.1, z)) (omega (arith, f.1, z)) t kt s k (λ e lo hi. refl) in
-        let u : State = record { regs = d.mid.regs; cells = slice_set d.mid.cells cells.cell v } in
+        let u : State = record { regs = d.mid.regs; cells = slice_set d.mid.cells cells.cell v; file = d.mid.file } in
         let all : steps_effect m (inside ++ own) s ≡ u =
-        three (steps_effect m (inside ++ own) s) (steps_effect m own t) (record { regs = d.mid.regs; cells = slice_set d.mid.cells (cells.first + cut_count p) v }) u
-        (effect-steps m inside own s) d.ends (ap (λ n. record { regs = d.mid.regs; cells = slice_set d.mid.cells n v }) (sym {a = cells.cell} {b = cells.first + cut_count p} z)) in
+        three (steps_effect m (inside ++ own) s) (steps_effect m own t) (record { regs = d.mid.regs; cells = slice_set d.mid.cells (cells.first + cut_count p) v; file = d.mid.file }) u
+        (effect-steps m inside own s) d.ends (ap (λ n. record { regs = d.mid.regs; cells = slice_set d.mid.cells n v; file = d.mid.file }) (sym {a = cells.cell} {b = cells.first + cut_count p} z)) in
         let long : length u.cells ≡ length s.cells = length-set d.mid.cells cells.cell v ∙ ap length d.cells ∙ l.cells in
         let apart : (e : ℕ) → (e < cells.first) ⊎ (cells.cell + 1 ≤ e) → (e ≢ cells.cell) × ((e < cells.first) ⊎ (cells.first + cut_count p ≤ e)) = λ e h. outside cells.first (cut_count p) cells.cell e z h in
         moved (steps_effect m (inside ++ own) s) u all (

@@ -1,6 +1,7 @@
 -- How many cells the cuts of a cover can want: a cut is a node of a word's width below the root of
 -- its tree.
 use Rattle.std.specs.Prelude.{ℕ, ◌+◌, ◌≡◌, ◌==◌, ◌&&◌, not, Bool, true, false, if◌then◌else◌, List, Option, Some, None, slice_get}
+use Rattle.net_model.specs.declared.hardware.Space.TheVariants.{Memory as InMemory, File as InFile}
 use Rattle.net_model.specs.Terms.{Term, word, reg, const, read, un, bin, slice, cat, zext, sext, select, term_width}
 use Rattle.form_model.specs.Trees.{is_number, is_cell}
 use Rattle.form_model.specs.Rules.{Rule, Destination, into, cell, stored, temporary, tested}
@@ -17,7 +18,7 @@ abbrev pub cuttable_below : ℕ → Term → ℕ
 cuttable_below bits (word w) = 0
 cuttable_below bits (reg r w) = 0
 cuttable_below bits (const w v) = 0
-cuttable_below bits (read a w) = cuttable_below bits a + one_if (not (is_number a) && is_cuttable bits a)
+cuttable_below bits (read space a w) = cuttable_below bits a + one_if (not (is_number a) && is_cuttable bits a)
 cuttable_below bits (un o a) = cuttable_below bits a + one_if (is_cuttable bits a)
 cuttable_below bits (bin o a b) =
     (cuttable_below bits a + one_if (is_cuttable bits a)) + (cuttable_below bits b + one_if (is_cuttable bits b))
@@ -43,13 +44,14 @@ cuttable_count bits (stored address) tree whole = cuttable_nodes bits address fa
 cuttable_count bits temporary tree whole = cuttable_nodes bits tree false
 cuttable_count bits tested tree whole = cuttable_nodes bits tree true
 
--- ---- forms whose reads are of words of so many bits, as those of one memory are
+-- ---- forms whose reads of the memory are of words of so many bits, as those of one memory are
 
 abbrev pub ReadsWords : ℕ → Term → Type 0
 ReadsWords bits (word w) = Unit {0}
 ReadsWords bits (reg r w) = Unit {0}
 ReadsWords bits (const w v) = Unit {0}
-ReadsWords bits (read a w) = (w ≡ bits) × ReadsWords bits a
+ReadsWords bits (read InMemory a w) = (w ≡ bits) × ReadsWords bits a
+ReadsWords bits (read InFile a w) = ReadsWords bits a
 ReadsWords bits (un o a) = ReadsWords bits a
 ReadsWords bits (bin o a b) = ReadsWords bits a × ReadsWords bits b
 ReadsWords bits (slice a hi lo) = ReadsWords bits a

@@ -16,7 +16,7 @@ abbrev pub uses : Term → ℕ → Bool
 uses (word w) k = true
 uses (reg r w) k = false
 uses (const w v) k = false
-uses (read a w) k = uses a k
+uses (read space a w) k = uses a k
 uses (un o a) k = uses a k
 uses (bin o a b) k = uses a k || uses b k
 uses (slice (word w) hi lo) k = nat_le lo k && nat_le k hi
@@ -35,7 +35,7 @@ abbrev pub IsOnce : Term → Type 0
 IsOnce (word w) = Unit {0}
 IsOnce (reg r w) = Unit {0}
 IsOnce (const w v) = Unit {0}
-IsOnce (read a w) = IsOnce a
+IsOnce (read space a w) = IsOnce a
 IsOnce (un o a) = IsOnce a
 IsOnce (bin o a b) = IsOnce a × IsOnce b × BitsApart a b × BitsApart b a
 IsOnce (slice a hi lo) = IsOnce a

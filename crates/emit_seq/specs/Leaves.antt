@@ -1,5 +1,6 @@
 -- What the steps of a cover leave.
 use Rattle.std.specs.Prelude.{ℕ, ◌≤◌, ◌<◌, ◌≡◌, List, length, slice_index, slice_set}
+use Rattle.net_model.specs.declared.hardware.Space.TheVariants.{Memory as InMemory, File as InFile}
 use Rattle.net_model.specs.declared.states.State.{State}
 use Rattle.net_model.specs.Terms.{Term, word, reg, const, read, un, bin, slice, cat, zext, sext, select}
 use Rattle.net_model.specs.Meaning.{mean}
@@ -10,12 +11,13 @@ use Rattle.form_model.specs.Effects.{operation_of, steps_effect}
 use Rattle.form_model.specs.Steps.{rule_at, cover_steps, branch_setting}
 use Rattle.form_model.specs.Rules.{Destination, into, cell, stored, temporary, tested}
 
--- no read of the tree has an address below this one
+-- no read of the tree has an address below this one, and none is of the register file
 abbrev pub ReadsFrom : ℕ → State → Term → Type 0
 ReadsFrom low s (word w) = Unit {0}
 ReadsFrom low s (reg r w) = Unit {0}
 ReadsFrom low s (const w v) = Unit {0}
-ReadsFrom low s (read a w) = (low ≤ mean a s 0) × ReadsFrom low s a
+ReadsFrom low s (read InMemory a w) = (low ≤ mean a s 0) × ReadsFrom low s a
+ReadsFrom low s (read InFile a w) = ⊥
 ReadsFrom low s (un o a) = ReadsFrom low s a
 ReadsFrom low s (bin o a b) = ReadsFrom low s a × ReadsFrom low s b
 ReadsFrom low s (slice a hi lo) = ReadsFrom low s a
@@ -35,10 +37,10 @@ address_of before destination own = 0
 
 -- the state with a value put where it goes
 abbrev pub placed : State → State → Destination → ℕ → ℕ → State
-placed before now (into id) own v = record { regs = slice_set now.regs id v; cells = now.cells }
+placed before now (into id) own v = record { regs = slice_set now.regs id v; cells = now.cells; file = now.file }
 placed before now tested own v = now
 placed before now destination own v =
-    record { regs = now.regs; cells = slice_set now.cells (address_of before destination own) v }
+    record { regs = now.regs; cells = slice_set now.cells (address_of before destination own) v; file = now.file }
 
 -- the address tree of a store reads nothing below, too
 abbrev pub DestinationReads : ℕ → State → Destination → Type 0

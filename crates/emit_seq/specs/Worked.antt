@@ -1,6 +1,7 @@
 -- Worked instances: forms of two netlists, covers of trees by them, and their steps.
 use Rattle.std.specs.Prelude.{ℕ, ◌≡◌, true, List, [], ◌∷◌, Some, None, refl}
 use Rattle.rec_bits.specs.declared.operator.Op2.TheVariants.{Add, Sub, Eq}
+use Rattle.net_model.specs.declared.hardware.Space.TheVariants.{Memory as InMemory}
 use Rattle.net_model.specs.Terms.{Term, word, reg, const, read, bin, slice, zext, select, write, write_at}
 use Rattle.net_model.specs.Patterns.{Pattern}
 use Rattle.net_model.specs.declared.states.State.{State}
@@ -33,7 +34,7 @@ abbrev acc : Term
 acc = reg 1 16
 
 abbrev mem : Term
-mem = read field 16
+mem = read InMemory field 16
 
 abbrev branch : Term → Rule
 branch value = record {
@@ -58,7 +59,7 @@ acc_stock temps = record { rules = acc_rules; temps = temps }
 
 -- a variable's cell
 abbrev pub at : ℕ → Term
-at a = read (const 8 a) 16
+at a = read InMemory (const 8 a) 16
 
 abbrev with_one : ℕ → Plan → Plan
 with_one k p = use_form k (operand_then 0 p no_operands) no_cuts
@@ -182,16 +183,16 @@ two_patterns =
     ∷ record { storage = 2; move = write mem } ∷ record { storage = 3; move = write_at field a_reg } ∷ []
 
 abbrev two_start : State
-two_start = record { regs = 0 ∷ 0 ∷ 0 ∷ 0 ∷ []; cells = 5 ∷ 7 ∷ 0 ∷ [] }
+two_start = record { regs = 0 ∷ 0 ∷ 0 ∷ 0 ∷ []; cells = 5 ∷ 7 ∷ 0 ∷ []; file = [] }
 
 two_right : steps_effect (operation_of two_patterns) (cover_steps two_stock (cell 2) (bin Add (at 0) (at 1))
     (with_one 7 (use_form 4 (operand_then 0 (with_one 3 (leaf 6)) (operand_then 0 (leaf 6) no_operands)) no_cuts)))
     two_start
-    ≡ record { regs = 0 ∷ 12 ∷ 7 ∷ 0 ∷ []; cells = 5 ∷ 7 ∷ 12 ∷ [] }
+    ≡ record { regs = 0 ∷ 12 ∷ 7 ∷ 0 ∷ []; cells = 5 ∷ 7 ∷ 12 ∷ []; file = [] }
 two_right = refl
 
 two_wrong : steps_effect (operation_of two_patterns) (cover_steps two_stock (cell 2) (bin Add (at 0) (at 1))
     (with_one 7 (use_form 4 (operand_then 1 (leaf 6) (operand_then 0 (with_one 3 (leaf 6)) no_operands)) no_cuts)))
     two_start
-    ≡ record { regs = 0 ∷ 10 ∷ 5 ∷ 0 ∷ []; cells = 5 ∷ 7 ∷ 10 ∷ [] }
+    ≡ record { regs = 0 ∷ 10 ∷ 5 ∷ 0 ∷ []; cells = 5 ∷ 7 ∷ 10 ∷ []; file = [] }
 two_wrong = refl

@@ -16,6 +16,7 @@ fn net_reason(fault: NetFault) -> &'static str {
         NetFault::WideSelect(_) => "a selector that depends on a state is wider than one bit",
         NetFault::PatternLarge(_) => "an expression that it may have is too large",
         NetFault::TooMany(_) => "it may have too many expressions",
+        NetFault::FileAddr(_) => "an address of it depends on more than the instruction word",
         NetFault::Role(_) | NetFault::AlwaysClash | NetFault::Limit { .. } => "",
     }
 }

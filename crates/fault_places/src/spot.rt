@@ -32,7 +32,8 @@ fn net_offset(fault: NetFault) -> Option<u64> {
         | NetFault::ControlOp(at)
         | NetFault::WideSelect(at)
         | NetFault::PatternLarge(at)
-        | NetFault::TooMany(at) => Some(at),
+        | NetFault::TooMany(at)
+        | NetFault::FileAddr(at) => Some(at),
         NetFault::Role(_) | NetFault::AlwaysClash | NetFault::Limit { .. } => None,
     }
 }

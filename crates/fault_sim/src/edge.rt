@@ -1,10 +1,11 @@
 // A clock edge, from what is seen of all nets: what the storages become.
 
-ghost use Rattle.std.specs.Prelude.{◌≡◌, ◌<◌, ◌^◌, length, slice_index, slice_set, if◌then◌else◌};
-ghost use Rattle.net_model.specs.Clock.{is_enabled, next_cells, next_reg, next_regs};
+ghost use Rattle.std.specs.Prelude.{◌≡◌, ◌<◌, ◌^◌, length, slice_index, slice_set};
+ghost use Rattle.net_model.specs.Nets.{storage_array};
+ghost use Rattle.net_model.specs.Clock.{is_enabled, next_cells, next_reg, next_regs, written};
 
 use cycle_sim::value_at;
-use net_model::Storage;
+use net_model::{Space, Storage};
 use rec_bits::Items;
 
 fn enables(values: &[u64], when: Option<u32>) -> bool
@@ -48,32 +49,38 @@ fn put(cells: &mut Items<u64>, address: u64, value: u64)
     }
 }
 
-// Clocks a memory's cells, by the nets of its address, its value and its enable.
-fn write(values: &[u64], when: Option<u32>, addr: u32, value: u32, cells: &mut Items<u64>)
+// Clocks the cells of a storage, if it has any.
+fn write(values: &[u64], storage: &Storage, cells: &mut Items<u64>)
     requires { length cells.old < 2 ^ 64 }
-    ensures { cells.new ≡ (if is_enabled (slice_index values.now) when
-        then slice_set cells.old (slice_index values.now addr) (slice_index values.now value)
-        else cells.old) }
+    ensures { cells.new ≡ written (slice_index values.now) (storage_array storage.now) cells.old }
 {
-    if enables(values, when) {
-        put(cells, value_at(values, addr), value_at(values, value));
+    match storage {
+        Storage::Register { .. } => {}
+        Storage::Memory(array) | Storage::File(array) => {
+            if enables(values, array.when) {
+                put(
+                    cells,
+                    value_at(values, array.addr),
+                    value_at(values, array.value),
+                );
+            }
+        }
     }
 }
 
-/// Clocks the data memory.
-pub(crate) fn clock_cells(values: &[u64], storages: &[Storage], cells: &mut Items<u64>)
+/// Clocks the cells of the data memory, or of the register file.
+pub(crate) fn clock_cells(
+    values: &[u64],
+    space: Space,
+    storages: &[Storage],
+    cells: &mut Items<u64>,
+)
     requires { length cells.old < 2 ^ 64 }
-    ensures { cells.new ≡ next_cells (slice_index values.now) storages.now cells.old }
+    ensures { cells.new ≡ next_cells (slice_index values.now) space storages.now cells.old }
 {
     for storage in storages {
-        if let Storage::Memory {
-            value,
-            addr,
-            when,
-            ..
-        } = storage
-        {
-            write(values, *when, *addr, *value, cells);
+        if storage.is_in(space) {
+            write(values, storage, cells);
             return;
         }
     }

@@ -11,7 +11,7 @@ use crate::Fault;
 use crate::edge::{clock_cells, clock_registers};
 use crate::values::evaluate;
 use cycle_sim::{Clocked, find_clash, number_at, value_at, zeros};
-use net_model::{Checked, Netlist, State};
+use net_model::{Checked, Netlist, Space, State};
 use rec_bits::{Items, NoMemory};
 use std::alloc::Global;
 use std::marker::Model;
@@ -91,7 +91,8 @@ impl<'a> FaultSim<'a> {
         }
         let storages = netlist.storages.as_slice();
         clock_registers(values, storages, &mut self.state.regs);
-        clock_cells(values, storages, &mut self.state.cells);
+        clock_cells(values, Space::Memory, storages, &mut self.state.cells);
+        clock_cells(values, Space::File, storages, &mut self.state.file);
         Clocked::Stepped
     }
 
@@ -104,6 +105,7 @@ impl<'a> FaultSim<'a> {
         self.fault = fault;
         copy(start.regs.as_slice(), &mut self.state.regs);
         copy(start.cells.as_slice(), &mut self.state.cells);
+        copy(start.file.as_slice(), &mut self.state.file);
     }
 
     /// The netlist, without the fault.

@@ -70,7 +70,7 @@ setting_of_shape bits (sext a w) i f v b e = setting_of_sext bits a w i f v b e
 setting_of_shape bits (word w) i f v b e = (let g = setting_of_field bits (word w) i f v b e in (g.fits, g.is))
 setting_of_shape bits (slice a hi lo) i f v b e = (let g = setting_of_field bits (slice a hi lo) i f v b e in (g.fits, g.is))
 setting_of_shape bits (reg r w) i f v b e = absurd (true≢false (sym i))
-setting_of_shape bits (read a w) i f v b e = absurd (true≢false (sym i))
+setting_of_shape bits (read space a w) i f v b e = absurd (true≢false (sym i))
 setting_of_shape bits (un o a) i f v b e = absurd (true≢false (sym i))
 setting_of_shape bits (bin o a c) i f v b e = absurd (true≢false (sym i))
 setting_of_shape bits (cat a c) i f v b e = absurd (true≢false (sym i))
@@ -97,7 +97,7 @@ shape_has_setting bits (sext a w) p f i v lt e = sext_has_setting bits a w p f i
 shape_has_setting bits (word w) p f i v lt e = field_has_setting bits (word w) p f v (subst (λ n. n < 2 ^ w) e (field_small bits (word w) p f i lt))
 shape_has_setting bits (slice a hi lo) p f i v lt e = field_has_setting bits (slice a hi lo) p f v (subst (λ n. n < 2 ^ (hi + 1 - lo)) e (field_small bits (slice a hi lo) p f i lt))
 shape_has_setting bits (reg r w) p f i v lt e = absurd (true≢false (sym p))
-shape_has_setting bits (read a w) p f i v lt e = absurd (true≢false (sym p))
+shape_has_setting bits (read space a w) p f i v lt e = absurd (true≢false (sym p))
 shape_has_setting bits (un o a) p f i v lt e = absurd (true≢false (sym p))
 shape_has_setting bits (bin o a c) p f i v lt e = absurd (true≢false (sym p))
 shape_has_setting bits (cat a c) p f i v lt e = absurd (true≢false (sym p))
@@ -174,7 +174,7 @@ reach_is bits (sext a w) p f = sext_reach bits a w p f
 reach_is bits (word w) p f = field_reach bits (word w) p f
 reach_is bits (slice a hi lo) p f = field_reach bits (slice a hi lo) p f
 reach_is bits (reg r w) p f = absurd (true≢false (sym p))
-reach_is bits (read a w) p f = absurd (true≢false (sym p))
+reach_is bits (read space a w) p f = absurd (true≢false (sym p))
 reach_is bits (un o a) p f = absurd (true≢false (sym p))
 reach_is bits (bin o a c) p f = absurd (true≢false (sym p))
 reach_is bits (cat a c) p f = absurd (true≢false (sym p))

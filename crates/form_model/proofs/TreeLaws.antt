@@ -3,6 +3,7 @@ use Rattle.std.proofs.Common.{◌≡◌, ℕ, ◌||◌, Bool, true, false, true�
 use Rattle.std.specs.Prelude.{bit_or}
 use Rattle.std.proofs.lemmas.Bool.{and_from}
 use Rattle.rec_bits.proofs.Booleans.{both}
+use Rattle.net_model.specs.declared.hardware.Space.TheVariants.{Memory as InMemory, File as InFile}
 use Rattle.net_model.specs.Terms.{Term, word, reg, const, read, un, bin, slice, cat, zext, sext, select}
 use Rattle.net_model.specs.Fields.{fields}
 use Rattle.net_model.specs.Occurs.{occurs}
@@ -28,7 +29,8 @@ no_bits a b p q = rw (p, q) refl
 
 no_register : (r : ℕ) (t : Term) → is_tree t ≡ true → occurs r t ≡ false
 no_register r (const w v) h = refl
-no_register r (read a w) h = no_register r a h
+no_register r (read InMemory a w) h = no_register r a h
+no_register r (read InFile a w) h = absurd (true≢false (sym h))
 no_register r (un o a) h = no_register r a h
 no_register r (bin o a b) h =
     (let p = both (is_tree a) (is_tree b) h in neither (occurs r a) (occurs r b) (no_register r a p.0) (no_register r b p.1))
@@ -42,11 +44,13 @@ no_register r (select c a b) h = absurd (true≢false (sym h))
 
 no_bit : (t : Term) → is_tree t ≡ true → fields t ≡ 0
 no_bit (const w v) h = refl
-no_bit (read a w) h = no_bit a h
+no_bit (read InMemory a w) h = no_bit a h
+no_bit (read InFile a w) h = absurd (true≢false (sym h))
 no_bit (un o a) h = no_bit a h
 no_bit (bin o a b) h = (let p = both (is_tree a) (is_tree b) h in no_bits (fields a) (fields b) (no_bit a p.0) (no_bit b p.1))
 no_bit (slice (const w v) hi lo) h = refl
-no_bit (slice (read a w) hi lo) h = no_bit (read a w) h
+no_bit (slice (read InMemory a w) hi lo) h = no_bit (read InMemory a w) h
+no_bit (slice (read InFile a w) hi lo) h = absurd (true≢false (sym h))
 no_bit (slice (un o a) hi lo) h = no_bit (un o a) h
 no_bit (slice (bin o a b) hi lo) h = no_bit (bin o a b) h
 no_bit (slice (slice a i l) hi lo) h = no_bit (slice a i l) h

@@ -2,6 +2,7 @@
 -- first tree is chosen, though its form stands behind the other's.
 use Rattle.std.proofs.Common.{◌≡◌, ◌⊎◌, inl, inr, ℕ, zero, suc, ◌+◌, ◌<◌, arith, true, List, [], ◌∷◌, Some, None, slice_get, refl, ap, sym, subst}
 use Rattle.rec_bits.specs.declared.operator.Op2.TheVariants.{Sub, Eq as Equal}
+use Rattle.net_model.specs.declared.hardware.Space.TheVariants.{Memory as InMemory}
 use Rattle.net_model.specs.Terms.{Term, word, const, read, bin, slice}
 use Rattle.form_model.specs.Rules.{Rule, absolute, branches, tested}
 use Rattle.form_model.specs.Matches.{Found, taken}
@@ -19,7 +20,7 @@ abbrev no_difference : Term → Term
 no_difference a = bin Equal (bin Sub a (const 16 5)) (const 16 0)
 
 abbrev trees : List Term
-trees = equal (read (const 8 3) 16) ∷ no_difference (read (const 8 3) 16) ∷ []
+trees = equal (read InMemory (const 8 3) 16) ∷ no_difference (read InMemory (const 8 3) 16) ∷ []
 
 -- a branch on each of the two, whose operand is a cell; the difference's comes first
 abbrev branch_on : Term → Rule
@@ -33,7 +34,7 @@ branch_on condition = record {
 }
 
 abbrev stock : Stock
-stock = record { rules = branch_on (no_difference (read low_byte 16)) ∷ branch_on (equal (read low_byte 16)) ∷ []; temps = 1 }
+stock = record { rules = branch_on (no_difference (read InMemory low_byte 16)) ∷ branch_on (equal (read InMemory low_byte 16)) ∷ []; temps = 1 }
 
 abbrev of_first : Choice
 of_first = record { which = 0; plan = use_form 1 no_operands no_cuts }
@@ -43,16 +44,16 @@ of_second = record { which = 1; plan = use_form 0 no_operands no_cuts }
 
 first_covers : Covers stock tested trees of_first
 first_covers = record {
-  tree = equal (read (const 8 3) 16);
+  tree = equal (read InMemory (const 8 3) 16);
   used = refl;
-  orderly = (branch_on (equal (read low_byte 16)), refl, record { setting = 3; sites = [] }, refl, refl, refl);
+  orderly = (branch_on (equal (read InMemory low_byte 16)), refl, record { setting = 3; sites = [] }, refl, refl, refl);
 }
 
 second_covers : Covers stock tested trees of_second
 second_covers = record {
-  tree = no_difference (read (const 8 3) 16);
+  tree = no_difference (read InMemory (const 8 3) 16);
   used = refl;
-  orderly = (branch_on (no_difference (read low_byte 16)), refl, record { setting = 3; sites = [] }, refl, refl, refl);
+  orderly = (branch_on (no_difference (read InMemory low_byte 16)), refl, record { setting = 3; sites = [] }, refl, refl, refl);
 }
 
 same_cost : cost of_first.plan ≡ cost of_second.plan
@@ -68,14 +69,14 @@ no_more_cuts left no_cuts e h = refl
 no_more_cuts left (cut_then p cs) e h = (let more : left ≡ h.0 ∷ h.1 = h.2 in cc)
 
 -- nothing else covers the first tree
-only_first : (plan : Plan) → IsOrderly stock tested (equal (read (const 8 3) 16)) true plan → plan ≡ of_first.plan
+only_first : (plan : Plan) → IsOrderly stock tested (equal (read InMemory (const 8 3) 16)) true plan → plan ≡ of_first.plan
 only_first (use_form zero ps cs) h =
-    let rule : branch_on (no_difference (read low_byte 16)) ≡ h.0 = (let at : Some (branch_on (no_difference (read low_byte 16))) ≡ Some h.0 = h.1 in cc) in
-    let none : None ≡ Some h.2 = subst (λ r. taken 1 r tested (equal (read (const 8 3) 16)) true ≡ Some h.2) (sym rule) h.3 in
+    let rule : branch_on (no_difference (read InMemory low_byte 16)) ≡ h.0 = (let at : Some (branch_on (no_difference (read InMemory low_byte 16))) ≡ Some h.0 = h.1 in cc) in
+    let none : None ≡ Some h.2 = subst (λ r. taken 1 r tested (equal (read InMemory (const 8 3) 16)) true ≡ Some h.2) (sym rule) h.3 in
     cc
 only_first (use_form (suc zero) ps cs) h =
-    let rule : branch_on (equal (read low_byte 16)) ≡ h.0 = (let at : Some (branch_on (equal (read low_byte 16))) ≡ Some h.0 = h.1 in cc) in
-    let found : record { setting = 3; sites = [] } ≡ h.2 = (let took : Some (record { setting = 3; sites = [] }) ≡ Some h.2 = subst (λ r. taken 1 r tested (equal (read (const 8 3) 16)) true ≡ Some h.2) (sym rule) h.3 in cc) in
+    let rule : branch_on (equal (read InMemory low_byte 16)) ≡ h.0 = (let at : Some (branch_on (equal (read InMemory low_byte 16))) ≡ Some h.0 = h.1 in cc) in
+    let found : record { setting = 3; sites = [] } ≡ h.2 = (let took : Some (record { setting = 3; sites = [] }) ≡ Some h.2 = subst (λ r. taken 1 r tested (equal (read InMemory (const 8 3) 16)) true ≡ Some h.2) (sym rule) h.3 in cc) in
     let operands = no_more_operands _ ps (ap (λ (f : Found). operands_of f.sites) (sym found)) h.4 in
     let cuts = no_more_cuts _ cs (ap (λ (f : Found). cuts_of f.sites) (sym found)) h.5 in
     cc
@@ -90,7 +91,7 @@ least (suc n) m = inl (omega arith)
 before : (which : ℕ) (plan : Plan) (tree : Term) → slice_get trees which ≡ Some tree → IsOrderly stock tested tree true plan
     → (1 < cost plan) ⊎ ((1 ≡ cost plan) × ((of_first ≡ record { which = which; plan = plan }) ⊎ ChoiceBefore of_first (record { which = which; plan = plan })))
 before zero plan tree used h =
-    let is : equal (read (const 8 3) 16) ≡ tree = (let at : Some (equal (read (const 8 3) 16)) ≡ Some tree = used in cc) in
+    let is : equal (read InMemory (const 8 3) 16) ≡ tree = (let at : Some (equal (read InMemory (const 8 3) 16)) ≡ Some tree = used in cc) in
     let only = only_first plan (subst (λ t. IsOrderly stock tested t true plan) (sym is) h) in
     inr (ap cost (sym only), inl (ap (λ (p : Plan). record { which = 0; plan = p }) (sym only)))
 before (suc k) (use_form f ps cs) tree used h = by (least (operands_cost ps) (cuts_cost cs))

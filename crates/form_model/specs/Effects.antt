@@ -2,6 +2,7 @@
 -- with the values of its field bits, and the meaning of its expressions is read under those bits,
 -- since they have no others.
 use Rattle.std.specs.Prelude.{ℕ, Bool, true, false, ◌==◌, ◌||◌, ◌&&◌, not, if◌then◌else◌, List, [], ◌∷◌, Option, Some, None, slice_get, slice_set}
+use Rattle.net_model.specs.declared.hardware.Space.TheVariants.{Memory as InMemory, File as InFile}
 use Rattle.net_model.specs.declared.states.State.{State}
 use Rattle.net_model.specs.Terms.{Term, word, reg, const, read, un, bin, slice, cat, zext, sext, select, Move, keep, write, write_at}
 use Rattle.net_model.specs.Symbolic.{no_state}
@@ -30,9 +31,9 @@ operation_of patterns step = operation_or_none (slice_get patterns step.pattern)
 abbrev pub apply_move : ℕ → Move → ℕ → State → State → State
 apply_move storage keep setting old new = new
 apply_move storage (write e) setting old new =
-    record { regs = slice_set new.regs storage (mean e old setting); cells = new.cells }
+    record { regs = slice_set new.regs storage (mean e old setting); cells = new.cells; file = new.file }
 apply_move storage (write_at a e) setting old new =
-    record { regs = new.regs; cells = slice_set new.cells (mean a old setting) (mean e old setting) }
+    record { regs = new.regs; cells = slice_set new.cells (mean a old setting) (mean e old setting); file = new.file }
 
 abbrev pub apply_operation : Operation → State → State → State
 apply_operation d old new = apply_move d.storage d.move d.setting old new
@@ -93,7 +94,8 @@ abbrev pub term_reads : ℕ → Term → Location → Bool
 term_reads setting (word w) p = false
 term_reads setting (reg r w) p = names_register p r
 term_reads setting (const w v) p = false
-term_reads setting (read a w) p = may_see (location_at setting a) p || term_reads setting a p
+term_reads setting (read InMemory a w) p = may_see (location_at setting a) p || term_reads setting a p
+term_reads setting (read InFile a w) p = term_reads setting a p
 term_reads setting (un o a) p = term_reads setting a p
 term_reads setting (bin o a b) p = term_reads setting a p || term_reads setting b p
 term_reads setting (slice a hi lo) p = term_reads setting a p

@@ -4,6 +4,7 @@ use Rattle.rec_bits.specs.declared.operator.Op1.{Op1}
 use Rattle.rec_bits.specs.declared.operator.Op2.{Op2}
 use Rattle.rec_bits.specs.contracts.operator.Op1PartialEq.TheImpl.{ghosts as op1_eq}
 use Rattle.rec_bits.specs.contracts.operator.Op2PartialEq.TheImpl.{ghosts as op2_eq}
+use Rattle.net_model.specs.declared.hardware.Space.TheVariants.{Memory as InMemory, File as InFile}
 use Rattle.net_model.specs.Terms.{Term, word, reg, const, read, un, bin, slice, cat, zext, sext, select, term_width}
 use Rattle.form_model.specs.Trees.{is_number, is_cell}
 use Rattle.form_model.specs.Shapes.{is_shape, shape_setting, shows_below}
@@ -45,7 +46,7 @@ shape_match shape _ = None
 
 -- the address of a read at a number
 abbrev pub literal_match : Term → Term → Option Found
-literal_match addr (read a w) = shape_match addr a
+literal_match addr (read InMemory a w) = shape_match addr a
 literal_match addr _ = None
 
 -- a read at a field shape takes a read at a number that the shape shows, or a cut, where it shows
@@ -64,7 +65,7 @@ same_op2 a b = op2_eq.eq a b
 
 -- the operands of operators, where f and g say what the operands of the form's expression take
 abbrev pub read_match : (Term → Bool → Option Found) → ℕ → Term → Option Found
-read_match f width (read a w) = if w == width then f a (is_number a) else None
+read_match f width (read InMemory a w) = if w == width then f a (is_number a) else None
 read_match f width _ = None
 
 abbrev pub un_match : (Term → Bool → Option Found) → Op1 → Term → Option Found
@@ -94,8 +95,9 @@ abbrev pub matched : ℕ → Term → Term → Bool → Option Found
 matched temps (word w) tree whole = shape_match (word w) tree
 matched temps (const w v) tree whole = shape_match (const w v) tree
 matched temps (reg r w) tree whole = open_if (w == term_width tree) (operand r tree whole)
-matched temps (read a w) tree whole =
+matched temps (read InMemory a w) tree whole =
     if is_shape a then cell_match temps a w tree whole else read_match (matched temps a) w tree
+matched temps (read InFile a w) tree whole = None
 matched temps (un o a) tree whole = un_match (matched temps a) o tree
 matched temps (bin o a b) tree whole = bin_match (matched temps a) (matched temps b) o tree
 matched temps (slice a hi lo) tree whole =

@@ -2,6 +2,7 @@
 -- select, so width, size and meaning are those of expressions, and what a form computes and what a
 -- program asks for are of one language.
 use Rattle.std.specs.Prelude.{◌≡◌, ℕ, Bool, true, false, ◌&&◌}
+use Rattle.net_model.specs.declared.hardware.Space.TheVariants.{Memory as InMemory, File as InFile}
 use Rattle.net_model.specs.Terms.{Term, word, reg, const, read, un, bin, slice, cat, zext, sext, select}
 use Rattle.net_model.specs.Fields.{fields}
 use Rattle.net_model.specs.Occurs.{occurs}
@@ -11,7 +12,7 @@ use Rattle.form_model.specs.declared.trees.Tree.TheVariants.{Lit, Read', Un', Bi
 -- the expression that a tree is
 abbrev pub tree_term : Tree → Term
 tree_term (Lit w v) = const w v
-tree_term (Read' p a w) = read (tree_term a) w
+tree_term (Read' p a w) = read InMemory (tree_term a) w
 tree_term (Un' o p a) = un o (tree_term a)
 tree_term (Bin' o p a q b) = bin o (tree_term a) (tree_term b)
 tree_term (Slice' p a hi lo) = slice (tree_term a) hi lo
@@ -23,7 +24,8 @@ abbrev pub is_tree : Term → Bool
 is_tree (word w) = false
 is_tree (reg r w) = false
 is_tree (const w v) = true
-is_tree (read a w) = is_tree a
+is_tree (read InMemory a w) = is_tree a
+is_tree (read InFile a w) = false
 is_tree (un o a) = is_tree a
 is_tree (bin o a b) = is_tree a && is_tree b
 is_tree (slice a hi lo) = is_tree a
@@ -39,7 +41,7 @@ is_number _ = false
 
 -- a read at an address that is a number
 abbrev pub is_cell : Term → Bool
-is_cell (read a w) = is_number a
+is_cell (read space a w) = is_number a
 is_cell _ = false
 
 -- no register and no instruction bit occurs in the expression

@@ -2,7 +2,9 @@
 -- number by their low 8.
 use Rattle.std.specs.Prelude.{ℕ, ◌≡◌, refl, true, false, [], ◌∷◌, List, Option, Some, None}
 use Rattle.rec_bits.specs.declared.operator.Op2.TheVariants.{Add, Mul}
+use Rattle.net_model.specs.declared.hardware.Space.TheVariants.{Memory as InMemory, File as InFile}
 use Rattle.net_model.specs.Terms.{Term, word, reg, const, read, bin, slice, cat, zext, sext}
+use Rattle.form_model.specs.Trees.{is_tree}
 use Rattle.form_model.specs.Shapes.{is_shape, reach_of, shape_setting, shows, shows_below}
 use Rattle.form_model.specs.Rules.{Rule, into_reg, into_memory, into, cell, stored, temporary, tested}
 use Rattle.form_model.specs.Matches.{Site, operand, cut, Found, matched, taken}
@@ -74,7 +76,7 @@ all_below = refl
 
 -- ACC := add(ACC, read(M, slice(I,7,0))), and with its operands swapped
 abbrev variable : Term
-variable = read low_byte 16
+variable = read InMemory low_byte 16
 
 abbrev extracted : Term
 extracted = bin Add (reg 1 16) variable
@@ -84,7 +86,7 @@ swapped = bin Add variable (reg 1 16)
 
 -- the cell at address 1 plus 5
 abbrev sum : Term
-sum = bin Add (read (const 8 1) 16) (const 16 5)
+sum = bin Add (read InMemory (const 8 1) 16) (const 16 5)
 
 abbrev found : ℕ → List Site → Option Found
 found setting sites = Some (record { setting = setting; sites = sites })
@@ -95,7 +97,7 @@ swapped_takes = refl
 
 -- the form as extracted only with the number as a cut
 extracted_takes : matched 1 extracted sum false
-    ≡ found 0 (operand 1 (read (const 8 1) 16) false ∷ cut low_byte (const 16 5) ∷ [])
+    ≡ found 0 (operand 1 (read InMemory (const 8 1) 16) false ∷ cut low_byte (const 16 5) ∷ [])
 extracted_takes = refl
 
 -- which it isn't where there are more temporary cells than the field shows
@@ -107,14 +109,24 @@ too_many_cells = refl
 no_cut_at_root : matched 1 variable sum true ≡ None
 no_cut_at_root = refl
 
-address_operand : matched 1 (read (reg 2 8) 16) (read (const 8 5) 16) false ≡ found 0 (operand 2 (const 8 5) true ∷ [])
+address_operand : matched 1 (read InMemory (reg 2 8) 16) (read InMemory (const 8 5) 16) false ≡ found 0 (operand 2 (const 8 5) true ∷ [])
 address_operand = refl
 
-no_cut_at_address : matched 1 (read (read low_byte 8) 16) (read (const 8 5) 16) false ≡ None
+no_cut_at_address : matched 1 (read InMemory (read InMemory low_byte 8) 16) (read InMemory (const 8 5) 16) false ≡ None
 no_cut_at_address = refl
 
+-- a cell of the register file takes nothing, not even a cut, and no tree reads one
+no_cell_of_file : matched 1 (read InFile low_byte 16) (read InMemory (const 8 1) 16) false ≡ None
+no_cell_of_file = refl
+
+no_cut_of_file : matched 1 (bin Add (reg 1 16) (read InFile low_byte 16)) sum false ≡ None
+no_cut_of_file = refl
+
+no_tree_of_file : is_tree (bin Add (read InFile (const 4 1) 16) (const 16 5)) ≡ false
+no_tree_of_file = refl
+
 -- another operator, and another width
-other_operator : matched 1 extracted (bin Mul (read (const 8 1) 16) (read (const 8 1) 16)) false ≡ None
+other_operator : matched 1 extracted (bin Mul (read InMemory (const 8 1) 16) (read InMemory (const 8 1) 16)) false ≡ None
 other_operator = refl
 
 other_width : matched 1 (reg 1 16) (const 8 5) false ≡ None
@@ -138,7 +150,7 @@ to_temporary : taken 1 store temporary sum false ≡ found 0 (operand 1 sum fals
 to_temporary = refl
 
 -- an address that is computed isn't one that the field shows, and a number is
-to_computed : taken 1 store (stored (read (const 8 1) 8)) sum false ≡ None
+to_computed : taken 1 store (stored (read InMemory (const 8 1) 8)) sum false ≡ None
 to_computed = refl
 
 to_number : taken 1 store (stored (const 8 9)) sum false ≡ found 9 (operand 1 sum false ∷ [])
@@ -156,8 +168,8 @@ store_through = record {
   clobbers = 5;
 }
 
-through_computed : taken 1 store_through (stored (read (const 8 1) 8)) sum false
-    ≡ found 0 (operand 2 (read (const 8 1) 8) false ∷ operand 1 sum false ∷ [])
+through_computed : taken 1 store_through (stored (read InMemory (const 8 1) 8)) sum false
+    ≡ found 0 (operand 2 (read InMemory (const 8 1) 8) false ∷ operand 1 sum false ∷ [])
 through_computed = refl
 
 through_number : taken 1 store_through (stored (const 8 9)) sum false

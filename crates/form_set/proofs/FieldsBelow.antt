@@ -21,13 +21,13 @@ fields_small : (netlist : Netlist) (t : Term) → IsTermOf netlist t → TermFit
 fields_small netlist (word w) h f = subst (λ n. 2 ^ w - 1 < 2 ^ n) h (let p = pow_pos w in omega (arith, p))
 fields_small netlist (reg r w) h f = pow_pos (word_width netlist)
 fields_small netlist (const w v) h f = pow_pos (word_width netlist)
-fields_small netlist (read a w) h f = fields_small netlist a h.0 f.0
+fields_small netlist (read space a w) h f = fields_small netlist a h.0 f.0
 fields_small netlist (un o a) h f = fields_small netlist a h f
 fields_small netlist (bin o a b) h f = or_lt (word_width netlist) (fields a) (fields b) (fields_small netlist a h.0 f.0) (fields_small netlist b h.1 f.1)
 fields_small netlist (slice (word w) hi lo) h f = subst (λ n. bits_between hi lo < 2 ^ n) h.0 (span_small w hi lo f.1.1)
 fields_small netlist (slice (reg r w) hi lo) h f = pow_pos (word_width netlist)
 fields_small netlist (slice (const w v) hi lo) h f = pow_pos (word_width netlist)
-fields_small netlist (slice (read a w) hi lo) h f = fields_small netlist (read a w) h.0 f.0
+fields_small netlist (slice (read space a w) hi lo) h f = fields_small netlist (read space a w) h.0 f.0
 fields_small netlist (slice (un o a) hi lo) h f = fields_small netlist (un o a) h.0 f.0
 fields_small netlist (slice (bin o a b) hi lo) h f = fields_small netlist (bin o a b) h.0 f.0
 fields_small netlist (slice (slice a u l) hi lo) h f = fields_small netlist (slice a u l) h.0 f.0

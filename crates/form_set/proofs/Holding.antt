@@ -8,7 +8,7 @@ use Rattle.bit_bdd.specs.Diagrams.{Diagrams, Extends, has_word}
 use Rattle.bit_bdd.proofs.CallerLemmas.{same_words}
 use Rattle.net_model.specs.declared.hardware.Netlist.{Netlist}
 use Rattle.net_model.specs.declared.hardware.Storage.{Storage}
-use Rattle.net_model.specs.declared.hardware.Storage.TheVariants.{Register, Memory}
+use Rattle.net_model.specs.declared.hardware.Storage.TheVariants.{Register, Memory, File}
 use Rattle.net_model.specs.CheckedRules.{memory_count}
 use Rattle.net_model.specs.Nets.{memory_id}
 use Rattle.net_model.specs.Patterns.{IsWordOf, Pattern}
@@ -60,8 +60,9 @@ each_is book P set fields h small = (
 
 pub memory_within : (storages : List Storage) → memory_count storages ≡ 1 → memory_id storages < length storages
 memory_within [] e = absurd (omega (arith, e))
-memory_within (Register name width input when ∷ storages) e = (let r = memory_within storages e in omega (arith, r))
-memory_within (Memory name width size addr_width value addr when ∷ storages) e = omega arith
+memory_within (Register name width input when ∷ storages) e = (let r = memory_within storages (omega (arith, e)) in omega (arith, r))
+memory_within (Memory cells ∷ storages) e = omega arith
+memory_within (File cells ∷ storages) e = (let r = memory_within storages (omega (arith, e)) in omega (arith, r))
 
 -- ---- what the words do
 

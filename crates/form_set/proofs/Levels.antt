@@ -3,7 +3,7 @@ use Rattle.std.proofs.Common.{ℕ, suc, ◌≤◌, ◌==◌, if◌then◌else◌
 use Rattle.std.proofs.lemmas.List.{length-reverse}
 use Rattle.net_model.specs.Terms.{Term}
 use Rattle.sym_expr.specs.declared.pool.Node.{Node}
-use Rattle.sym_expr.specs.declared.pool.Node.TheVariants.{Word, Reg, Const, Read, Un, Bin, Slice, Cat, Zext, Sext, Select}
+use Rattle.sym_expr.specs.declared.pool.Node.TheVariants.{Word, Reg, Const, Read, Cell, Un, Bin, Slice, Cat, Zext, Sext, Select}
 use Rattle.sym_expr.specs.Pools.{TermFits, node_term, term_at, term_of_newest}
 use Rattle.form_set.specs.Swaps.{levels}
 
@@ -12,6 +12,7 @@ levels-node (Word w) t n h fits = omega arith
 levels-node (Reg r w) t n h fits = omega arith
 levels-node (Const w v) t n h fits = omega arith
 levels-node (Read a w) t n h fits = omega (arith, h a fits.0)
+levels-node (Cell a w) t n h fits = omega (arith, h a fits.0)
 levels-node (Un o a) t n h fits = omega (arith, h a fits)
 levels-node (Bin o a b) t n h fits = omega (arith, h a fits.0, h b fits.1)
 levels-node (Slice a hi lo) t n h fits = omega (arith, h a fits.0)

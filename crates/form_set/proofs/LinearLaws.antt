@@ -75,7 +75,7 @@ linear_once free (reg r w) e = record { registers = λ q z. small (r == q); bits
     small true = omega arith
     small false = omega arith
 linear_once free (const w v) e = record { registers = λ r z. omega arith; bits = λ k. omega arith }
-linear_once free (read a w) e = (let h = linear_once free a e in record { registers = h.registers; bits = h.bits })
+linear_once free (read space a w) e = (let h = linear_once free a e in record { registers = h.registers; bits = h.bits })
 linear_once free (un o a) e = (let h = linear_once free a e in record { registers = h.registers; bits = h.bits })
 linear_once free (bin o a b) e =
     (let s = split_and (are_apart free a b) (is_linear free a && is_linear free b) e in
@@ -91,7 +91,7 @@ linear_once free (slice a hi lo) e = slice_once (linear_once free a e)
     slice_bits (word w) h k = small (nat_le lo k && nat_le k hi)
     slice_bits (reg r w) h k = h k
     slice_bits (const w v) h k = h k
-    slice_bits (read a w) h k = h k
+    slice_bits (read space a w) h k = h k
     slice_bits (un o a) h k = h k
     slice_bits (bin o a b) h k = h k
     slice_bits (slice a u l) h k = h k
@@ -139,7 +139,7 @@ pub once_linear : (free : ℕ) (t : Term) → IsLinear free (write t) → is_lin
 once_linear free (word w) h = refl
 once_linear free (reg r w) h = refl
 once_linear free (const w v) h = refl
-once_linear free (read a w) h = once_linear free a (record { registers = h.registers; bits = h.bits })
+once_linear free (read space a w) h = once_linear free a (record { registers = h.registers; bits = h.bits })
 once_linear free (un o a) h = once_linear free a (record { registers = h.registers; bits = h.bits })
 once_linear free (bin o a b) h = two_linear free a b (λ r z. h.registers r z) (λ k. h.bits k) (once_linear free a) (once_linear free b)
 once_linear free (slice a hi lo) h = slice_linear a h (once_linear free a)
@@ -148,7 +148,7 @@ once_linear free (slice a hi lo) h = slice_linear a h (once_linear free a)
     slice_linear (word w) h f = refl
     slice_linear (reg r w) h f = refl
     slice_linear (const w v) h f = refl
-    slice_linear (read a w) h f = f (record { registers = h.registers; bits = h.bits })
+    slice_linear (read space a w) h f = f (record { registers = h.registers; bits = h.bits })
     slice_linear (un o a) h f = f (record { registers = h.registers; bits = h.bits })
     slice_linear (bin o a b) h f = f (record { registers = h.registers; bits = h.bits })
     slice_linear (slice a u l) h f = f (record { registers = h.registers; bits = h.bits })

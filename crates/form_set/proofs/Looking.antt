@@ -5,7 +5,7 @@ use Rattle.bit_bdd.specs.Diagrams.{Diagrams}
 use Rattle.net_model.specs.declared.hardware.Netlist.{Netlist}
 use Rattle.std.specs.List.{AllByRecursion}
 use Rattle.net_model.specs.declared.hardware.Storage.{Storage}
-use Rattle.net_model.specs.declared.hardware.Storage.TheVariants.{Register, Memory}
+use Rattle.net_model.specs.declared.hardware.Storage.TheVariants.{Register, Memory, File}
 use Rattle.net_model.specs.CheckedRules.{CodeKeeps, IsCounter, KeepsRules}
 use Rattle.net_model.specs.Clock.{is_enabled}
 use Rattle.net_model.specs.Symbolic.{no_state, sym_of}
@@ -51,7 +51,8 @@ counter_at netlist typed i id (Register name width input None) f h =
     (narrow_if (same_reg (sym_of netlist i input) id) keep (write (sym_of netlist i input)) tt
     (let w = width_is netlist i typed (length netlist.nets) input in omega (arith, w, f.0.1, h))) tt
 counter_at netlist typed i id (Register name width input (Some when)) f h = absurd h
-counter_at netlist typed i id (Memory name width size addr_width value addr when) f h = absurd h
+counter_at netlist typed i id (Memory cells) f h = absurd h
+counter_at netlist typed i id (File cells) f h = absurd h
 
 counter_narrow : (netlist : Netlist) → IsTyped netlist → (i id : ℕ) → IsCounter (slice_get netlist.storages id) → IsNarrow (move_at netlist i id)
 counter_narrow netlist typed i id h = by (slice_get netlist.storages id) refl h
@@ -82,7 +83,7 @@ ids_are netlist order k book pool bits fits row r p =
       fits = subst (λ b. row.fields < 2 ^ b) (sym bits) (subst (λ n. n < 2 ^ word_width netlist) (sym r.told.fields) (move_small netlist pool fits row.addr row.value r.addr r.value terms));
       terms = terms;
       narrow = λ e. subst IsNarrow (ap (move_at netlist p.word) (sym e) ∙ p.given.gives)
-          (counter_narrow netlist (typed_of netlist k.formed k.roles.memory) p.word (counter_of netlist.codes) k.roles.counter);
+          (counter_narrow netlist (typed_of netlist k.formed k.roles) p.word (counter_of netlist.codes) k.roles.counter);
       few = omega (arith, w.1, bits);
       clean = λ word c. subst (λ b. word < 2 ^ b) (sym bits) (clean_below netlist order k word c);
       memory = memory_within netlist.storages k.roles.memory;

@@ -49,7 +49,7 @@ module _ (q : ℕ) where
   swap_occurs chosen (word w) = refl
   swap_occurs chosen (reg r w) = refl
   swap_occurs chosen (const w v) = refl
-  swap_occurs chosen (read a w) = swap_occurs (λ path. chosen (0 ∷ path)) a
+  swap_occurs chosen (read space a w) = swap_occurs (λ path. chosen (0 ∷ path)) a
   swap_occurs chosen (un o a) = swap_occurs (λ path. chosen (0 ∷ path)) a
   swap_occurs chosen (slice a hi lo) = swap_occurs (λ path. chosen (0 ∷ path)) a
   swap_occurs chosen (zext a w) = swap_occurs (λ path. chosen (0 ∷ path)) a

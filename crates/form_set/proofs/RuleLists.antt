@@ -104,7 +104,7 @@ shape_no_branch : (pc : Counter) (reach : ℕ) (t : Term) → is_shape t ≡ tru
 shape_no_branch pc reach (word w) h = refl
 shape_no_branch pc reach (reg r w) h = refl
 shape_no_branch pc reach (const w v) h = refl
-shape_no_branch pc reach (read a w) h = refl
+shape_no_branch pc reach (read space a w) h = refl
 shape_no_branch pc reach (un o a) h = refl
 shape_no_branch pc reach (bin o a b) h = refl
 shape_no_branch pc reach (slice a hi lo) h = refl

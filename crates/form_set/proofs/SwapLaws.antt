@@ -8,6 +8,8 @@ use Rattle.rec_bits.specs.declared.operator.Op1.{Op1}
 use Rattle.rec_bits.specs.declared.operator.Op2.{Op2}
 use Rattle.rec_bits.specs.declared.operator.Op2.TheVariants.{Add, Sub, Mul, And, Or, Xor, Shl, Shr, Sar, Eq, Ltu, Lts}
 use Rattle.rec_bits.specs.Operators.{apply1_of, apply2_of, bit_of, slice_of, cat_of, sext_of, result_width}
+use Rattle.net_model.specs.Nets.{held}
+use Rattle.net_model.specs.declared.hardware.Space.{Space}
 use Rattle.net_model.specs.Meaning.{mean}
 use Rattle.net_model.specs.Terms.{Term, word, reg, const, read, un, bin, slice, cat, zext, sext, select, term_width}
 use Rattle.form_set.specs.Promises.{AreAlike, IsAddrAlike, IsAlike}
@@ -25,11 +27,11 @@ alike_trans t u v h k = record {
 
 -- ---- inside operators
 
-alike_read : (a b : Term) (w : ℕ) → IsAlike a b → IsAlike (read a w) (read b w)
-alike_read a b w h = record {
+alike_read : (space : Space) (a b : Term) (w : ℕ) → IsAlike a b → IsAlike (read space a w) (read space b w)
+alike_read space a b w h = record {
   width = λ f. refl;
   fits = λ f. (h.fits f.0, f.1);
-  same = λ f s i. ap (slice_index s.cells) (h.same f.0 s i);
+  same = λ f s i. ap (slice_index (held s space)) (h.same f.0 s i);
 }
 
 alike_un : (o : Op1) (a b : Term) → IsAlike a b → IsAlike (un o a) (un o b)
@@ -121,7 +123,7 @@ pub at_alike : (chosen : Path → Bool) (t : Term) → IsAlike t (swap_at chosen
 at_alike chosen (word w) = alike_refl (word w)
 at_alike chosen (reg r w) = alike_refl (reg r w)
 at_alike chosen (const w v) = alike_refl (const w v)
-at_alike chosen (read a w) = alike_read a _ w (at_alike (λ path. chosen (0 ∷ path)) a)
+at_alike chosen (read space a w) = alike_read space a _ w (at_alike (λ path. chosen (0 ∷ path)) a)
 at_alike chosen (un o a) = alike_un o a _ (at_alike (λ path. chosen (0 ∷ path)) a)
 at_alike chosen (slice a hi lo) = alike_slice a _ hi lo (at_alike (λ path. chosen (0 ∷ path)) a)
 at_alike chosen (zext a w) = alike_zext a _ w (at_alike (λ path. chosen (0 ∷ path)) a)

@@ -130,7 +130,7 @@ level_left : (level choice : ℕ) (t : Term) → left_of level choice t ≡ left
 level_left level choice (word w) = refl
 level_left level choice (reg r w) = refl
 level_left level choice (const w v) = refl
-level_left level choice (read a w) = one_passes (level == 0) choice _ _ (level_left (level - 1) choice a)
+level_left level choice (read space a w) = one_passes (level == 0) choice _ _ (level_left (level - 1) choice a)
 level_left level choice (un o a) = one_passes (level == 0) choice _ _ (level_left (level - 1) choice a)
 level_left level choice (slice a hi lo) = one_passes (level == 0) choice _ _ (level_left (level - 1) choice a)
 level_left level choice (zext a w) = one_passes (level == 0) choice _ _ (level_left (level - 1) choice a)
@@ -160,7 +160,7 @@ swap_none : (t : Term) → swap_at (λ p. false) t ≡ t
 swap_none (word w) = refl
 swap_none (reg r w) = refl
 swap_none (const w v) = refl
-swap_none (read a w) = (λ j. read (swap_none a j) w)
+swap_none (read space a w) = (λ j. read space (swap_none a j) w)
 swap_none (un o a) = (λ j. un o (swap_none a j))
 swap_none (slice a hi lo) = (λ j. slice (swap_none a j) hi lo)
 swap_none (zext a w) = (λ j. zext (swap_none a j) w)
@@ -216,7 +216,7 @@ level_swaps : (level choice : ℕ) (t : Term) → swap_level level choice t ≡ 
 level_swaps level choice (word w) = refl
 level_swaps level choice (reg r w) = refl
 level_swaps level choice (const w v) = refl
-level_swaps level choice (read a w) = one_swaps (λ t. read t w) (level == 0) choice _ a _ (level_swaps (level - 1) choice a)
+level_swaps level choice (read space a w) = one_swaps (λ t. read space t w) (level == 0) choice _ a _ (level_swaps (level - 1) choice a)
 level_swaps level choice (un o a) = one_swaps (λ t. un o t) (level == 0) choice _ a _ (level_swaps (level - 1) choice a)
 level_swaps level choice (slice a hi lo) = one_swaps (λ t. slice t hi lo) (level == 0) choice _ a _ (level_swaps (level - 1) choice a)
 level_swaps level choice (zext a w) = one_swaps (λ t. zext t w) (level == 0) choice _ a _ (level_swaps (level - 1) choice a)
@@ -241,7 +241,7 @@ swap_both : (f g : Path → Bool) (t : Term) → ((p q : Path) → g p ≡ true 
 swap_both f g (word w) h = refl
 swap_both f g (reg r w) h = refl
 swap_both f g (const w v) h = refl
-swap_both f g (read a w) h = (λ j. read (swap_both (λ p. f (0 ∷ p)) (λ p. g (0 ∷ p)) a (λ p q. h (0 ∷ p) q) j) w)
+swap_both f g (read space a w) h = (λ j. read space (swap_both (λ p. f (0 ∷ p)) (λ p. g (0 ∷ p)) a (λ p q. h (0 ∷ p) q) j) w)
 swap_both f g (un o a) h = (λ j. un o (swap_both (λ p. f (0 ∷ p)) (λ p. g (0 ∷ p)) a (λ p q. h (0 ∷ p) q) j))
 swap_both f g (slice a hi lo) h = (λ j. slice (swap_both (λ p. f (0 ∷ p)) (λ p. g (0 ∷ p)) a (λ p q. h (0 ∷ p) q) j) hi lo)
 swap_both f g (zext a w) h = (λ j. zext (swap_both (λ p. f (0 ∷ p)) (λ p. g (0 ∷ p)) a (λ p q. h (0 ∷ p) q) j) w)
@@ -323,7 +323,7 @@ level_long : (level : ℕ) (t : Term) → Long level (level_paths level t)
 level_long level (word w) = tt
 level_long level (reg r w) = tt
 level_long level (const w v) = tt
-level_long level (read a w) = one_long (level == 0) level (level_paths (level - 1) a) refl (level_long (level - 1) a)
+level_long level (read space a w) = one_long (level == 0) level (level_paths (level - 1) a) refl (level_long (level - 1) a)
 level_long level (un o a) = one_long (level == 0) level (level_paths (level - 1) a) refl (level_long (level - 1) a)
 level_long level (slice a hi lo) = one_long (level == 0) level (level_paths (level - 1) a) refl (level_long (level - 1) a)
 level_long level (zext a w) = one_long (level == 0) level (level_paths (level - 1) a) refl (level_long (level - 1) a)
@@ -377,7 +377,7 @@ level_stays : (level : ℕ) (f : Path → Bool) (t : Term) → ((p : Path) → l
 level_stays level f (word w) h = refl
 level_stays level f (reg r w) h = refl
 level_stays level f (const w v) h = refl
-level_stays level f (read a w) h =
+level_stays level f (read space a w) h =
     one_stays (level == 0) level _ _ refl (λ e. level_stays (level - 1) (λ p. f (0 ∷ p)) a (λ p l. h (0 ∷ p) (deeper level 0 p e l)))
 level_stays level f (un o a) h =
     one_stays (level == 0) level _ _ refl (λ e. level_stays (level - 1) (λ p. f (0 ∷ p)) a (λ p l. h (0 ∷ p) (deeper level 0 p e l)))
@@ -519,7 +519,7 @@ levels_count : (t : Term) (n : ℕ) → levels t ≤ n → total n 0 (λ k. leng
 levels_count (word w) n h = total_none n 0
 levels_count (reg r w) n h = total_none n 0
 levels_count (const w v) n h = total_none n 0
-levels_count (read a w) n h = one_total n (swaps_of a) (λ k. length (level_paths k (read a w))) a h refl (λ k. one_up k a) (levels_count a)
+levels_count (read space a w) n h = one_total n (swaps_of a) (λ k. length (level_paths k (read space a w))) a h refl (λ k. one_up k a) (levels_count a)
 levels_count (un o a) n h = one_total n (swaps_of a) (λ k. length (level_paths k (un o a))) a h refl (λ k. one_up k a) (levels_count a)
 levels_count (slice a hi lo) n h = one_total n (swaps_of a) (λ k. length (level_paths k (slice a hi lo))) a h refl (λ k. one_up k a) (levels_count a)
 levels_count (zext a w) n h = one_total n (swaps_of a) (λ k. length (level_paths k (zext a w))) a h refl (λ k. one_up k a) (levels_count a)

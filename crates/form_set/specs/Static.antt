@@ -8,7 +8,7 @@ abbrev pub is_static_term : Term → Bool
 is_static_term (word w) = true
 is_static_term (reg r w) = false
 is_static_term (const w v) = true
-is_static_term (read a w) = false
+is_static_term (read space a w) = false
 is_static_term (un o a) = is_static_term a
 is_static_term (bin o a b) = is_static_term a && is_static_term b
 is_static_term (slice a hi lo) = is_static_term a
@@ -27,7 +27,7 @@ abbrev pub has_shapes : Term → Bool
 has_shapes (word w) = true
 has_shapes (reg r w) = true
 has_shapes (const w v) = true
-has_shapes (read a w) = has_shapes a
+has_shapes (read space a w) = has_shapes a
 has_shapes (un o a) = shaped (un o a) (has_shapes a)
 has_shapes (bin o a b) = shaped (bin o a b) (has_shapes a && has_shapes b)
 has_shapes (slice a hi lo) = shaped (slice a hi lo) (has_shapes a)

@@ -32,7 +32,7 @@ at_level level here below = if level == 0 then here else below
 
 -- the operators that can be swapped in a level of an expression; the root is level 0
 abbrev pub level_paths : ℕ → Term → List Path
-level_paths level (read a w) = at_level level [] (under 0 (level_paths (level - 1) a))
+level_paths level (read space a w) = at_level level [] (under 0 (level_paths (level - 1) a))
 level_paths level (un o a) = at_level level [] (under 0 (level_paths (level - 1) a))
 level_paths level (bin o a b) =
     at_level level (if can_swap o then [] ∷ [] else [])
@@ -49,7 +49,7 @@ level_paths level _ = []
 
 -- how many levels an expression has
 abbrev pub levels : Term → ℕ
-levels (read a w) = levels a + 1
+levels (read space a w) = levels a + 1
 levels (un o a) = levels a + 1
 levels (bin o a b) = max (levels a) (levels b) + 1
 levels (slice a hi lo) = levels a + 1
@@ -77,7 +77,7 @@ ordered swaps o a b = if swaps then bin o b a else bin o a b
 -- an expression with the operands changed in their places at each operator that is chosen and can be
 -- swapped. Each operator goes by its path in the expression as it was
 abbrev pub swap_at : (Path → Bool) → Term → Term
-swap_at chosen (read a w) = read (swap_at (λ path. chosen (0 ∷ path)) a) w
+swap_at chosen (read space a w) = read space (swap_at (λ path. chosen (0 ∷ path)) a) w
 swap_at chosen (un o a) = un o (swap_at (λ path. chosen (0 ∷ path)) a)
 swap_at chosen (bin o a b) =
     ordered (can_swap o && chosen []) o (swap_at (λ path. chosen (0 ∷ path)) a) (swap_at (λ path. chosen (1 ∷ path)) b)

@@ -4,7 +4,7 @@ use Rattle.std.specs.Int.{bit_at}
 use Rattle.bit_bdd.specs.Diagrams.{Diagrams, has_word}
 use Rattle.net_model.specs.declared.hardware.Netlist.{Netlist}
 use Rattle.net_model.specs.declared.hardware.Storage.{Storage}
-use Rattle.net_model.specs.declared.hardware.Storage.TheVariants.{Register, Memory}
+use Rattle.net_model.specs.declared.hardware.Storage.TheVariants.{Register, Memory, File}
 use Rattle.net_model.specs.Nets.{IsRegister, memory_id}
 use Rattle.net_model.specs.Patterns.{IsWordOf, Pattern}
 use Rattle.net_model.specs.Terms.{keep}
@@ -51,7 +51,8 @@ CanJump netlist pattern = ForEachSetting (move_fields pattern.move) (WordKeepsMe
 abbrev pub is_register_storage : Option Storage → Bool
 is_register_storage None = false
 is_register_storage (Some (Register name width input when)) = true
-is_register_storage (Some (Memory name width size addr_width value addr when)) = false
+is_register_storage (Some (Memory cells)) = false
+is_register_storage (Some (File cells)) = false
 
 -- a set with one more
 abbrev pub with : ℕ → ℕ → ℕ

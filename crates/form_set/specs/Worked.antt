@@ -1,6 +1,7 @@
 -- The forms of two small processors, as far as they are computed from expressions alone.
 use Rattle.std.specs.Prelude.{◌≡◌, refl, true, false, [], ◌∷◌, Some, None}
 use Rattle.rec_bits.specs.declared.operator.Op2.TheVariants.{Add, Sub, Mul, And, Or, Xor, Eq, Ltu}
+use Rattle.net_model.specs.declared.hardware.Space.TheVariants.{Memory as InMemory}
 use Rattle.net_model.specs.Terms.{Term, word, reg, const, read, bin, slice, zext, select, write, write_at}
 use Rattle.net_model.specs.Worked.{a16, z16}
 use Rattle.form_model.specs.Rules.{absolute, branches, into_memory, into_reg}
@@ -27,7 +28,7 @@ abbrev branch_value : Term
 branch_value = select (bin Eq acc (const 16 0)) f step
 
 -- the branch of A16: PC occurs twice in it, and is free
-a16_linear : move_linear 0 (write (bin Add acc (read f 16))) ≡ true
+a16_linear : move_linear 0 (write (bin Add acc (read InMemory f 16))) ≡ true
 a16_linear = refl
 
 a16_twice : move_linear 0 (write (bin Add acc acc)) ≡ false
@@ -73,12 +74,12 @@ z16_registers : all_registers z16.storages ≡ 7
 z16_registers = refl
 
 -- pattern 3 of A16 has two forms, in this order
-a16_sums : plain_rules a16 3 (record { storage = 1; move = write (bin Add acc (read f 16)) }) 3
+a16_sums : plain_rules a16 3 (record { storage = 1; move = write (bin Add acc (read InMemory f 16)) }) 3
     ≡ record {
       pattern = 3;
       goal = into_reg 1;
       addr = None;
-      value = bin Add acc (read f 16);
+      value = bin Add acc (read InMemory f 16);
       fields = 255;
       clobbers = 3;
     }
@@ -86,7 +87,7 @@ a16_sums : plain_rules a16 3 (record { storage = 1; move = write (bin Add acc (r
       pattern = 3;
       goal = into_reg 1;
       addr = None;
-      value = bin Add (read f 16) acc;
+      value = bin Add (read InMemory f 16) acc;
       fields = 255;
       clobbers = 3;
     }

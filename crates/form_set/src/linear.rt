@@ -31,6 +31,7 @@ fn registers(checked: &Checked, pool: &Pool, expr: ExprId) -> u16
         Node::Reg(id, _) => one(id),
         Node::Word(..) | Node::Const { .. } => 0,
         Node::Read(a, _)
+        | Node::Cell(a, _)
         | Node::Un(_, a)
         | Node::Slice(a, _, _)
         | Node::Zext(a, _)
@@ -73,6 +74,7 @@ fn is_linear(checked: &Checked, pool: &Pool, free: u16, expr: ExprId) -> bool
     match pool.node(expr) {
         Node::Word(..) | Node::Reg(..) | Node::Const { .. } => true,
         Node::Read(a, _)
+        | Node::Cell(a, _)
         | Node::Un(_, a)
         | Node::Slice(a, _, _)
         | Node::Zext(a, _)

@@ -48,7 +48,7 @@ fn is_static(pool: &Pool, expr: ExprId) -> bool
 {
     match pool.node(expr) {
         Node::Word(_) | Node::Const { .. } => true,
-        Node::Reg(..) | Node::Read(..) => false,
+        Node::Reg(..) | Node::Read(..) | Node::Cell(..) => false,
         Node::Un(_, a) | Node::Slice(a, _, _) | Node::Zext(a, _) | Node::Sext(a, _) => {
             is_static(pool, a)
         }
@@ -70,6 +70,7 @@ pub(crate) fn has_shapes(pool: &Pool, expr: ExprId) -> bool
     match pool.node(expr) {
         Node::Word(_) | Node::Const { .. } | Node::Reg(..) => true,
         Node::Read(a, _)
+        | Node::Cell(a, _)
         | Node::Un(_, a)
         | Node::Slice(a, _, _)
         | Node::Zext(a, _)

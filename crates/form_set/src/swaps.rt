@@ -26,6 +26,7 @@ fn left_of(expr: &Expr, level: u64, choice: u16) -> u16
     match expr {
         Expr::Word(_) | Expr::Reg(..) | Expr::Const { .. } => choice,
         Expr::Read(a, _)
+        | Expr::Cell(a, _)
         | Expr::Un(_, a)
         | Expr::Slice(a, _, _)
         | Expr::Zext(a, _)
@@ -73,6 +74,7 @@ fn swaps_of(expr: &Expr) -> u8
     match expr {
         Expr::Word(_) | Expr::Reg(..) | Expr::Const { .. } => 0,
         Expr::Read(a, _)
+        | Expr::Cell(a, _)
         | Expr::Un(_, a)
         | Expr::Slice(a, _, _)
         | Expr::Zext(a, _)
@@ -116,6 +118,7 @@ fn swap_level(expr: &mut Expr, level: u64, choice: u16) -> u16
     match expr {
         Expr::Word(_) | Expr::Reg(..) | Expr::Const { .. } => choice,
         Expr::Read(a, _) => swap_level(a, level - 1, choice),
+        Expr::Cell(a, _) => swap_level(a, level - 1, choice),
         Expr::Un(_, a) => swap_level(a, level - 1, choice),
         Expr::Slice(a, _, _) => swap_level(a, level - 1, choice),
         Expr::Zext(a, _) => swap_level(a, level - 1, choice),
@@ -144,6 +147,7 @@ fn levels(expr: &Expr) -> u64
     match expr {
         Expr::Word(_) | Expr::Reg(..) | Expr::Const { .. } => 1,
         Expr::Read(a, _)
+        | Expr::Cell(a, _)
         | Expr::Un(_, a)
         | Expr::Slice(a, _, _)
         | Expr::Zext(a, _)

@@ -29,7 +29,7 @@ fn is_register(checked: &Checked, id: u32) -> bool
 {
     match checked.netlist().storages.get(id as usize) {
         Some(Storage::Register { .. }) => true,
-        Some(Storage::Memory { .. }) | None => false,
+        Some(Storage::Memory(_) | Storage::File(_)) | None => false,
     }
 }
 

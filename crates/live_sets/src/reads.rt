@@ -35,6 +35,7 @@ fn node_reads(pool: &Pool, sets: &[RegSet], id: ExprId) -> RegSet
         Node::Word(_) | Node::Const { .. } => none(),
         Node::Reg(register, _) => one(register),
         Node::Read(a, _)
+        | Node::Cell(a, _)
         | Node::Un(_, a)
         | Node::Slice(a, ..)
         | Node::Zext(a, _)
@@ -78,9 +79,11 @@ fn node_sees(pool: &Pool, setting: u64, location: Location, flags: &[bool], id: 
         Node::Word(_) | Node::Const { .. } => false,
         Node::Reg(register, _) => location == Location::Register(register),
         Node::Read(a, _) => may_see(cell_at(pool, a, setting), location) || flag_at(flags, a),
-        Node::Un(_, a) | Node::Slice(a, ..) | Node::Zext(a, _) | Node::Sext(a, _) => {
-            flag_at(flags, a)
-        }
+        Node::Cell(a, _)
+        | Node::Un(_, a)
+        | Node::Slice(a, ..)
+        | Node::Zext(a, _)
+        | Node::Sext(a, _) => { flag_at(flags, a) }
         Node::Bin(_, a, b) | Node::Cat(a, b) => flag_at(flags, a) || flag_at(flags, b),
         Node::Select(c, a, b) => { flag_at(flags, c) || (flag_at(flags, a) || flag_at(flags, b)) }
     }

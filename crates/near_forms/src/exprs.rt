@@ -1,7 +1,7 @@
 //! Expressions of forms, as patterns are written.
 
-use crate::text::{Names, put, put_code, put_constant, put_memory, put_more, put_storage};
-use net_model::Expr;
+use crate::text::{Names, put, put_code, put_constant, put_more, put_space, put_storage};
+use net_model::{Expr, Space};
 use rec_bits::NoMemory;
 use transfer_set::{word_of_one, word_of_two};
 
@@ -24,7 +24,12 @@ fn word_of(expr: &Expr) -> &'static str {
 fn add_operands(text: &mut Vec<u8>, names: Names, expr: &Expr) -> Result<(), NoMemory> {
     match expr {
         Expr::Read(a, _) => {
-            put_memory(text, names)?;
+            put_space(text, names, Space::Memory)?;
+            put(text, b",")?;
+            add_expr(text, names, a)
+        }
+        Expr::Cell(a, _) => {
+            put_space(text, names, Space::File)?;
             put(text, b",")?;
             add_expr(text, names, a)
         }

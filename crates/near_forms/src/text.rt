@@ -2,7 +2,7 @@
 
 use code_model::Place;
 use itoa::Buffer;
-use net_model::{Checked, Storage};
+use net_model::{Checked, Space};
 use rec_bits::NoMemory;
 
 /// What is named in a text: the storages of a netlist, and the variables of a program.
@@ -41,15 +41,19 @@ pub(crate) fn put_more(text: &mut Vec<u8>, number: u8) -> Result<(), NoMemory> {
 // Adds the name of the storage of this number.
 pub(crate) fn put_storage(text: &mut Vec<u8>, names: Names, id: u32) -> Result<(), NoMemory> {
     match names.checked.netlist().storage(id) {
-        Some(Storage::Register { name, .. }) => put(text, name.as_slice()),
-        Some(Storage::Memory { name, .. }) => put(text, name.as_slice()),
+        Some(storage) => put(text, storage.name()),
         None => Ok(()),
     }
 }
 
+// Adds the name of the storage that has the cells of a space.
+pub(crate) fn put_space(text: &mut Vec<u8>, names: Names, space: Space) -> Result<(), NoMemory> {
+    put(text, names.checked.name(space))
+}
+
 // Adds the name of the data memory.
 pub(crate) fn put_memory(text: &mut Vec<u8>, names: Names) -> Result<(), NoMemory> {
-    put(text, names.checked.memory_name())
+    put_space(text, names, Space::Memory)
 }
 
 // Adds the name of the instruction word.

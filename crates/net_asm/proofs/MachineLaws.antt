@@ -7,7 +7,7 @@ use Rattle.net_model.specs.CheckedRules.{KeepsRules}
 use Rattle.net_model.specs.Elaborated.{netlist_of}
 use Rattle.net_model.specs.Nets.{code_bits, word_width}
 use Rattle.net_model.specs.Patterns.{ArePatterns, Pattern}
-use Rattle.net_model.specs.Written.{Entry}
+use Rattle.net_model.specs.Written.{Text}
 use Rattle.net_parser.specs.Texts.{IsNoNetText}
 use Rattle.net_front.proofs.FrontLaws.{no_text_fault}
 use Rattle.net_extract.specs.Extracts.{IsRoutedFile}
@@ -29,7 +29,7 @@ bits_are netlist = by netlist.codes
     by (code ∷ codes) = refl
 
 -- the patterns of a netlist file have texts of transfers
-pub file_texts : (net : List ℕ) (entries : List Entry) → IsRoutedFile net entries → (patterns : List Pattern) → ArePatterns (netlist_of entries) patterns → AreTransferTexts (move_texts (netlist_of entries) patterns)
+pub file_texts : (net : List ℕ) (entries : Text) → IsRoutedFile net entries → (patterns : List Pattern) → ArePatterns (netlist_of entries) patterns → AreTransferTexts (move_texts (netlist_of entries) patterns)
 file_texts net entries file patterns are =
     transfer_texts (netlist_of entries) file.file.keeps.order file.file.keeps.rules (spelled_names net entries file.file.says) (plain_names net entries file.file.says) patterns are
 

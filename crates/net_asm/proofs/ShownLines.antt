@@ -56,7 +56,7 @@ module _ (netlist : Netlist) where
   slices_fit (word w) f is = one_fits (record { hi = w - 1; lo = 0 }) (record { order = omega arith; within = (let some = f.0 in omega arith) })
   slices_fit (reg r w) f is = none_fit
   slices_fit (const w v) f is = none_fit
-  slices_fit (read a w) f is = slices_fit a f.0 is.0
+  slices_fit (read space a w) f is = slices_fit a f.0 is.0
   slices_fit (un o a) f is = slices_fit a f is
   slices_fit (bin o a b) f is = both_fit (slices a) (slices b) (slices_fit a f.0 is.0) (slices_fit b f.1 is.1)
   slices_fit (slice (word w) hi lo) f is =

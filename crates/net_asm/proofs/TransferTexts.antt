@@ -13,9 +13,9 @@ use Rattle.rec_bits.specs.declared.operator.Op1.TheVariants.{Not, Neg}
 use Rattle.rec_bits.specs.declared.operator.Op2.{Op2}
 use Rattle.rec_bits.specs.declared.operator.Op2.TheVariants.{Add, Sub, Mul, And, Or, Xor, Shl, Shr, Sar, Eq, Ltu, Lts}
 use Rattle.net_model.specs.declared.hardware.Netlist.{Netlist}
-use Rattle.net_model.specs.Nets.{memory_id}
+use Rattle.net_model.specs.Nets.{place_in}
 use Rattle.net_model.specs.Terms.{Term, word, reg, const, read, un, bin, slice, cat, zext, sext, select, Move, keep, write, write_at}
-use Rattle.net_model.specs.Texts.{first_name, memory_name, move_text, name_of, op1_text, op2_text, term_text}
+use Rattle.net_model.specs.Texts.{first_name, move_text, name_of, op1_text, op2_text, space_name, term_text}
 use Rattle.transfer_set.specs.TextMarks.{IsMoveOf, IsTermOf, Plain, is_close, is_mark}
 use Rattle.net_extract.proofs.PlainNames.{HasSpelledNames}
 use Rattle.asm_text.specs.Lines.{IsTransferText, IsUnbroken, Lacks, storage_in}
@@ -104,9 +104,9 @@ module _ (netlist : Netlist) (names : HasSpelledNames netlist) where
   solid_term (word w) f = solid_name (first_name netlist.codes) names.code
   solid_term (reg r w) f = solid_storage r
   solid_term (const w v) f = solid_concat (decimal v ∷ codes "#" ∷ decimal w ∷ []) (solid_decimal v f.1, (refl, (solid_decimal w f.0, tt)))
-  solid_term (read a w) f =
-      solid_concat (codes "read(" ∷ memory_name netlist ∷ codes "," ∷ term_text netlist a ∷ codes ")" ∷ [])
-      (refl, (solid_storage (memory_id netlist.storages), (refl, (solid_term a f.0, (refl, tt)))))
+  solid_term (read space a w) f =
+      solid_concat (codes "read(" ∷ space_name netlist space ∷ codes "," ∷ term_text netlist a ∷ codes ")" ∷ [])
+      (refl, (solid_storage (place_in space netlist.storages), (refl, (solid_term a f.0, (refl, tt)))))
   solid_term (un o a) f = solid_concat (op1_text o ∷ codes "(" ∷ term_text netlist a ∷ codes ")" ∷ []) (solid_op1 o, (refl, (solid_term a f, (refl, tt))))
   solid_term (bin o a b) f =
       solid_concat (op2_text o ∷ codes "(" ∷ term_text netlist a ∷ codes "," ∷ term_text netlist b ∷ codes ")" ∷ [])

@@ -4,7 +4,7 @@ use Rattle.net_model.specs.declared.hardware.Netlist.{Netlist}
 use Rattle.net_model.specs.Elaborated.{netlist_of}
 use Rattle.net_model.specs.Patterns.{ArePatterns, Pattern}
 use Rattle.net_model.specs.Texts.{move_text}
-use Rattle.net_model.specs.Written.{Entry}
+use Rattle.net_model.specs.Written.{Text}
 use Rattle.net_extract.specs.Extracts.{IsRoutedFile}
 
 pub record Machine : Type 0 where
@@ -14,7 +14,7 @@ pub record Machine : Type 0 where
 -- the bytes are a netlist text that keeps all rules, and the machine is its netlist, with all
 -- patterns in their order
 pub record IsMachine (net : List ℕ) (machine : Machine) : Type 0 where
-  pub entries : List Entry
+  pub entries : Text
   pub file : IsRoutedFile net entries
   pub netlist : machine.netlist ≡ netlist_of entries
   pub patterns : ArePatterns machine.netlist machine.patterns

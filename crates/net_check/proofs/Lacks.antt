@@ -1,33 +1,40 @@
 -- The lone memory and the lone code of a netlist.
-use Rattle.std.proofs.Common.{◌≡◌, ℕ, ◌<◌, List, [], ◌∷◌, Some, None, length, get_or, slice_get, refl, sym, ap, ◌∙◌, subst, arith, zero, suc}
+use Rattle.std.proofs.Common.{◌≡◌, ℕ, ◌<◌, List, [], ◌∷◌, Some, None, length, get_or, slice_get, option_map, refl, sym, ap, ◌∙◌, subst, arith, zero-add, zero, suc}
 use Rattle.std.specs.List.{AllByRecursion}
 use Rattle.net_model.specs.declared.hardware.Netlist.{Netlist}
 use Rattle.net_model.specs.declared.hardware.Code.{Code}
 use Rattle.net_model.specs.declared.hardware.Storage.{Storage}
-use Rattle.net_model.specs.declared.hardware.Storage.TheVariants.{Register, Memory}
-use Rattle.net_model.specs.Nets.{counter_of, counter_width, storage_bits}
+use Rattle.net_model.specs.declared.hardware.Storage.TheVariants.{Register, Memory, File}
+use Rattle.net_model.specs.declared.hardware.Space.TheVariants.{File as InFile}
+use Rattle.net_model.specs.Nets.{array_in, counter_of, counter_width, storage_bits}
 use Rattle.net_model.specs.CheckedRules.{StorageKeeps, IsCounter, IsAddressed, HasCounter, HasSizes, IsWellFormed, memory_count, code_size, memory_addr_width}
 use Rattle.rec_bits.specs.Operators.{IsWidth}
 use Rattle.net_check.specs.Inner.Roles.{lone_from, IsShape}
+use Rattle.net_check.specs.Inner.Roles.{shape_of as measures_of}
 use Rattle.net_check.specs.declared.role.Shape.{Shape}
 
 some_met : (s t : Shape) (storages : List Storage) → lone_from (Some s) storages ≡ Some t → (memory_count storages ≡ 0) × (t ≡ s)
 some_met s t [] e = (refl, cc e)
-some_met s t (Register name width input when ∷ storages) e = some_met s t storages e
-some_met s t (Memory name width size addr_width value addr when ∷ storages) e = absurd (cc e)
+some_met s t (Register name width input when ∷ storages) e = simp zero-add (some_met s t storages e)
+some_met s t (Memory cells ∷ storages) e = absurd (cc e)
+some_met s t (File cells ∷ storages) e = simp zero-add (some_met s t storages e)
 
 some_lost : (s : Shape) (storages : List Storage) → lone_from (Some s) storages ≡ None → 0 < memory_count storages
 some_lost s [] e = absurd (cc e)
-some_lost s (Register name width input when ∷ storages) e = some_lost s storages e
-some_lost s (Memory name width size addr_width value addr when ∷ storages) e = omega arith
+some_lost s (Register name width input when ∷ storages) e = simp zero-add (some_lost s storages e)
+some_lost s (Memory cells ∷ storages) e = omega arith
+some_lost s (File cells ∷ storages) e = simp zero-add (some_lost s storages e)
 
 pub shape_of : (shape : Shape) (storages : List Storage) → lone_from None storages ≡ Some shape → IsShape storages shape
 shape_of shape [] e = absurd (cc e)
 shape_of shape (Register name width input when ∷ storages) e =
     let k : IsShape storages shape = shape_of shape storages e in
-    record { one = k.one; width = k.width; size = k.size; addr_width = k.addr_width }
-shape_of shape (Memory name width size addr_width value addr when ∷ storages) e =
-    let k : (memory_count storages ≡ 0) × (shape ≡ record { width = width; size = size; addr_width = addr_width }) = some_met _ shape storages e in
+    record { one = simp zero-add k.one; width = k.width; size = k.size; addr_width = k.addr_width }
+shape_of shape (File cells ∷ storages) e =
+    let k : IsShape storages shape = shape_of shape storages e in
+    record { one = simp zero-add k.one; width = k.width; size = k.size; addr_width = k.addr_width }
+shape_of shape (Memory cells ∷ storages) e =
+    let k : (memory_count storages ≡ 0) × (shape ≡ measures_of cells) = some_met _ shape storages e in
     record {
       one = omega (arith, k.0);
       width = sym (ap (λ (s : Shape). s.width) k.1);
@@ -37,8 +44,9 @@ shape_of shape (Memory name width size addr_width value addr when ∷ storages) 
 
 pub no_shape : (storages : List Storage) → lone_from None storages ≡ None → memory_count storages ≡ 1 → ⊥
 no_shape [] e h = omega arith
-no_shape (Register name width input when ∷ storages) e h = no_shape storages e h
-no_shape (Memory name width size addr_width value addr when ∷ storages) e h =
+no_shape (Register name width input when ∷ storages) e h = no_shape storages e (simp zero-add at h)
+no_shape (File cells ∷ storages) e h = no_shape storages e (simp zero-add at h)
+no_shape (Memory cells ∷ storages) e h =
     let k : 0 < memory_count storages = some_lost _ storages e in
     absurd (omega (arith, k, h))
 
@@ -55,14 +63,26 @@ size_is (x ∷ codes) code one e = sym (ap (λ (c : Code). c.words) e)
 pub counter_wide : (netlist : Netlist) (storages : List Storage) (id : ℕ) → AllByRecursion (StorageKeeps netlist) storages → IsCounter (slice_get storages id) → IsWidth (storage_bits (slice_get storages id))
 counter_wide netlist [] id h c = absurd c
 counter_wide netlist (Register name width input when ∷ storages) zero h c = h.0.0
-counter_wide netlist (Memory name width size addr_width value addr when ∷ storages) zero h c = absurd c
+counter_wide netlist (Memory cells ∷ storages) zero h c = absurd c
+counter_wide netlist (File cells ∷ storages) zero h c = absurd c
 counter_wide netlist (Register name width input when ∷ storages) (suc id) h c = counter_wide netlist storages id h.1 c
-counter_wide netlist (Memory name width size addr_width value addr when ∷ storages) (suc id) h c = counter_wide netlist storages id h.1 c
+counter_wide netlist (Memory cells ∷ storages) (suc id) h c = counter_wide netlist storages id h.1 c
+counter_wide netlist (File cells ∷ storages) (suc id) h c = counter_wide netlist storages id h.1 c
 
 pub addr_wide : (netlist : Netlist) (storages : List Storage) → AllByRecursion (StorageKeeps netlist) storages → memory_count storages ≡ 1 → IsWidth (memory_addr_width storages)
 addr_wide netlist [] h e = absurd (omega arith)
-addr_wide netlist (Register name width input when ∷ storages) h e = addr_wide netlist storages h.1 e
-addr_wide netlist (Memory name width size addr_width value addr when ∷ storages) h e = h.0.1
+addr_wide netlist (Register name width input when ∷ storages) h e = addr_wide netlist storages h.1 (simp zero-add at e)
+addr_wide netlist (Memory cells ∷ storages) h e = h.0.1
+addr_wide netlist (File cells ∷ storages) h e = addr_wide netlist storages h.1 (simp zero-add at e)
+
+-- the addresses of a file have some bits
+pub file_wide : (netlist : Netlist) (storages : List Storage) (file : Shape) → AllByRecursion (StorageKeeps netlist) storages → Some file ≡ option_map measures_of (array_in InFile storages) → IsWidth file.addr_width
+file_wide netlist [] file h e = absurd (cc e)
+file_wide netlist (Register name width input when ∷ storages) file h e = file_wide netlist storages file h.1 e
+file_wide netlist (Memory cells ∷ storages) file h e = file_wide netlist storages file h.1 e
+file_wide netlist (File cells ∷ storages) file h e =
+    let s : measures_of cells ≡ file = cc e in
+    subst (λ (shape : Shape). IsWidth shape.addr_width) s h.0.1
 
 reached_as : (a b m n : ℕ) → a ≡ b → m ≡ n → IsAddressed a m → IsAddressed b n
 reached_as a b m n e f h = subst (λ k. IsAddressed k n) e (subst (λ k. IsAddressed a k) f h)

@@ -6,7 +6,7 @@ use Rattle.std.proofs.lemmas.List.{length-map}
 use Rattle.net_model.specs.declared.hardware.Netlist.{Netlist}
 use Rattle.net_model.specs.declared.hardware.Net.{Net}
 use Rattle.net_model.specs.declared.hardware.Storage.{Storage}
-use Rattle.net_model.specs.declared.hardware.Storage.TheVariants.{Register, Memory}
+use Rattle.net_model.specs.declared.hardware.Storage.TheVariants.{Register, Memory, File}
 use Rattle.net_model.specs.declared.hardware.Gate.{Gate}
 use Rattle.net_model.specs.declared.hardware.Gate.TheVariants.{Word, Reg, Read, Const, Wire, Un, Bin, Slice, Cat, Zext, Sext, Case, Bus}
 use Rattle.net_model.specs.Nets.{width_at, row_nets, driver_nets, gate_nets, nets_of}
@@ -46,7 +46,8 @@ module _ (netlist : Netlist) where
   read_in : (width addr : ℕ) (memory : Option Storage) → ReadKeeps netlist width addr memory → Inside addr
   read_in width addr None h = absurd h
   read_in width addr (Some (Register name own input when)) h = absurd h
-  read_in width addr (Some (Memory name own size addr_width value at when)) h = h.1.0
+  read_in width addr (Some (Memory cells)) h = h.1.0
+  read_in width addr (Some (File cells)) h = h.1.0
 
   gate_in : (width : ℕ) (gate : Gate) → GateKeeps netlist width gate → AllByRecursion Inside (gate_nets gate)
   gate_in width (Word code) h = tt

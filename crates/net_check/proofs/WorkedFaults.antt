@@ -1,15 +1,16 @@
 -- The faults of the small netlists.
 use Rattle.std.proofs.Common.{lit≤, lit<, refl, ℕ, zero, suc, ◌<◌, ◌≡◌, ◌⊎◌, inl, inr, List, [], ◌∷◌, slice_get, slice_index, arith}
 use Rattle.std.specs.List.{AllByRecursion}
-use Rattle.net_model.specs.declared.fault.NetFault.TheVariants.{Cycle, Enable, WideSelect}
+use Rattle.net_model.specs.declared.fault.NetFault.TheVariants.{Cycle, Enable, WideSelect, FileAddr, Role as RoleFault}
+use Rattle.net_model.specs.declared.fault.Role.TheVariants.{File as NoFile}
 use Rattle.net_model.specs.Nets.{nets_of}
 use Rattle.net_model.specs.Order.{position_of}
 use Rattle.net_model.specs.Depends.{Among, Depends, direct, via, named_by, IsAcyclic}
-use Rattle.net_model.specs.CheckedRules.{HasRoles, KeepsRules}
+use Rattle.net_model.specs.CheckedRules.{HasFile, HasRoles, KeepsRules}
 use Rattle.net_model.specs.NetFaults.{FaultOf}
 use Rattle.net_model.proofs.Acyclic.{acyclic_of}
 use Rattle.net_model.proofs.FaultLaws.{kept_no_fault}
-use Rattle.net_check.specs.Worked.{looped, small}
+use Rattle.net_check.specs.Worked.{looped, small, filed}
 
 -- ---- nets 1 and 2 lie on a cycle, and net 0 doesn't
 
@@ -83,6 +84,7 @@ module _ (enable : ℕ) where
     counter = lit≤ tt;
     sizes = ((lit≤ tt, lit≤ tt), (lit≤ tt, lit≤ tt));
     address = lit≤ tt;
+    file = (refl, tt);
   }
 
 -- the enable comes first, and the selector only where the enable is static
@@ -91,3 +93,47 @@ late_enable = (small_acyclic 3, small_roles 3, refl)
 
 pub wide_selector : FaultOf (small 1 2) (WideSelect 20)
 wide_selector = (small_acyclic 2, small_roles 2, (refl, tt), (refl, (refl, tt)), refl)
+
+-- ---- a register file
+
+filed_acyclic : (size addr : ℕ) → IsAcyclic (filed size addr)
+filed_acyclic size addr = acyclic_of (filed size addr) order (record { long = refl; nets = below; places = placed; falls = falls })
+  where
+    order : List ℕ
+    order = 0 ∷ 1 ∷ []
+
+    below : (i : ℕ) → i < 2 → slice_index order i < 2
+    below zero h = lit< tt
+    below (suc zero) h = lit< tt
+    below (suc (suc i)) h = absurd (omega arith)
+
+    placed : (n : ℕ) → n < 2 → position_of order n < 2
+    placed zero h = lit< tt
+    placed (suc zero) h = lit< tt
+    placed (suc (suc i)) h = absurd (omega arith)
+
+    falls : (n : ℕ) → AllByRecursion (λ m. position_of order m < position_of order n) (nets_of (slice_get (filed size addr).nets n))
+    falls zero = tt
+    falls (suc zero) = tt
+    falls (suc (suc n)) = tt
+
+filed_roles : (size addr : ℕ) → HasFile (filed size addr) → HasRoles (filed size addr)
+filed_roles size addr file = record {
+  code = refl;
+  memory = refl;
+  counter = lit≤ tt;
+  sizes = ((lit≤ tt, lit≤ tt), (lit≤ tt, lit≤ tt));
+  address = lit≤ tt;
+  file = file;
+}
+
+-- the file is written where the program counter says
+pub late_address : FaultOf (filed 4 1) (FileAddr 20)
+late_address = (filed_acyclic 4 1, filed_roles 4 1 (refl, (lit≤ tt, lit≤ tt)), tt, tt, tt, refl)
+
+-- two bits reach four cells, and a file has a cell
+pub past_its_addresses : FaultOf (filed 5 1) (RoleFault NoFile)
+past_its_addresses = (filed_acyclic 5 1, (refl, refl, lit≤ tt, ((lit≤ tt, lit≤ tt), (lit≤ tt, lit≤ tt)), lit≤ tt, λ h. omega (arith, h.1.1)))
+
+pub without_a_cell : FaultOf (filed 0 0) (RoleFault NoFile)
+without_a_cell = (filed_acyclic 0 0, (refl, refl, lit≤ tt, ((lit≤ tt, lit≤ tt), (lit≤ tt, lit≤ tt)), lit≤ tt, λ h. omega (arith, h.1.0)))

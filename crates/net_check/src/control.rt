@@ -1,14 +1,14 @@
 // The rules on the nets that stand in control places.
 
 ghost use Rattle.std.specs.Prelude.{◌≡◌, IfOk, MatchOption, Some};
-ghost use Rattle.net_model.specs.CheckedRules.{HasRoles};
+ghost use Rattle.net_model.specs.CheckedRules.{HasRoles, HasStaticFileAddrs};
 ghost use Rattle.net_model.specs.Depends.{IsAcyclic};
 ghost use Rattle.rec_bits.specs.Faults.{least, sooner};
 ghost use Rattle.net_model.specs.Control.{enables, selectors};
 ghost use Rattle.net_model.specs.NetFaults.{FaultOf, failing, name_at};
 ghost use Rattle.net_model.specs.Nets.{width_at};
 ghost use Rattle.net_model.specs.Order.{IsOrder};
-ghost use Rattle.net_check.specs.Inner.Control.{HasFlags, KeepsControl, passes};
+ghost use Rattle.net_check.specs.Inner.Control.{HasFlags, KeepsControl, KeepsStatics, passes};
 
 use net_model::{NetFault, Netlist, Property, flags_of, is_set};
 use rec_bits::{Items, NoMemory};
@@ -20,7 +20,7 @@ const NARROW: u8 = 1;
 // A rule on a net that stands in a control place.
 #[derive(Clone, Copy)]
 pub(crate) enum Rule {
-    // N7: it is static.
+    // N7 and N14: it is static.
     Enable,
     // N8: where it is static, it depends on gates alone that control may use.
     ControlOp,
@@ -162,7 +162,22 @@ fn fault_by_flags(
     fault_at_enables(alloc, netlist, flags, enable_nets.as_slice())
 }
 
-// The first of the rules N7 to N9 that is broken.
+// N14, where it is broken, by the flags of the nets.
+fn file_fault(alloc: Global, netlist: &Netlist, flags: &Flags) -> Result<Option<NetFault>, NoMemory>
+    requires acyclic { IsAcyclic netlist.now }
+    requires roles { HasRoles netlist.now }
+    requires kept { KeepsControl netlist.now }
+    requires flags { HasFlags netlist.now flags.now }
+    ensures { IfOk result (λ found. MatchOption found (HasStaticFileAddrs netlist.now) (FaultOf netlist.now)) }
+{
+    let addrs = netlist.file_addrs(alloc)?;
+    match least_broken(Rule::Enable, netlist, flags, addrs.as_slice()) {
+        Some(at) => Ok(Some(NetFault::FileAddr(at))),
+        None => Ok(None),
+    }
+}
+
+// The first of the rules N7 to N9 and N14 that is broken.
 pub(crate) fn control_fault(
     alloc: Global,
     netlist: &Netlist,
@@ -170,8 +185,11 @@ pub(crate) fn control_fault(
 ) -> Result<Option<NetFault>, NoMemory>
     requires roles { HasRoles netlist.now }
     requires order { IsOrder netlist.now order.now }
-    ensures { IfOk result (λ found. MatchOption found (KeepsControl netlist.now) (FaultOf netlist.now)) }
+    ensures { IfOk result (λ found. MatchOption found (KeepsStatics netlist.now) (FaultOf netlist.now)) }
 {
     let flags = Flags::new(alloc, netlist, order)?;
-    fault_by_flags(alloc, netlist, &flags)
+    match fault_by_flags(alloc, netlist, &flags)? {
+        Some(fault) => Ok(Some(fault)),
+        None => file_fault(alloc, netlist, &flags),
+    }
 }

@@ -1,10 +1,11 @@
-//! The rules N5 to N9 of a netlist: it is accepted with an order of its nets, or refused with the
-//! first rule that it breaks.
+//! The rules N5 to N9 and N14 of a netlist: it is accepted with an order of its nets, or refused
+//! with the first rule that it breaks.
 //!
 //! Promise: `check` accepts a netlist that keeps N1 to N4 and N11 (`IsWellFormed`) as it is, with
-//! an order of its nets in which it keeps every rule, or refuses it with the first of N5 to N9 that
-//! it breaks (`found`). It accepts exactly where the rules are kept (`accepted`: `KeepsRules`) and
-//! refuses exactly where one is broken (`refused`: `FaultOf`), but for want of memory.
+//! an order of its nets in which it keeps every rule, or refuses it with the first of N5 to N9 and
+//! N14 that it breaks (`found`). It accepts exactly where the rules are kept (`accepted`:
+//! `KeepsRules`) and refuses exactly where one is broken (`refused`: `FaultOf`), but for want of
+//! memory.
 //!
 //! Invariant: the walk that orders the nets keeps its own path, of which each open net names the
 //! next, and every placed net stands behind all that it names (`specs/Inner/Walk`). The search for
@@ -17,12 +18,12 @@
 //! - `stack`: a list whose last item is taken first.
 //! - `walk`: the nets in an order, or one that depends on itself.
 //! - `cycle`: N5; the least net on a cycle, by strongly connected components.
-//! - `role`: N6; the first part that the netlist lacks.
-//! - `control`: N7 to N9, on the nets in control places.
+//! - `role`: N6; the first part that the netlist lacks, or the register file of its edition.
+//! - `control`: N7 to N9, on the nets in control places, and N14, on the addresses of a file.
 //! - `rules`: the rules in their order, and `check`.
 //! - `specs/Inner/`: `Walk`, `Components`, `Graphs`, `Roles` and `Control`, which go with the
 //!   loops. Public contracts cite no file here, since the rules are `net_model/specs/CheckedRules`
-//!   and `NetFaults`; `specs/Worked` has two small netlists.
+//!   and `NetFaults`; `specs/Worked` has small netlists.
 //! - `proofs/`: `Walks`, `Steps`, `Ends` for the walk, `Meets`, `Joins`, `Closes`, `Marks`,
 //!   `SearchEnds` for the search, `Broken` and `Lacks` for the other rules.
 #![tactic(auto)]

@@ -1,26 +1,68 @@
 // The parts that each processor has.
 
-ghost use Rattle.std.specs.Prelude.{◌≡◌, ◌≤◌, ◌↔◌, IsTrue, MatchOption, None, slice_get};
-ghost use Rattle.net_model.specs.CheckedRules.{HasRoles, IsCounter, IsAddressed, IsWellFormed};
+ghost use Rattle.std.specs.Prelude.{◌≡◌, ◌≤◌, ◌↔◌, IsTrue, MatchOption, None, option_map, slice_get};
+ghost use Rattle.net_model.specs.CheckedRules.{HasFile, HasRoles, IsCounter, IsAddressed, IsWellFormed, count_in, files_of};
+ghost use Rattle.net_model.specs.declared.hardware.Space.TheVariants.{File as InFile};
 ghost use Rattle.net_model.specs.NetFaults.{LacksRole};
-ghost use Rattle.net_model.specs.Nets.{storage_bits};
-ghost use Rattle.net_check.specs.Inner.Roles.{lone_from};
+ghost use Rattle.net_model.specs.Nets.{array_in, storage_bits};
+ghost use Rattle.net_check.specs.Inner.Roles.{lone_from, shape_of};
 
-use net_model::{Netlist, Role, Storage};
+use net_model::{Cells, Netlist, Role, Space, Storage};
 use rec_bits::mask;
 
 // The most bits of a program counter.
 const COUNTER_BITS: u8 = 16;
 
-// The least size of a code or of a memory.
+// The least size of a code, a memory or a file.
 const LEAST_SIZE: u32 = 1;
 
-// A memory's measures.
+// The measures of a memory or a file.
 #[derive(Clone, Copy)]
 pub(crate) struct Shape {
     pub width: u8,
     pub size: u32,
     pub addr_width: u8,
+}
+
+fn shape_of(cells: &Cells) -> Shape
+    ensures { result ≡ shape_of cells.now }
+{
+    Shape {
+        width: cells.width,
+        size: cells.size,
+        addr_width: cells.addr_width,
+    }
+}
+
+// The register file, where there is one: the first.
+fn file_shape(storages: &[Storage]) -> Option<Shape>
+    ensures { result ≡ option_map shape_of (array_in InFile storages.now) }
+{
+    for storage in storages {
+        if let Storage::File(cells) = storage {
+            return Some(shape_of(cells));
+        }
+    }
+    None
+}
+
+fn count_files(storages: &[Storage]) -> usize
+    ensures { result ≡ count_in InFile storages.now }
+{
+    let mut count = 0;
+    for storage in storages {
+        if storage.is_in(Space::File) {
+            count += 1;
+        }
+    }
+    count
+}
+
+// How many files a netlist of an edition has.
+fn files_of(edition: u8) -> usize
+    ensures { result ≡ files_of edition }
+{
+    if edition == 2 { 1 } else { 0 }
 }
 
 // The memory, where there is just one.
@@ -29,21 +71,11 @@ fn lone_memory(storages: &[Storage]) -> Option<Shape>
 {
     let mut met = None;
     for storage in storages {
-        if let Storage::Memory {
-            width,
-            size,
-            addr_width,
-            ..
-        } = storage
-        {
+        if let Storage::Memory(cells) = storage {
             if met.is_some() {
                 return None;
             }
-            met = Some(Shape {
-                width: *width,
-                size: *size,
-                addr_width: *addr_width,
-            });
+            met = Some(shape_of(cells));
         }
     }
     met
@@ -86,6 +118,21 @@ fn are_reached(words: u32, bits: u8, memory: Shape) -> bool
     is_reached(words, bits) && is_reached(memory.size, memory.addr_width)
 }
 
+// Whether the netlist has as many files as its edition has, and an address reaches all cells.
+fn has_file(netlist: &Netlist) -> bool
+    requires { IsWellFormed netlist.now }
+    ensures { IsTrue result ↔ HasFile netlist.now }
+{
+    let storages = netlist.storages.as_slice();
+    if count_files(storages) != files_of(netlist.edition) {
+        return false;
+    }
+    match file_shape(storages) {
+        Some(shape) => is_reached(shape.size, shape.addr_width),
+        None => true,
+    }
+}
+
 // The first part that the netlist lacks.
 pub(crate) fn lacking_role(netlist: &Netlist) -> Option<Role>
     requires { IsWellFormed netlist.now }
@@ -105,6 +152,9 @@ pub(crate) fn lacking_role(netlist: &Netlist) -> Option<Role>
     }
     if memory.addr_width > memory.width {
         return Some(Role::Addr);
+    }
+    if !has_file(netlist) {
+        return Some(Role::File);
     }
     None
 }

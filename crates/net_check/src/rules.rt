@@ -45,7 +45,7 @@ fn net_order(alloc: Global, netlist: &Netlist) -> Result<Items<u32>, CheckFault>
     order_of(alloc, netlist, graph.as_slice())
 }
 
-// Refuses a netlist that breaks one of N6 to N9.
+// Refuses a netlist that breaks one of N6 to N9 and N14.
 fn check_parts(alloc: Global, netlist: &Netlist, order: &[u32]) -> Result<(), CheckFault>
     requires formed { IsWellFormed netlist.now }
     requires order { IsOrder netlist.now order.now }
@@ -60,7 +60,7 @@ fn check_parts(alloc: Global, netlist: &Netlist, order: &[u32]) -> Result<(), Ch
     }
 }
 
-// An order of the nets of a netlist that keeps N5 to N9.
+// An order of the nets of a netlist that keeps N5 to N9 and N14.
 fn checked_order(alloc: Global, netlist: &Netlist) -> Result<Items<u32>, CheckFault>
     requires { IsWellFormed netlist.now }
     ensures { MatchResult result (KeepsRules netlist.now) (Refuses netlist.now) }
@@ -70,16 +70,16 @@ fn checked_order(alloc: Global, netlist: &Netlist) -> Result<Items<u32>, CheckFa
     Ok(order)
 }
 
-/// Accepts a netlist that keeps N5 to N9, with an order of its nets in which each stands behind
-/// those that it depends on. The netlist has to keep N1 to N4 and N11.
+/// Accepts a netlist that keeps N5 to N9 and N14, with an order of its nets in which each stands
+/// behind those that it depends on. The netlist has to keep N1 to N4 and N11.
 ///
 /// # Errors
 ///
-/// The first of the rules N5 to N9 that is broken, in this order. N5, N7, N8 and N9 come with the
+/// The first of the rules N5 to N9 and N14 that is broken, in this order. All but N6 come with the
 /// offset of a name: N5 with that of the item of the least-numbered net that lies on a cycle, the
-/// others with the least one of the items of the nets that stand in a control place and break the
-/// rule. N6 comes with the first part that is lacking. The netlist is given up. `Memory` is want of
-/// memory.
+/// others with the least one of the items of the nets that stand in a control place, or of N14 as
+/// an address of a file, and break the rule. N6 comes with the first part that is lacking. The
+/// netlist is given up. `Memory` is want of memory.
 pub fn check(alloc: Global, netlist: Netlist) -> Result<Checked, CheckFault>
     requires { IsWellFormed netlist }
     ensures found { MatchResult result (Accepts netlist) (Refuses netlist) }

@@ -2,6 +2,7 @@
 use Rattle.std.proofs.Common.{◌≡◌, ℕ, ◌<◌, ◌≤◌, ◌==◌, ◌||◌, ◌^◌, nat_lt, if◌then◌else◌, Bool, true, false, bit_or, List, length, refl, sym, ◌∙◌, ap, arith}
 use Rattle.std.proofs.lemmas.Bool.{eqb-true, eqb-false, eq-eqb, ltb-true, ltb-false, ne_eqb}
 use Rattle.std.proofs.lemmas.Nat.{one_shl}
+use Rattle.net_model.specs.declared.hardware.Space.TheVariants.{Memory as InMemory, File as InFile}
 use Rattle.net_model.specs.declared.hardware.Netlist.{Netlist}
 use Rattle.net_model.specs.Patterns.{ArePatterns, Pattern}
 use Rattle.net_model.specs.Terms.{Term, word, reg, const, read, un, bin, slice, cat, zext, sext, select}
@@ -18,6 +19,7 @@ use Rattle.form_set.specs.Listing.{AreForms}
 use Rattle.emit_seq.specs.Spares.{wanted}
 use Rattle.emit_seq.proofs.Opened.{opened_plan}
 use Rattle.live_sets.proofs.Bits.{regs_of_none, regs_of_one, regs_of_or, regs_of_past}
+use Rattle.word_fit.proofs.Plain.{no_file}
 use Rattle.right_code.specs.Forks.{plan_rule}
 use Rattle.right_code.specs.Inner.Forks.{IsBranchForm}
 use Rattle.right_code.specs.Tasks.{IsChecked, Task, task_stock}
@@ -30,11 +32,12 @@ neither : (a b : Bool) → a ≡ false → b ≡ false → (a || b) ≡ false
 neither a b e f = ap (λ x. x || b) e ∙ f
 
 -- an expression of a netlist reads no register past its storages
-past_netlist : (netlist : Netlist) → length netlist.storages ≤ 14 → (t : Term) → IsTermOf netlist t → (i r : ℕ) → 16 ≤ r → term_reads i t (register r) ≡ false
+past_netlist : (netlist : Netlist) → length netlist.storages ≤ 15 → (t : Term) → IsTermOf netlist t → (i r : ℕ) → 16 ≤ r → term_reads i t (register r) ≡ false
 past_netlist netlist few (word w) h i r le = refl
 past_netlist netlist few (reg q w) h i r le = ne_eqb r q (λ e. let k = h.0 in omega (arith, k, few, le, e))
 past_netlist netlist few (const w v) h i r le = refl
-past_netlist netlist few (read a w) h i r le = past_netlist netlist few a h.0 i r le
+past_netlist netlist few (read InMemory a w) h i r le = past_netlist netlist few a h.0 i r le
+past_netlist netlist few (read InFile a w) h i r le = past_netlist netlist few a h.0 i r le
 past_netlist netlist few (un o a) h i r le = past_netlist netlist few a h i r le
 past_netlist netlist few (bin o a b) h i r le = neither (term_reads i a (register r)) (term_reads i b (register r)) (past_netlist netlist few a h.0 i r le) (past_netlist netlist few b h.1 i r le)
 past_netlist netlist few (slice a hi lo) h i r le = past_netlist netlist few a h.0 i r le
@@ -71,7 +74,8 @@ reads_below : (t : Term) (i r : ℕ) → r < 16 → term_reads i t (register r) 
 reads_below (word w) i r lt = sym (regs_of_none r)
 reads_below (reg q w) i r lt = one_reads q r lt
 reads_below (const w v) i r lt = sym (regs_of_none r)
-reads_below (read a w) i r lt = reads_below a i r lt
+reads_below (read InMemory a w) i r lt = reads_below a i r lt
+reads_below (read InFile a w) i r lt = reads_below a i r lt
 reads_below (un o a) i r lt = reads_below a i r lt
 reads_below (bin o a b) i r lt = both _ _ _ _ (reads_below a i r lt) (reads_below b i r lt) ∙ sym (regs_of_or (term_registers a) (term_registers b) r)
 reads_below (slice a hi lo) i r lt = reads_below a i r lt
@@ -106,7 +110,7 @@ module _ (order : List ℕ) (task : Task) (checked : IsChecked order task) (patt
       goal = plan_goal (task_stock rules task) tree (use_form k ps cs) orderly
 
       form : IsBranchForm task.netlist patterns rule goal.0 goal.1
-      form = fork_form task.netlist order checked.netlist (has_bits task.netlist order checked.netlist) patterns (known_of task.netlist order checked.netlist patterns are) reach rules forms k rule goal.0 goal.1
+      form = fork_form task.netlist order checked.netlist (no_file task.netlist order checked.netlist checked.first) (has_bits task.netlist order checked.netlist) patterns (known_of task.netlist order checked.netlist patterns are) reach rules forms k rule goal.0 goal.1
           (opened_plan (task_stock rules task) k ps cs tested tree true orderly).listed goal.2
 
       terms : IsTermOf task.netlist form.condition

@@ -3,7 +3,7 @@ use Rattle.std.proofs.Common.{◌≡◌, ◌≤◌, ℕ, List, [], ◌∷◌, re
 use Rattle.std.specs.List.{AllByRecursion}
 use Rattle.net_model.specs.declared.hardware.Netlist.{Netlist}
 use Rattle.net_model.specs.declared.hardware.Storage.{Storage}
-use Rattle.net_model.specs.declared.hardware.Storage.TheVariants.{Register, Memory}
+use Rattle.net_model.specs.declared.hardware.Storage.TheVariants.{Register, Memory, File}
 use Rattle.net_model.specs.CheckedRules.{HasFewCells, KeepsRules, memory_addr_width}
 use Rattle.net_model.specs.Nets.{memory_id, memory_size}
 use Rattle.net_code.specs.Inner.Memories.{storage_addr_bits}
@@ -11,12 +11,14 @@ use Rattle.net_code.specs.Inner.Memories.{storage_addr_bits}
 pub addresses_found : (storages : List Storage) → storage_addr_bits (slice_get storages (memory_id storages)) ≡ memory_addr_width storages
 addresses_found [] = refl
 addresses_found (Register name width input when ∷ storages) = addresses_found storages
-addresses_found (Memory name width size addr_width value addr when ∷ storages) = refl
+addresses_found (Memory cells ∷ storages) = refl
+addresses_found (File cells ∷ storages) = addresses_found storages
 
 memory_few : (storages : List Storage) → AllByRecursion HasFewCells storages → memory_size storages ≤ 65536
 memory_few [] h = omega arith
 memory_few (Register name width input when ∷ storages) h = memory_few storages h.1
-memory_few (Memory name width size addr_width value addr when ∷ storages) h = h.0
+memory_few (Memory cells ∷ storages) h = h.0
+memory_few (File cells ∷ storages) h = memory_few storages h.1
 
 pub few_of : (netlist : Netlist) (order : List ℕ) → KeepsRules netlist order → memory_size netlist.storages ≤ 65536
 few_of netlist order k = memory_few netlist.storages k.formed.limits.cells

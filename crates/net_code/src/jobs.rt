@@ -23,7 +23,7 @@ fn addr_bits(storage: Option<&Storage>) -> u8
     ensures { result ≡ storage_addr_bits (option_copied storage.entry) }
 {
     match storage {
-        Some(Storage::Memory { addr_width, .. }) => *addr_width,
+        Some(Storage::Memory(cells)) => cells.addr_width,
         _ => 0,
     }
 }

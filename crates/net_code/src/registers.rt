@@ -22,7 +22,7 @@ pub(crate) fn registers(e: &Expr) -> RegSet
         Expr::Word(_) => 0,
         Expr::Reg(id, _) => one(*id),
         Expr::Const { .. } => 0,
-        Expr::Read(a, _) => registers(a),
+        Expr::Read(a, _) | Expr::Cell(a, _) => registers(a),
         Expr::Un(_, a) => registers(a),
         Expr::Bin(_, a, b) => registers(a) | registers(b),
         Expr::Slice(a, _, _) => registers(a),

@@ -4,7 +4,7 @@ use Rattle.std.specs.List.{AllByRecursion}
 use Rattle.net_model.specs.declared.hardware.Code.{Code}
 use Rattle.net_model.specs.declared.hardware.Netlist.{Netlist}
 use Rattle.net_model.specs.declared.hardware.Storage.{Storage}
-use Rattle.net_model.specs.declared.hardware.Storage.TheVariants.{Register, Memory}
+use Rattle.net_model.specs.declared.hardware.Storage.TheVariants.{Register, Memory, File}
 use Rattle.net_model.specs.CheckedRules.{CodeKeeps, HasFewCells}
 use Rattle.net_model.specs.Nets.{memory_size}
 use Rattle.src_model.specs.declared.program.Var.{Var as Declared}
@@ -24,7 +24,8 @@ few_bits netlist (code ∷ codes) keeps = keeps.0.0.1
 pub few_cells : (storages : List Storage) → AllByRecursion HasFewCells storages → memory_size storages ≤ 65536
 few_cells [] few = omega arith
 few_cells (Register name width input when ∷ storages) few = few_cells storages few.1
-few_cells (Memory name width size addr_width value addr when ∷ storages) few = few.0
+few_cells (Memory cells ∷ storages) few = few.0
+few_cells (File cells ∷ storages) few = few_cells storages few.1
 
 -- places that lie in a memory begin and end in it
 apart_within : (from end : ℕ) (places : List Place) → Apart from places end → from ≤ end

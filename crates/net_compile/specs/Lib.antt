@@ -1,3 +1,4 @@
+pub mod Nets
 pub mod Tasks
 pub mod Code
 pub mod Compiled

@@ -14,7 +14,7 @@ use Rattle.net_model.specs.Elaborated.{width_or_none, net_of, plain_net, nets_of
 use Rattle.net_elab.specs.Inner.Emissions.{Pushed, Emitted, EmittedRows, EmittedRest}
 use Rattle.net_elab.specs.Inner.Found.{IsCells, cell_width_of}
 use Rattle.net_elab.specs.declared.site.Spot.{Spot}
-use Rattle.net_elab.specs.declared.site.Cells.{Cells}
+use Rattle.net_elab.specs.declared.site.Readable.{Readable}
 use Rattle.net_elab.specs.declared.expression.Pairs.{Pairs}
 use Rattle.net_model.proofs.Cases.{Row, phrase_Case}
 use Rattle.net_elab.proofs.Cases.{width_without, width_with}
@@ -38,7 +38,7 @@ read_is (Some m) (Some a) cell e h = pick (m.address == a) m.cell cell (let k : 
 own_net : (site : NetSite) (at : ℕ) (a : Phrase) (w : Option ℕ) (g : Gate) → wide (scope_at site) a ≡ w → plain_net at (width_or_none w) g ≡ net_of site at a g
 own_net site at a w g e = ap (λ (o : Option ℕ). plain_net at (width_or_none o) g) (sym e)
 
-pub read_end : (site : NetSite) (at : ℕ) (name : Ident) (a : Phrase) (cells : Cells) (old mid new : List Net) (m made : Spot)
+pub read_end : (site : NetSite) (at : ℕ) (name : Ident) (a : Phrase) (cells : Readable) (old mid new : List Net) (m made : Spot)
     → IsCells (option_map cell_width_of (memory_widths (scope_at site) name.name)) (memory_at site name.name) cells
     → IsSome (wide (scope_at site) (read name a)) → Emitted site at a old mid m
     → Pushed (Some cells.width) at (gate.Read cells.memory m.net) mid new made → Emitted site at (read name a) old new made

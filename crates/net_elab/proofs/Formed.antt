@@ -4,16 +4,20 @@ use Rattle.std.specs.List.{AllByRecursion, list_all}
 use Rattle.std.proofs.lemmas.Bool.Decides.{nat_tests}
 use Rattle.std.proofs.lemmas.Option.{slice_get_within}
 use Rattle.grammar.specs.declared.words.Ident.{Ident}
+use Rattle.net_model.specs.declared.hardware.Cells.{Cells}
+use Rattle.net_model.specs.declared.hardware.Space.{Space}
+use Rattle.net_model.specs.declared.hardware.Space.TheVariants.{Memory as InMemory, File as InFile}
 use Rattle.net_model.specs.declared.units.Port.{Port}
 use Rattle.net_model.specs.declared.hardware.Netlist.{Netlist}
 use Rattle.net_model.specs.declared.hardware.Net.{Net}
 use Rattle.net_model.specs.declared.hardware.Code.{Code}
 use Rattle.net_model.specs.declared.hardware.Storage.{Storage}
-use Rattle.net_model.specs.declared.hardware.Storage.TheVariants.{Register, Memory}
+use Rattle.net_model.specs.declared.hardware.Storage.TheVariants.{Register, Memory, File}
 use Rattle.net_model.specs.declared.hardware.Gate.{Gate}
 use Rattle.net_model.specs.declared.hardware.Gate.TheVariants as gate
 use Rattle.net_model.specs.Nets.{IsRegister, code_bits, storage_bits}
-use Rattle.net_model.specs.Widths.{DriversFit, HasWidth, WhenFits}
+use Rattle.rec_bits.specs.Operators.{IsWidth}
+use Rattle.net_model.specs.Widths.{ArrayFits, DriversFit, HasWidth, WhenFits}
 use Rattle.net_model.specs.CheckedRules.{CodeKeeps, GateKeeps, HasFewCells, IsWellFormed, IsWithinLimits, NetKeeps, StorageKeeps, register_count}
 use Rattle.net_model.specs.Written.{Entry, code, register, memory, net, bus, module_item, part, Phrase}
 use Rattle.net_model.specs.TextNames.{item_named, Scope, in_text}
@@ -23,7 +27,7 @@ use Rattle.net_model.specs.Elaborable.{DriverFeeds, FeedsIf, IsBound, IsDriven, 
 use Rattle.net_model.specs.DriverRules.{covers, covers_binding, covers_driver, covers_if, drives_once}
 use Rattle.net_model.specs.LimitRules.{count_register, count_registers}
 use Rattle.net_model.specs.Numbering.{NetSite, of_text, scope_at, bound, count, count_equation, count_input, count_inputs, count_outputs, count_item, count_storages, equations_of, storage_named}
-use Rattle.net_model.specs.Elaborated.{bound_out, codes_from, count_codes, elaborated_drivers, driver_pairs, equation_nets, equations_nets, input_nets, inputs_nets, inside, item_codes, item_nets, item_storages, nets_from, nets_if, elaborated, netlist_of, out_if, out_of, output_wire, output_wires, plain_net, storages_from}
+use Rattle.net_model.specs.Elaborated.{bound_out, codes_from, count_codes, elaborated_drivers, driver_pairs, equation_nets, equations_nets, input_nets, inputs_nets, inside, item_codes, item_nets, item_storages, nets_from, nets_if, elaborated, netlist_in, out_if, out_of, output_wire, output_wires, plain_net, storage_in, storages_from}
 use Rattle.net_elab.proofs.Standing.{Stands, stands_left, stands_right, length_equation, length_input, length_items, length_nets}
 use Rattle.net_elab.proofs.ItemNames.{names_differ}
 use Rattle.rec_bits.proofs.Booleans.{and_left, and_right}
@@ -147,61 +151,65 @@ module _ (netlist : Netlist) where
 
 -- ---- items
 
-module _ (text : List Entry) (keep : IsElaborable text) where
+array_keeps : (netlist : Netlist) (space : Space) (cells : Cells) → IsWidth cells.width → IsWidth cells.addr_width → ArrayFits netlist cells → StorageKeeps netlist (storage_in space cells)
+array_keeps netlist InMemory cells w a f = (w, a, f)
+array_keeps netlist InFile cells w a f = (w, a, f)
+
+module _ (edition : ℕ) (text : List Entry) (keep : IsElaborable text) where
   abbrev Kept : Net → Type 0
-  Kept x = NetKeeps (netlist_of text) (Some x)
+  Kept x = NetKeeps (netlist_in edition text) (Some x)
 
   -- what an item gives keeps the rules
   pub record ItemFormed (e : Entry) (start storage number : ℕ) : Type 0 where
     pub nets_keep : AllByRecursion Kept (item_nets text start storage number e)
-    pub storages_keep : AllByRecursion (StorageKeeps (netlist_of text)) (item_storages text start e)
-    pub codes_keep : AllByRecursion (CodeKeeps (netlist_of text)) (item_codes text e)
+    pub storages_keep : AllByRecursion (StorageKeeps (netlist_in edition text)) (item_storages text start e)
+    pub codes_keep : AllByRecursion (CodeKeeps (netlist_in edition text)) (item_codes text e)
 
-  counter_is : (name : List ℕ) (o : Option Entry) → item_named text name ≡ o → IsRegisterItem o → IsRegister (slice_get (netlist_of text).storages (storage_named text name))
+  counter_is : (name : List ℕ) (o : Option Entry) → item_named text name ≡ o → IsRegisterItem o → IsRegister (slice_get (netlist_in edition text).storages (storage_named text name))
   counter_is name (Some (register own width input when)) e h =
-      let f = found text keep name (register own width input when) e in
+      let f = found edition text keep name (register own width input when) e in
       rw (f.storage_is, f.there.storages_there.0) tt
   counter_is name None e h = absurd h
   counter_is name (Some (code own bits size counter)) e h = absurd h
-  counter_is name (Some (memory own width size addr_width value addr when)) e h = absurd h
+  counter_is name (Some (memory space own width size addr_width value addr when)) e h = absurd h
   counter_is name (Some (net own width value)) e h = absurd h
   counter_is name (Some (bus own width drivers)) e h = absurd h
   counter_is name (Some (module_item own ports equations)) e h = absurd h
   counter_is name (Some (part own of links)) e h = absurd h
 
-  item_formed : (e : Entry) (start storage number : ℕ) → ItemKeeps text e → IsDriven text e → Located (netlist_of text) text e start storage number → ItemFormed e start storage number
+  item_formed : (e : Entry) (start storage number : ℕ) → ItemKeeps text e → IsDriven text e → Located (netlist_in edition text) text e start storage number → ItemFormed e start storage number
   item_formed (code name bits size counter) start storage number k d l =
       let s = l.codes_there.0 in
       record {
-        nets_keep = plain_keeps (netlist_of text) name.at bits (gate.Word number) k.0 (slice_get_within (netlist_of text).codes number _ s, ap code_bits s);
+        nets_keep = plain_keeps (netlist_in edition text) name.at bits (gate.Word number) k.0 (slice_get_within (netlist_in edition text).codes number _ s, ap code_bits s);
         storages_keep = tt;
         codes_keep = ((width_range bits k.0, counter_is counter.name (item_named text counter.name) refl k.2), tt);
       }
   item_formed (register name width input when) start storage number k d l =
-      let ns = (netlist_of text).nets in
+      let ns = (netlist_in edition text).nets in
       let xs = elaborated (of_text text) name.at start input in
       let ys = nets_if (of_text text) name.at (start + count input) when in
       let s = l.storages_there.0 in
       let lxy = stands_left ns start (xs ++ ys) _ l.nets_there in
       let lx = stands_left ns start xs ys lxy in
       let ly = stands_right ns start (start + count input) xs ys (ap (λ (n : ℕ). start + n) (length_nets (of_text text) name.at start input)) lxy in
-      let sound = text_sound text keep in
+      let sound = text_sound edition text keep in
       record {
         nets_keep = all_append Kept (xs ++ ys) _
-            (all_append Kept xs ys (keeps (netlist_of text) (of_text text) sound name.at start input width k.1 (and_left (covers (in_text text) input) (covers_if (in_text text) when) d) lx)
-            (when_keeps (netlist_of text) (of_text text) sound name.at (start + count input) when k.2 (and_right (covers (in_text text) input) (covers_if (in_text text) when) d) ly))
-            (plain_keeps (netlist_of text) name.at width (gate.Reg storage) k.0 (rw s tt, ap storage_bits s));
+            (all_append Kept xs ys (keeps (netlist_in edition text) (of_text text) sound name.at start input width k.1 (and_left (covers (in_text text) input) (covers_if (in_text text) when) d) lx)
+            (when_keeps (netlist_in edition text) (of_text text) sound name.at (start + count input) when k.2 (and_right (covers (in_text text) input) (covers_if (in_text text) when) d) ly))
+            (plain_keeps (netlist_in edition text) name.at width (gate.Reg storage) k.0 (rw s tt, ap storage_bits s));
         storages_keep = (
           (
             width_range width k.0,
-            (out_has (netlist_of text) (of_text text) sound name.at start input width k.1 lx, when_fits (netlist_of text) (of_text text) sound name.at (start + count input) when k.2 ly),
+            (out_has (netlist_in edition text) (of_text text) sound name.at start input width k.1 lx, when_fits (netlist_in edition text) (of_text text) sound name.at (start + count input) when k.2 ly),
           ),
           tt,
         );
         codes_keep = tt;
       }
-  item_formed (memory name width size addr_width value addr when) start storage number k d l =
-      let ns = (netlist_of text).nets in
+  item_formed (memory space name width size addr_width value addr when) start storage number k d l =
+      let ns = (netlist_in edition text).nets in
       let xs = elaborated (of_text text) name.at start value in
       let ys = elaborated (of_text text) name.at (start + count value) addr in
       let zs = nets_if (of_text text) name.at (start + count value + count addr) when in
@@ -210,24 +218,20 @@ module _ (text : List Entry) (keep : IsElaborable text) where
       let ly = stands_right ns start (start + count value) xs ys (ap (λ (n : ℕ). start + n) (length_nets (of_text text) name.at start value)) lxy in
       let lz = stands_right ns start (start + count value + count addr) (xs ++ ys) zs
       (omega (arith, length-append xs ys, length_nets (of_text text) name.at start value, length_nets (of_text text) name.at (start + count value) addr)) l.nets_there in
-      let sound = text_sound text keep in
+      let sound = text_sound edition text keep in
       let front = and_left (covers (in_text text) value && covers (in_text text) addr) (covers_if (in_text text) when) d in
       record {
         nets_keep = all_append Kept (xs ++ ys) zs
             (all_append Kept xs ys
-            (keeps (netlist_of text) (of_text text) sound name.at start value width k.3 (and_left (covers (in_text text) value) (covers (in_text text) addr) front) lx)
-            (keeps (netlist_of text) (of_text text) sound name.at (start + count value) addr addr_width k.4 (and_right (covers (in_text text) value) (covers (in_text text) addr) front) ly))
-            (when_keeps (netlist_of text) (of_text text) sound name.at (start + count value + count addr) when k.5
+            (keeps (netlist_in edition text) (of_text text) sound name.at start value width k.3 (and_left (covers (in_text text) value) (covers (in_text text) addr) front) lx)
+            (keeps (netlist_in edition text) (of_text text) sound name.at (start + count value) addr addr_width k.4 (and_right (covers (in_text text) value) (covers (in_text text) addr) front) ly))
+            (when_keeps (netlist_in edition text) (of_text text) sound name.at (start + count value + count addr) when k.5
             (and_right (covers (in_text text) value && covers (in_text text) addr) (covers_if (in_text text) when) d) lz);
         storages_keep = (
-          (
-            width_range width k.0,
-            width_range addr_width k.1,
-            (
-              out_has (netlist_of text) (of_text text) sound name.at start value width k.3 lx,
-              out_has (netlist_of text) (of_text text) sound name.at (start + count value) addr addr_width k.4 ly,
-              when_fits (netlist_of text) (of_text text) sound name.at (start + count value + count addr) when k.5 lz,
-            ),
+          array_keeps (netlist_in edition text) space _ (width_range width k.0) (width_range addr_width k.1) (
+            out_has (netlist_in edition text) (of_text text) sound name.at start value width k.3 lx,
+            out_has (netlist_in edition text) (of_text text) sound name.at (start + count value) addr addr_width k.4 ly,
+            when_fits (netlist_in edition text) (of_text text) sound name.at (start + count value + count addr) when k.5 lz,
           ),
           tt,
         );
@@ -235,19 +239,19 @@ module _ (text : List Entry) (keep : IsElaborable text) where
       }
   item_formed (net name width value) start storage number k d l =
       let xs = elaborated (of_text text) name.at start value in
-      let lx = stands_left (netlist_of text).nets start xs _ l.nets_there in
-      let sound = text_sound text keep in
+      let lx = stands_left (netlist_in edition text).nets start xs _ l.nets_there in
+      let sound = text_sound edition text keep in
       record {
-        nets_keep = all_append Kept xs _ (keeps (netlist_of text) (of_text text) sound name.at start value width k.1 d lx)
-            (plain_keeps (netlist_of text) name.at width (gate.Wire (out_of (of_text text) start value)) k.0 (out_has (netlist_of text) (of_text text) sound name.at start value width k.1 lx));
+        nets_keep = all_append Kept xs _ (keeps (netlist_in edition text) (of_text text) sound name.at start value width k.1 d lx)
+            (plain_keeps (netlist_in edition text) name.at width (gate.Wire (out_of (of_text text) start value)) k.0 (out_has (netlist_in edition text) (of_text text) sound name.at start value width k.1 lx));
         storages_keep = tt;
         codes_keep = tt;
       }
   item_formed (bus name width drivers) start storage number k d l =
       let xs = elaborated_drivers (of_text text) name.at start drivers in
-      let r = drivers_keep (netlist_of text) (of_text text) (text_sound text keep) name.at start width drivers k.1 d (stands_left (netlist_of text).nets start xs _ l.nets_there) in
+      let r = drivers_keep (netlist_in edition text) (of_text text) (text_sound edition text keep) name.at start width drivers k.1 d (stands_left (netlist_in edition text).nets start xs _ l.nets_there) in
       record {
-        nets_keep = all_append Kept xs _ r.0 (plain_keeps (netlist_of text) name.at width (gate.Bus (driver_pairs (of_text text) start drivers)) k.0 r.1);
+        nets_keep = all_append Kept xs _ r.0 (plain_keeps (netlist_in edition text) name.at width (gate.Bus (driver_pairs (of_text text) start drivers)) k.0 r.1);
         storages_keep = tt;
         codes_keep = tt;
       }
@@ -255,15 +259,15 @@ module _ (text : List Entry) (keep : IsElaborable text) where
   item_formed (part name of links) start storage number k d l =
       let ports = ports_of (item_named text of.name) in
       let equations = equations_of (item_named text of.name) in
-      let m = module_of text keep of.name in
-      let s = part_stands text keep name.at start links ports equations l.nets_there in
-      let within = inside_sound (netlist_of text) name.at start (of_text text) links ports m.ports_keep s.inputs_there in
+      let m = module_of edition text keep of.name in
+      let s = part_stands edition text keep name.at start links ports equations l.nets_there in
+      let within = inside_sound (netlist_in edition text) name.at start (of_text text) links ports m.ports_keep s.inputs_there in
       let first = start + count_inputs links ports + count_outputs ports in
-      let o = outputs_keep (netlist_of text) (inside start links ports) within name.at first equations ports m.ports_keep m.outputs_fed m.equations_cover s.equations_there in
+      let o = outputs_keep (netlist_in edition text) (inside start links ports) within name.at first equations ports m.ports_keep m.outputs_fed m.equations_cover s.equations_there in
       record {
         nets_keep = all_append Kept (inputs_nets (of_text text) name.at start links ports ++ output_wires (inside start links ports) name.at first equations ports) _
             (all_append Kept (inputs_nets (of_text text) name.at start links ports) _
-            (inputs_keep (netlist_of text) (of_text text) (text_sound text keep) name.at start links ports m.ports_keep k
+            (inputs_keep (netlist_in edition text) (of_text text) (text_sound edition text keep) name.at start links ports m.ports_keep k
             (and_right (drives_once false ports links) (list_all (covers_binding (in_text text)) links) d) s.inputs_there) o.0) o.1;
         storages_keep = tt;
         codes_keep = tt;
@@ -273,22 +277,22 @@ module _ (text : List Entry) (keep : IsElaborable text) where
 
   pub record AllFormed (entries : List Entry) (start storage number : ℕ) : Type 0 where
     pub nets_keep : AllByRecursion Kept (nets_from text start storage number entries)
-    pub storages_keep : AllByRecursion (StorageKeeps (netlist_of text)) (storages_from text start entries)
-    pub codes_keep : AllByRecursion (CodeKeeps (netlist_of text)) (codes_from text entries)
+    pub storages_keep : AllByRecursion (StorageKeeps (netlist_in edition text)) (storages_from text start entries)
+    pub codes_keep : AllByRecursion (CodeKeeps (netlist_in edition text)) (codes_from text entries)
 
   all_formed : (entries : List Entry) (start storage number : ℕ) → AllByRecursion (ItemKeeps text) entries → AllByRecursion (IsDriven text) entries
-      → AllLocated (netlist_of text) text entries start storage number → AllFormed entries start storage number
+      → AllLocated (netlist_in edition text) text entries start storage number → AllFormed entries start storage number
   all_formed [] start storage number k d l = record { nets_keep = tt; storages_keep = tt; codes_keep = tt }
   all_formed (e ∷ entries) start storage number k d l =
-      let x = item_formed e start storage number k.0 d.0 (first_located (netlist_of text) text e entries start storage number l) in
-      let r = all_formed entries (start + count_item text e) (storage + count_storages e) (number + count_codes e) k.1 d.1 (others_located (netlist_of text) text e entries start storage number l) in
+      let x = item_formed e start storage number k.0 d.0 (first_located (netlist_in edition text) text e entries start storage number l) in
+      let r = all_formed entries (start + count_item text e) (storage + count_storages e) (number + count_codes e) k.1 d.1 (others_located (netlist_in edition text) text e entries start storage number l) in
       record {
         nets_keep = all_append Kept (item_nets text start storage number e) _ x.nets_keep r.nets_keep;
-        storages_keep = all_append (StorageKeeps (netlist_of text)) (item_storages text start e) _ x.storages_keep r.storages_keep;
-        codes_keep = all_append (CodeKeeps (netlist_of text)) (item_codes text e) _ x.codes_keep r.codes_keep;
+        storages_keep = all_append (StorageKeeps (netlist_in edition text)) (item_storages text start e) _ x.storages_keep r.storages_keep;
+        codes_keep = all_append (CodeKeeps (netlist_in edition text)) (item_codes text e) _ x.codes_keep r.codes_keep;
       }
 
-  net_at : (nets : List Net) → AllByRecursion Kept nets → (n : ℕ) → NetKeeps (netlist_of text) (slice_get nets n)
+  net_at : (nets : List Net) → AllByRecursion Kept nets → (n : ℕ) → NetKeeps (netlist_in edition text) (slice_get nets n)
   net_at [] h n = tt
   net_at (x ∷ nets) h zero = h.0
   net_at (x ∷ nets) h (suc n) = net_at nets h.1 n
@@ -298,10 +302,14 @@ module _ (text : List Entry) (keep : IsElaborable text) where
   below_size : (size : ℕ) → IsTrue (nat_le size 65536) → size ≤ 65536
   below_size size h = grind (arith, nat_tests)
 
+  below_32 : (size : ℕ) → IsTrue (nat_le size 32) → size ≤ 32
+  below_32 size h = grind (arith, nat_tests)
+
   cells_few : (e : Entry) (start : ℕ) → ItemKeeps text e → AllByRecursion HasFewCells (item_storages text start e)
   cells_few (code name bits size counter) start k = tt
   cells_few (register name width input when) start k = (tt, tt)
-  cells_few (memory name width size addr_width value addr when) start k = (below_size size k.2, tt)
+  cells_few (memory InMemory name width size addr_width value addr when) start k = (below_size size k.2, tt)
+  cells_few (memory InFile name width size addr_width value addr when) start k = (below_32 size k.2, tt)
   cells_few (net name width value) start k = tt
   cells_few (bus name width drivers) start k = tt
   cells_few (module_item name ports equations) start k = tt
@@ -317,7 +325,7 @@ module _ (text : List Entry) (keep : IsElaborable text) where
   words_few : (e : Entry) → ItemKeeps text e → AllByRecursion HasFewWords (item_codes text e)
   words_few (code name bits size counter) k = (below_size size k.1, tt)
   words_few (register name width input when) k = tt
-  words_few (memory name width size addr_width value addr when) k = tt
+  words_few (memory space name width size addr_width value addr when) k = tt
   words_few (net name width value) k = tt
   words_few (bus name width drivers) k = tt
   words_few (module_item name ports equations) k = tt
@@ -330,12 +338,14 @@ module _ (text : List Entry) (keep : IsElaborable text) where
   registers_append : (xs ys : List Storage) → register_count (xs ++ ys) ≡ register_count xs + register_count ys
   registers_append [] ys = let e : register_count ys ≡ 0 + register_count ys = omega arith in e
   registers_append (Register name width input when ∷ xs) ys = let e = registers_append xs ys in omega arith
-  registers_append (Memory name width size addr_width value addr when ∷ xs) ys = registers_append xs ys
+  registers_append (Memory cells ∷ xs) ys = registers_append xs ys
+  registers_append (File cells ∷ xs) ys = registers_append xs ys
 
   item_registers : (e : Entry) (start : ℕ) → register_count (item_storages text start e) ≡ count_register e
   item_registers (code name bits size counter) start = refl
   item_registers (register name width input when) start = refl
-  item_registers (memory name width size addr_width value addr when) start = refl
+  item_registers (memory InMemory name width size addr_width value addr when) start = refl
+  item_registers (memory InFile name width size addr_width value addr when) start = refl
   item_registers (net name width value) start = refl
   item_registers (bus name width drivers) start = refl
   item_registers (module_item name ports equations) start = refl
@@ -347,7 +357,7 @@ module _ (text : List Entry) (keep : IsElaborable text) where
       let r = all_registers entries (start + count_item text e) in
       omega (arith, registers_append (item_storages text start e) (storages_from text (start + count_item text e) entries), item_registers e start)
 
-  within_limits : IsWithinLimits (netlist_of text)
+  within_limits : IsWithinLimits (netlist_in edition text)
   within_limits = record {
     nets = omega (arith, length_items text 0 0 0 text, keep.few_nets);
     registers = omega (arith, all_registers text 0, keep.few_registers);
@@ -355,11 +365,11 @@ module _ (text : List Entry) (keep : IsElaborable text) where
     words = all_words text keep.items;
   }
 
-  pub formed : IsWellFormed (netlist_of text)
+  pub formed : IsWellFormed (netlist_in edition text)
   formed =
-      let a = all_formed text 0 0 0 keep.items keep.driven (all_located text keep) in
+      let a = all_formed text 0 0 0 keep.items keep.driven (all_located edition text keep) in
       record {
-        names = names_differ text keep.names;
+        names = names_differ edition text keep.names;
         nets = net_at (nets_from text 0 0 0 text) a.nets_keep;
         storages = a.storages_keep;
         codes = a.codes_keep;
@@ -368,10 +378,10 @@ module _ (text : List Entry) (keep : IsElaborable text) where
 
 -- ---- answers that are the netlist of a text, where the text is seen as another that is the same
 
-pub answer_same : {E : Type 0} (text seen : List Entry) → seen ≡ text → (r : Result Netlist E) → IfOk r (λ made. made ≡ netlist_of seen) → IfOk r (λ made. made ≡ netlist_of text)
-answer_same text seen same (Ok made) is = is ∙ ap netlist_of same
-answer_same text seen same (Err e) is = tt
+pub answer_same : {E : Type 0} (edition : ℕ) (text seen : List Entry) → seen ≡ text → (r : Result Netlist E) → IfOk r (λ made. made ≡ netlist_in edition seen) → IfOk r (λ made. made ≡ netlist_in edition text)
+answer_same edition text seen same (Ok made) is = is ∙ ap (netlist_in edition) same
+answer_same edition text seen same (Err e) is = tt
 
-pub answer_formed : {E : Type 0} (text seen : List Entry) → IsElaborable text → seen ≡ text → (r : Result Netlist E) → IfOk r (λ made. made ≡ netlist_of seen) → IfOk r IsWellFormed
-answer_formed text seen keep same (Ok made) is = subst IsWellFormed (sym (is ∙ ap netlist_of same)) (formed text keep)
-answer_formed text seen keep same (Err e) is = tt
+pub answer_formed : {E : Type 0} (edition : ℕ) (text seen : List Entry) → IsElaborable text → seen ≡ text → (r : Result Netlist E) → IfOk r (λ made. made ≡ netlist_in edition seen) → IfOk r IsWellFormed
+answer_formed edition text seen keep same (Ok made) is = subst IsWellFormed (sym (is ∙ ap (netlist_in edition) same)) (formed edition text keep)
+answer_formed edition text seen keep same (Err e) is = tt

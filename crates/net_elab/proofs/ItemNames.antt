@@ -2,8 +2,10 @@
 use Rattle.std.proofs.Common.{ℕ, ◌≡◌, ◌+◌, false, not, List, [], ◌∷◌, ◌++◌, map, refl, ◌∙◌, arith, IsTrue, nat_eq}
 use Rattle.std.proofs.lemmas.Bool.Decides.{nat_tests}
 use Rattle.std.specs.List.{AllByRecursion, IsDistinct}
+use Rattle.net_model.specs.declared.hardware.Space.TheVariants.{Memory as InMemory, File as InFile}
 use Rattle.net_model.specs.declared.hardware.Code.{Code}
-use Rattle.net_model.specs.CheckedRules.{NamesDiffer, storage_name}
+use Rattle.net_model.specs.Nets.{storage_name}
+use Rattle.net_model.specs.CheckedRules.{NamesDiffer}
 use Rattle.net_model.specs.Written.{Entry, code, register, memory, net, bus, module_item, part}
 use Rattle.net_model.specs.TextNames.{own_name}
 use Rattle.rec_bits.specs.Faults.{same_name}
@@ -11,7 +13,7 @@ use Rattle.net_model.specs.Elaborable.{item_names}
 use Rattle.net_model.specs.NameRules.{is_among}
 use Rattle.net_model.specs.DriverRules.{names_new}
 use Rattle.net_model.specs.Numbering.{count_item}
-use Rattle.net_model.specs.Elaborated.{codes_from, netlist_of, storages_from}
+use Rattle.net_model.specs.Elaborated.{codes_from, netlist_in, storages_from}
 use Rattle.rec_bits.proofs.Booleans.{and_left, and_right, not_true, left_false, right_false}
 
 abbrev code_name : Code → List ℕ
@@ -75,8 +77,10 @@ module _ (text : List Entry) where
   fresh_names name start [] h = (tt, tt)
   fresh_names name start (code own bits size counter ∷ entries) h = let r = fresh_names name (start + count_item text (code own bits size counter)) entries h.1 in (r.0, (h.0, r.1))
   fresh_names name start (register own width input when ∷ entries) h = let r = fresh_names name (start + count_item text (register own width input when)) entries h.1 in ((h.0, r.0), r.1)
-  fresh_names name start (memory own width size addr_width value addr when ∷ entries) h =
-      let r = fresh_names name (start + count_item text (memory own width size addr_width value addr when)) entries h.1 in ((h.0, r.0), r.1)
+  fresh_names name start (memory InMemory own width size addr_width value addr when ∷ entries) h =
+      let r = fresh_names name (start + count_item text (memory InMemory own width size addr_width value addr when)) entries h.1 in ((h.0, r.0), r.1)
+  fresh_names name start (memory InFile own width size addr_width value addr when ∷ entries) h =
+      let r = fresh_names name (start + count_item text (memory InFile own width size addr_width value addr when)) entries h.1 in ((h.0, r.0), r.1)
   fresh_names name start (net own width value ∷ entries) h = fresh_names name (start + count_item text (net own width value)) entries h.1
   fresh_names name start (bus own width drivers ∷ entries) h = fresh_names name (start + count_item text (bus own width drivers)) entries h.1
   fresh_names name start (module_item own ports equations ∷ entries) h = fresh_names name (start + count_item text (module_item own ports equations)) entries h.1
@@ -98,12 +102,14 @@ module _ (text : List Entry) where
           distinct_insert own.name (stored (start + 1) entries) (coded entries) d (fresh_both own.name (start + 1) entries f)
       more (register own width input when) start entries f d =
           distinct_first own.name _ d (fresh_both own.name (start + count_item text (register own width input when)) entries f)
-      more (memory own width size addr_width value addr when) start entries f d =
-          distinct_first own.name _ d (fresh_both own.name (start + count_item text (memory own width size addr_width value addr when)) entries f)
+      more (memory InMemory own width size addr_width value addr when) start entries f d =
+          distinct_first own.name _ d (fresh_both own.name (start + count_item text (memory InMemory own width size addr_width value addr when)) entries f)
+      more (memory InFile own width size addr_width value addr when) start entries f d =
+          distinct_first own.name _ d (fresh_both own.name (start + count_item text (memory InFile own width size addr_width value addr when)) entries f)
       more (net own width value) start entries f d = d
       more (bus own width drivers) start entries f d = d
       more (module_item own ports equations) start entries f d = d
       more (part own of links) start entries f d = d
 
-  pub names_differ : IsTrue (names_new [] (item_names text)) → NamesDiffer (netlist_of text)
-  names_differ h = distinct_names 0 [] text h
+pub names_differ : (edition : ℕ) (text : List Entry) → IsTrue (names_new [] (item_names text)) → NamesDiffer (netlist_in edition text)
+names_differ edition text h = distinct_names text 0 [] text h

@@ -2,6 +2,10 @@
 use Rattle.std.proofs.Common.{ℕ, zero, suc, ◌≡◌, ◌+◌, ◌-◌, true, false, List, [], ◌∷◌, ◌++◌, Option, Some, None, slice_get, slice_index, refl, sym, ap, subst, arith, length-append, IsTrue}
 use Rattle.std.specs.List.{AllByRecursion, list_all}
 use Rattle.grammar.specs.declared.words.Ident.{Ident}
+use Rattle.net_model.specs.declared.hardware.Cells.{Cells}
+use Rattle.net_model.specs.declared.hardware.Space.{Space}
+use Rattle.net_model.specs.declared.hardware.Space.TheVariants.{Memory as InMemory, File as InFile}
+use Rattle.net_model.specs.Nets.{storage_array}
 use Rattle.net_model.specs.declared.units.Port.{Port}
 use Rattle.net_model.specs.declared.hardware.Netlist.{Netlist}
 use Rattle.net_model.specs.declared.hardware.Gate.TheVariants as gate
@@ -14,7 +18,7 @@ use Rattle.net_model.specs.TextWidths.{MemoryWidths, field_width, input_width, m
 use Rattle.net_model.specs.Elaborable.{IsDriven, IsElaborable, ItemKeeps, PortFed, PortKeeps}
 use Rattle.net_model.specs.DriverRules.{covers_binding, drives_once}
 use Rattle.net_model.specs.Numbering.{NetSite, of_text, count, count_inputs, count_outputs, count_item, equations_of, item_net, item_wires, list_or_none, port_place, port_wires, storage_named, wires_named}
-use Rattle.net_model.specs.Elaborated.{codes_from, elaborated_drivers, equations_nets, inputs_nets, inside, nets_from, nets_if, elaborated, netlist_of, out_of, output_wires, part_nets, storages_from}
+use Rattle.net_model.specs.Elaborated.{storage_in, codes_from, elaborated_drivers, equations_nets, inputs_nets, inside, nets_from, nets_if, elaborated, netlist_in, out_of, output_wires, part_nets, storages_from}
 use Rattle.net_elab.proofs.Standing.{Stands, stands_left, stands_right, stands_self, length_drivers, length_if, length_inputs, length_nets, length_outputs}
 use Rattle.rec_bits.proofs.Booleans.{and_right}
 use Rattle.net_elab.proofs.Kept.{SiteSound, width_range}
@@ -40,7 +44,7 @@ value_item (Some e) w h = record { entry = e; is = refl; width_is = h }
 value_range : (text : List Entry) (e : Entry) (w : ℕ) → value_width (Some e) ≡ Some w → ItemKeeps text e → IsWidth w
 value_range text (code name bits size counter) w h k = subst IsWidth (let s : bits ≡ w = cc in s) (width_range bits k.0)
 value_range text (register name width input when) w h k = subst IsWidth (let s : width ≡ w = cc in s) (width_range width k.0)
-value_range text (memory name width size addr_width value addr when) w h k = absurd (cc h)
+value_range text (memory space name width size addr_width value addr when) w h k = absurd (cc h)
 value_range text (net name width value) w h k = subst IsWidth (let s : width ≡ w = cc in s) (width_range width k.0)
 value_range text (bus name width drivers) w h k = subst IsWidth (let s : width ≡ w = cc in s) (width_range width k.0)
 value_range text (module_item name ports equations) w h k = absurd (cc h)
@@ -61,7 +65,7 @@ module_parts text (Some (module_item name ports equations)) f g =
     record { ports_keep = k.0; outputs_fed = k.1; equations_cover = and_right (drives_once true ports equations) (list_all (covers_binding (in_module ports)) equations) d }
 module_parts text (Some (code name bits size counter)) f g = record { ports_keep = tt; outputs_fed = tt; equations_cover = refl }
 module_parts text (Some (register name width input when)) f g = record { ports_keep = tt; outputs_fed = tt; equations_cover = refl }
-module_parts text (Some (memory name width size addr_width value addr when)) f g = record { ports_keep = tt; outputs_fed = tt; equations_cover = refl }
+module_parts text (Some (memory space name width size addr_width value addr when)) f g = record { ports_keep = tt; outputs_fed = tt; equations_cover = refl }
 module_parts text (Some (net name width value)) f g = record { ports_keep = tt; outputs_fed = tt; equations_cover = refl }
 module_parts text (Some (bus name width drivers)) f g = record { ports_keep = tt; outputs_fed = tt; equations_cover = refl }
 module_parts text (Some (part name of links)) f g = record { ports_keep = tt; outputs_fed = tt; equations_cover = refl }
@@ -121,7 +125,7 @@ item_out netlist text (register name width input when) w start storage number h 
     subst (λ (n : ℕ). HasWidth netlist (start + count_item text (register name width input when) - 1) n) (let s : width ≡ w = cc in s)
     (plain_at netlist start _ (xs ++ ys) name.at width (gate.Reg storage)
     (omega (arith, length-append xs ys, length_nets (of_text text) name.at start input, length_if (of_text text) name.at (start + count input) when)) l.nets_there)
-item_out netlist text (memory name width size addr_width value addr when) w start storage number h l = absurd (cc h)
+item_out netlist text (memory space name width size addr_width value addr when) w start storage number h l = absurd (cc h)
 item_out netlist text (net name width value) w start storage number h l =
     subst (λ (n : ℕ). HasWidth netlist (start + count_item text (net name width value) - 1) n) (let s : width ≡ w = cc in s)
     (plain_at netlist start _ (elaborated (of_text text) name.at start value) name.at width (gate.Wire (out_of (of_text text) start value))
@@ -133,19 +137,24 @@ item_out netlist text (bus name width drivers) w start storage number h l =
 item_out netlist text (module_item name ports equations) w start storage number h l = absurd (cc h)
 item_out netlist text (part name of links) w start storage number h l = absurd (cc h)
 
-module _ (text : List Entry) (keep : IsElaborable text) where
-  abbrev made : Netlist
-  made = netlist_of text
+-- the cells of a space's storage
+pub array_stored : (space : Space) (cells : Cells) → storage_array (storage_in space cells) ≡ Some cells
+array_stored InMemory cells = refl
+array_stored InFile cells = refl
 
-  pub all_located : AllLocated (netlist_of text) text text 0 0 0
+module _ (edition : ℕ) (text : List Entry) (keep : IsElaborable text) where
+  abbrev made : Netlist
+  made = netlist_in edition text
+
+  pub all_located : AllLocated (netlist_in edition text) text text 0 0 0
   all_located = record {
     nets_there = stands_self (nets_from text 0 0 0 text);
     storages_there = stands_self (storages_from text 0 text);
     codes_there = stands_self (codes_from text text);
   }
 
-  pub found : (name : List ℕ) (e : Entry) → item_named text name ≡ Some e → FoundItem (netlist_of text) text text 0 0 (place_named text name) e
-  found name e h = locate (netlist_of text) text text 0 0 0 (place_named text name) e h all_located
+  pub found : (name : List ℕ) (e : Entry) → item_named text name ≡ Some e → FoundItem (netlist_in edition text) text text 0 0 (place_named text name) e
+  found name e h = locate (netlist_in edition text) text text 0 0 0 (place_named text name) e h all_located
 
   pub item_kept : (name : List ℕ) (e : Entry) → item_named text name ≡ Some e → ItemKeeps text e
   item_kept name e h = all_at (ItemKeeps text) text (place_named text name) e keep.items h
@@ -158,23 +167,23 @@ module _ (text : List Entry) (keep : IsElaborable text) where
 
   -- the inputs and the output wires of a part
   pub record PartStands (at start : ℕ) (links : List (Ident × Phrase)) (ports : List Port) (equations : List (Ident × Phrase)) : Type 0 where
-    pub inputs_there : Stands (netlist_of text).nets start (inputs_nets (of_text text) at start links ports)
-    pub outputs_there : Stands (netlist_of text).nets (start + count_inputs links ports)
+    pub inputs_there : Stands (netlist_in edition text).nets start (inputs_nets (of_text text) at start links ports)
+    pub outputs_there : Stands (netlist_in edition text).nets (start + count_inputs links ports)
         (output_wires (inside start links ports) at (start + count_inputs links ports + count_outputs ports) equations ports)
-    pub equations_there : Stands (netlist_of text).nets (start + count_inputs links ports + count_outputs ports)
+    pub equations_there : Stands (netlist_in edition text).nets (start + count_inputs links ports + count_outputs ports)
         (equations_nets (inside start links ports) at (start + count_inputs links ports + count_outputs ports) equations ports)
 
   pub part_stands : (at start : ℕ) (links : List (Ident × Phrase)) (ports : List Port) (equations : List (Ident × Phrase))
-      → Stands (netlist_of text).nets start (part_nets text at start links ports equations) → PartStands at start links ports equations
+      → Stands (netlist_in edition text).nets start (part_nets text at start links ports equations) → PartStands at start links ports equations
   part_stands at start links ports equations k =
       let xs = inputs_nets (of_text text) at start links ports in
       let ys = output_wires (inside start links ports) at (start + count_inputs links ports + count_outputs ports) equations ports in
       let zs = equations_nets (inside start links ports) at (start + count_inputs links ports + count_outputs ports) equations ports in
-      let l = stands_left (netlist_of text).nets start (xs ++ ys) zs k in
+      let l = stands_left (netlist_in edition text).nets start (xs ++ ys) zs k in
       record {
-        inputs_there = stands_left (netlist_of text).nets start xs ys l;
-        outputs_there = stands_right (netlist_of text).nets start (start + count_inputs links ports) xs ys (ap (λ (n : ℕ). start + n) (length_inputs (of_text text) at start links ports)) l;
-        equations_there = stands_right (netlist_of text).nets start (start + count_inputs links ports + count_outputs ports) (xs ++ ys) zs
+        inputs_there = stands_left (netlist_in edition text).nets start xs ys l;
+        outputs_there = stands_right (netlist_in edition text).nets start (start + count_inputs links ports) xs ys (ap (λ (n : ℕ). start + n) (length_inputs (of_text text) at start links ports)) l;
+        equations_there = stands_right (netlist_in edition text).nets start (start + count_inputs links ports + count_outputs ports) (xs ++ ys) zs
             (omega (
               arith,
               length-append xs ys,
@@ -183,30 +192,30 @@ module _ (text : List Entry) (keep : IsElaborable text) where
             )) k;
       }
 
-  value_has : (name : List ℕ) (w : ℕ) → value_width (item_named text name) ≡ Some w → HasWidth (netlist_of text) (item_net text name None) w
+  value_has : (name : List ℕ) (w : ℕ) → value_width (item_named text name) ≡ Some w → HasWidth (netlist_in edition text) (item_net text name None) w
   value_has name w h =
       let v = value_item (item_named text name) w h in
       let f = found name v.entry v.is in
-      subst (λ (n : ℕ). HasWidth (netlist_of text) n w) (sym f.last_is)
-      (item_out (netlist_of text) text v.entry w f.net_at f.storage_at f.code_at v.width_is f.there)
+      subst (λ (n : ℕ). HasWidth (netlist_in edition text) n w) (sym f.last_is)
+      (item_out (netlist_in edition text) text v.entry w f.net_at f.storage_at f.code_at v.width_is f.there)
 
   -- an output of a part
   field_has : (name : List ℕ) (field : Ident) (w : ℕ) (o : Option Entry) → item_named text name ≡ o → port_width (port_named true (part_ports text o) field.name) ≡ Some w
-      → HasWidth (netlist_of text) (slice_index (wires_named text name) (port_place true (part_ports text o) field.name)) w
+      → HasWidth (netlist_in edition text) (slice_index (wires_named text name) (port_place true (part_ports text o) field.name)) w
   field_has name field w (Some (part own of links)) e h =
       let f = found name (part own of links) e in
       let p = port_is (port_named true (ports_of (item_named text of.name)) field.name) w h in
       let s = part_stands own.at f.net_at links (ports_of (item_named text of.name)) (equations_of (item_named text of.name)) f.there.nets_there in
       let wires : wires_named text name ≡ item_wires text f.net_at (part own of links) = ap list_or_none f.wires_are in
-      subst (λ (ns : List ℕ). HasWidth (netlist_of text) (slice_index ns (port_place true (ports_of (item_named text of.name)) field.name)) w) (sym wires)
-      (subst (λ (n : ℕ). HasWidth (netlist_of text) (slice_index (item_wires text f.net_at (part own of links)) (port_place true (ports_of (item_named text of.name)) field.name)) n) p.width_is
-      (wire_out (netlist_of text) (inside f.net_at links (ports_of (item_named text of.name))) own.at f.net_at (f.net_at + count_inputs links (ports_of (item_named text of.name)))
+      subst (λ (ns : List ℕ). HasWidth (netlist_in edition text) (slice_index ns (port_place true (ports_of (item_named text of.name)) field.name)) w) (sym wires)
+      (subst (λ (n : ℕ). HasWidth (netlist_in edition text) (slice_index (item_wires text f.net_at (part own of links)) (port_place true (ports_of (item_named text of.name)) field.name)) n) p.width_is
+      (wire_out (netlist_in edition text) (inside f.net_at links (ports_of (item_named text of.name))) own.at f.net_at (f.net_at + count_inputs links (ports_of (item_named text of.name)))
       (f.net_at + count_inputs links (ports_of (item_named text of.name)) + count_outputs (ports_of (item_named text of.name)))
       links (equations_of (item_named text of.name)) (ports_of (item_named text of.name)) field.name p.port p.is s.outputs_there))
   field_has name field w None e h = absurd (cc h)
   field_has name field w (Some (code own bits size counter)) e h = absurd (cc h)
   field_has name field w (Some (register own width input when)) e h = absurd (cc h)
-  field_has name field w (Some (memory own width size addr_width value addr when)) e h = absurd (cc h)
+  field_has name field w (Some (memory space own width size addr_width value addr when)) e h = absurd (cc h)
   field_has name field w (Some (net own width value)) e h = absurd (cc h)
   field_has name field w (Some (bus own width drivers)) e h = absurd (cc h)
   field_has name field w (Some (module_item own ports equations)) e h = absurd (cc h)
@@ -218,12 +227,12 @@ module _ (text : List Entry) (keep : IsElaborable text) where
   field_range field w None h = absurd (cc h)
   field_range field w (Some (code own bits size counter)) h = absurd (cc h)
   field_range field w (Some (register own width input when)) h = absurd (cc h)
-  field_range field w (Some (memory own width size addr_width value addr when)) h = absurd (cc h)
+  field_range field w (Some (memory space own width size addr_width value addr when)) h = absurd (cc h)
   field_range field w (Some (net own width value)) h = absurd (cc h)
   field_range field w (Some (bus own width drivers)) h = absurd (cc h)
   field_range field w (Some (module_item own ports equations)) h = absurd (cc h)
 
-  text_has : (name : List ℕ) (field : Option Ident) (w : ℕ) → field_width text name field ≡ Some w → HasWidth (netlist_of text) (item_net text name field) w
+  text_has : (name : List ℕ) (field : Option Ident) (w : ℕ) → field_width text name field ≡ Some w → HasWidth (netlist_in edition text) (item_net text name field) w
   text_has name None w h = value_has name w h
   text_has name (Some field) w h = field_has name field w (item_named text name) refl h
 
@@ -231,14 +240,14 @@ module _ (text : List Entry) (keep : IsElaborable text) where
   text_range name None w h = let v = value_item (item_named text name) w h in value_range text v.entry w v.width_is (item_kept name v.entry v.is)
   text_range name (Some field) w h = field_range field w (item_named text name) h
 
-  memory_reads : (name : List ℕ) (m : MemoryWidths) (o : Option Entry) → item_named text name ≡ o → memory_of o ≡ Some m → (addr : ℕ) → HasWidth (netlist_of text) addr m.address
-      → ReadKeeps (netlist_of text) m.cell addr (slice_get (netlist_of text).storages (storage_named text name))
-  memory_reads name m (Some (memory own width size addr_width value at when)) e h addr k =
-      let f = found name (memory own width size addr_width value at when) e in
+  memory_reads : (name : List ℕ) (m : MemoryWidths) (o : Option Entry) → item_named text name ≡ o → memory_of o ≡ Some m → (addr : ℕ) → HasWidth (netlist_in edition text) addr m.address
+      → ReadKeeps (netlist_in edition text) m.cell addr (slice_get (netlist_in edition text).storages (storage_named text name))
+  memory_reads name m (Some (memory space own width size addr_width value at when)) e h addr k =
+      let f = found name (memory space own width size addr_width value at when) e in
       let s = f.there.storages_there.0 in
       let c : width ≡ m.cell = ap (λ (x : Option MemoryWidths). cell_or x) h in
       let a : m.address ≡ addr_width = sym (ap (λ (x : Option MemoryWidths). address_or x) h) in
-      rw (f.storage_is, s) (c, subst (HasWidth (netlist_of text) addr) a k)
+      rw (f.storage_is, s, array_stored space _) (c, subst (HasWidth (netlist_in edition text) addr) a k)
   memory_reads name m None e h addr k = absurd (cc h)
   memory_reads name m (Some (code own bits size counter)) e h addr k = absurd (cc h)
   memory_reads name m (Some (register own width input when)) e h addr k = absurd (cc h)
@@ -248,9 +257,9 @@ module _ (text : List Entry) (keep : IsElaborable text) where
   memory_reads name m (Some (part own of links)) e h addr k = absurd (cc h)
 
   memory_range : (name : List ℕ) (m : MemoryWidths) (o : Option Entry) → item_named text name ≡ o → memory_of o ≡ Some m → IsWidth m.cell
-  memory_range name m (Some (memory own width size addr_width value at when)) e h =
+  memory_range name m (Some (memory space own width size addr_width value at when)) e h =
       let c : width ≡ m.cell = ap (λ (x : Option MemoryWidths). cell_or x) h in
-      subst IsWidth c (width_range width (item_kept name (memory own width size addr_width value at when) e).0)
+      subst IsWidth c (width_range width (item_kept name (memory space own width size addr_width value at when) e).0)
   memory_range name m None e h = absurd (cc h)
   memory_range name m (Some (code own bits size counter)) e h = absurd (cc h)
   memory_range name m (Some (register own width input when)) e h = absurd (cc h)
@@ -259,7 +268,7 @@ module _ (text : List Entry) (keep : IsElaborable text) where
   memory_range name m (Some (module_item own ports equations)) e h = absurd (cc h)
   memory_range name m (Some (part own of links)) e h = absurd (cc h)
 
-  pub text_sound : SiteSound (netlist_of text) (of_text text)
+  pub text_sound : SiteSound (netlist_in edition text) (of_text text)
   text_sound = record {
     named_has = text_has;
     named_range = text_range;

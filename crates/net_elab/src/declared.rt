@@ -85,7 +85,7 @@ impl<'a> Declared<'a> {
         }
     }
 
-    /// The width of the cells of the memory of a name.
+    /// The width of the cells of the memory or the file of a name.
     pub fn cell_width(&self, name: &Name) -> Option<u64>
         ensures width { result ≡ cell_width (item_named (map entry_of self.now) name.now) }
         ensures narrow { (width : ℕ) → result ≡ Some width → width ≤ 64 }

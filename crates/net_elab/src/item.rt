@@ -1,6 +1,7 @@
 //! The nets, storages and codes of items.
 
 ghost use Rattle.std.specs.Prelude.{◌≡◌, ◌+◌, ◌<◌, ◌^◌, IfOk, OnOk, length, map, option_copied, option_map, ℕ, false, true};
+ghost use Rattle.net_model.specs.Elaborated.{storage_in};
 ghost use Rattle.net_model.specs.Elaborable.{ItemKeeps};
 ghost use Rattle.net_model.specs.Numbering.{count_drivers, scope_at};
 ghost use Rattle.net_model.specs.Written.{binding_of, bus, code, driver_of, entry_of, memory, net, part, phrase_of, register, when_of};
@@ -10,7 +11,7 @@ ghost use Rattle.net_elab.specs.Inner.Sites.{site_of};
 use crate::expression::{emit, emit_if, push_net};
 use crate::part::emit_part;
 use crate::site::{Site, Text};
-use net_model::{Code, Gate, Ident, Net, NetExpr, Netlist, Storage, Unit};
+use net_model::{Cells, Code, Gate, Ident, Net, NetExpr, Netlist, Space, Storage, Unit};
 use rec_bits::{Items, Name, NoMemory};
 use std::alloc::Global;
 
@@ -76,15 +77,17 @@ fn emit_register(
     })
 }
 
-/// How wide a memory's cells are, how many there are, and how wide its addresses.
+/// Whether it is a memory or a file, how wide its cells are, how many there are, and how wide its
+/// addresses.
 #[derive(Clone, Copy)]
 struct Shape {
+    space: Space,
     width: u64,
     size: u64,
     addr_width: u64,
 }
 
-/// What is written to a memory, and where and when.
+/// What is written to a memory or a file, and where and when.
 #[derive(Drop)]
 struct Write<'a> {
     value: &'a NetExpr,
@@ -92,7 +95,17 @@ struct Write<'a> {
     when: &'a Option<NetExpr>,
 }
 
-/// A memory with its nets.
+/// The storage of a space with these cells.
+fn storage_in(space: Space, cells: Cells) -> Storage
+    ensures { result ≡ storage_in space cells }
+{
+    match space {
+        Space::Memory => Storage::Memory(cells),
+        Space::File => Storage::File(cells),
+    }
+}
+
+/// A memory or a file with its nets.
 fn emit_memory(
     alloc: Global,
     text: &Text,
@@ -101,14 +114,14 @@ fn emit_memory(
     shape: Shape,
     write: &Write,
 ) -> Result<(), NoMemory>
-    requires keeps { ItemKeeps (map entry_of text.now) (memory name.now shape.width shape.size
+    requires keeps { ItemKeeps (map entry_of text.now) (memory shape.space name.now shape.width shape.size
         shape.addr_width (phrase_of write.now.value.now) (phrase_of write.now.addr.now)
         (when_of write.now.when.now)) }
     requires room { HasRoom (map entry_of text.now)
-        (memory name.now shape.width shape.size shape.addr_width (phrase_of write.now.value.now)
+        (memory shape.space name.now shape.width shape.size shape.addr_width (phrase_of write.now.value.now)
         (phrase_of write.now.addr.now) (when_of write.now.when.now)) netlist.old }
     ensures { OnOk result (ItemDone (map entry_of text.now)
-        (memory name.now shape.width shape.size shape.addr_width (phrase_of write.now.value.now)
+        (memory shape.space name.now shape.width shape.size shape.addr_width (phrase_of write.now.value.now)
         (phrase_of write.now.addr.now) (when_of write.now.when.now)) netlist.old netlist.new) }
 {
     let site = Site::Top(text);
@@ -116,7 +129,7 @@ fn emit_memory(
     let value = emit(alloc, &site, nets, name.at, write.value)?;
     let addr = emit(alloc, &site, nets, name.at, write.addr)?;
     let when = emit_if(alloc, &site, nets, name.at, write.when.as_ref())?;
-    netlist.storages.push(Storage::Memory {
+    let cells = Cells {
         name: copy_of(alloc, name)?,
         width: shape.width as u8,
         size: shape.size as u32,
@@ -124,7 +137,8 @@ fn emit_memory(
         value: value.net,
         addr: addr.net,
         when,
-    })
+    };
+    netlist.storages.push(storage_in(shape.space, cells))
 }
 
 /// A named net with those of its expression.
@@ -233,6 +247,7 @@ pub fn emit_item(
             when,
         } => emit_register(alloc, text, netlist, name, *width, input, when),
         Unit::Memory {
+            space,
             name,
             width,
             size,
@@ -242,6 +257,7 @@ pub fn emit_item(
             when,
         } => {
             let shape = Shape {
+                space: *space,
                 width: *width,
                 size: *size,
                 addr_width: *addr_width,

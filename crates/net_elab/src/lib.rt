@@ -1,8 +1,9 @@
 //! Netlist texts, elaborated: the netlist that the items of a text say.
 //!
-//! Promise: `elaborate` gives, for items that keep N1 to N4 and N11 (`IsElaborable`), exactly the
-//! netlist that they say, net by net, modules and parts included (`exact`: `netlist_of`), and that
-//! netlist keeps these rules said of a netlist alone (`formed`: `IsWellFormed`).
+//! Promise: `elaborate` gives, for a text whose items keep N1 to N4 and N11 (`IsElaborable`),
+//! exactly the netlist that it says, of its edition, net by net, modules and parts included
+//! (`exact`: `netlist_of`), and that netlist keeps these rules said of a netlist alone (`formed`:
+//! `IsWellFormed`).
 //!
 //! Invariant: nets are numbered before any is made (`IsNumbered`), so that a name may stand for a
 //! net that comes later. What is emitted for an expression stands at the end of the list of nets,

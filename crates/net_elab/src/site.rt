@@ -24,9 +24,9 @@ pub struct Spot {
     pub width: u8,
 }
 
-/// A memory by its storage's number, and the width of its cells.
+/// A memory or a file by its storage's number, and the width of its cells.
 #[derive(Clone, Copy)]
-pub struct Cells {
+pub struct Readable {
     pub memory: u32,
     pub width: u8,
 }
@@ -79,15 +79,15 @@ impl<'a> Text<'a> {
         number_at(self.numbers.storages.as_slice(), self.declared.place(name))
     }
 
-    /// The memory of a name.
-    fn cells(&self, name: &Name) -> Option<Cells>
+    /// The memory or the file of a name.
+    fn cells(&self, name: &Name) -> Option<Readable>
         ensures { MatchOption result
             (cell_width (item_named (map entry_of self.now) name.now) ≡ None)
             (λ cells. IsCells (cell_width (item_named (map entry_of self.now) name.now))
             (storage_named (map entry_of self.now) name.now) cells) }
     {
         let width = self.declared.cell_width(name)?;
-        Some(Cells {
+        Some(Readable {
             memory: self.storage(name),
             width: width as u8,
         })
@@ -233,8 +233,8 @@ impl<'a> Site<'a> {
         }
     }
 
-    /// The memory of a name.
-    pub fn cells(&self, name: &Name) -> Option<Cells>
+    /// The memory or the file of a name.
+    pub fn cells(&self, name: &Name) -> Option<Readable>
         ensures { MatchOption result (memory_widths (scope_at (site_of self.now)) name.now ≡ None)
             (λ cells. IsCells (option_map cell_width_of (memory_widths (scope_at (site_of self.now)) name.now))
             (memory_at (site_of self.now) name.now) cells) }

@@ -3,8 +3,8 @@
 ghost use Rattle.std.specs.Prelude.{◌≡◌, IfOk, map};
 ghost use Rattle.net_model.specs.CheckedRules.{IsWellFormed};
 ghost use Rattle.net_model.specs.Elaborable.{IsElaborable};
-ghost use Rattle.net_model.specs.Elaborated.{netlist_of};
-ghost use Rattle.net_model.specs.Written.{entry_of};
+ghost use Rattle.net_model.specs.Elaborated.{netlist_in, netlist_of};
+ghost use Rattle.net_model.specs.Written.{entry_of, text_of};
 
 use crate::declared::Declared;
 use crate::item::emit_item;
@@ -15,19 +15,27 @@ use rec_bits::{Items, NoMemory};
 use std::alloc::Global;
 
 /// The nets, storages and codes of the items.
-fn emit_items(alloc: Global, text: &Text) -> Result<Netlist, NoMemory>
+fn emit_items(alloc: Global, edition: u8, text: &Text) -> Result<Netlist, NoMemory>
     requires { IsElaborable (map entry_of text.now) }
-    ensures { IfOk result (λ netlist. netlist ≡ netlist_of (map entry_of text.now)) }
+    ensures { IfOk result (λ netlist. netlist ≡ netlist_in edition (map entry_of text.now)) }
 {
     let mut netlist = Netlist {
         nets: Items::new(alloc),
         storages: Items::new(alloc),
         codes: Items::new(alloc),
+        edition,
+        special: None,
     };
     for unit in text.declared().units() {
         emit_item(alloc, text, &mut netlist, unit)?;
     }
-    Ok(netlist)
+    Ok(Netlist {
+        nets: netlist.nets,
+        storages: netlist.storages,
+        codes: netlist.codes,
+        edition,
+        special: None,
+    })
 }
 
 /// The netlist that the items of a text say, where they keep the rules of names, widths, drivers
@@ -35,9 +43,9 @@ fn emit_items(alloc: Global, text: &Text) -> Result<Netlist, NoMemory>
 pub fn elaborate(alloc: Global, units: &Units, names: &Names) -> Result<Netlist, NoMemory>
     requires names { names.now ≡ units.now.items }
     requires keeps { IsElaborable (map entry_of units.now.items) }
-    ensures exact { IfOk result (λ netlist. netlist ≡ netlist_of (map entry_of units.now.items)) }
+    ensures exact { IfOk result (λ netlist. netlist ≡ netlist_of (text_of units.now)) }
     ensures formed { IfOk result IsWellFormed }
 {
     let text = Text::new(alloc, Declared::new(units, names))?;
-    emit_items(alloc, &text)
+    emit_items(alloc, units.edition, &text)
 }

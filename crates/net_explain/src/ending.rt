@@ -66,6 +66,7 @@ fn add_refusal(text: &mut Vec<u8>, fault: CompileFault) -> Result<(), NoMemory>
         CompileFault::Memory => Err(NoMemory),
         CompileFault::NetText(_)
         | CompileFault::Net(_)
+        | CompileFault::Later
         | CompileFault::SrcText(_)
         | CompileFault::Src(_)
         | CompileFault::DataFull { .. }
@@ -82,6 +83,7 @@ fn verdict(
     typed: &Typed,
 ) -> Result<(), CompileFault>
     requires rules { KeepsRules checked.now.netlist checked.now.order }
+    requires first { checked.now.netlist.edition ≡ 1 }
     requires ready { IsReady checked.now.netlist extracted.old.book extracted.old.pool extracted.old.patterns }
     requires patterns { ArePatterns checked.now.netlist (row_patterns extracted.old.pool extracted.old.patterns.rows) }
     requires width { typed.now.width ≡ memory_width checked.now.netlist.storages }
@@ -106,6 +108,7 @@ pub(crate) fn add_ending(
     typed: &Typed,
 ) -> Result<(), NoMemory>
     requires rules { KeepsRules checked.now.netlist checked.now.order }
+    requires first { checked.now.netlist.edition ≡ 1 }
     requires ready { IsReady checked.now.netlist extracted.old.book extracted.old.pool extracted.old.patterns }
     requires patterns { ArePatterns checked.now.netlist (row_patterns extracted.old.pool extracted.old.patterns.rows) }
     requires width { typed.now.width ≡ memory_width checked.now.netlist.storages }

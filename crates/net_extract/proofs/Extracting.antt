@@ -6,7 +6,7 @@ use Rattle.net_model.specs.declared.hardware.Netlist.{Netlist}
 use Rattle.net_model.specs.CheckedRules.{Ordered}
 use Rattle.net_model.specs.Elaborated.{netlist_of}
 use Rattle.net_model.specs.Patterns.{ArePatterns, Pattern}
-use Rattle.net_model.specs.Written.{Entry}
+use Rattle.net_model.specs.Written.{Text as NetText}
 use Rattle.net_front.specs.Fronts.{IsCheckedOf, IsNetFile}
 use Rattle.sym_expr.specs.declared.pool.Node.{Node}
 use Rattle.transfer_set.specs.PatternsText.{IsPatternsText}
@@ -17,10 +17,10 @@ use Rattle.net_extract.specs.Extracts.{IsExtracted, IsRouted, IsRoutedNet}
 use Rattle.net_extract.proofs.PlainNames.{plain_names}
 
 -- a text's names leave no choice of the order
-pub patterns_of_text : (bytes : List ℕ) (entries : List Entry) → IsNetFile bytes entries → (checked : Ordered) → IsCheckedOf entries checked → (book : Diagrams) (pool : List Node) (table : Table) → IsPatternTable checked.netlist book pool table → ArePatterns checked.netlist (row_patterns pool table.rows)
+pub patterns_of_text : (bytes : List ℕ) (entries : NetText) → IsNetFile bytes entries → (checked : Ordered) → IsCheckedOf entries checked → (book : Diagrams) (pool : List Node) (table : Table) → IsPatternTable checked.netlist book pool table → ArePatterns checked.netlist (row_patterns pool table.rows)
 patterns_of_text bytes entries file checked of book pool table is = is.patterns (subst HasPlainNames (sym of.netlist) (plain_names bytes entries file.says))
 
-pub routed_net : (bytes : List ℕ) (entries : List Entry) → IsNetFile bytes entries → (checked : Ordered) → IsCheckedOf entries checked → IsRouted checked.netlist → IsRoutedNet bytes checked
+pub routed_net : (bytes : List ℕ) (entries : NetText) → IsNetFile bytes entries → (checked : Ordered) → IsCheckedOf entries checked → IsRouted checked.netlist → IsRoutedNet bytes checked
 routed_net bytes entries file checked of routed = record {
   entries = entries;
   file = record { file = file; routed = subst IsRouted of.netlist routed };

@@ -2,3 +2,4 @@ pub mod Cleans
 pub mod Extracting
 pub mod PlainNames
 pub mod RoutedLaws
+pub mod RoutedTaken

@@ -1,5 +1,5 @@
 -- The names that a netlist text gives have bytes of names alone, so they have no marks.
-use Rattle.std.proofs.Common.{◌≡◌, ℕ, zero, suc, ◌+◌, ◌||◌, true, false, true≢false, List, [], ◌∷◌, ◌++◌, Option, Some, None, take, drop, slice_get, arith, refl, sym, ap, subst, ◌∙◌}
+use Rattle.std.proofs.Common.{Bool, cond, map, ◌≡◌, ℕ, zero, suc, ◌+◌, ◌||◌, true, false, true≢false, List, [], ◌∷◌, ◌++◌, Option, Some, None, take, drop, slice_get, arith, refl, sym, ap, subst, ◌∙◌}
 use Rattle.std.specs.List.{AllByRecursion, AllPass}
 use Rattle.std.proofs.lemmas.Bool.{ne_eqb}
 use Rattle.std.proofs.lemmas.List.Elements.{All-head, All-tail, All-weaker, All-map, recursion_from_All}
@@ -11,11 +11,13 @@ use Rattle.lexing.specs.Laws.{IsKind, IsTokenOf}
 use Rattle.lexing.proofs.TokenLaws.{are_tokens}
 use Rattle.net_lexer.specs.Netlists.{netlists, net_tokens}
 use Rattle.grammar.specs.declared.words.Ident.{Ident}
-use Rattle.net_model.specs.Grammar.{Lexed, Word, IsItem, IsSized, IsItems, ItemBehind, ItemByWord}
+use Rattle.net_model.specs.Editions.{Lexed, Word, edited, is_added, item_or_name, item_told, lexed_in, names_version, word_in}
+use Rattle.net_model.specs.Grammar.{IsItem, IsSized, IsItems, IsText, ItemBehind, ItemByWord}
 use Rattle.grammar.specs.declared.words.Word.TheVariants.{Name as Named, Symbol as Shows, Key as Keyed, Other}
 use Rattle.net_model.specs.declared.words.Key.TheVariants.{Item, Operator as Operates}
 use Rattle.net_model.specs.declared.words.ItemWord.{ItemWord}
-use Rattle.net_model.specs.declared.words.ItemWord.TheVariants.{Code, Register, Memory, Net, Bus, Module, Part}
+use Rattle.net_model.specs.declared.words.ItemWord.TheVariants.{Code, Register, Memory, File, Net, Bus, Module, Part}
+use Rattle.net_model.specs.declared.hardware.Space.TheVariants.{Memory as InMemory, File as InFile}
 use Rattle.net_model.specs.declared.words.Operator.TheVariants.{Unary, Binary}
 use Rattle.net_model.specs.declared.hardware.Netlist.{Netlist}
 use Rattle.net_model.specs.Elaborated.{codes_from, netlist_of, storages_from}
@@ -23,11 +25,14 @@ use Rattle.grammar.specs.Tokens.{IsName}
 use Rattle.net_model.specs.Numbering.{count_item}
 use Rattle.net_model.specs.TextNames.{own_name}
 use Rattle.net_model.specs.Texts.{first_name, name_in, name_of}
-use Rattle.net_model.specs.Written.{Entry, code, register, memory}
+use Rattle.net_model.specs.Written.{Text, Entry, code, register, memory}
 use Rattle.net_front.specs.Fronts.{SaysNet}
 use Rattle.net_parser.specs.Texts.{net_lexed}
 use Rattle.net_parser.specs.Words.{binary_of, form_of, item_of, reserved_of, sign_of, sign_word, symbol_of, unary_of}
-use Rattle.lexing.specs.Words.{lexed_of, or_word, word_of}
+use Rattle.lexing.specs.Words.{lexed_all, lexed_of, or_word, word_of}
+use Rattle.std.specs.Str.{bytes_eq}
+use Rattle.std.specs.Prelude.{codes}
+use Rattle.net_model.specs.declared.words.Symbol.TheVariants.{Version}
 use Rattle.transfer_set.specs.TextMarks.{HasPlainNames, Plain, is_mark}
 
 -- ---- bytes
@@ -86,13 +91,44 @@ spelled_word Number n bytes is = tt
 spelled_word Sign n bytes is = spelled_else Shows (λ s. tt) (sign_of (take n bytes)) Other tt
 spelled_word Bad n bytes is = tt
 
-spelled_words : (bytes : List ℕ) → AreSpelled (net_lexed bytes)
-spelled_words bytes =
-    recursion_from_All SpelledToken (net_lexed bytes)
+spelled_lexed : (bytes : List ℕ) → AreSpelled (lexed_all reserved_of sign_word bytes (net_tokens bytes))
+spelled_lexed bytes =
+    recursion_from_All SpelledToken (lexed_all reserved_of sign_word bytes (net_tokens bytes))
     (All-map SpelledToken (lexed_of reserved_of sign_word bytes) (net_tokens bytes)
     (All-weaker (IsTokenOf netlists bytes) (λ token. SpelledToken (lexed_of reserved_of sign_word bytes token))
     (λ token is. spelled_word token.kind token.len (drop token.at bytes) is.kind)
     (net_tokens bytes) (are_tokens netlists bytes).each))
+
+-- the names of an edition are spelled so where those of the first are
+spelled_or_item : (added : Option ItemWord) (name : List ℕ) → AllPass is_name_byte name → SpelledWord (item_or_name added name)
+spelled_or_item None name spelled = spelled
+spelled_or_item (Some item) name spelled = by (is_added item name)
+  where
+    by : (b : Bool) → SpelledWord (cond b (Keyed (Item item)) (Named name))
+    by true = tt
+    by false = spelled
+
+spelled_in : (added : Option ItemWord) (word : Word) → SpelledWord word → SpelledWord (word_in added word)
+spelled_in added (Named name) spelled = by (bytes_eq name (codes "version"))
+  where
+    by : (b : Bool) → SpelledWord (cond b (Shows Version) (item_or_name added name))
+    by true = tt
+    by false = spelled_or_item added name spelled
+spelled_in added word spelled = spelled
+
+spelled_map : (added : Option ItemWord) (ts : List Lexed) → AreSpelled ts → AreSpelled (map (lexed_in added) ts)
+spelled_map added [] spelled = tt
+spelled_map added (t ∷ ts) spelled = (spelled_in added t.word spelled.0, spelled_map added ts spelled.1)
+
+spelled_edited : (ts : List Lexed) → AreSpelled ts → AreSpelled (edited ts)
+spelled_edited ts spelled = by (names_version (slice_get ts 0))
+  where
+    by : (b : Bool) → AreSpelled (cond b (map (lexed_in (item_told (slice_get ts 1))) ts) ts)
+    by true = spelled_map (item_told (slice_get ts 1)) ts spelled
+    by false = spelled
+
+spelled_words : (bytes : List ℕ) → AreSpelled (net_lexed bytes)
+spelled_words bytes = spelled_edited (lexed_all reserved_of sign_word bytes (net_tokens bytes)) (spelled_lexed bytes)
 
 -- ---- items
 
@@ -127,6 +163,8 @@ spelled_behind Register ts entry spelled is =
     subst SpelledEntry (sym is.second.second.same) (spelled_sized is.front is.value (spelled_front is spelled) is.first)
 spelled_behind Memory ts entry spelled is =
     subst SpelledEntry (sym is.second.second.second.second.same) (spelled_sized is.front is.value (spelled_front is spelled) is.first)
+spelled_behind File ts entry spelled is =
+    subst SpelledEntry (sym is.second.second.second.second.same) (spelled_sized is.front is.value (spelled_front is spelled) is.first)
 spelled_behind Net ts entry spelled is =
     subst SpelledEntry (sym is.second.second.same) (spelled_sized is.front is.value (spelled_front is spelled) is.first)
 spelled_behind Bus ts entry spelled is =
@@ -149,13 +187,19 @@ spelled_items ts entries spelled (some {us = us} {b = b} {zs = zs} {w = w} is re
     let both = spelled_parts us zs spelled in
     (spelled_item us b both.0 is, spelled_items zs w both.1 rest)
 
-spelled_text : (ts : List Lexed) (entries : List Entry) → AreSpelled ts → IsItems ts entries → AllByRecursion SpelledEntry entries
-spelled_text ts entries spelled is =
+spelled_all : (ts : List Lexed) (entries : List Entry) → AreSpelled ts → IsItems ts entries → AllByRecursion SpelledEntry entries
+spelled_all ts entries spelled is =
     let rest = is.second in
     subst (AllByRecursion SpelledEntry) (sym rest.second.same) (
       spelled_item is.front is.value (spelled_front is spelled) is.first,
       spelled_items rest.front rest.value (spelled_front rest (spelled_back is spelled)) rest.first,
     )
+
+spelled_text : (ts : List Lexed) (text : Text) → AreSpelled ts → IsText ts text → AllByRecursion SpelledEntry text.items
+spelled_text ts text spelled is =
+    let rest = is.second in
+    subst (λ (x : Text). AllByRecursion SpelledEntry x.items) (sym rest.second.same)
+    (spelled_all rest.front rest.value (spelled_front rest (spelled_back is spelled)) rest.first)
 
 -- ---- netlists
 
@@ -167,9 +211,12 @@ spelled_storages text start [] spelled id = none_passes
 spelled_storages text start (register name width input when ∷ entries) spelled zero = spelled.0
 spelled_storages text start (register name width input when ∷ entries) spelled (suc id) =
     spelled_storages text (start + count_item text (register name width input when)) entries spelled.1 id
-spelled_storages text start (memory name width size addr_width value addr when ∷ entries) spelled zero = spelled.0
-spelled_storages text start (memory name width size addr_width value addr when ∷ entries) spelled (suc id) =
-    spelled_storages text (start + count_item text (memory name width size addr_width value addr when)) entries spelled.1 id
+spelled_storages text start (memory InMemory name width size addr_width value addr when ∷ entries) spelled zero = spelled.0
+spelled_storages text start (memory InMemory name width size addr_width value addr when ∷ entries) spelled (suc id) =
+    spelled_storages text (start + count_item text (memory InMemory name width size addr_width value addr when)) entries spelled.1 id
+spelled_storages text start (memory InFile name width size addr_width value addr when ∷ entries) spelled zero = spelled.0
+spelled_storages text start (memory InFile name width size addr_width value addr when ∷ entries) spelled (suc id) =
+    spelled_storages text (start + count_item text (memory InFile name width size addr_width value addr when)) entries spelled.1 id
 spelled_storages text start (entry ∷ entries) spelled id = spelled_storages text (start + count_item text entry) entries spelled.1 id
 
 spelled_code : (text entries : List Entry) → AllByRecursion SpelledEntry entries → AllPass is_name_byte (first_name (codes_from text entries))
@@ -183,13 +230,16 @@ pub record HasSpelledNames (netlist : Netlist) : Type 0 where
   pub code : AllPass is_name_byte (first_name netlist.codes)
 
 -- so have those of a text that is read
-pub spelled_names : (bytes : List ℕ) (entries : List Entry) → SaysNet bytes entries → HasSpelledNames (netlist_of entries)
-spelled_names bytes entries says =
-    let spelled = spelled_text (net_lexed bytes) entries (spelled_words bytes) says.text.spelled in
-    record { storages = spelled_storages entries 0 entries spelled; code = spelled_code entries entries spelled }
+pub spelled_names : (bytes : List ℕ) (text : Text) → SaysNet bytes text → HasSpelledNames (netlist_of text)
+spelled_names bytes text says =
+    let spelled = spelled_text (net_lexed bytes) text (spelled_words bytes) says.text.spelled in
+    record {
+      storages = spelled_storages text.items 0 text.items spelled;
+      code = spelled_code text.items text.items spelled;
+    }
 
 -- which have no marks
-pub plain_names : (bytes : List ℕ) (entries : List Entry) → SaysNet bytes entries → HasPlainNames (netlist_of entries)
-plain_names bytes entries says =
-    let spelled = spelled_names bytes entries says in
+pub plain_names : (bytes : List ℕ) (text : Text) → SaysNet bytes text → HasPlainNames (netlist_of text)
+plain_names bytes text says =
+    let spelled = spelled_names bytes text says in
     record { storages = λ id. plain_bytes _ (spelled.storages id); code = plain_bytes _ spelled.code }

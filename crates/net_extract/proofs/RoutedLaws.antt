@@ -5,7 +5,7 @@ use Rattle.net_model.specs.declared.fault.NetFault.TheVariants.{AlwaysClash, Pat
 use Rattle.net_model.specs.declared.hardware.Netlist.{Netlist}
 use Rattle.net_model.specs.Elaborated.{netlist_of}
 use Rattle.net_model.specs.NetFaults.{name_at}
-use Rattle.net_model.specs.Written.{Entry}
+use Rattle.net_model.specs.Written.{Text as NetText}
 use Rattle.net_parser.specs.Texts.{IsNoNetText}
 use Rattle.net_front.proofs.FrontLaws.{no_text_fault, no_broken_rule, one_broken_rule}
 use Rattle.route_trace.specs.Limits.{HasMany, IsNamed, KeepsLimits}
@@ -57,7 +57,7 @@ pub no_text_fault_where_broken : (bytes : List ℕ) (fault : NetFault) (offset :
 no_text_fault_where_broken bytes fault offset (inl breaks) faulty = no_text_fault bytes breaks.entries offset breaks.says faulty
 no_text_fault_where_broken bytes fault offset (inr breaks) faulty = no_text_fault bytes breaks.entries offset breaks.file.says faulty
 
-pub no_broken_any : (bytes : List ℕ) (entries : List Entry) (fault : NetFault) → IsRoutedFile bytes entries → BreaksAnyRule bytes fault → ⊥
+pub no_broken_any : (bytes : List ℕ) (entries : NetText) (fault : NetFault) → IsRoutedFile bytes entries → BreaksAnyRule bytes fault → ⊥
 no_broken_any bytes entries fault file (inl breaks) = no_broken_rule bytes entries fault file.file breaks
 no_broken_any bytes entries fault file (inr breaks) =
     kept_breaks_none (netlist_of breaks.entries) fault

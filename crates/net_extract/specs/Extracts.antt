@@ -10,7 +10,7 @@ use Rattle.net_model.specs.Elaborated.{netlist_of}
 use Rattle.net_model.specs.NetFaults.{name_at}
 use Rattle.net_model.specs.Patterns.{ArePatterns, Pattern}
 use Rattle.net_model.specs.Transfers.{ClashesAlways, IsClean}
-use Rattle.net_model.specs.Written.{Entry}
+use Rattle.net_model.specs.Written.{Text as NetText}
 use Rattle.net_parser.specs.Texts.{IsNoNetText}
 use Rattle.net_front.specs.Fronts.{BreaksRule, IsCheckedOf, IsNetFile}
 use Rattle.net_front.specs.declared.front.NetRefusal.{NetRefusal}
@@ -53,14 +53,14 @@ IsRouteRefusal netlist CheckMemory = Unit {0}
 -- ---- texts
 
 -- the bytes are a netlist text, and its items keep all rules
-pub record IsRoutedFile (bytes : List ℕ) (entries : List Entry) : Type 0 where
+pub record IsRoutedFile (bytes : List ℕ) (entries : NetText) : Type 0 where
   pub file : IsNetFile bytes entries
   pub routed : IsRouted (netlist_of entries)
 
--- the bytes are a netlist text whose items keep N1 to N9 and N11, and this is what they break of
--- N10, N12 and N13
+-- the bytes are a netlist text whose items keep N1 to N9, N11 and N14, and this is what they break
+-- of N10, N12 and N13
 pub record BreaksRouteRule (bytes : List ℕ) (fault : NetFault) : Type 0 where
-  pub entries : List Entry
+  pub entries : NetText
   pub file : IsNetFile bytes entries
   pub broken : BreaksRoutes (netlist_of entries) fault
 
@@ -76,13 +76,13 @@ IsRoutedRefusal bytes Memory = Unit {0}
 
 -- this netlist, which was checked, is that of the bytes
 pub record IsRoutedNet (bytes : List ℕ) (checked : Ordered) : Type 0 where
-  pub entries : List Entry
+  pub entries : NetText
   pub file : IsRoutedFile bytes entries
   pub netlist : IsCheckedOf entries checked
 
 -- the bytes are a netlist text that keeps all rules, and the text is that of its patterns
 pub record IsExtracted (bytes text : List ℕ) : Type 0 where
-  pub entries : List Entry
+  pub entries : NetText
   pub file : IsRoutedFile bytes entries
   pub patterns : List Pattern
   pub are : ArePatterns (netlist_of entries) patterns

@@ -1,3 +1,4 @@
 pub mod Extracts
 pub mod Sets
 pub mod Extraction
+pub mod Taken

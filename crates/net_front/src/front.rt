@@ -1,8 +1,8 @@
 //! Netlists from bytes.
 
-ghost use Rattle.std.specs.Prelude.{◌≡◌, ◌^◌, ◌<◌, length, map, IfOk, IfErr};
-ghost use Rattle.net_model.specs.Written.{entry_of};
-ghost use Rattle.net_front.specs.Fronts.{SaysNet, IsCheckedOf, IsNetFile, IsNetRefusal, IsRuleRefusal};
+ghost use Rattle.std.specs.Prelude.{◌≡◌, ◌^◌, ◌<◌, length, IfOk, IfErr};
+ghost use Rattle.net_model.specs.Written.{text_of};
+ghost use Rattle.net_front.specs.Fronts.{SaysNet, IsCheckedOf, IsItemsRefusal, IsNetFile, IsNetRefusal, IsRuleRefusal};
 
 use crate::flat::flatten;
 use net_check::check;
@@ -61,20 +61,20 @@ impl From<CheckFault> for NetRefusal {
 }
 
 // The items that the bytes say.
-fn items(alloc: Global, bytes: &[u8]) -> Result<Units, NetRefusal>
+pub(crate) fn items(alloc: Global, bytes: &[u8]) -> Result<Units, NetRefusal>
     requires { length bytes.now < 2 ^ 32 }
-    ensures found { IfOk result (λ units. SaysNet bytes.now (map entry_of units.items)) }
-    ensures refused { IfErr result (IsNetRefusal bytes.now) }
+    ensures found { IfOk result (λ units. SaysNet bytes.now (text_of units)) }
+    ensures refused { IfErr result (IsItemsRefusal bytes.now) }
 {
     let units = net_parser::read(alloc, bytes)?;
     Ok(units)
 }
 
 // The netlist of the items, where it keeps the rules.
-fn checked(alloc: Global, units: &Units) -> Result<Checked, NetRefusal>
+pub(crate) fn checked(alloc: Global, units: &Units) -> Result<Checked, NetRefusal>
     requires { length units.now.items < 2 ^ 32 }
-    ensures found { IfOk result (IsCheckedOf (map entry_of units.now.items)) }
-    ensures refused { IfErr result (IsRuleRefusal (map entry_of units.now.items)) }
+    ensures found { IfOk result (IsCheckedOf (text_of units.now)) }
+    ensures refused { IfErr result (IsRuleRefusal (text_of units.now)) }
 {
     let netlist = flatten(alloc, units)?;
     let checked = check(alloc, netlist)?;
@@ -88,8 +88,8 @@ fn checked(alloc: Global, units: &Units) -> Result<Checked, NetRefusal>
 /// want of memory.
 pub fn read_net(alloc: Global, bytes: &[u8]) -> Result<(Units, Checked), NetRefusal>
     requires { length bytes.now < 2 ^ 32 }
-    ensures found { IfOk result (λ read. IsNetFile bytes.now (map entry_of read.0.items)) }
-    ensures netlist { IfOk result (λ read. IsCheckedOf (map entry_of read.0.items) read.1) }
+    ensures found { IfOk result (λ read. IsNetFile bytes.now (text_of read.0)) }
+    ensures netlist { IfOk result (λ read. IsCheckedOf (text_of read.0) read.1) }
     ensures refused { IfErr result (IsNetRefusal bytes.now) }
 {
     let units = items(alloc, bytes)?;

@@ -1,25 +1,30 @@
 //! The front of each command on a netlist: its text is read, and its items are held against the
 //! rules.
 //!
-//! Promise: `read_net` takes bytes exactly where they are a netlist's text that keeps N1 to N9 and
-//! N11, with the one list of items that they say (`found`: `IsNetFile`) and its checked netlist
-//! (`netlist`: `IsCheckedOf`). Otherwise it tells the first token that shows a fault of the text,
-//! or the first rule that is broken, in the order N1, N2, N3, N4, N11, N5 to N9 (`refused`:
-//! `IsNetRefusal`). `flatten` promises this of items and of the rules up to N11 (`IsElaboratedOf`,
-//! `IsTextRefusal`).
+//! Promise: `read_net` takes bytes exactly where they are a netlist's text that keeps N1 to N9, N11
+//! and N14, with the one edition and list of items that they say (`found`: `IsNetFile`) and its
+//! checked netlist (`netlist`: `IsCheckedOf`). Otherwise it tells the first token that shows a
+//! fault of the text, or the first rule that is broken, in the order N1, N2, N3, N4, N11, N5 to N9,
+//! N14 (`refused`: `IsNetRefusal`). `flatten` promises this of items and of the rules up to N11
+//! (`IsElaboratedOf`, `IsTextRefusal`). `read_taken` is for commands that don't take all editions
+//! (`taken`): it refuses the others as breaking N6 (`refused`: `IsTakenRefusal`).
 //!
 //! Files:
 //!
 //! - `flat`: `flatten`, from items to their netlist, by `net_names`, `net_rules` and `net_elab`.
 //! - `front`: `read_net`, from bytes to items and their checked netlist, by `net_parser`, `flatten`
 //!   and `net_check`.
-//! - `specs/`: `Fronts` is cited by public contracts, but for its three definitions on what a
-//!   part's refusal is told as.
-//! - `proofs/`: `FrontLaws`: the answers on a netlist's bytes exclude each other.
+//! - `taken`: `read_taken`.
+//! - `specs/`: `Fronts` and `Taken` are cited by public contracts, but for what a part's refusal is
+//!   (`IsRuleRefusal`, `IsItemsRefusal`) and what it is told as (`parse_refusal`, `check_refusal`,
+//!   `newer_of`).
+//! - `proofs/`: `FrontLaws`, `TakenLaws`: the answers on a netlist's bytes exclude each other.
 #![tactic(auto)]
 
 mod flat;
 mod front;
+mod taken;
 
 pub use flat::{NetFault2, flatten};
 pub use front::{NetRefusal, read_net};
+pub use taken::read_taken;

@@ -49,13 +49,13 @@ image = record {
 }
 
 abbrev start : State
-start = record { regs = 0 ∷ 0 ∷ []; cells = 0 ∷ 0 ∷ 0 ∷ 0 ∷ [] }
+start = record { regs = 0 ∷ 0 ∷ []; cells = 0 ∷ 0 ∷ 0 ∷ 0 ∷ []; file = [] }
 
 abbrev last : State
-last = record { regs = 2 ∷ 0 ∷ []; cells = 3 ∷ 31 ∷ 0 ∷ 0 ∷ [] }
+last = record { regs = 2 ∷ 0 ∷ []; cells = 3 ∷ 31 ∷ 0 ∷ 0 ∷ []; file = [] }
 
 abbrev between : State
-between = record { regs = 1 ∷ 0 ∷ []; cells = 3 ∷ 0 ∷ 0 ∷ 0 ∷ [] }
+between = record { regs = 1 ∷ 0 ∷ []; cells = 3 ∷ 0 ∷ 0 ∷ 0 ∷ []; file = [] }
 
 reaches : (s t : State) → Reached s ≡ Reached t → (IsAtEnd s8 image s → ⊥) → IsAtEnd s8 image t → ⊥
 reaches s t r not is = let same : s ≡ t = cc in not (subst (IsAtEnd s8 image) (sym same) is)

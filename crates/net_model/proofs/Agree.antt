@@ -7,7 +7,7 @@ use Rattle.net_model.specs.declared.hardware.Net.{Net}
 use Rattle.net_model.specs.declared.hardware.Gate.{Gate}
 use Rattle.net_model.specs.declared.hardware.Gate.TheVariants.{Word, Reg, Read, Const, Wire, Un, Bin, Slice, Cat, Zext, Sext, Case, Bus}
 use Rattle.net_model.specs.declared.states.State.{State}
-use Rattle.net_model.specs.Nets.{width_at, row_nets, driver_nets, gate_nets, nets_of}
+use Rattle.net_model.specs.Nets.{width_at, row_nets, driver_nets, gate_nets, nets_of, space_at, held}
 use Rattle.net_model.specs.Value.{case_value, bus_value, gate_value, net_value}
 
 -- two values that agree at these nets
@@ -27,7 +27,7 @@ module _ (v w : ℕ → ℕ) where
   pub same_gate : (netlist : Netlist) (s : State) (word width : ℕ) (gate : Gate) → Agree v w (gate_nets gate) → gate_value v netlist s word width gate ≡ gate_value w netlist s word width gate
   same_gate netlist s word width (Word code) h = refl
   same_gate netlist s word width (Reg id) h = refl
-  same_gate netlist s word width (Read memory addr) h = ap (slice_index s.cells) h.0
+  same_gate netlist s word width (Read memory addr) h = ap (slice_index (held s (space_at netlist memory))) h.0
   same_gate netlist s word width (Const c) h = refl
   same_gate netlist s word width (Wire a) h = h.0
   same_gate netlist s word width (Un op a) h = ap (apply1_of op width) h.0

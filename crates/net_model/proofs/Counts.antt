@@ -22,7 +22,7 @@ pub registers_has : (q : ℕ) (t : Term) → bit_at (registers t) q ≡ min 1 (r
 registers_has q (word w) = bit_at-zero q
 registers_has q (reg r w) = one_has r q
 registers_has q (const w v) = bit_at-zero q
-registers_has q (read a w) = registers_has q a
+registers_has q (read space a w) = registers_has q a
 registers_has q (un o a) = registers_has q a
 registers_has q (bin o a b) = or_has (registers a) (registers b) q (register_uses q a) (register_uses q b) (registers_has q a) (registers_has q b)
 registers_has q (slice a hi lo) = registers_has q a
@@ -52,13 +52,13 @@ pub fields_has : (k : ℕ) (t : Term) → bit_at (fields t) k ≡ min 1 (bit_use
 fields_has k (word w) = ones_has w k
 fields_has k (reg r w) = bit_at-zero k
 fields_has k (const w v) = bit_at-zero k
-fields_has k (read a w) = fields_has k a
+fields_has k (read space a w) = fields_has k a
 fields_has k (un o a) = fields_has k a
 fields_has k (bin o a b) = or_has (fields a) (fields b) k (bit_uses k a) (bit_uses k b) (fields_has k a) (fields_has k b)
 fields_has k (slice (word w) hi lo) = span_has hi lo k
 fields_has k (slice (reg r w) hi lo) = bit_at-zero k
 fields_has k (slice (const w v) hi lo) = bit_at-zero k
-fields_has k (slice (read a w) hi lo) = fields_has k (read a w)
+fields_has k (slice (read space a w) hi lo) = fields_has k (read space a w)
 fields_has k (slice (un o a) hi lo) = fields_has k (un o a)
 fields_has k (slice (bin o a b) hi lo) = fields_has k (bin o a b)
 fields_has k (slice (slice a u l) hi lo) = fields_has k (slice a u l)
@@ -86,7 +86,7 @@ occurs_used q (reg r w) = by (r == q)
     by true = refl
     by false = refl
 occurs_used q (const w v) = refl
-occurs_used q (read a w) = occurs_used q a
+occurs_used q (read space a w) = occurs_used q a
 occurs_used q (un o a) = occurs_used q a
 occurs_used q (bin o a b) = or_uses (occurs q a) (occurs q b) (register_uses q a) (register_uses q b) (occurs_used q a) (occurs_used q b)
 occurs_used q (slice a hi lo) = occurs_used q a

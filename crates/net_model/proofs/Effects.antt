@@ -1,28 +1,30 @@
 -- The next state is what the transfers of the word say.
 use Rattle.std.proofs.Common.{ℕ, zero, suc, ◌≡◌, Bool, true, false, cond, List, [], ◌∷◌, length, map, option_to_list, refl, sym, ◌∙◌, ap, arith, Option, Some, None, slice_get, slice_index, slice_set}
 use Rattle.std.specs.List.{AllByRecursion, position_or_len}
-use Rattle.std.proofs.lemmas.List.{length-set}
 use Rattle.std.proofs.lemmas.Bool.{eqb-true}
 use Rattle.net_model.specs.Terms.{Term, reg, Move, keep, write, write_at}
-use Rattle.net_model.specs.Nets.{IsRegister, memory_id}
+use Rattle.net_model.specs.Nets.{IsRegister, place_in, held}
 use Rattle.net_model.specs.Value.{value_of}
-use Rattle.net_model.specs.Widths.{IsTyped, WordFits, ValuesFit, IsState}
-use Rattle.net_model.specs.Clock.{clash_in, enabled_count, gate_clashes, is_enabled, next_reg, next_regs, next_cells, next_state, outcome_of, step, word_at}
+use Rattle.net_model.specs.Widths.{IsTyped, WordFits, IsState}
+use Rattle.net_model.specs.Clock.{clash_in, enabled_count, gate_clashes, is_enabled, next_reg, next_regs, written, next_cells, next_state, outcome_of, step, word_at}
 use Rattle.net_model.specs.Symbolic.{no_state, is_static, sym_of}
 use Rattle.net_model.specs.Meaning.{mean}
 use Rattle.net_model.specs.Control.{AllPass, gate_enables, storage_enables, IsSound}
-use Rattle.net_model.specs.Transfers.{same_reg, storage_move, transfer_of, IsClean, Moved, reg_moved, cells_moved}
+use Rattle.net_model.specs.Transfers.{same_reg, array_move, storage_move, transfer_of, IsClean, Moved, reg_moved, cells_moved}
 use Rattle.net_model.specs.declared.hardware.Netlist.{Netlist}
 use Rattle.net_model.specs.declared.hardware.Net.{Net}
 use Rattle.net_model.specs.declared.hardware.Gate.{Gate}
 use Rattle.net_model.specs.declared.hardware.Gate.TheVariants.{Bus}
 use Rattle.net_model.specs.declared.hardware.Storage.{Storage}
-use Rattle.net_model.specs.declared.hardware.Storage.TheVariants.{Register, Memory}
+use Rattle.net_model.specs.declared.hardware.Storage.TheVariants.{Register, Memory, File}
+use Rattle.net_model.specs.declared.hardware.Cells.{Cells}
+use Rattle.net_model.specs.declared.hardware.Space.{Space}
+use Rattle.net_model.specs.declared.hardware.Space.TheVariants.{Memory as InMemory, File as InFile}
 use Rattle.net_model.specs.declared.states.State.{State}
 use Rattle.rec_bits.specs.Faults.{gather}
 use Rattle.net_model.proofs.Offsets.{gather_all, gathered_at}
 use Rattle.net_model.proofs.Fits.{value_fits}
-use Rattle.net_model.proofs.NextStates.{regs_fit, cells_fit, length-next_regs}
+use Rattle.net_model.proofs.NextStates.{held_next, next_fits}
 use Rattle.net_model.proofs.Meanings.{static_value, value_is_mean}
 
 -- ---- clashes: the enables are static
@@ -78,43 +80,33 @@ module _ (netlist : Netlist) (s : State) (i : ℕ) (t : ℕ → Term) (u v : ℕ
 
   reg_law : (o : Option Storage) (id : ℕ) → IsRegister o → ((storage : Storage) → o ≡ Some storage → AllPass (is_static netlist) (storage_enables storage)) → reg_next v o (slice_index s.regs id) ≡ reg_moved (option_move t u o id) s i id
   reg_law None id r c = absurd r
-  reg_law (Some (Memory name width size addr_width value addr when)) id r c = absurd r
+  reg_law (Some (Memory cells)) id r c = absurd r
+  reg_law (Some (File cells)) id r c = absurd r
   reg_law (Some (Register name width input when)) id r c =
       rw (on_same when (c _ refl)) (pick_reg (is_enabled u when) (same_reg (t input) id) input id (λ e. sym (h input) ∙ same_mean (t input) id e))
 
-  pick_cells : (a : Bool) (addr value : ℕ) → cond a (slice_set s.cells (v addr) (v value)) s.cells ≡ cells_moved (cond a (write_at (t addr) (t value)) keep) s i
-  pick_cells true addr value = rw (h addr, h value) refl
-  pick_cells false addr value = refl
+  pick_cells : (a : Bool) (addr value : ℕ) (olds : List ℕ) → cond a (slice_set olds (v addr) (v value)) olds ≡ cells_moved (cond a (write_at (t addr) (t value)) keep) s i olds
+  pick_cells true addr value olds = rw (h addr, h value) refl
+  pick_cells false addr value olds = refl
 
-  cells_law : (storages : List Storage) (id : ℕ) → AllByRecursion (λ storage. AllPass (is_static netlist) (storage_enables storage)) storages → next_cells v storages s.cells ≡ cells_moved (option_move t u (slice_get storages (memory_id storages)) id) s i
-  cells_law [] id c = refl
-  cells_law (Register name width input when ∷ storages) id c = cells_law storages id c.1
-  cells_law (Memory name width size addr_width value addr when ∷ storages) id c = rw (on_same when c.0) (pick_cells (is_enabled u when) addr value)
+  array_law : (cells : Cells) (olds : List ℕ) → AllPass (is_static netlist) (option_to_list cells.when) → written v (Some cells) olds ≡ cells_moved (array_move t u cells) s i olds
+  array_law cells olds c = rw (on_same cells.when c) (pick_cells (is_enabled u cells.when) cells.addr cells.value olds)
 
-length-next_cells : (v : ℕ → ℕ) (storages : List Storage) (cells : List ℕ) → length (next_cells v storages cells) ≡ length cells
-length-next_cells v [] cells = refl
-length-next_cells v (Register name width input when ∷ storages) cells = length-next_cells v storages cells
-length-next_cells v (Memory name width size addr_width value addr when ∷ storages) cells = by_when (is_enabled v when)
-  where
-    by_when : (b : Bool) → length (cond b (slice_set cells (v addr) (v value)) cells) ≡ length cells
-    by_when true = length-set cells (v addr) (v value)
-    by_when false = refl
+  cells_law : (space : Space) (storages : List Storage) (id : ℕ) (olds : List ℕ) → AllByRecursion (λ storage. AllPass (is_static netlist) (storage_enables storage)) storages → next_cells v space storages olds ≡ cells_moved (option_move t u (slice_get storages (place_in space storages)) id) s i olds
+  cells_law space [] id olds c = refl
+  cells_law InMemory (Register name width input when ∷ storages) id olds c = cells_law InMemory storages id olds c.1
+  cells_law InMemory (Memory cells ∷ storages) id olds c = array_law cells olds c.0
+  cells_law InMemory (File cells ∷ storages) id olds c = cells_law InMemory storages id olds c.1
+  cells_law InFile (Register name width input when ∷ storages) id olds c = cells_law InFile storages id olds c.1
+  cells_law InFile (Memory cells ∷ storages) id olds c = cells_law InFile storages id olds c.1
+  cells_law InFile (File cells ∷ storages) id olds c = array_law cells olds c.0
 
 -- ---- the law
 
 -- a clock without clash keeps what a state needs
 pub next_is_state : (netlist : Netlist) (s : State) (i : ℕ) → IsTyped netlist → IsState netlist s → WordFits netlist i → IsState netlist (next_state (value_of netlist s i) netlist s)
 next_is_state netlist s i t h w =
-    let v : ℕ → ℕ = value_of netlist s i in
-    let fit : ValuesFit netlist v = record { fits = λ n. value_fits netlist s i t h.fits w (length netlist.nets) n } in
-    record {
-      regs = length-next_regs netlist v fit netlist.storages s.regs ∙ h.regs;
-      cells = length-next_cells v netlist.storages s.cells ∙ h.cells;
-      fits = record {
-        regs = λ id. regs_fit netlist v fit netlist.storages s.regs t.storages h.fits.regs id;
-        cells = λ a. cells_fit netlist v fit netlist.storages s.cells t.storages h.fits.cells a;
-      };
-    }
+    next_fits netlist (value_of netlist s i) (record { fits = λ n. value_fits netlist s i t h.fits w (length netlist.nets) n }) s t h
 
 option_move_is : (netlist : Netlist) (i id : ℕ) (o : Option Storage) → option_move (sym_of netlist i) (value_of netlist no_state i) o id ≡ transfer_of netlist i id o
 option_move_is netlist i id None = refl
@@ -136,7 +128,8 @@ moved netlist words i s sound h clean e =
           reg_after v netlist.storages s.regs id h.regs
           ∙ reg_law netlist s i (sym_of netlist i) (value_of netlist no_state i) v means static (slice_get netlist.storages id) id r (λ storage at. gathered_at (λ n. is_static netlist n ≡ true) storage_enables netlist.storages id storage at sound.storages)
           ∙ ap (λ (m : Move). reg_moved m s i id) (option_move_is netlist i id (slice_get netlist.storages id));
-      cells =
-          cells_law netlist s i (sym_of netlist i) (value_of netlist no_state i) v means static netlist.storages (memory_id netlist.storages) (gather_all (λ n. is_static netlist n ≡ true) storage_enables netlist.storages sound.storages)
-          ∙ ap (λ (m : Move). cells_moved m s i) (option_move_is netlist i (memory_id netlist.storages) (slice_get netlist.storages (memory_id netlist.storages)));
+      cells = λ space.
+          held_next v netlist s space
+          ∙ cells_law netlist s i (sym_of netlist i) (value_of netlist no_state i) v means static space netlist.storages (place_in space netlist.storages) (held s space) (gather_all (λ n. is_static netlist n ≡ true) storage_enables netlist.storages sound.storages)
+          ∙ ap (λ (m : Move). cells_moved m s i (held s space)) (option_move_is netlist i (place_in space netlist.storages) (slice_get netlist.storages (place_in space netlist.storages)));
     }

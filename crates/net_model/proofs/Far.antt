@@ -6,14 +6,15 @@ use Rattle.net_model.specs.declared.hardware.Net.{Net}
 use Rattle.net_model.specs.declared.hardware.Gate.{Gate}
 use Rattle.net_model.specs.declared.hardware.Gate.TheVariants.{Word, Reg, Read, Const, Wire, Un, Bin, Slice, Cat, Zext, Sext, Case, Bus}
 use Rattle.net_model.specs.declared.hardware.Storage.{Storage}
-use Rattle.net_model.specs.declared.hardware.Storage.TheVariants.{Register, Memory}
+use Rattle.net_model.specs.declared.hardware.Storage.TheVariants.{Register, Memory, File}
+use Rattle.net_model.specs.declared.hardware.Cells.{Cells}
 use Rattle.net_model.specs.Nets.{storage_bits}
 use Rattle.net_model.specs.Widths.{GateFits, NetFits, IsTyped}
 use Rattle.net_model.specs.Terms.{Term, word, reg, const, read, un, bin, slice, cat, zext, sext, select, term_width, Move, keep, write, write_at}
 use Rattle.net_model.specs.Value.{value_within, value_of}
 use Rattle.net_model.specs.Symbolic.{sliced, no_state, is_static, case_term, bus_term, gate_term, net_term, sym_within, sym_of}
 use Rattle.net_model.specs.Clock.{is_enabled}
-use Rattle.net_model.specs.Transfers.{same_reg, storage_move, transfer_of, move_at}
+use Rattle.net_model.specs.Transfers.{same_reg, array_move, storage_move, transfer_of, move_at}
 use Rattle.net_model.specs.Occurs.{occurs, move_occurs}
 
 -- a storage of some width is one of the netlist's
@@ -32,7 +33,7 @@ module _ (r : ℕ) where
   sliced_far (word w) hi lo f = pick ((lo == 0) && (hi + 1 == w)) (word w) (slice (word w) hi lo) f f
   sliced_far (reg q w) hi lo f = pick ((lo == 0) && (hi + 1 == w)) (reg q w) (slice (reg q w) hi lo) f f
   sliced_far (const w v) hi lo f = pick ((lo == 0) && (hi + 1 == w)) (const w v) (slice (const w v) hi lo) f f
-  sliced_far (read a w) hi lo f = pick ((lo == 0) && (hi + 1 == w)) (read a w) (slice (read a w) hi lo) f f
+  sliced_far (read space a w) hi lo f = pick ((lo == 0) && (hi + 1 == w)) (read space a w) (slice (read space a w) hi lo) f f
   sliced_far (un o a) hi lo f = pick ((lo == 0) && (hi + 1 == term_width (un o a))) (un o a) (slice (un o a) hi lo) f f
   sliced_far (bin o a b) hi lo f = pick ((lo == 0) && (hi + 1 == term_width (bin o a b))) (bin o a b) (slice (bin o a b) hi lo) f f
   sliced_far (cat a b) hi lo f = pick ((lo == 0) && (hi + 1 == term_width (cat a b))) (cat a b) (slice (cat a b) hi lo) f f
@@ -51,7 +52,7 @@ module _ (r : ℕ) where
       bus_far width [] = refl
       bus_far width (driver ∷ drivers) = pick (u driver.1 == 1) (t driver.0) (bus_term t u width drivers) (h driver.0) (bus_far width drivers)
 
-      gate_far : (width : ℕ) (gate : Gate) → 1 ≤ width → GateFits netlist width gate → occurs r (gate_term t u f width gate) ≡ false
+      gate_far : (width : ℕ) (gate : Gate) → 1 ≤ width → GateFits netlist width gate → occurs r (gate_term t u f netlist width gate) ≡ false
       gate_far width (Word code) p g = refl
       gate_far width (Reg id) p g = ne_eqb id r (λ e. absurd (omega (arith, wide_within netlist.storages id (omega (arith, p, g)), far, e)))
       gate_far width (Read memory addr) p g = h addr
@@ -68,7 +69,7 @@ module _ (r : ℕ) where
           (case_far width (u sel) rows rest) (or_from _ _ (h sel) (or_from _ _ (case_far width 1 rows rest) (case_far width 0 rows rest)))
       gate_far width (Bus drivers) p g = bus_far width drivers
 
-      net_far : (net : Option Net) → NetFits netlist net → occurs r (net_term t u f net) ≡ false
+      net_far : (net : Option Net) → NetFits netlist net → occurs r (net_term t u f netlist net) ≡ false
       net_far None p = refl
       net_far (Some net) p = gate_far net.width net.gate p.0 p.2
 
@@ -81,11 +82,15 @@ module _ (r : ℕ) where
     choose true m n h k = h
     choose false m n h k = k
 
+    array_far : (t : ℕ → Term) (u : ℕ → ℕ) → ((m : ℕ) → occurs r (t m) ≡ false) → (cells : Cells) → move_occurs r (array_move t u cells) ≡ false
+    array_far t u h cells =
+        choose (is_enabled u cells.when) (write_at (t cells.addr) (t cells.value)) keep (or_from _ _ (h cells.addr) (h cells.value)) refl
+
     storage_far : (t : ℕ → Term) (u : ℕ → ℕ) (id : ℕ) → ((m : ℕ) → occurs r (t m) ≡ false) → (storage : Storage) → move_occurs r (storage_move t u id storage) ≡ false
     storage_far t u id h (Register name width input when) =
         choose (is_enabled u when) (cond (same_reg (t input) id) keep (write (t input))) keep (choose (same_reg (t input) id) keep (write (t input)) refl (h input)) refl
-    storage_far t u id h (Memory name width size addr_width value addr when) =
-        choose (is_enabled u when) (write_at (t addr) (t value)) keep (or_from _ _ (h addr) (h value)) refl
+    storage_far t u id h (Memory cells) = array_far t u h cells
+    storage_far t u id h (File cells) = array_far t u h cells
 
     -- a transfer reads no register past the storages
     pub reads_far : IsTyped netlist → (i id : ℕ) → move_occurs r (move_at netlist i id) ≡ false

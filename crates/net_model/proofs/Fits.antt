@@ -10,7 +10,7 @@ use Rattle.net_model.specs.declared.hardware.Net.{Net}
 use Rattle.net_model.specs.declared.hardware.Gate.{Gate}
 use Rattle.net_model.specs.declared.hardware.Gate.TheVariants.{Word, Reg, Read, Const, Wire, Un, Bin, Slice, Cat, Zext, Sext, Case, Bus}
 use Rattle.net_model.specs.declared.states.State.{State}
-use Rattle.net_model.specs.Nets.{width_at, net_width}
+use Rattle.net_model.specs.Nets.{width_at, net_width, space_at, held}
 use Rattle.net_model.specs.Value.{case_value, bus_value, gate_value, net_value, value_within}
 use Rattle.net_model.specs.Widths.{RowsFit, RestFits, DriversFit, GateFits, NetFits, IsTyped, StateFits, WordFits, ValuesFit}
 
@@ -32,7 +32,7 @@ module _ (netlist : Netlist) (s : State) (word : ℕ) (v : ℕ → ℕ) (fits : 
   pub gate_fits : StateFits netlist s → WordFits netlist word → (width : ℕ) (gate : Gate) → 1 ≤ width → GateFits netlist width gate → gate_value v netlist s word width gate < 2 ^ width
   gate_fits f w width (Word code) p g = subst (λ n. word < 2 ^ n) g (w.fits code (omega (arith, g, p)))
   gate_fits f w width (Reg id) p g = subst (λ n. slice_index s.regs id < 2 ^ n) g (f.regs id)
-  gate_fits f w width (Read memory addr) p g = subst (λ n. slice_index s.cells (v addr) < 2 ^ n) g.1 (f.cells (v addr))
+  gate_fits f w width (Read memory addr) p g = subst (λ n. slice_index (held s (space_at netlist memory)) (v addr) < 2 ^ n) g.1 (f.cells (space_at netlist memory) (v addr))
   gate_fits f w width (Const c) p g = g
   gate_fits f w width (Wire a) p g = at_width a width g.1
   gate_fits f w width (Un op a) p g = apply1_fits op width (v a)

@@ -6,10 +6,13 @@ use Rattle.std.specs.List.{AllByRecursion, list_all}
 use Rattle.rec_bits.proofs.Booleans.{and_left, and_right, left_false, right_false}
 use Rattle.rec_bits.specs.Faults.{least, gather, broken}
 use Rattle.rec_bits.proofs.Faults.{least_none}
+use Rattle.net_model.proofs.Spaces.{by_space}
+use Rattle.net_model.specs.declared.hardware.Space.{Space}
+use Rattle.net_model.specs.declared.hardware.Space.TheVariants.{Memory as InMemory, File as InFile}
 use Rattle.net_model.specs.declared.fault.NetFault.{NetFault}
 use Rattle.net_model.specs.declared.fault.NetFault.TheVariants.{Duplicate, Unknown, Width, Driver}
 use Rattle.net_model.specs.declared.fault.NetKind.{NetKind}
-use Rattle.net_model.specs.declared.fault.NetKind.TheVariants.{Nets, Registers, Cells, Words}
+use Rattle.net_model.specs.declared.fault.NetKind.TheVariants.{Nets, Registers, Cells, Words, File}
 use Rattle.grammar.specs.declared.words.Ident.{Ident}
 use Rattle.net_model.specs.declared.units.Port.{Port}
 use Rattle.net_model.specs.Written.{Entry, code, register, memory, net, bus, module_item, part, Phrase}
@@ -19,7 +22,7 @@ use Rattle.net_model.specs.TextWidths.{wide, is_width, port_width, ports_of}
 use Rattle.net_model.specs.NameRules.{is_among, repeated, port_name, repeated_ports, duplicates, is_register, unknown_in_item, unknowns}
 use Rattle.net_model.specs.WidthRules.{has_width, feeds, enables, driver_feeds, binding_feeds, feeds_port, port_keeps, widths_fit, misfit, misfits}
 use Rattle.net_model.specs.DriverRules.{names_new, is_driven, drives_once, binding_name, covers_binding, is_driven_item, undriven, undrivens}
-use Rattle.net_model.specs.LimitRules.{count_registers, cells_of, words_of, greatest, over, limit_fault}
+use Rattle.net_model.specs.LimitRules.{count_registers, cells_of, most_cells, words_of, greatest, over, limit_fault}
 use Rattle.rec_bits.specs.Faults.{or_else}
 use Rattle.rec_bits.specs.Counts.{capped}
 use Rattle.net_model.specs.TextRules.{first_fault}
@@ -224,7 +227,7 @@ ports_apart_at (e ∷ text) (suc i) h = ports_apart_at text i h.1
 
 module _ (text : List Entry) (apart : AllByRecursion (λ e. repeated_ports e ≡ []) text) where
   item_keeps : (e : Entry) → repeated_ports e ≡ [] → unknown_in_item text e ≡ [] → IsTrue (widths_fit text e) → IsTrue (is_driven_item text e)
-      → IsTrue (nat_le (cells_of e) 65536) → IsTrue (nat_le (words_of e) 65536) → ItemKeeps text e
+      → ((space : Space) → IsTrue (nat_le (cells_of space e) (most_cells space))) → IsTrue (nat_le (words_of e) 65536) → ItemKeeps text e
   item_keeps (code name bits size counter) own known fit driven cells words =
       (fit, words, register_item (item_named text counter.name) (kept (is_register (item_named text counter.name)) counter.at known))
   item_keeps (register name width input when) own known fit driven cells words =
@@ -233,7 +236,7 @@ module _ (text : List Entry) (apart : AllByRecursion (λ e. repeated_ports e ≡
         feeds_is (in_text text) width input (and_right (is_width width) (feeds (in_text text) width input) a),
         enables_is (in_text text) when (and_right (is_width width && feeds (in_text text) width input) (enables (in_text text) when) fit),
       )
-  item_keeps (memory name width size addr_width value addr when) own known fit driven cells words =
+  item_keeps (memory space name width size addr_width value addr when) own known fit driven cells words =
       let s = in_text text in
       let x = is_width width in
       let y = is_width addr_width in
@@ -241,10 +244,12 @@ module _ (text : List Entry) (apart : AllByRecursion (λ e. repeated_ports e ≡
       let w = feeds s addr_width addr in
       let a = and_left (x && y && v && w) (enables s when) fit in
       let b = and_left (x && y && v) w a in
-      let c = and_left (x && y) v b in (
+      let c = and_left (x && y) v b in
+      let few : (own : Space) → ((space : Space) → IsTrue (nat_le (cells_of space (memory own name width size addr_width value addr when)) (most_cells space))) → IsTrue (nat_le size (most_cells own)) =
+      λ own h. elim own as (λ own. ((space : Space) → IsTrue (nat_le (cells_of space (memory own name width size addr_width value addr when)) (most_cells space))) → IsTrue (nat_le size (most_cells own))) [ InMemory ↦ λ h. h InMemory | InFile ↦ λ h. h InFile ] h in (
         and_left x y c,
         and_right x y c,
-        cells,
+        few space cells,
         feeds_is s width value (and_right (x && y) v b),
         feeds_is s addr_width addr (and_right (x && y && v) w a),
         enables_is s when (and_right (x && y && v && w) (enables s when) fit),
@@ -272,12 +277,12 @@ module _ (text : List Entry) (apart : AllByRecursion (λ e. repeated_ports e ≡
 
   items_keep : (entries : List Entry) → AllByRecursion (λ e. repeated_ports e ≡ []) entries → AllByRecursion (λ e. unknown_in_item text e ≡ []) entries
       → AllByRecursion (λ e. misfit text e ≡ []) entries → AllByRecursion (λ e. undriven text e ≡ []) entries
-      → AllByRecursion (λ e. IsTrue (nat_le (cells_of e) 65536)) entries → AllByRecursion (λ e. IsTrue (nat_le (words_of e) 65536)) entries
+      → ((space : Space) → AllByRecursion (λ e. IsTrue (nat_le (cells_of space e) (most_cells space))) entries) → AllByRecursion (λ e. IsTrue (nat_le (words_of e) 65536)) entries
       → AllByRecursion (ItemKeeps text) entries
   items_keep [] own known fit driven cells words = tt
   items_keep (e ∷ entries) own known fit driven cells words = (
-    item_keeps e own.0 known.0 (kept (widths_fit text e) (own_name e).at fit.0) (kept (is_driven_item text e) (own_name e).at driven.0) cells.0 words.0,
-    items_keep entries own.1 known.1 fit.1 driven.1 cells.1 words.1,
+    item_keeps e own.0 known.0 (kept (widths_fit text e) (own_name e).at fit.0) (kept (is_driven_item text e) (own_name e).at driven.0) (λ space. (cells space).0) words.0,
+    items_keep entries own.1 known.1 fit.1 driven.1 (λ space. (cells space).1) words.1,
   )
 
   items_driven : (entries : List Entry) → AllByRecursion (λ e. undriven text e ≡ []) entries → AllByRecursion (IsDriven text) entries
@@ -320,7 +325,7 @@ record KeepsAll (text : List Entry) : Type 0 where
   no_undrivens : undrivens text ≡ []
   nets : IsTrue (nat_le (capped (count_items text text)) 4096)
   registers : IsTrue (nat_le (capped (count_registers text)) 13)
-  cells : IsTrue (nat_le (greatest cells_of text) 65536)
+  cells : (space : Space) → IsTrue (nat_le (greatest (cells_of space) text) (most_cells space))
   words : IsTrue (nat_le (greatest words_of text) 65536)
 
 keeps_all : (text : List Entry) → first_fault text ≡ None → KeepsAll text
@@ -331,7 +336,8 @@ keeps_all text h =
     let d = both_none (fault_at Driver (least (undrivens text))) (limit_fault text) c.1 in
     let e = both_none (over Nets 4096 (capped (count_items text text))) _ d.1 in
     let f = both_none (over Registers 13 (capped (count_registers text))) _ e.1 in
-    let g = both_none (over Cells 65536 (greatest cells_of text)) (over Words 65536 (greatest words_of text)) f.1 in
+    let x = both_none (over File 32 (greatest (cells_of InFile) text)) _ f.1 in
+    let g = both_none (over Cells 65536 (greatest (cells_of InMemory) text)) (over Words 65536 (greatest words_of text)) x.1 in
     record {
       no_duplicates = rule_kept Duplicate (duplicates text) a.0;
       no_unknowns = rule_kept Unknown (unknowns text) b.0;
@@ -339,7 +345,7 @@ keeps_all text h =
       no_undrivens = rule_kept Driver (undrivens text) d.0;
       nets = within Nets 4096 (capped (count_items text text)) e.0;
       registers = within Registers 13 (capped (count_registers text)) f.0;
-      cells = within Cells 65536 (greatest cells_of text) g.0;
+      cells = by_space (λ space. IsTrue (nat_le (greatest (cells_of space) text) (most_cells space))) (within Cells 65536 (greatest (cells_of InMemory) text) g.0) (within File 32 (greatest (cells_of InFile) text) x.0);
       words = within Words 65536 (greatest words_of text) g.1;
     }
 
@@ -352,7 +358,7 @@ elaborable_of text h few =
     record {
       names = items_new [] text names;
       items = items_keep text apart text apart (gather_none (unknown_in_item text) text k.no_unknowns) (gather_none (misfit text) text k.no_misfits) driven
-          (sizes_within cells_of 65536 text k.cells) (sizes_within words_of 65536 text k.words);
+          (λ space. sizes_within (cells_of space) (most_cells space) text (k.cells space)) (sizes_within words_of 65536 text k.words);
       driven = items_driven text apart text driven;
       few_nets = told_nets (count_items text text) k.nets;
       few_registers = told_registers (count_registers text) k.registers;

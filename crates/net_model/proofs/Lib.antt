@@ -12,6 +12,7 @@ pub mod Told
 pub mod KeptRules
 pub mod KeptTexts
 pub mod WorkedRules
+pub mod WorkedFileRules
 pub mod Acyclic
 pub mod Offsets
 pub mod FaultLaws
@@ -22,4 +23,5 @@ pub mod WordWidths
 pub mod TermLaws
 pub mod Counts
 pub mod Storages
+pub mod Spaces
 pub mod Far

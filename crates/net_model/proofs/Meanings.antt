@@ -7,7 +7,7 @@ use Rattle.std.proofs.Math.Nat.{mod-eq_of_lt}
 use Rattle.rec_bits.proofs.Booleans.{both}
 use Rattle.rec_bits.specs.Operators.{slice_of}
 use Rattle.net_model.specs.Terms.{Term, slice, select, term_width}
-use Rattle.net_model.specs.Nets.{width_at, net_width, gate_nets}
+use Rattle.net_model.specs.Nets.{width_at, net_width, gate_nets, held, space_at}
 use Rattle.net_model.specs.Value.{case_value, bus_value, gate_value, net_value, value_within, value_of}
 use Rattle.net_model.specs.Widths.{RowsFit, RestFits, DriversFit, GateFits, NetFits, IsTyped, StateFits, WordFits}
 use Rattle.net_model.specs.Symbolic.{sliced, reads_state, all_nets, gate_static, net_static, static_within, is_static, no_state, case_term, bus_term, gate_term, net_term, sym_within, sym_of}
@@ -90,7 +90,7 @@ module _ (netlist : Netlist) (t : ℕ → Term) (u : ℕ → ℕ) (f : ℕ → B
   bus_width width [] p = refl
   bus_width width (driver ∷ drivers) p = pick_width (u driver.1 == 1) _ _ width (h driver.0 ∙ p.0.1) (bus_width width drivers p.2)
 
-  gate_width : (width : ℕ) (gate : Gate) → GateFits netlist width gate → term_width (gate_term t u f width gate) ≡ width
+  gate_width : (width : ℕ) (gate : Gate) → GateFits netlist width gate → term_width (gate_term t u f netlist width gate) ≡ width
   gate_width width (Word code) g = refl
   gate_width width (Reg id) g = refl
   gate_width width (Read memory addr) g = refl
@@ -106,7 +106,7 @@ module _ (netlist : Netlist) (t : ℕ → Term) (u : ℕ → ℕ) (f : ℕ → B
       pick_width (f sel) _ _ width (case_width width (width_at netlist sel) (u sel) rows rest g.1 g.2) (case_width width (width_at netlist sel) 1 rows rest g.1 g.2)
   gate_width width (Bus drivers) g = bus_width width drivers g
 
-  net_tree_width : (net : Option Net) → NetFits netlist net → term_width (net_term t u f net) ≡ net_width net
+  net_tree_width : (net : Option Net) → NetFits netlist net → term_width (net_term t u f netlist net) ≡ net_width net
   net_tree_width None p = refl
   net_tree_width (Some net) p = gate_width net.width net.gate p.2
 
@@ -194,10 +194,10 @@ module _ (netlist : Netlist) (s : State) (i : ℕ) (t : ℕ → Term) (u v : ℕ
   choice_law width sel rows rest true e c = case_law width (u sel) rows rest ∙ ap (λ n. case_value v n rows rest) (hu sel e)
   choice_law width sel rows rest false e c = bit_law width sel rows rest (subst (λ n. v sel < 2 ^ n) (is_bit netlist sel c e) (hv sel))
 
-  gate_law : (width : ℕ) (gate : Gate) → GateFits netlist width gate → GateControlled netlist gate → mean (gate_term t u (is_static netlist) width gate) s i ≡ gate_value v netlist s i width gate
+  gate_law : (width : ℕ) (gate : Gate) → GateFits netlist width gate → GateControlled netlist gate → mean (gate_term t u (is_static netlist) netlist width gate) s i ≡ gate_value v netlist s i width gate
   gate_law width (Word code) g c = refl
   gate_law width (Reg id) g c = refl
-  gate_law width (Read memory addr) g c = ap (slice_index s.cells) (h addr)
+  gate_law width (Read memory addr) g c = ap (slice_index (held s (space_at netlist memory))) (h addr)
   gate_law width (Const k) g c = refl
   gate_law width (Wire a) g c = h a
   gate_law width (Un op a) g c = rw (h a, hw a, g.1) refl
@@ -210,7 +210,7 @@ module _ (netlist : Netlist) (s : State) (i : ℕ) (t : ℕ → Term) (u v : ℕ
   gate_law width (Case sel rows rest) g c = choice_law width sel rows rest (is_static netlist sel) refl c.selectors.0
   gate_law width (Bus drivers) g c = bus_law width drivers c.enables
 
-  net_law : (net : Option Net) → NetFits netlist net → ((x : Net) → net ≡ Some x → GateControlled netlist x.gate) → mean (net_term t u (is_static netlist) net) s i ≡ net_value v netlist s i net
+  net_law : (net : Option Net) → NetFits netlist net → ((x : Net) → net ≡ Some x → GateControlled netlist x.gate) → mean (net_term t u (is_static netlist) netlist net) s i ≡ net_value v netlist s i net
   net_law None p c = refl
   net_law (Some net) p c = gate_law net.width net.gate p.2 (c net refl)
 

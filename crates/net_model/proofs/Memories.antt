@@ -1,38 +1,76 @@
 -- The data memory of a checked netlist.
-use Rattle.std.proofs.Common.{◌≡◌, ◌≤◌, ℕ, List, [], ◌∷◌, length, refl, arith}
+use Rattle.std.proofs.Common.{◌≡◌, ◌≤◌, ℕ, List, [], ◌∷◌, length, refl, arith, Option, ◌∙◌, Some, ap, None}
 use Rattle.std.specs.Prelude.{slice_get}
 use Rattle.std.specs.List.{AllByRecursion}
+use Rattle.net_model.proofs.Storages.{array_of, array_no_register}
+use Rattle.net_model.specs.LimitRules.{most_cells}
 use Rattle.net_model.specs.declared.hardware.Netlist.{Netlist}
 use Rattle.net_model.specs.declared.hardware.Storage.{Storage}
-use Rattle.net_model.specs.declared.hardware.Storage.TheVariants.{Register, Memory}
-use Rattle.net_model.specs.Nets.{memory_id, memory_size, memory_width, storage_bits, storage_cells}
+use Rattle.net_model.specs.declared.hardware.Storage.TheVariants.{Register, Memory, File}
+use Rattle.net_model.specs.declared.hardware.Space.{Space}
+use Rattle.net_model.specs.declared.hardware.Space.TheVariants.{Memory as InMemory, File as InFile}
+use Rattle.net_model.specs.Nets.{memory_id, memory_size, memory_width, storage_bits, storage_cells, size_in, place_in, held, array_in, IsRegister, width_in, array_size, array_width}
 use Rattle.net_model.specs.declared.states.State.{State}
 use Rattle.net_model.specs.Widths.{IsState}
 use Rattle.net_model.specs.CheckedRules.{HasFewCells, StorageKeeps, memory_count, KeepsRules}
 use Rattle.rec_bits.specs.Operators.{IsWidth}
 
+pub array_found : (space : Space) (storages : List Storage) → array_of (slice_get storages (place_in space storages)) ≡ array_in space storages
+array_found space [] = refl
+array_found InMemory (Register name width input when ∷ storages) = array_found InMemory storages
+array_found InMemory (Memory cells ∷ storages) = refl
+array_found InMemory (File cells ∷ storages) = array_found InMemory storages
+array_found InFile (Register name width input when ∷ storages) = array_found InFile storages
+array_found InFile (Memory cells ∷ storages) = array_found InFile storages
+array_found InFile (File cells ∷ storages) = refl
+
+size_of_array : (o : Option Storage) → storage_cells o ≡ array_size (array_of o)
+size_of_array None = refl
+size_of_array (Some storage) = refl
+
+bits_of_array : (o : Option Storage) → (IsRegister o → ⊥) → storage_bits o ≡ array_width (array_of o)
+bits_of_array None r = refl
+bits_of_array (Some (Register name width input when)) r = absurd (r tt)
+bits_of_array (Some (Memory cells)) r = refl
+bits_of_array (Some (File cells)) r = refl
+
+pub size_found : (space : Space) (storages : List Storage) → storage_cells (slice_get storages (place_in space storages)) ≡ size_in space storages
+size_found space storages = size_of_array (slice_get storages (place_in space storages)) ∙ ap array_size (array_found space storages)
+
+pub width_found : (space : Space) (storages : List Storage) → storage_bits (slice_get storages (place_in space storages)) ≡ width_in space storages
+width_found space storages =
+    bits_of_array (slice_get storages (place_in space storages)) (array_no_register space storages)
+    ∙ ap array_width (array_found space storages)
+
 pub memory_found : (storages : List Storage) → storage_cells (slice_get storages (memory_id storages)) ≡ memory_size storages
-memory_found [] = refl
-memory_found (Register name width input when ∷ storages) = memory_found storages
-memory_found (Memory name width size addr_width value addr when ∷ storages) = refl
+memory_found storages = size_found InMemory storages
 
 pub memory_wide : (storages : List Storage) → storage_bits (slice_get storages (memory_id storages)) ≡ memory_width storages
-memory_wide [] = refl
-memory_wide (Register name width input when ∷ storages) = memory_wide storages
-memory_wide (Memory name width size addr_width value addr when ∷ storages) = refl
+memory_wide storages = width_found InMemory storages
 
 memory_is_wide : (netlist : Netlist) (storages : List Storage) → AllByRecursion (StorageKeeps netlist) storages → memory_count storages ≡ 1 → IsWidth (memory_width storages)
 memory_is_wide netlist [] keeps one = absurd (omega arith)
-memory_is_wide netlist (Register name width input when ∷ storages) keeps one = memory_is_wide netlist storages keeps.1 one
-memory_is_wide netlist (Memory name width size addr_width value addr when ∷ storages) keeps one = keeps.0.0
+memory_is_wide netlist (Register name width input when ∷ storages) keeps one = memory_is_wide netlist storages keeps.1 (omega (arith, one))
+memory_is_wide netlist (Memory cells ∷ storages) keeps one = keeps.0.0
+memory_is_wide netlist (File cells ∷ storages) keeps one = memory_is_wide netlist storages keeps.1 (omega (arith, one))
 
 pub memory_width_of : (netlist : Netlist) (order : List ℕ) → KeepsRules netlist order → IsWidth (memory_width netlist.storages)
 memory_width_of netlist order rules = memory_is_wide netlist netlist.storages rules.formed.storages rules.roles.memory
 
-memory_few : (storages : List Storage) → AllByRecursion HasFewCells storages → memory_size storages ≤ 65536
-memory_few [] h = omega arith
-memory_few (Register name width input when ∷ storages) h = memory_few storages h.1
-memory_few (Memory name width size addr_width value addr when ∷ storages) h = h.0
+few_in : (space : Space) (storages : List Storage) → AllByRecursion HasFewCells storages → size_in space storages ≤ most_cells space
+few_in InMemory [] h = omega arith
+few_in InFile [] h = omega arith
+few_in InMemory (Register name width input when ∷ storages) h = few_in InMemory storages h.1
+few_in InMemory (Memory cells ∷ storages) h = h.0
+few_in InMemory (File cells ∷ storages) h = few_in InMemory storages h.1
+few_in InFile (Register name width input when ∷ storages) h = few_in InFile storages h.1
+few_in InFile (Memory cells ∷ storages) h = few_in InFile storages h.1
+few_in InFile (File cells ∷ storages) h = h.0
 
-pub few_cells : (netlist : Netlist) (order : List ℕ) (s : State) → KeepsRules netlist order → IsState netlist s → length s.cells ≤ 65536
-few_cells netlist order s k h = omega (arith, h.cells, memory_few netlist.storages k.formed.limits.cells)
+pub few_cells : (netlist : Netlist) (order : List ℕ) (s : State) (space : Space) → KeepsRules netlist order → IsState netlist s → length (held s space) ≤ most_cells space
+few_cells netlist order s space k h = omega (arith, h.cells space, few_in space netlist.storages k.formed.limits.cells)
+
+-- neither has more than 65,536
+pub few_sizes : (netlist : Netlist) (order : List ℕ) → KeepsRules netlist order → (space : Space) → size_in space netlist.storages ≤ 65536
+few_sizes netlist order k InMemory = few_in InMemory netlist.storages k.formed.limits.cells
+few_sizes netlist order k InFile = omega (arith, few_in InFile netlist.storages k.formed.limits.cells)

@@ -4,6 +4,7 @@ use Rattle.std.proofs.Common.{◌≡◌, ℕ, ◌||◌, true, Bool, slice_index,
 use Rattle.std.proofs.lemmas.Bool.{eq-eqb, or_left, or_right}
 use Rattle.rec_bits.specs.Operators.{apply1_of, slice_of, sext_of}
 use Rattle.net_model.specs.declared.states.State.{State}
+use Rattle.net_model.specs.Nets.{held}
 use Rattle.net_model.specs.Terms.{Term, word, reg, const, read, un, bin, slice, cat, zext, sext, select, term_width}
 use Rattle.net_model.specs.Fields.{fields, WordFitsTerm}
 use Rattle.net_model.specs.Meaning.{mean}
@@ -16,14 +17,14 @@ pub mean_fields : (t : Term) (s : State) (i j : ℕ) → WordFitsTerm t i → Wo
 mean_fields (word w) s i j f g e = same_low i j w f g e
 mean_fields (reg r w) s i j f g e = refl
 mean_fields (const w v) s i j f g e = refl
-mean_fields (read a w) s i j f g e = ap (λ k. slice_index s.cells k) (mean_fields a s i j f g e)
+mean_fields (read space a w) s i j f g e = ap (λ k. slice_index (held s space) k) (mean_fields a s i j f g e)
 mean_fields (un o a) s i j f g e = ap (λ x. apply1_of o (term_width a) x) (mean_fields a s i j f g e)
 mean_fields (bin o a b) s i j f g e =
     cc (mean_fields a s i j f.0 g.0 (both_left i j (fields a) (fields b) e), mean_fields b s i j f.1 g.1 (both_right i j (fields a) (fields b) e))
 mean_fields (slice (word w) hi lo) s i j f g e = same_slice i j hi lo e
 mean_fields (slice (reg r w) hi lo) s i j f g e = refl
 mean_fields (slice (const w v) hi lo) s i j f g e = refl
-mean_fields (slice (read a w) hi lo) s i j f g e = ap (λ x. slice_of x hi lo) (mean_fields (read a w) s i j f g e)
+mean_fields (slice (read space a w) hi lo) s i j f g e = ap (λ x. slice_of x hi lo) (mean_fields (read space a w) s i j f g e)
 mean_fields (slice (un o a) hi lo) s i j f g e = ap (λ x. slice_of x hi lo) (mean_fields (un o a) s i j f g e)
 mean_fields (slice (bin o a b) hi lo) s i j f g e = ap (λ x. slice_of x hi lo) (mean_fields (bin o a b) s i j f g e)
 mean_fields (slice (slice a h l) hi lo) s i j f g e = ap (λ x. slice_of x hi lo) (mean_fields (slice a h l) s i j f g e)
@@ -42,7 +43,7 @@ mean_fields (select c a b) s i j f g e =
 -- ---- states that agree on what occurs in an expression give it one meaning
 
 pub agree_less : (reads more : ℕ → Bool) (memory larger : Bool) (s t : State) → ((r : ℕ) → reads r ≡ true → more r ≡ true) → (memory ≡ true → larger ≡ true) → AgreeOn more larger s t → AgreeOn reads memory s t
-agree_less reads more memory larger s t h k a = record { regs = λ r e. a.regs r (h r e); cells = λ e. a.cells (k e) }
+agree_less reads more memory larger s t h k a = record { regs = λ r e. a.regs r (h r e); cells = λ e space. a.cells (k e) space }
 
 agree_left : (a b : Term) (s t : State) → AgreeOn (λ r. occurs r a || occurs r b) (has_read a || has_read b) s t → AgreeOn (λ r. occurs r a) (has_read a) s t
 agree_left a b s t = agree_less _ _ _ _ s t (λ r. or_left (occurs r a) (occurs r b)) (or_left (has_read a) (has_read b))
@@ -54,9 +55,9 @@ pub mean_alike : (e : Term) (i : ℕ) (s t : State) → AgreeOn (λ r. occurs r 
 mean_alike (word w) i s t h = refl
 mean_alike (reg r w) i s t h = h.regs r (eq-eqb r r refl)
 mean_alike (const w v) i s t h = refl
-mean_alike (read a w) i s t h =
-    let e : mean a s i ≡ mean a t i = mean_alike a i s t (record { regs = h.regs; cells = λ k. h.cells refl }) in
-    let c = h.cells refl in
+mean_alike (read space a w) i s t h =
+    let e : mean a s i ≡ mean a t i = mean_alike a i s t (record { regs = h.regs; cells = λ k space. h.cells refl space }) in
+    let c = h.cells refl space in
     (λ j. slice_index (c j) (e j))
 mean_alike (un o a) i s t h = ap (apply1_of o (term_width a)) (mean_alike a i s t h)
 mean_alike (bin o a b) i s t h = cc (mean_alike a i s t (agree_left a b s t h), mean_alike b i s t (agree_right a b s t h))

@@ -7,7 +7,8 @@ use Rattle.net_model.specs.declared.hardware.Code.{Code}
 use Rattle.net_model.specs.declared.hardware.Gate.{Gate}
 use Rattle.net_model.specs.declared.hardware.Gate.TheVariants.{Word, Reg, Read, Const, Wire, Un, Bin, Slice, Cat, Zext, Sext, Case, Bus}
 use Rattle.net_model.specs.declared.hardware.Storage.{Storage}
-use Rattle.net_model.specs.declared.hardware.Storage.TheVariants.{Register, Memory}
+use Rattle.net_model.specs.declared.hardware.Storage.TheVariants.{Register, Memory, File}
+use Rattle.net_model.specs.declared.hardware.Cells.{Cells}
 use Rattle.net_model.specs.Terms.{Term, word, reg, const, read, un, bin, slice, cat, zext, sext, select, term_width, Move, keep, write, write_at}
 use Rattle.net_model.specs.Nets.{code_bits, word_width}
 use Rattle.net_model.specs.Value.{value_within, value_of}
@@ -15,7 +16,7 @@ use Rattle.net_model.specs.CheckedRules.{CodeKeeps, KeepsRules}
 use Rattle.net_model.specs.Widths.{GateFits, NetFits, IsTyped, WordFits}
 use Rattle.net_model.specs.Symbolic.{sliced, no_state, is_static, case_term, bus_term, gate_term, net_term, sym_within, sym_of}
 use Rattle.net_model.specs.Clock.{is_enabled}
-use Rattle.net_model.specs.Transfers.{IsClean, same_reg, storage_move, transfer_of, move_at}
+use Rattle.net_model.specs.Transfers.{IsClean, same_reg, array_move, storage_move, transfer_of, move_at}
 use Rattle.net_model.specs.Fields.{WordFitsTerm, WordFitsMove}
 
 pick : (b : Bool) (a c : Term) (i : ℕ) → WordFitsTerm a i → WordFitsTerm c i → WordFitsTerm (cond b a c) i
@@ -27,7 +28,7 @@ sliced_fits (slice a h l) hi lo i f = f
 sliced_fits (word w) hi lo i f = pick ((lo == 0) && (hi + 1 == w)) (word w) (slice (word w) hi lo) i f f
 sliced_fits (reg r w) hi lo i f = pick ((lo == 0) && (hi + 1 == w)) (reg r w) (slice (reg r w) hi lo) i f f
 sliced_fits (const w v) hi lo i f = pick ((lo == 0) && (hi + 1 == w)) (const w v) (slice (const w v) hi lo) i f f
-sliced_fits (read a w) hi lo i f = pick ((lo == 0) && (hi + 1 == w)) (read a w) (slice (read a w) hi lo) i f f
+sliced_fits (read space a w) hi lo i f = pick ((lo == 0) && (hi + 1 == w)) (read space a w) (slice (read space a w) hi lo) i f f
 sliced_fits (un o a) hi lo i f = pick ((lo == 0) && (hi + 1 == term_width (un o a))) (un o a) (slice (un o a) hi lo) i f f
 sliced_fits (bin o a b) hi lo i f = pick ((lo == 0) && (hi + 1 == term_width (bin o a b))) (bin o a b) (slice (bin o a b) hi lo) i f f
 sliced_fits (cat a b) hi lo i f = pick ((lo == 0) && (hi + 1 == term_width (cat a b))) (cat a b) (slice (cat a b) hi lo) i f f
@@ -45,7 +46,7 @@ module _ (netlist : Netlist) (i : ℕ) (fits : WordFits netlist i) (t : ℕ → 
   bus_fits width [] = tt
   bus_fits width (driver ∷ drivers) = pick (u driver.1 == 1) _ _ i (h driver.0) (bus_fits width drivers)
 
-  gate_fits : (width : ℕ) (gate : Gate) → 1 ≤ width → GateFits netlist width gate → WordFitsTerm (gate_term t u f width gate) i
+  gate_fits : (width : ℕ) (gate : Gate) → 1 ≤ width → GateFits netlist width gate → WordFitsTerm (gate_term t u f netlist width gate) i
   gate_fits width (Word code) p g = subst (λ n. i < 2 ^ n) g (fits.fits code (omega (arith, g, p)))
   gate_fits width (Reg id) p g = tt
   gate_fits width (Read memory addr) p g = h addr
@@ -61,7 +62,7 @@ module _ (netlist : Netlist) (i : ℕ) (fits : WordFits netlist i) (t : ℕ → 
       pick (f sel) _ _ i (case_fits width (u sel) rows rest) ((h sel, case_fits width 1 rows rest, case_fits width 0 rows rest))
   gate_fits width (Bus drivers) p g = bus_fits width drivers
 
-  net_fits : (net : Option Net) → NetFits netlist net → WordFitsTerm (net_term t u f net) i
+  net_fits : (net : Option Net) → NetFits netlist net → WordFitsTerm (net_term t u f netlist net) i
   net_fits None p = tt
   net_fits (Some net) p = gate_fits net.width net.gate p.0 p.2
 
@@ -77,11 +78,15 @@ choose : (b : Bool) (m n : Move) (i : ℕ) → WordFitsMove m i → WordFitsMove
 choose true m n i h k = h
 choose false m n i h k = k
 
+array_fits : (t : ℕ → Term) (u : ℕ → ℕ) (i : ℕ) → ((m : ℕ) → WordFitsTerm (t m) i) → (cells : Cells) → WordFitsMove (array_move t u cells) i
+array_fits t u i h cells =
+    choose (is_enabled u cells.when) (write_at (t cells.addr) (t cells.value)) keep i (h cells.addr, h cells.value) tt
+
 storage_fits : (t : ℕ → Term) (u : ℕ → ℕ) (i id : ℕ) → ((m : ℕ) → WordFitsTerm (t m) i) → (storage : Storage) → WordFitsMove (storage_move t u id storage) i
 storage_fits t u i id h (Register name width input when) =
     choose (is_enabled u when) _ keep i (choose (same_reg (t input) id) keep (write (t input)) i tt (h input)) tt
-storage_fits t u i id h (Memory name width size addr_width value addr when) =
-    choose (is_enabled u when) (write_at (t addr) (t value)) keep i (h addr, h value) tt
+storage_fits t u i id h (Memory cells) = array_fits t u i h cells
+storage_fits t u i id h (File cells) = array_fits t u i h cells
 
 -- a transfer of a netlist of these widths names the word with its width
 pub move_fits : (netlist : Netlist) (i : ℕ) → WordFits netlist i → IsTyped netlist → (id : ℕ) → WordFitsMove (move_at netlist i id) i
@@ -125,7 +130,7 @@ pub less_fits : (t : Term) (i j : ℕ) → j ≤ i → WordFitsTerm t i → Word
 less_fits (word w) i j h f = omega (arith, h, f)
 less_fits (reg r w) i j h f = tt
 less_fits (const w v) i j h f = tt
-less_fits (read a w) i j h f = less_fits a i j h f
+less_fits (read space a w) i j h f = less_fits a i j h f
 less_fits (un o a) i j h f = less_fits a i j h f
 less_fits (bin o a b) i j h f = (less_fits a i j h f.0, less_fits b i j h f.1)
 less_fits (slice a hi lo) i j h f = less_fits a i j h f

@@ -13,21 +13,21 @@ use Rattle.net_model.specs.CheckedRules.{NetKeeps, NamesDiffer, IsWellFormed, Ha
 use Rattle.net_model.specs.Worked.{a16, b2, s8, ring}
 
 -- what holds of each net of a list holds at each place
-abbrev AllAt : (ℕ → Option Net → Type 0) → List Net → Type 0
+abbrev pub AllAt : (ℕ → Option Net → Type 0) → List Net → Type 0
 AllAt P [] = Unit {0}
 AllAt P (net ∷ nets) = P 0 (Some net) × AllAt (λ n. P (suc n)) nets
 
-at_each : (P : ℕ → Option Net → Type 0) → ((n : ℕ) → P n None) → (nets : List Net) → AllAt P nets → (n : ℕ) → P n (slice_get nets n)
+pub at_each : (P : ℕ → Option Net → Type 0) → ((n : ℕ) → P n None) → (nets : List Net) → AllAt P nets → (n : ℕ) → P n (slice_get nets n)
 at_each P none [] h n = none n
 at_each P none (net ∷ nets) h zero = h.0
 at_each P none (net ∷ nets) h (suc n) = at_each (λ m. P (suc m)) (λ m. none (suc m)) nets h.1 n
 
 -- what holds of each number below k
-abbrev AllBelow : ℕ → (ℕ → Type 0) → Type 0
+abbrev pub AllBelow : ℕ → (ℕ → Type 0) → Type 0
 AllBelow zero P = Unit {0}
 AllBelow (suc k) P = P 0 × AllBelow k (λ n. P (suc n))
 
-at_below : (k : ℕ) (P : ℕ → Type 0) → AllBelow k P → (n : ℕ) → n < k → P n
+pub at_below : (k : ℕ) (P : ℕ → Type 0) → AllBelow k P → (n : ℕ) → n < k → P n
 at_below zero P h n l = absurd (omega arith)
 at_below (suc k) P h zero l = h.0
 at_below (suc k) P h (suc n) l = at_below k (λ m. P (suc m)) h.1 n (omega arith)
@@ -75,6 +75,7 @@ s8_roles = record {
   counter = lit≤ tt;
   sizes = ((lit≤ tt, lit≤ tt), (lit≤ tt, lit≤ tt));
   address = lit≤ tt;
+  file = (refl, tt);
 }
 
 pub s8_keeps : KeepsRules s8 s8_order
@@ -85,6 +86,7 @@ s8_keeps = record {
   enables = search rules;
   control = search rules;
   selectors = search rules;
+  addresses = search rules;
 }
 
 -- ---- the processor with a bus
@@ -123,10 +125,12 @@ b2_keeps = record {
     counter = lit≤ tt;
     sizes = ((lit≤ tt, lit≤ tt), (lit≤ tt, lit≤ tt));
     address = lit≤ tt;
+    file = (refl, tt);
   };
   enables = search rules;
   control = search rules;
   selectors = search rules;
+  addresses = search rules;
 }
 
 -- ---- the processor with an adder and a branch
@@ -190,10 +194,12 @@ a16_keeps = record {
     counter = lit≤ tt;
     sizes = ((lit≤ tt, lit≤ tt), (lit≤ tt, lit≤ tt));
     address = lit≤ tt;
+    file = (refl, tt);
   };
   enables = search rules;
   control = search rules;
   selectors = search rules;
+  addresses = search rules;
 }
 
 -- nets that depend on themselves have no order
@@ -204,8 +210,10 @@ ring_breaks order k = omega (arith, (k.ordered.falls 0).0, (k.ordered.falls 1).0
 abbrev enabled_by : Gate → Netlist
 enabled_by gate = record {
   nets = s8.nets ++ record { width = 1; name_at = 0; gate = gate } ∷ [];
-  storages = Register (codes "PC") 4 5 None ∷ Memory (codes "M") 5 4 2 7 8 (Some 11) ∷ [];
+  storages = Register (codes "PC") 4 5 None ∷ Memory (record { name = codes "M"; width = 5; size = 4; addr_width = 2; value = 7; addr = 8; when = (Some 11) }) ∷ [];
   codes = s8.codes;
+  edition = 1;
+  special = None;
 }
 
 -- the enable may not depend on the program counter
@@ -217,10 +225,10 @@ pub added_breaks : (order : List ℕ) → KeepsRules (enabled_by (Bin Add 1 9)) 
 added_breaks order k = cc (k.control.0)
 
 -- the program counter has no `when`
-pub held_breaks : (order : List ℕ) → KeepsRules (record s8 { storages = Register (codes "PC") 4 5 (Some 10) ∷ Memory (codes "M") 5 4 2 7 8 (Some 10) ∷ [] }) order → ⊥
+pub held_breaks : (order : List ℕ) → KeepsRules (record s8 { storages = Register (codes "PC") 4 5 (Some 10) ∷ Memory (record { name = codes "M"; width = 5; size = 4; addr_width = 2; value = 7; addr = 8; when = (Some 10) }) ∷ [] }) order → ⊥
 held_breaks order k = k.roles.counter
 
 -- two storages of one name
-pub twice_breaks : (order : List ℕ) → KeepsRules (record s8 { storages = Register (codes "M") 4 5 None ∷ Memory (codes "M") 5 4 2 7 8 (Some 10) ∷ [] }) order → ⊥
+pub twice_breaks : (order : List ℕ) → KeepsRules (record s8 { storages = Register (codes "M") 4 5 None ∷ Memory (record { name = codes "M"; width = 5; size = 4; addr_width = 2; value = 7; addr = 8; when = (Some 10) }) ∷ [] }) order → ⊥
 unfolding IsDistinct
 twice_breaks order k = cc (k.formed.names.0.0)

@@ -1,6 +1,6 @@
 -- The rules that a checked netlist keeps, each said of the netlist alone. The rules N10, N12 and
 -- N13 speak of all instruction words and are asked later.
-use Rattle.std.specs.Prelude.{ℕ, zero, suc, ◌+◌, ◌^◌, ◌<◌, ◌≤◌, ◌≡◌, ◌++◌, ◌&&◌, ◌||◌, not, nat_eq, List, [], ◌∷◌, length, map, Option, Some, None, slice_get, Bool, true, false, IsTrue}
+use Rattle.std.specs.Prelude.{ℕ, zero, suc, ◌+◌, ◌==◌, if◌then◌else◌, ◌^◌, ◌<◌, ◌≤◌, ◌≡◌, ◌++◌, ◌&&◌, ◌||◌, not, nat_eq, List, [], ◌∷◌, length, map, Option, Some, None, slice_get, Bool, true, false, IsTrue}
 use Rattle.std.specs.List.{AllByRecursion, IsDistinct, list_any}
 use Rattle.std.specs.Cmp.Lexicographic.{pointwise}
 use Rattle.rec_bits.specs.declared.operator.Op1.TheVariants.{Not}
@@ -9,10 +9,15 @@ use Rattle.net_model.specs.declared.hardware.Netlist.{Netlist}
 use Rattle.net_model.specs.declared.hardware.Net.{Net}
 use Rattle.net_model.specs.declared.hardware.Code.{Code}
 use Rattle.net_model.specs.declared.hardware.Storage.{Storage}
-use Rattle.net_model.specs.declared.hardware.Storage.TheVariants.{Register, Memory}
+use Rattle.net_model.specs.declared.hardware.Storage.TheVariants.{Register, Memory, File}
+use Rattle.net_model.specs.declared.hardware.Cells.{Cells}
+use Rattle.net_model.specs.declared.hardware.Space.{Space}
+use Rattle.net_model.specs.declared.hardware.Space.TheVariants.{Memory as InMemory, File as InFile}
 use Rattle.net_model.specs.declared.hardware.Gate.{Gate}
 use Rattle.net_model.specs.declared.hardware.Gate.TheVariants.{Word, Reg, Read, Const, Wire, Un, Bin, Slice, Cat, Zext, Sext, Case}
-use Rattle.net_model.specs.Nets.{width_at, gate_nets, IsRegister, counter_of, counter_width, memory_size, memory_width}
+use Rattle.net_model.specs.Nets.{width_at, gate_nets, IsRegister, counter_of, counter_width, memory_size, memory_width, addr_width_in, array_in, is_in, space_at, storage_array, storage_name}
+use Rattle.net_model.specs.LimitRules.{most_cells}
+use Rattle.rec_bits.specs.Faults.{gather}
 use Rattle.net_model.specs.Widths.{GateFits, HasWidth, StorageFits}
 use Rattle.net_model.specs.Symbolic.{all_nets, is_static}
 use Rattle.net_model.specs.Control.{AllPass, enables, selectors, control_places, is_selector}
@@ -26,10 +31,6 @@ pub record Ordered : Type 0 where
 
 -- ---- N1: names
 
-abbrev pub storage_name : Storage → List ℕ
-storage_name (Register name width input when) = name
-storage_name (Memory name width size addr_width value addr when) = name
-
 -- the names of all storages and codes
 abbrev pub storage_names : Netlist → List (List ℕ)
 storage_names netlist = map storage_name netlist.storages ++ map (λ (code : Code). code.name) netlist.codes
@@ -40,12 +41,15 @@ NamesDiffer netlist = IsDistinct (pointwise nat_eq) (storage_names netlist)
 
 -- ---- N2 to N4: what a number stands for, widths, and the rows of a case
 
--- a read is of a memory: it has the width of the cells, and its address that of the addresses
+-- a read is of a memory or a file: it has the width of the cells, and its address that of the
+-- addresses
+abbrev pub ArrayKeeps : Netlist → ℕ → ℕ → Option Cells → Type 0
+ArrayKeeps netlist width addr None = ⊥
+ArrayKeeps netlist width addr (Some cells) = (cells.width ≡ width) × HasWidth netlist addr cells.addr_width
+
 abbrev pub ReadKeeps : Netlist → ℕ → ℕ → Option Storage → Type 0
 ReadKeeps netlist width addr None = ⊥
-ReadKeeps netlist width addr (Some (Register name own input when)) = ⊥
-ReadKeeps netlist width addr (Some (Memory name own size addr_width value at when)) =
-    (own ≡ width) × HasWidth netlist addr addr_width
+ReadKeeps netlist width addr (Some storage) = ArrayKeeps netlist width addr (storage_array storage)
 
 -- the numbers of a case's rows
 abbrev pub row_numbers : List (ℕ × ℕ) → List ℕ
@@ -75,8 +79,10 @@ NetKeeps netlist (Some net) = IsWidth net.width × GateKeeps netlist net.width n
 abbrev pub StorageKeeps : Netlist → Storage → Type 0
 StorageKeeps netlist (Register name width input when) =
     IsWidth width × StorageFits netlist (Register name width input when)
-StorageKeeps netlist (Memory name width size addr_width value addr when) =
-    IsWidth width × IsWidth addr_width × StorageFits netlist (Memory name width size addr_width value addr when)
+StorageKeeps netlist (Memory cells) =
+    IsWidth cells.width × IsWidth cells.addr_width × StorageFits netlist (Memory cells)
+StorageKeeps netlist (File cells) =
+    IsWidth cells.width × IsWidth cells.addr_width × StorageFits netlist (File cells)
 
 -- a register counts through the code
 abbrev pub CodeKeeps : Netlist → Code → Type 0
@@ -87,19 +93,24 @@ CodeKeeps netlist code = IsWidth code.bits × IsRegister (slice_get netlist.stor
 abbrev pub register_count : List Storage → ℕ
 register_count [] = 0
 register_count (Register name width input when ∷ storages) = register_count storages + 1
-register_count (Memory name width size addr_width value addr when ∷ storages) = register_count storages
+register_count (Memory cells ∷ storages) = register_count storages
+register_count (File cells ∷ storages) = register_count storages
+
+abbrev pub count_in : Space → List Storage → ℕ
+count_in space [] = 0
+count_in space (storage ∷ storages) = (if is_in space storage then 1 else 0) + count_in space storages
 
 abbrev pub memory_count : List Storage → ℕ
-memory_count [] = 0
-memory_count (Register name width input when ∷ storages) = memory_count storages
-memory_count (Memory name width size addr_width value addr when ∷ storages) = memory_count storages + 1
+memory_count storages = count_in InMemory storages
 
--- a memory has at most 65,536 cells
+-- a memory has at most 65,536 cells, and a file 32
 abbrev pub HasFewCells : Storage → Type 0
 HasFewCells (Register name width input when) = Unit {0}
-HasFewCells (Memory name width size addr_width value addr when) = size ≤ 65536
+HasFewCells (Memory cells) = cells.size ≤ most_cells InMemory
+HasFewCells (File cells) = cells.size ≤ most_cells InFile
 
--- at most 4,096 nets, 13 registers, 65,536 cells of a memory and 65,536 words of a code
+-- at most 4,096 nets, 13 registers, so many cells of a memory and of a file, and 65,536 words of a
+-- code
 pub record IsWithinLimits (netlist : Netlist) : Type 0 where
   pub nets : length netlist.nets ≤ 4096
   pub registers : register_count netlist.storages ≤ 13
@@ -128,9 +139,7 @@ code_size (code ∷ codes) = code.words
 
 -- how wide the data memory's addresses are
 abbrev pub memory_addr_width : List Storage → ℕ
-memory_addr_width [] = 0
-memory_addr_width (Register name width input when ∷ storages) = memory_addr_width storages
-memory_addr_width (Memory name width size addr_width value addr when ∷ storages) = addr_width
+memory_addr_width storages = addr_width_in InMemory storages
 
 -- at least 1 and no more than so many bits reach
 abbrev pub IsAddressed : ℕ → ℕ → Type 0
@@ -155,13 +164,28 @@ HasSizes netlist =
 abbrev pub HasAddress : Netlist → Type 0
 HasAddress netlist = memory_addr_width netlist.storages ≤ memory_width netlist.storages
 
--- a code, a memory and a program counter, of sizes that fit together
+-- how many files a netlist of an edition has
+abbrev pub files_of : ℕ → ℕ
+files_of edition = if edition == 2 then 1 else 0
+
+-- an address reaches all cells
+abbrev pub IsReached : Option Cells → Type 0
+IsReached None = Unit {0}
+IsReached (Some cells) = IsAddressed cells.size cells.addr_width
+
+-- as many files as its edition has, and an address reaches all cells
+abbrev pub HasFile : Netlist → Type 0
+HasFile netlist =
+    (count_in InFile netlist.storages ≡ files_of netlist.edition) × IsReached (array_in InFile netlist.storages)
+
+-- a code, a memory, a program counter and the edition's file, of sizes that fit together
 pub record HasRoles (netlist : Netlist) : Type 0 where
   pub code : HasOneCode netlist
   pub memory : HasOneMemory netlist
   pub counter : HasCounter netlist
   pub sizes : HasSizes netlist
   pub address : HasAddress netlist
+  pub file : HasFile netlist
 
 -- ---- N7: enables depend on the instruction word alone
 
@@ -215,9 +239,32 @@ HasPlainControl netlist = AllPass (is_plain netlist) (control_places netlist)
 abbrev pub HasNarrowSelectors : Netlist → Type 0
 HasNarrowSelectors netlist = AllPass (is_selector netlist) (selectors netlist)
 
+-- ---- N14: the addresses of a file depend on the instruction word alone
+
+abbrev pub addr_in_file : Space → ℕ → List ℕ
+addr_in_file InMemory addr = []
+addr_in_file InFile addr = addr ∷ []
+
+abbrev pub storage_file_addrs : Storage → List ℕ
+storage_file_addrs (File cells) = cells.addr ∷ []
+storage_file_addrs _ = []
+
+abbrev pub gate_file_addrs : Netlist → Gate → List ℕ
+gate_file_addrs netlist (Read memory addr) = addr_in_file (space_at netlist memory) addr
+gate_file_addrs netlist _ = []
+
+-- the addresses at which the file is written and read
+abbrev pub file_addrs : Netlist → List ℕ
+file_addrs netlist =
+    gather storage_file_addrs netlist.storages
+    ++ gather (λ (net : Net). gate_file_addrs netlist net.gate) netlist.nets
+
+abbrev pub HasStaticFileAddrs : Netlist → Type 0
+HasStaticFileAddrs netlist = AllPass (is_static netlist) (file_addrs netlist)
+
 -- ---- all of them
 
--- the rules N1 to N9 and N11
+-- the rules N1 to N9, N11 and N14
 pub record KeepsRules (netlist : Netlist) (order : List ℕ) : Type 0 where
   -- N1 to N4 and N11
   pub formed : IsWellFormed netlist
@@ -231,3 +278,5 @@ pub record KeepsRules (netlist : Netlist) (order : List ℕ) : Type 0 where
   pub control : HasPlainControl netlist
   -- N9
   pub selectors : HasNarrowSelectors netlist
+  -- N14
+  pub addresses : HasStaticFileAddrs netlist

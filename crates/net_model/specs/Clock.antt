@@ -3,11 +3,14 @@ use Rattle.std.specs.Prelude.{ℕ, zero, suc, ◌+◌, ◌==◌, nat_lt, if◌th
 use Rattle.net_model.specs.declared.hardware.Netlist.{Netlist}
 use Rattle.net_model.specs.declared.hardware.Net.{Net}
 use Rattle.net_model.specs.declared.hardware.Storage.{Storage}
-use Rattle.net_model.specs.declared.hardware.Storage.TheVariants.{Register, Memory}
+use Rattle.net_model.specs.declared.hardware.Storage.TheVariants.{Register, Memory, File}
+use Rattle.net_model.specs.declared.hardware.Cells.{Cells}
+use Rattle.net_model.specs.declared.hardware.Space.{Space}
+use Rattle.net_model.specs.declared.hardware.Space.TheVariants.{Memory as InMemory, File as InFile}
 use Rattle.net_model.specs.declared.hardware.Gate.{Gate}
 use Rattle.net_model.specs.declared.hardware.Gate.TheVariants.{Bus}
 use Rattle.net_model.specs.declared.states.State.{State}
-use Rattle.net_model.specs.Nets.{counter_of}
+use Rattle.net_model.specs.Nets.{counter_of, array_in}
 use Rattle.net_model.specs.Value.{value_of}
 
 -- ---- clashes
@@ -36,24 +39,27 @@ is_enabled v (Some when) = v when == 1
 -- what a storage's entry becomes
 abbrev pub next_reg : (ℕ → ℕ) → Storage → ℕ → ℕ
 next_reg v (Register name width input when) old = if is_enabled v when then v input else old
-next_reg v (Memory name width size addr_width value addr when) old = old
+next_reg v (Memory cells) old = old
+next_reg v (File cells) old = old
 
 abbrev pub next_regs : (ℕ → ℕ) → List Storage → List ℕ → List ℕ
 next_regs v [] olds = olds
 next_regs v (storage ∷ storages) [] = []
 next_regs v (storage ∷ storages) (old ∷ olds) = next_reg v storage old ∷ next_regs v storages olds
 
--- what the data memory's cells become; an address past them changes nothing
-abbrev pub next_cells : (ℕ → ℕ) → List Storage → List ℕ → List ℕ
-next_cells v [] cells = cells
-next_cells v (Register name width input when ∷ storages) cells = next_cells v storages cells
-next_cells v (Memory name width size addr_width value addr when ∷ storages) cells =
-    if is_enabled v when then slice_set cells (v addr) (v value) else cells
+-- what cells become; an address past them changes nothing
+abbrev pub written : (ℕ → ℕ) → Option Cells → List ℕ → List ℕ
+written v None olds = olds
+written v (Some cells) olds = if is_enabled v cells.when then slice_set olds (v cells.addr) (v cells.value) else olds
+
+abbrev pub next_cells : (ℕ → ℕ) → Space → List Storage → List ℕ → List ℕ
+next_cells v space storages olds = written v (array_in space storages) olds
 
 abbrev pub next_state : (ℕ → ℕ) → Netlist → State → State
 next_state v netlist s = record {
   regs = next_regs v netlist.storages s.regs;
-  cells = next_cells v netlist.storages s.cells;
+  cells = next_cells v InMemory netlist.storages s.cells;
+  file = next_cells v InFile netlist.storages s.file;
 }
 
 -- ---- the clock

@@ -6,7 +6,7 @@ use Rattle.rec_bits.specs.Faults.{gather}
 use Rattle.net_model.specs.declared.hardware.Netlist.{Netlist}
 use Rattle.net_model.specs.declared.hardware.Net.{Net}
 use Rattle.net_model.specs.declared.hardware.Storage.{Storage}
-use Rattle.net_model.specs.declared.hardware.Storage.TheVariants.{Register, Memory}
+use Rattle.net_model.specs.declared.hardware.Storage.TheVariants.{Register, Memory, File}
 use Rattle.net_model.specs.declared.hardware.Gate.{Gate}
 use Rattle.net_model.specs.declared.hardware.Gate.TheVariants.{Case, Bus}
 use Rattle.net_model.specs.Nets.{width_at, IsRegister, counter_of}
@@ -17,7 +17,8 @@ use Rattle.net_model.specs.Widths.{IsTyped}
 
 abbrev pub storage_enables : Storage → List ℕ
 storage_enables (Register name width input when) = option_to_list when
-storage_enables (Memory name width size addr_width value addr when) = option_to_list when
+storage_enables (Memory cells) = option_to_list cells.when
+storage_enables (File cells) = option_to_list cells.when
 
 abbrev pub gate_enables : Gate → List ℕ
 gate_enables (Bus drivers) = map (λ (driver : ℕ × ℕ). driver.1) drivers

@@ -18,8 +18,8 @@ pub record IsLeastOnCycle (names : ℕ → List ℕ) (n : ℕ) : Type 0 where
   pub on : Depends names n n
   pub least : (m : ℕ) → m < n → Depends names m m → ⊥
 
--- the nets that the gate of a net names: a register's output names none, a memory's read its
--- address
+-- the nets that the gate of a net names: a register's output names none, a read of a memory or a
+-- file its address
 abbrev pub named_by : Netlist → ℕ → List ℕ
 named_by netlist n = nets_of (slice_get netlist.nets n)
 

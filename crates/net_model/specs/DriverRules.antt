@@ -96,7 +96,7 @@ covers_binding s binding = covers s binding.1
 abbrev pub is_driven_item : List Entry → Entry → Bool
 is_driven_item text (code name bits size counter) = true
 is_driven_item text (register name width input when) = covers (in_text text) input && covers_if (in_text text) when
-is_driven_item text (memory name width size addr_width value addr when) =
+is_driven_item text (memory space name width size addr_width value addr when) =
     covers (in_text text) value && covers (in_text text) addr && covers_if (in_text text) when
 is_driven_item text (net name width value) = covers (in_text text) value
 is_driven_item text (bus name width drivers) = list_all (covers_driver (in_text text)) drivers

@@ -8,7 +8,7 @@ use Rattle.net_model.specs.Written.{Entry, code, register, memory, net, bus, mod
 use Rattle.net_model.specs.TextNames.{own_name, item_named, Scope, in_text, in_module}
 use Rattle.net_model.specs.TextWidths.{wide, is_width, ports_of}
 use Rattle.net_model.specs.DriverRules.{is_driven_item, names_new}
-use Rattle.net_model.specs.LimitRules.{count_registers}
+use Rattle.net_model.specs.LimitRules.{count_registers, most_cells}
 use Rattle.net_model.specs.Numbering.{bound, count_items}
 
 -- an expression that keeps the rule of widths and has this width
@@ -45,8 +45,8 @@ ItemKeeps text (code name bits size counter) =
     IsTrue (is_width bits) × IsTrue (nat_le size 65536) × IsRegisterItem (item_named text counter.name)
 ItemKeeps text (register name width input when) =
     IsTrue (is_width width) × Feeds (in_text text) width input × FeedsIf (in_text text) 1 when
-ItemKeeps text (memory name width size addr_width value addr when) =
-    IsTrue (is_width width) × IsTrue (is_width addr_width) × IsTrue (nat_le size 65536)
+ItemKeeps text (memory space name width size addr_width value addr when) =
+    IsTrue (is_width width) × IsTrue (is_width addr_width) × IsTrue (nat_le size (most_cells space))
     × Feeds (in_text text) width value
     × Feeds (in_text text) addr_width addr × FeedsIf (in_text text) 1 when
 ItemKeeps text (net name width value) = IsTrue (is_width width) × Feeds (in_text text) width value

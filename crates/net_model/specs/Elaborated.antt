@@ -6,10 +6,13 @@ use Rattle.net_model.specs.declared.hardware.Netlist.{Netlist}
 use Rattle.net_model.specs.declared.hardware.Net.{Net}
 use Rattle.net_model.specs.declared.hardware.Code.{Code}
 use Rattle.net_model.specs.declared.hardware.Storage.{Storage}
-use Rattle.net_model.specs.declared.hardware.Storage.TheVariants.{Register, Memory}
+use Rattle.net_model.specs.declared.hardware.Storage.TheVariants.{Register, Memory, File}
+use Rattle.net_model.specs.declared.hardware.Cells.{Cells}
+use Rattle.net_model.specs.declared.hardware.Space.{Space}
+use Rattle.net_model.specs.declared.hardware.Space.TheVariants.{Memory as InMemory, File as InFile}
 use Rattle.net_model.specs.declared.hardware.Gate.{Gate}
 use Rattle.net_model.specs.declared.hardware.Gate.TheVariants.{Word, Reg, Read, Const, Wire, Un, Bin, Slice, Cat, Zext, Sext, Case, Bus}
-use Rattle.net_model.specs.Written.{Entry, code, register, memory, net, bus, module_item, part, Phrase, named, const, un, bin, cat, slice, zext, sext, read, case, Rows, no_rows, row, Rest, no_rest, rest}
+use Rattle.net_model.specs.Written.{Text, Entry, code, register, memory, net, bus, module_item, part, Phrase, named, const, un, bin, cat, slice, zext, sext, read, case, Rows, no_rows, row, Rest, no_rest, rest}
 use Rattle.net_model.specs.TextNames.{item_named}
 use Rattle.net_model.specs.TextWidths.{wide, ports_of}
 use Rattle.net_model.specs.Numbering.{count, count_rows, bound, count_input, count_inputs, count_outputs, count_equation, port_wires, equations_of, count_item, count_storages, NetSite, of_text, of_part, scope_at, storage_named, memory_at, net_named}
@@ -170,7 +173,7 @@ item_nets text start storage number (code name bits size counter) = plain_net na
 item_nets text start storage number (register name width input when) =
     elaborated (of_text text) name.at start input ++ nets_if (of_text text) name.at (start + count input) when
     ++ plain_net name.at width (Reg storage) ∷ []
-item_nets text start storage number (memory name width size addr_width value addr when) =
+item_nets text start storage number (memory space name width size addr_width value addr when) =
     elaborated (of_text text) name.at start value ++ elaborated (of_text text) name.at (start + count value) addr
     ++ nets_if (of_text text) name.at (start + count value + count addr) when
 item_nets text start storage number (net name width value) =
@@ -183,13 +186,24 @@ item_nets text start storage number (module_item name ports equations) = []
 item_nets text start storage number (part name of links) =
     part_nets text name.at start links (ports_of (item_named text of.name)) (equations_of (item_named text of.name))
 
+-- the storage of a space with these cells
+abbrev pub storage_in : Space → Cells → Storage
+storage_in InMemory cells = Memory cells
+storage_in InFile cells = File cells
+
 abbrev pub item_storages : List Entry → ℕ → Entry → List Storage
 item_storages text start (register name width input when) =
     Register name.name width (out_of (of_text text) start input) (out_if (of_text text) (start + count input) when) ∷ []
-item_storages text start (memory name width size addr_width value addr when) =
-    Memory name.name width size addr_width (out_of (of_text text) start value)
-    (out_of (of_text text) (start + count value) addr)
-    (out_if (of_text text) (start + count value + count addr) when)
+item_storages text start (memory space name width size addr_width value addr when) =
+    storage_in space (record {
+      name = name.name;
+      width = width;
+      size = size;
+      addr_width = addr_width;
+      value = out_of (of_text text) start value;
+      addr = out_of (of_text text) (start + count value) addr;
+      when = out_if (of_text text) (start + count value + count addr) when;
+    })
     ∷ []
 item_storages text start _ = []
 
@@ -219,10 +233,15 @@ abbrev pub codes_from : List Entry → List Entry → List Code
 codes_from text [] = []
 codes_from text (e ∷ entries) = item_codes text e ++ codes_from text entries
 
--- the netlist of a text
-abbrev pub netlist_of : List Entry → Netlist
-netlist_of text = record {
+-- the netlist of items that are of an edition, and of a text
+abbrev pub netlist_in : ℕ → List Entry → Netlist
+netlist_in edition text = record {
   nets = nets_from text 0 0 0 text;
   storages = storages_from text 0 text;
   codes = codes_from text text;
+  edition = edition;
+  special = None;
 }
+
+abbrev pub netlist_of : Text → Netlist
+netlist_of text = netlist_in text.edition text.items

@@ -12,7 +12,7 @@ abbrev pub fields : Term → ℕ
 fields (word w) = 2 ^ w - 1
 fields (reg r w) = 0
 fields (const w v) = 0
-fields (read a w) = fields a
+fields (read space a w) = fields a
 fields (un o a) = fields a
 fields (bin o a b) = bit_or (fields a) (fields b)
 fields (slice (word w) hi lo) = bits_between hi lo
@@ -35,7 +35,7 @@ abbrev pub WordFitsTerm : Term → ℕ → Type 0
 WordFitsTerm (word w) i = i < 2 ^ w
 WordFitsTerm (reg r w) i = Unit {0}
 WordFitsTerm (const w v) i = Unit {0}
-WordFitsTerm (read a w) i = WordFitsTerm a i
+WordFitsTerm (read space a w) i = WordFitsTerm a i
 WordFitsTerm (un o a) i = WordFitsTerm a i
 WordFitsTerm (bin o a b) i = WordFitsTerm a i × WordFitsTerm b i
 WordFitsTerm (slice a hi lo) i = WordFitsTerm a i

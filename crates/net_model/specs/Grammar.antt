@@ -1,29 +1,21 @@
 -- The grammar of netlist texts.
-use Rattle.std.specs.Prelude.{◌≡◌, ℕ, zero, suc, Bool, true, false, List, [], ◌∷◌, Option, Some, None}
+use Rattle.std.specs.Prelude.{◌≡◌, ℕ, zero, suc, Bool, true, false, List, [], ◌∷◌, Option, Some, None, IsTrue, is_some}
+use Rattle.net_model.specs.Editions.{Lexed, Word, added_by}
 use Rattle.grammar.specs.Reading.{Return, Token, ◌>>=◌, Maybe, ListOf}
 use Rattle.grammar.specs.declared.words.Ident.{Ident}
 use Rattle.net_model.specs.declared.units.Port.{Port}
 use Rattle.grammar.specs.Tokens.{Sign, IsName, IsNumber, ByWord, IsNothing, Behind, Before}
-use Rattle.grammar.specs.declared.words.Lexed.{Lexed as LexedOf}
-use Rattle.grammar.specs.declared.words.Word.{Word as WordOf}
 use Rattle.grammar.specs.declared.words.Word.TheVariants.{Name, Number, Symbol as Shows, Key as Keyed}
-use Rattle.net_model.specs.declared.words.Key.{Key}
 use Rattle.net_model.specs.declared.words.Key.TheVariants.{Item, Operator as Operates}
 use Rattle.net_model.specs.declared.words.ItemWord.{ItemWord}
-use Rattle.net_model.specs.declared.words.ItemWord.TheVariants.{Code, Register, Memory, Net, Bus, Module, Part}
+use Rattle.net_model.specs.declared.words.ItemWord.TheVariants.{Code, Register, Memory, File, Net, Bus, Module, Part}
+use Rattle.net_model.specs.declared.hardware.Space.{Space}
+use Rattle.net_model.specs.declared.hardware.Space.TheVariants.{Memory as InMemory, File as InFile}
 use Rattle.net_model.specs.declared.words.Operator.{Operator}
 use Rattle.net_model.specs.declared.words.Operator.TheVariants.{Unary, Binary, Cat, Slice, Zext, Sext, Read, Case}
 use Rattle.net_model.specs.declared.words.Symbol.{Symbol}
-use Rattle.net_model.specs.declared.words.Symbol.TheVariants.{Colon, Semicolon, Comma, Equals, Dot, Hash, LeftParen, RightParen, LeftBrace, RightBrace, LeftBracket, RightBracket, Size, At, In, Out, When, Addr, Write, Else}
-use Rattle.net_model.specs.Written.{Phrase, named, const, un, bin, cat, slice, zext, sext, read, case, rows_of, rest_of, Entry, code, register, memory, net, bus, module_item, part}
-
--- ---- tokens
-
-abbrev pub Word : Type 0
-Word = WordOf Symbol Key
-
-abbrev pub Lexed : Type 0
-Lexed = LexedOf Symbol Key
+use Rattle.net_model.specs.declared.words.Symbol.TheVariants.{Colon, Semicolon, Comma, Equals, Dot, Hash, LeftParen, RightParen, LeftBrace, RightBrace, LeftBracket, RightBracket, Size, At, In, Out, When, Addr, Write, Else, Version}
+use Rattle.net_model.specs.Written.{Phrase, named, const, un, bin, cat, slice, zext, sext, read, case, rows_of, rest_of, Text, Entry, code, register, memory, net, bus, module_item, part}
 
 -- { ',' X }
 abbrev pub Others : {V : Type 0} → (List Lexed → V → Type 0) → List Lexed → List V → Type 0
@@ -289,6 +281,15 @@ IsLinks = do
   links ← Maybe IsBindings
   Return (or_none links)
 
+-- name ':' number 'size' number 'addr' number 'write' Expr 'at' Expr [ 'when' Expr ] ';'
+abbrev pub IsCells : Space → List Lexed → Entry → Type 0
+IsCells space = do
+  sized ← IsSized
+  size ← Behind Size IsNumber
+  addr_width ← Behind Addr IsNumber
+  write ← IsWrite
+  Return (memory space sized.0 sized.1 size addr_width write.0 write.1.0 write.1.1)
+
 -- what stands behind the word of an item
 abbrev pub ItemBehind : ItemWord → List Lexed → Entry → Type 0
 -- 'code' name ':' number 'size' number 'at' name ';'
@@ -302,13 +303,10 @@ ItemBehind Register = do
   sized ← IsSized
   fed ← IsFed In
   Return (register sized.0 sized.1 fed.0 fed.1)
--- 'memory' name ':' number 'size' number 'addr' number 'write' Expr 'at' Expr [ 'when' Expr ] ';'
-ItemBehind Memory = do
-  sized ← IsSized
-  size ← Behind Size IsNumber
-  addr_width ← Behind Addr IsNumber
-  write ← IsWrite
-  Return (memory sized.0 sized.1 size addr_width write.0 write.1.0 write.1.1)
+-- 'memory' Cells
+ItemBehind Memory = IsCells InMemory
+-- 'file' Cells
+ItemBehind File = IsCells InFile
 -- 'net' name ':' number '=' Expr ';'
 ItemBehind Net = do
   sized ← IsSized
@@ -346,3 +344,25 @@ IsItems = do
   first ← IsItem
   others ← ListOf IsItem
   Return (first ∷ others)
+
+-- ---- texts
+
+-- the number of an edition
+abbrev pub IsEditionNumber : List Lexed → ℕ → Type 0
+IsEditionNumber = Token (λ t n. (t.word ≡ Number n) × IsTrue (is_some (added_by n)))
+
+-- [ 'version' number ';' ]
+abbrev pub IsHead : List Lexed → Option ℕ → Type 0
+IsHead = Maybe (Behind Version (Before IsEditionNumber Semicolon))
+
+-- a text without a head is of edition 1
+abbrev pub or_first : Option ℕ → ℕ
+or_first None = 1
+or_first (Some edition) = edition
+
+-- [ 'version' number ';' ] Item { Item }
+abbrev pub IsText : List Lexed → Text → Type 0
+IsText = do
+  head ← IsHead
+  items ← IsItems
+  Return (record { edition = or_first head; items = items })

@@ -35,3 +35,5 @@ pub mod Flags
 pub mod NetFaults
 pub mod MemoryText
 pub mod Inner
+pub mod Editions
+pub mod WorkedFile

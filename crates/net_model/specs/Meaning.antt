@@ -2,13 +2,14 @@
 use Rattle.std.specs.Prelude.{ℕ, ◌==◌, if◌then◌else◌, slice_index}
 use Rattle.rec_bits.specs.Operators.{apply1_of, apply2_of, slice_of, cat_of, sext_of}
 use Rattle.net_model.specs.declared.states.State.{State}
+use Rattle.net_model.specs.Nets.{held}
 use Rattle.net_model.specs.Terms.{Term, word, reg, const, read, un, bin, slice, cat, zext, sext, select, term_width}
 
 abbrev pub mean : Term → State → ℕ → ℕ
 mean (word w) s i = i
 mean (reg r w) s i = slice_index s.regs r
 mean (const w v) s i = v
-mean (read a w) s i = slice_index s.cells (mean a s i)
+mean (read space a w) s i = slice_index (held s space) (mean a s i)
 mean (un o a) s i = apply1_of o (term_width a) (mean a s i)
 mean (bin o a b) s i = apply2_of o (term_width a) (mean a s i) (mean b s i)
 mean (slice a hi lo) s i = slice_of (mean a s i) hi lo

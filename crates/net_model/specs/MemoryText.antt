@@ -1,6 +1,6 @@
--- What a memory text says of a netlist's state. Each line is REGISTER VALUE or MEMORY ADDRESS
--- VALUE, decimal without leading zeros; a later line for the same place counts. What isn't named is
--- 0, and nothing names the program counter.
+-- What a memory text says of a netlist's state. Each line is REGISTER VALUE, or MEMORY ADDRESS
+-- VALUE or FILE ADDRESS VALUE, decimal without leading zeros; a later line for the same place
+-- counts. What isn't named is 0, and nothing names the program counter.
 use Rattle.std.specs.Prelude.{ℕ, ◌^◌, ◌≡◌, ◌≢◌, ◌<◌, ◌⊎◌, List, [], ◌∷◌, ◌++◌, length, codes, slice_get, slice_set}
 use Rattle.std.proofs.Math.ListN.{replicate}
 use Rattle.std.specs.Fmt.{decimal}
@@ -10,9 +10,11 @@ use Rattle.rec_bits.specs.declared.fault.ParseFault.TheVariants as fault
 use Rattle.text_lines.specs.Lines.{lines_of}
 use Rattle.net_model.specs.declared.hardware.Netlist.{Netlist}
 use Rattle.net_model.specs.declared.hardware.Storage.{Storage}
+use Rattle.net_model.specs.declared.hardware.Space.{Space}
+use Rattle.net_model.specs.declared.hardware.Space.TheVariants.{Memory as InMemory, File as InFile}
 use Rattle.net_model.specs.declared.states.State.{State}
-use Rattle.net_model.specs.Nets.{counter_of, memory_size, memory_width, storage_bits, IsRegister}
-use Rattle.net_model.specs.Texts.{name_of, memory_name}
+use Rattle.net_model.specs.Nets.{counter_of, size_in, width_in, storage_bits, IsRegister}
+use Rattle.net_model.specs.Texts.{name_of, space_name}
 
 -- ---- lines
 
@@ -20,7 +22,7 @@ use Rattle.net_model.specs.Texts.{name_of, memory_name}
 abbrev pub register_line : List ℕ → ℕ → List ℕ
 register_line name value = concat (name ∷ codes " " ∷ decimal value ∷ codes "\n" ∷ [])
 
--- MEMORY ADDRESS VALUE
+-- MEMORY ADDRESS VALUE, and so for a file
 abbrev pub cell_line : List ℕ → ℕ → ℕ → List ℕ
 cell_line name address value = concat (name ∷ codes " " ∷ decimal address ∷ codes " " ∷ decimal value ∷ codes "\n" ∷ [])
 
@@ -36,16 +38,16 @@ pub record SetsRegister (netlist : Netlist) (line : List ℕ) (id value : ℕ) :
   pub fits : value < 2 ^ storage_bits (slice_get netlist.storages id)
   pub line_is : line ≡ register_line (name_of netlist id) value
 
--- the line sets this cell of the memory to this value, which fits it
-pub record SetsCell (netlist : Netlist) (line : List ℕ) (address value : ℕ) : Type 0 where
-  pub within : address < memory_size netlist.storages
-  pub name : IsOneWord (memory_name netlist)
-  pub fits : value < 2 ^ memory_width netlist.storages
-  pub line_is : line ≡ cell_line (memory_name netlist) address value
+-- the line sets this cell of the memory, or of the file, to this value, which fits it
+pub record SetsCell (netlist : Netlist) (line : List ℕ) (space : Space) (address value : ℕ) : Type 0 where
+  pub within : address < size_in space netlist.storages
+  pub name : IsOneWord (space_name netlist space)
+  pub fits : value < 2 ^ width_in space netlist.storages
+  pub line_is : line ≡ cell_line (space_name netlist space) address value
 
 pub record SetsNothing (netlist : Netlist) (line : List ℕ) : Type 0 where
   pub no_register : (id value : ℕ) → SetsRegister netlist line id value → ⊥
-  pub no_cell : (address value : ℕ) → SetsCell netlist line address value → ⊥
+  pub no_cell : (space : Space) (address value : ℕ) → SetsCell netlist line space address value → ⊥
 
 -- ---- states
 
@@ -53,23 +55,29 @@ pub record SetsNothing (netlist : Netlist) (line : List ℕ) : Type 0 where
 abbrev pub with_register : State → ℕ → ℕ → State
 with_register s id value = record s { regs = slice_set s.regs id value }
 
-abbrev pub with_cell : State → ℕ → ℕ → State
-with_cell s address value = record s { cells = slice_set s.cells address value }
+abbrev pub with_cell : State → Space → ℕ → ℕ → State
+with_cell s InMemory address value = record s { cells = slice_set s.cells address value }
+with_cell s InFile address value = record s { file = slice_set s.file address value }
 
 -- the line leads from one state to the other, by a register or by a cell
 abbrev pub SetsLine : Netlist → State → List ℕ → State → Type 0
 SetsLine netlist s line t =
     ((id : ℕ) × (value : ℕ) × SetsRegister netlist line id value × (t ≡ with_register s id value))
-    ⊎ ((address : ℕ) × (value : ℕ) × SetsCell netlist line address value × (t ≡ with_cell s address value))
+    ⊎ ((space : Space) × (address : ℕ) × (value : ℕ) × SetsCell netlist line space address value
+    × (t ≡ with_cell s space address value))
 
 -- the lines, one after the other, do
 abbrev pub AllLead : Netlist → State → List (List ℕ) → State → Type 0
 AllLead netlist s [] t = s ≡ t
 AllLead netlist s (line ∷ lines) t = (next : State) × SetsLine netlist s line next × AllLead netlist next lines t
 
--- nothing but zeros: an entry for each storage, and the memory's cells
+-- nothing but zeros: an entry for each storage, and the cells of the memory and of the file
 abbrev pub blank : List Storage → State
-blank storages = record { regs = replicate (length storages) 0; cells = replicate (memory_size storages) 0 }
+blank storages = record {
+  regs = replicate (length storages) 0;
+  cells = replicate (size_in InMemory storages) 0;
+  file = replicate (size_in InFile storages) 0;
+}
 
 -- ---- texts
 

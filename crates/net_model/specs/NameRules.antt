@@ -47,7 +47,7 @@ is_register (Some (register name width input when)) = true
 is_register _ = false
 
 abbrev pub is_memory : Option Entry → Bool
-is_memory (Some (memory name width size addr_width value addr when)) = true
+is_memory (Some (memory space name width size addr_width value addr when)) = true
 is_memory _ = false
 
 abbrev pub is_module : Option Entry → Bool
@@ -126,7 +126,7 @@ abbrev pub unknown_in_item : List Entry → Entry → List ℕ
 unknown_in_item text (code name bits size counter) = unknown (is_register (item_named text counter.name)) counter
 unknown_in_item text (register name width input when) =
     unknown_in (in_text text) input ++ unknown_if (in_text text) when
-unknown_in_item text (memory name width size addr_width value addr when) =
+unknown_in_item text (memory space name width size addr_width value addr when) =
     unknown_in (in_text text) value ++ unknown_in (in_text text) addr ++ unknown_if (in_text text) when
 unknown_in_item text (net name width value) = unknown_in (in_text text) value
 unknown_in_item text (bus name width drivers) = gather (unknown_driver (in_text text)) drivers

@@ -1,21 +1,21 @@
--- The fault of a netlist that keeps N1 to N4 and N11: the first rule of N5 to N9 that it breaks,
--- and the least offset at which it does.
+-- The fault of a netlist that keeps N1 to N4 and N11: the first rule of N5 to N9 and N14 that it
+-- breaks, and the least offset at which it does.
 use Rattle.std.specs.Prelude.{ℕ, ◌≡◌, if◌then◌else◌, List, [], ◌∷◌, Option, Some, None, slice_get, Bool}
 use Rattle.rec_bits.specs.Faults.{least}
 use Rattle.net_model.specs.declared.hardware.Netlist.{Netlist}
 use Rattle.net_model.specs.declared.hardware.Net.{Net}
 use Rattle.net_model.specs.declared.fault.Role.{Role}
 use Rattle.net_model.specs.declared.fault.Role.TheVariants.{Pc, Size, Addr}
-use Rattle.net_model.specs.declared.fault.Role.TheVariants.{Code as NotOneCode, Memory as NotOneMemory}
+use Rattle.net_model.specs.declared.fault.Role.TheVariants.{Code as NotOneCode, Memory as NotOneMemory, File as NoFile}
 use Rattle.net_model.specs.declared.fault.NetFault.{NetFault}
-use Rattle.net_model.specs.declared.fault.NetFault.TheVariants.{Cycle, Enable, ControlOp, WideSelect}
+use Rattle.net_model.specs.declared.fault.NetFault.TheVariants.{Cycle, Enable, ControlOp, WideSelect, FileAddr}
 use Rattle.net_model.specs.declared.fault.NetFault.TheVariants.{Role as RoleFault}
 use Rattle.net_model.specs.declared.fault.CheckFault.{CheckFault}
 use Rattle.net_model.specs.declared.fault.CheckFault.TheVariants.{Fault, Memory}
 use Rattle.net_model.specs.Symbolic.{is_static}
 use Rattle.net_model.specs.Control.{enables, selectors, control_places, is_selector}
 use Rattle.net_model.specs.Depends.{IsLeastOnCycle, named_by, IsAcyclic}
-use Rattle.net_model.specs.CheckedRules.{Ordered, HasOneCode, HasOneMemory, HasCounter, HasSizes, HasAddress, HasRoles, HasStaticEnables, is_plain, HasPlainControl, KeepsRules}
+use Rattle.net_model.specs.CheckedRules.{Ordered, HasOneCode, HasOneMemory, HasCounter, HasSizes, HasAddress, HasRoles, HasFile, HasStaticEnables, is_plain, HasPlainControl, HasNarrowSelectors, file_addrs, KeepsRules}
 
 -- ---- offsets at which a rule is broken
 
@@ -42,8 +42,11 @@ LacksRole netlist Size = HasOneCode netlist × HasOneMemory netlist × HasCounte
 LacksRole netlist Addr =
     HasOneCode netlist × HasOneMemory netlist × HasCounter netlist × HasSizes netlist
     × (¬ HasAddress netlist)
+LacksRole netlist NoFile =
+    HasOneCode netlist × HasOneMemory netlist × HasCounter netlist × HasSizes netlist × HasAddress netlist
+    × (¬ HasFile netlist)
 
--- ---- N7 to N9: where they are broken
+-- ---- N7 to N9 and N14: where they are broken
 
 -- an enable that isn't static
 abbrev pub enable_offsets : Netlist → List ℕ
@@ -57,6 +60,10 @@ control_offsets netlist = failing (is_plain netlist) (name_at netlist) (control_
 abbrev pub selector_offsets : Netlist → List ℕ
 selector_offsets netlist = failing (is_selector netlist) (name_at netlist) (selectors netlist)
 
+-- an address of the file that isn't static
+abbrev pub file_addr_offsets : Netlist → List ℕ
+file_addr_offsets netlist = failing (is_static netlist) (name_at netlist) (file_addrs netlist)
+
 -- ---- the fault
 
 -- the first rule that is broken, with its offset or what is lacking
@@ -69,6 +76,9 @@ FaultOf netlist (ControlOp at) =
 FaultOf netlist (WideSelect at) =
     IsAcyclic netlist × HasRoles netlist × HasStaticEnables netlist × HasPlainControl netlist
     × (least (selector_offsets netlist) ≡ Some at)
+FaultOf netlist (FileAddr at) =
+    IsAcyclic netlist × HasRoles netlist × HasStaticEnables netlist × HasPlainControl netlist
+    × HasNarrowSelectors netlist × (least (file_addr_offsets netlist) ≡ Some at)
 FaultOf netlist _ = ⊥
 
 -- the netlist itself, with an order in which it keeps the rules

@@ -1,10 +1,14 @@
 -- Nets, storages and codes by their numbers.
-use Rattle.std.specs.Prelude.{ℕ, suc, List, [], ◌∷◌, Option, Some, None, slice_get, option_map}
+use Rattle.std.specs.Prelude.{ℕ, suc, if◌then◌else◌, List, [], ◌∷◌, Option, Some, None, slice_get, option_map, Bool, true, false}
 use Rattle.net_model.specs.declared.hardware.Netlist.{Netlist}
 use Rattle.net_model.specs.declared.hardware.Net.{Net}
 use Rattle.net_model.specs.declared.hardware.Code.{Code}
 use Rattle.net_model.specs.declared.hardware.Storage.{Storage}
-use Rattle.net_model.specs.declared.hardware.Storage.TheVariants.{Register, Memory}
+use Rattle.net_model.specs.declared.hardware.Storage.TheVariants.{Register, Memory, File}
+use Rattle.net_model.specs.declared.hardware.Cells.{Cells}
+use Rattle.net_model.specs.declared.hardware.Space.{Space}
+use Rattle.net_model.specs.declared.hardware.Space.TheVariants.{Memory as InMemory, File as InFile}
+use Rattle.net_model.specs.declared.states.State.{State}
 use Rattle.net_model.specs.declared.hardware.Gate.{Gate}
 use Rattle.net_model.specs.declared.hardware.Gate.TheVariants.{Word, Reg, Read, Const, Wire, Un, Bin, Slice, Cat, Zext, Sext, Case, Bus}
 
@@ -30,35 +34,89 @@ code_bits (Some code) = code.bits
 abbrev pub word_width : Netlist → ℕ
 word_width netlist = code_bits (slice_get netlist.codes 0)
 
--- the width of a register, or of a memory's cells
+-- ---- storages
+
+abbrev pub storage_name : Storage → List ℕ
+storage_name (Register name width input when) = name
+storage_name (Memory cells) = cells.name
+storage_name (File cells) = cells.name
+
+-- the cells of a memory or of a file
+abbrev pub storage_array : Storage → Option Cells
+storage_array (Register name width input when) = None
+storage_array (Memory cells) = Some cells
+storage_array (File cells) = Some cells
+
+abbrev pub array_width : Option Cells → ℕ
+array_width None = 0
+array_width (Some cells) = cells.width
+
+abbrev pub array_size : Option Cells → ℕ
+array_size None = 0
+array_size (Some cells) = cells.size
+
+abbrev pub array_addr_width : Option Cells → ℕ
+array_addr_width None = 0
+array_addr_width (Some cells) = cells.addr_width
+
+-- the width of a register, or of a storage's cells
 abbrev pub storage_bits : Option Storage → ℕ
 storage_bits None = 0
 storage_bits (Some (Register name width input when)) = width
-storage_bits (Some (Memory name width size addr_width value addr when)) = width
+storage_bits (Some (Memory cells)) = cells.width
+storage_bits (Some (File cells)) = cells.width
 
--- the number of a memory's cells
+-- the number of a storage's cells
 abbrev pub storage_cells : Option Storage → ℕ
 storage_cells None = 0
-storage_cells (Some (Register name width input when)) = 0
-storage_cells (Some (Memory name width size addr_width value addr when)) = size
+storage_cells (Some storage) = array_size (storage_array storage)
 
--- ---- the data memory is the first one
+-- ---- the data memory is the first memory, and the register file the first file
 
--- its number
+abbrev pub is_in : Space → Storage → Bool
+is_in InMemory (Memory cells) = true
+is_in InFile (File cells) = true
+is_in _ _ = false
+
+-- the number of a space's storage, and its cells
+abbrev pub place_in : Space → List Storage → ℕ
+place_in space [] = 0
+place_in space (storage ∷ storages) = if is_in space storage then 0 else suc (place_in space storages)
+
+abbrev pub array_in : Space → List Storage → Option Cells
+array_in space [] = None
+array_in space (storage ∷ storages) = if is_in space storage then storage_array storage else array_in space storages
+
+abbrev pub width_in : Space → List Storage → ℕ
+width_in space storages = array_width (array_in space storages)
+
+abbrev pub size_in : Space → List Storage → ℕ
+size_in space storages = array_size (array_in space storages)
+
+abbrev pub addr_width_in : Space → List Storage → ℕ
+addr_width_in space storages = array_addr_width (array_in space storages)
+
 abbrev pub memory_id : List Storage → ℕ
-memory_id [] = 0
-memory_id (Register name width input when ∷ storages) = suc (memory_id storages)
-memory_id (Memory name width size addr_width value addr when ∷ storages) = 0
+memory_id storages = place_in InMemory storages
 
 abbrev pub memory_width : List Storage → ℕ
-memory_width [] = 0
-memory_width (Register name width input when ∷ storages) = memory_width storages
-memory_width (Memory name width size addr_width value addr when ∷ storages) = width
+memory_width storages = width_in InMemory storages
 
 abbrev pub memory_size : List Storage → ℕ
-memory_size [] = 0
-memory_size (Register name width input when ∷ storages) = memory_size storages
-memory_size (Memory name width size addr_width value addr when ∷ storages) = size
+memory_size storages = size_in InMemory storages
+
+-- the cells that a read of a storage is of
+abbrev pub space_of : Option Storage → Space
+space_of (Some (File cells)) = InFile
+space_of _ = InMemory
+
+abbrev pub space_at : Netlist → ℕ → Space
+space_at netlist id = space_of (slice_get netlist.storages id)
+
+-- what a state holds there
+abbrev pub held : State → Space → List ℕ
+held s InMemory = s.cells
+held s InFile = s.file
 
 -- ---- the program counter is the storage that the first code names
 
@@ -72,12 +130,17 @@ counter_width netlist = storage_bits (slice_get netlist.storages (counter_of net
 abbrev pub IsRegister : Option Storage → Type 0
 IsRegister None = ⊥
 IsRegister (Some (Register name width input when)) = Unit {0}
-IsRegister (Some (Memory name width size addr_width value addr when)) = ⊥
+IsRegister (Some (Memory cells)) = ⊥
+IsRegister (Some (File cells)) = ⊥
+
+-- a storage with cells of a space
+abbrev pub HasCells : Space → Option Storage → Type 0
+HasCells InMemory (Some (Memory cells)) = Unit {0}
+HasCells InFile (Some (File cells)) = Unit {0}
+HasCells _ _ = ⊥
 
 abbrev pub IsMemory : Option Storage → Type 0
-IsMemory None = ⊥
-IsMemory (Some (Register name width input when)) = ⊥
-IsMemory (Some (Memory name width size addr_width value addr when)) = Unit {0}
+IsMemory o = HasCells InMemory o
 
 -- ---- the nets that a gate names
 

@@ -1,8 +1,10 @@
--- What occurs in an expression and in a transfer: registers, reads of the memory and instruction
--- bits, and how often.
+-- What occurs in an expression and in a transfer: registers, reads of the memory and of the file,
+-- and instruction bits, and how often.
 use Rattle.std.specs.Prelude.{ℕ, ◌+◌, ◌^◌, ◌≡◌, ◌≤◌, ◌==◌, ◌&&◌, ◌||◌, if◌then◌else◌, nat_le, nat_lt, Bool, true, false, bit_or, slice_index}
 use Rattle.std.specs.Int.{bit_at}
 use Rattle.net_model.specs.declared.states.State.{State}
+use Rattle.net_model.specs.declared.hardware.Space.{Space}
+use Rattle.net_model.specs.Nets.{held}
 use Rattle.net_model.specs.Terms.{Term, word, reg, const, read, un, bin, slice, cat, zext, sext, select, Move, keep, write, write_at}
 
 -- ---- whether something occurs
@@ -12,7 +14,7 @@ abbrev pub occurs : ℕ → Term → Bool
 occurs q (word w) = false
 occurs q (reg r w) = r == q
 occurs q (const w v) = false
-occurs q (read a w) = occurs q a
+occurs q (read space a w) = occurs q a
 occurs q (un o a) = occurs q a
 occurs q (bin o a b) = occurs q a || occurs q b
 occurs q (slice a hi lo) = occurs q a
@@ -26,12 +28,12 @@ move_occurs q keep = false
 move_occurs q (write e) = occurs q e
 move_occurs q (write_at a e) = occurs q a || occurs q e
 
--- a read of the memory occurs in the expression
+-- a read of the memory or of the file occurs in the expression
 abbrev pub has_read : Term → Bool
 has_read (word w) = false
 has_read (reg r w) = false
 has_read (const w v) = false
-has_read (read a w) = true
+has_read (read space a w) = true
 has_read (un o a) = has_read a
 has_read (bin o a b) = has_read a || has_read b
 has_read (slice a hi lo) = has_read a
@@ -50,7 +52,7 @@ abbrev pub registers : Term → ℕ
 registers (word w) = 0
 registers (reg r w) = 2 ^ r
 registers (const w v) = 0
-registers (read a w) = registers a
+registers (read space a w) = registers a
 registers (un o a) = registers a
 registers (bin o a b) = bit_or (registers a) (registers b)
 registers (slice a hi lo) = registers a
@@ -71,7 +73,7 @@ abbrev pub register_uses : ℕ → Term → ℕ
 register_uses q (word w) = 0
 register_uses q (reg r w) = if r == q then 1 else 0
 register_uses q (const w v) = 0
-register_uses q (read a w) = register_uses q a
+register_uses q (read space a w) = register_uses q a
 register_uses q (un o a) = register_uses q a
 register_uses q (bin o a b) = register_uses q a + register_uses q b
 register_uses q (slice a hi lo) = register_uses q a
@@ -90,7 +92,7 @@ abbrev pub bit_uses : ℕ → Term → ℕ
 bit_uses k (word w) = if nat_lt k w then 1 else 0
 bit_uses k (reg r w) = 0
 bit_uses k (const w v) = 0
-bit_uses k (read a w) = bit_uses k a
+bit_uses k (read space a w) = bit_uses k a
 bit_uses k (un o a) = bit_uses k a
 bit_uses k (bin o a b) = bit_uses k a + bit_uses k b
 bit_uses k (slice (word w) hi lo) = if nat_le lo k && nat_le k hi then 1 else 0
@@ -113,7 +115,7 @@ pub record IsLinear (free : ℕ) (move : Move) : Type 0 where
 
 -- ---- states that can't be told apart
 
--- two states that agree on these registers, and on the memory where it is read
+-- two states that agree on these registers, and on the memory and the file where one is read
 pub record AgreeOn (reads : ℕ → Bool) (memory : Bool) (s t : State) : Type 0 where
   pub regs : (r : ℕ) → reads r ≡ true → slice_index s.regs r ≡ slice_index t.regs r
-  pub cells : memory ≡ true → s.cells ≡ t.cells
+  pub cells : memory ≡ true → (space : Space) → held s space ≡ held t space

@@ -1,5 +1,5 @@
 -- The symbolic value of a net under one instruction word: an expression over registers, the memory,
--- constants and the word.
+-- the register file, constants and the word.
 use Rattle.std.specs.Prelude.{ℕ, zero, suc, ◌+◌, ◌==◌, ◌&&◌, if◌then◌else◌, List, [], ◌∷◌, length, Option, Some, None, slice_get, Bool, true, false}
 use Rattle.net_model.specs.declared.hardware.Netlist.{Netlist}
 use Rattle.net_model.specs.declared.hardware.Net.{Net}
@@ -7,7 +7,7 @@ use Rattle.net_model.specs.declared.hardware.Gate.{Gate}
 use Rattle.net_model.specs.declared.hardware.Gate.TheVariants.{Word, Reg, Read, Const, Wire, Un, Bin, Slice, Cat, Zext, Sext, Case, Bus}
 use Rattle.net_model.specs.declared.states.State.{State}
 use Rattle.net_model.specs.Terms.{Term, word, reg, const, read, un, bin, slice, cat, zext, sext, select, term_width}
-use Rattle.net_model.specs.Nets.{width_at, gate_nets}
+use Rattle.net_model.specs.Nets.{width_at, gate_nets, space_at}
 use Rattle.net_model.specs.Value.{value_within}
 
 -- ---- static nets: all that they depend on is the instruction word and constants
@@ -38,7 +38,7 @@ is_static netlist n = static_within (length netlist.nets) netlist n
 
 -- a state with nothing in it, in which the values of static nets are read
 abbrev pub no_state : State
-no_state = record { regs = []; cells = [] }
+no_state = record { regs = []; cells = []; file = [] }
 
 -- ---- symbolic values
 
@@ -60,31 +60,31 @@ bus_term t u width (driver ∷ drivers) = if u driver.1 == 1 then t driver.0 els
 
 -- a gate of this width: t gives the symbolic values of the nets that it names, u the values of
 -- static ones, f which are static
-abbrev pub gate_term : (ℕ → Term) → (ℕ → ℕ) → (ℕ → Bool) → ℕ → Gate → Term
-gate_term t u f width (Word code) = word width
-gate_term t u f width (Reg id) = reg id width
-gate_term t u f width (Read memory addr) = read (t addr) width
-gate_term t u f width (Const c) = const width c
-gate_term t u f width (Wire a) = t a
-gate_term t u f width (Un op a) = un op (t a)
-gate_term t u f width (Bin op a b) = bin op (t a) (t b)
-gate_term t u f width (Slice of hi lo) = sliced (t of) hi lo
-gate_term t u f width (Cat a b) = cat (t a) (t b)
-gate_term t u f width (Zext a) = zext (t a) width
-gate_term t u f width (Sext a) = sext (t a) width
-gate_term t u f width (Case sel rows rest) =
+abbrev pub gate_term : (ℕ → Term) → (ℕ → ℕ) → (ℕ → Bool) → Netlist → ℕ → Gate → Term
+gate_term t u f netlist width (Word code) = word width
+gate_term t u f netlist width (Reg id) = reg id width
+gate_term t u f netlist width (Read memory addr) = read (space_at netlist memory) (t addr) width
+gate_term t u f netlist width (Const c) = const width c
+gate_term t u f netlist width (Wire a) = t a
+gate_term t u f netlist width (Un op a) = un op (t a)
+gate_term t u f netlist width (Bin op a b) = bin op (t a) (t b)
+gate_term t u f netlist width (Slice of hi lo) = sliced (t of) hi lo
+gate_term t u f netlist width (Cat a b) = cat (t a) (t b)
+gate_term t u f netlist width (Zext a) = zext (t a) width
+gate_term t u f netlist width (Sext a) = sext (t a) width
+gate_term t u f netlist width (Case sel rows rest) =
     if f sel then case_term t width (u sel) rows rest
     else select (t sel) (case_term t width 1 rows rest) (case_term t width 0 rows rest)
-gate_term t u f width (Bus drivers) = bus_term t u width drivers
+gate_term t u f netlist width (Bus drivers) = bus_term t u width drivers
 
-abbrev pub net_term : (ℕ → Term) → (ℕ → ℕ) → (ℕ → Bool) → Option Net → Term
-net_term t u f None = const 0 0
-net_term t u f (Some net) = gate_term t u f net.width net.gate
+abbrev pub net_term : (ℕ → Term) → (ℕ → ℕ) → (ℕ → Bool) → Netlist → Option Net → Term
+net_term t u f netlist None = const 0 0
+net_term t u f netlist (Some net) = gate_term t u f netlist net.width net.gate
 
 abbrev pub sym_within : ℕ → Netlist → ℕ → ℕ → Term
 sym_within zero netlist i n = const (width_at netlist n) 0
 sym_within (suc k) netlist i n =
-    net_term (sym_within k netlist i) (value_within k netlist no_state i) (is_static netlist) (slice_get netlist.nets n)
+    net_term (sym_within k netlist i) (value_within k netlist no_state i) (is_static netlist) netlist (slice_get netlist.nets n)
 
 -- the symbolic value of net n under the word i
 abbrev pub sym_of : Netlist → ℕ → ℕ → Term

@@ -1,12 +1,14 @@
 -- Expressions and transfers as plain values, without the addresses of boxes. Every definition
 -- speaks of these.
-use Rattle.std.specs.Prelude.{ℕ, ◌+◌, ◌-◌}
+use Rattle.std.specs.Prelude.{ℕ, ◌+◌, ◌-◌, ◌⊎◌}
 use Rattle.rec_bits.specs.declared.operator.Op1.{Op1}
 use Rattle.rec_bits.specs.declared.operator.Op2.{Op2}
 use Rattle.rec_bits.specs.declared.operator.Op2.TheVariants.{Add}
 use Rattle.rec_bits.specs.Operators.{result_width}
+use Rattle.net_model.specs.declared.hardware.Space.{Space}
+use Rattle.net_model.specs.declared.hardware.Space.TheVariants.{Memory as InMemory, File as InFile}
 use Rattle.net_model.specs.declared.expression.Expr.{Expr}
-use Rattle.net_model.specs.declared.expression.Expr.TheVariants.{Word, Reg, Const, Read', Un', Bin', Slice', Cat', Zext', Sext', Select'}
+use Rattle.net_model.specs.declared.expression.Expr.TheVariants.{Word, Reg, Const, Read', Cell', Un', Bin', Slice', Cat', Zext', Sext', Select'}
 use Rattle.net_model.specs.declared.expression.Transfer.{Transfer}
 use Rattle.net_model.specs.declared.expression.Transfer.TheVariants.{Keep, Write, WriteAt}
 
@@ -15,7 +17,7 @@ pub data Term : Type 0 where
   word : (width : ℕ) → Term
   reg : (id width : ℕ) → Term
   const : (width value : ℕ) → Term
-  read : (addr : Term) (width : ℕ) → Term
+  read : (space : Space) (addr : Term) (width : ℕ) → Term
   un : (op : Op1) (a : Term) → Term
   bin : (op : Op2) (a b : Term) → Term
   slice : (a : Term) (hi lo : ℕ) → Term
@@ -23,6 +25,10 @@ pub data Term : Type 0 where
   zext : (a : Term) (width : ℕ) → Term
   sext : (a : Term) (width : ℕ) → Term
   select : (c a b : Term) → Term
+
+-- a cell of the register file
+abbrev pub cell : Term → ℕ → Term
+cell a w = read InFile a w
 
 -- what a storage does at a clock
 pub data Move : Type 0 where
@@ -35,7 +41,8 @@ abbrev pub term_of : Expr → Term
 term_of (Word w) = word w
 term_of (Reg r w) = reg r w
 term_of (Const w v) = const w v
-term_of (Read' p a w) = read (term_of a) w
+term_of (Read' p a w) = read InMemory (term_of a) w
+term_of (Cell' p a w) = cell (term_of a) w
 term_of (Un' o p a) = un o (term_of a)
 term_of (Bin' o p a q b) = bin o (term_of a) (term_of b)
 term_of (Slice' p a h l) = slice (term_of a) h l
@@ -54,7 +61,7 @@ abbrev pub term_width : Term → ℕ
 term_width (word w) = w
 term_width (reg r w) = w
 term_width (const w v) = w
-term_width (read a w) = w
+term_width (read space a w) = w
 term_width (un o a) = term_width a
 term_width (bin o a b) = result_width o (term_width a)
 term_width (slice a hi lo) = hi + 1 - lo
@@ -68,7 +75,7 @@ abbrev pub size_of : Term → ℕ
 size_of (word w) = 1
 size_of (reg r w) = 1
 size_of (const w v) = 1
-size_of (read a w) = size_of a + 1
+size_of (read space a w) = size_of a + 1
 size_of (un o a) = size_of a + 1
 size_of (bin o a b) = size_of a + size_of b + 1
 size_of (slice a h l) = size_of a + 1
@@ -83,3 +90,7 @@ next_of id width = bin Add (reg id width) (const width 1)
 
 abbrev pub swapped_next_of : ℕ → ℕ → Term
 swapped_next_of id width = bin Add (const width 1) (reg id width)
+
+-- either of them is so: how a step of the program counter is told
+abbrev pub EitherNext : ℕ → ℕ → (Term → Type 0) → Type 0
+EitherNext id width IsSo = IsSo (next_of id width) ⊎ IsSo (swapped_next_of id width)

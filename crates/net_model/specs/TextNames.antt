@@ -1,7 +1,6 @@
 -- What the names of a netlist text stand for. Items may be used before they are declared; where
 -- several have one name, the first counts.
-use Rattle.std.specs.Prelude.{ℕ, ◌+◌, ◌&&◌, if◌then◌else◌, nat_eq, List, [], ◌∷◌, Option, Some, None, slice_get, Bool, true, false}
-use Rattle.std.specs.Cmp.Lexicographic.{pointwise}
+use Rattle.std.specs.Prelude.{ℕ, ◌+◌, ◌&&◌, if◌then◌else◌, List, [], ◌∷◌, Option, Some, None, slice_get, Bool, true, false}
 use Rattle.grammar.specs.declared.words.Ident.{Ident}
 use Rattle.net_model.specs.declared.units.Port.{Port}
 use Rattle.net_model.specs.Written.{Entry, code, register, memory, net, bus, module_item, part}
@@ -12,7 +11,7 @@ use Rattle.rec_bits.specs.Faults.{same_name}
 abbrev pub own_name : Entry → Ident
 own_name (code name bits size counter) = name
 own_name (register name width input when) = name
-own_name (memory name width size addr_width value addr when) = name
+own_name (memory space name width size addr_width value addr when) = name
 own_name (net name width value) = name
 own_name (bus name width drivers) = name
 own_name (module_item name ports equations) = name

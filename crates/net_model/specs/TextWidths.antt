@@ -54,17 +54,17 @@ abbrev pub named_width : Scope → List ℕ → Option Ident → Option ℕ
 named_width (in_text entries) name field = field_width entries name field
 named_width (in_module ports) name field = input_width ports name field
 
--- a memory's widths: of a cell, and of an address
+-- the widths of a memory or a file: of a cell, and of an address
 pub record MemoryWidths : Type 0 where
   pub cell : ℕ
   pub address : ℕ
 
 abbrev pub memory_of : Option Entry → Option MemoryWidths
-memory_of (Some (memory name width size addr_width value addr when)) =
+memory_of (Some (memory space name width size addr_width value addr when)) =
     Some (record { cell = width; address = addr_width })
 memory_of _ = None
 
--- a module reads no memory
+-- a module reads no memory and no file
 abbrev pub memory_widths : Scope → List ℕ → Option MemoryWidths
 memory_widths (in_text entries) name = memory_of (item_named entries name)
 memory_widths (in_module ports) name = None

@@ -9,21 +9,25 @@ use Rattle.rec_bits.specs.declared.operator.Op2.TheVariants.{Add, Sub, Mul, And,
 use Rattle.net_model.specs.declared.hardware.Netlist.{Netlist}
 use Rattle.net_model.specs.declared.hardware.Code.{Code}
 use Rattle.net_model.specs.declared.hardware.Storage.{Storage}
-use Rattle.net_model.specs.declared.hardware.Storage.TheVariants.{Register, Memory}
+use Rattle.net_model.specs.declared.hardware.Space.{Space}
+use Rattle.net_model.specs.declared.hardware.Space.TheVariants.{Memory as InMemory}
 use Rattle.net_model.specs.Terms.{Term, word, reg, const, read, un, bin, slice, cat, zext, sext, select, Move, keep, write, write_at}
-use Rattle.net_model.specs.Nets.{memory_id}
+use Rattle.net_model.specs.Nets.{storage_name, place_in}
 
 abbrev pub name_in : Option Storage → List ℕ
 name_in None = []
-name_in (Some (Register name width input when)) = name
-name_in (Some (Memory name width size addr_width value addr when)) = name
+name_in (Some storage) = storage_name storage
 
--- the name of the storage of this number, of the data memory, and of the instruction word
+-- the name of the storage of this number, of that with the cells of a space, of the data memory,
+-- and of the instruction word
 abbrev pub name_of : Netlist → ℕ → List ℕ
 name_of netlist id = name_in (slice_get netlist.storages id)
 
+abbrev pub space_name : Netlist → Space → List ℕ
+space_name netlist space = name_of netlist (place_in space netlist.storages)
+
 abbrev pub memory_name : Netlist → List ℕ
-memory_name netlist = name_of netlist (memory_id netlist.storages)
+memory_name netlist = space_name netlist InMemory
 
 abbrev pub first_name : List Code → List ℕ
 first_name [] = []
@@ -52,8 +56,8 @@ abbrev pub term_text : Netlist → Term → List ℕ
 term_text netlist (word w) = first_name netlist.codes
 term_text netlist (reg r w) = name_of netlist r
 term_text netlist (const w v) = concat (decimal v ∷ codes "#" ∷ decimal w ∷ [])
-term_text netlist (read a w) =
-    concat (codes "read(" ∷ memory_name netlist ∷ codes "," ∷ term_text netlist a ∷ codes ")" ∷ [])
+term_text netlist (read space a w) =
+    concat (codes "read(" ∷ space_name netlist space ∷ codes "," ∷ term_text netlist a ∷ codes ")" ∷ [])
 term_text netlist (un op a) = concat (op1_text op ∷ codes "(" ∷ term_text netlist a ∷ codes ")" ∷ [])
 term_text netlist (bin op a b) =
     concat (op2_text op ∷ codes "(" ∷ term_text netlist a ∷ codes "," ∷ term_text netlist b ∷ codes ")" ∷ [])

@@ -1,11 +1,14 @@
 -- What each storage does under one instruction word.
-use Rattle.std.specs.Prelude.{ℕ, ◌==◌, ◌≡◌, ◌⊎◌, if◌then◌else◌, List, Option, Some, None, slice_get, slice_index, slice_set, Bool, false}
+use Rattle.std.specs.Prelude.{ℕ, ◌==◌, ◌≡◌, if◌then◌else◌, List, Option, Some, None, slice_get, slice_index, slice_set, Bool, false}
 use Rattle.net_model.specs.declared.hardware.Netlist.{Netlist}
 use Rattle.net_model.specs.declared.hardware.Storage.{Storage}
-use Rattle.net_model.specs.declared.hardware.Storage.TheVariants.{Register, Memory}
+use Rattle.net_model.specs.declared.hardware.Storage.TheVariants.{Register, Memory, File}
+use Rattle.net_model.specs.declared.hardware.Cells.{Cells}
+use Rattle.net_model.specs.declared.hardware.Space.{Space}
+use Rattle.net_model.specs.declared.hardware.Space.TheVariants.{Memory as InMemory}
 use Rattle.net_model.specs.declared.states.State.{State}
-use Rattle.net_model.specs.Terms.{Term, reg, Move, keep, write, write_at, next_of, swapped_next_of}
-use Rattle.net_model.specs.Nets.{IsRegister, memory_id, counter_of, counter_width}
+use Rattle.net_model.specs.Terms.{Term, reg, Move, keep, write, write_at, EitherNext}
+use Rattle.net_model.specs.Nets.{IsRegister, place_in, held, counter_of, counter_width}
 use Rattle.net_model.specs.Value.{value_of}
 use Rattle.net_model.specs.Widths.{IsState, WordFits}
 use Rattle.net_model.specs.Clock.{clock, clash_in, Next, is_enabled}
@@ -35,12 +38,16 @@ abbrev pub same_reg : Term → ℕ → Bool
 same_reg (reg r w) id = r == id
 same_reg _ id = false
 
+-- cells whose `when` is 0 keep, and otherwise one of them is written
+abbrev pub array_move : (ℕ → Term) → (ℕ → ℕ) → Cells → Move
+array_move t u cells = if is_enabled u cells.when then write_at (t cells.addr) (t cells.value) else keep
+
 -- a storage whose `when` is 0 keeps, and so does a register that would take its own value
 abbrev pub storage_move : (ℕ → Term) → (ℕ → ℕ) → ℕ → Storage → Move
 storage_move t u id (Register name width input when) =
     if is_enabled u when then (if same_reg (t input) id then keep else write (t input)) else keep
-storage_move t u id (Memory name width size addr_width value addr when) =
-    if is_enabled u when then write_at (t addr) (t value) else keep
+storage_move t u id (Memory cells) = array_move t u cells
+storage_move t u id (File cells) = array_move t u cells
 
 abbrev pub transfer_of : Netlist → ℕ → ℕ → Option Storage → Move
 transfer_of netlist i id None = keep
@@ -50,17 +57,19 @@ transfer_of netlist i id (Some storage) = storage_move (sym_of netlist i) (value
 abbrev pub move_at : Netlist → ℕ → ℕ → Move
 move_at netlist i id = transfer_of netlist i id (slice_get netlist.storages id)
 
--- what the program counter does, and the data memory
+-- what the program counter does, the storage with the cells of a space, and the data memory
 abbrev pub counter_move : Netlist → ℕ → Move
 counter_move netlist i = move_at netlist i (counter_of netlist.codes)
 
+abbrev pub space_move : Netlist → Space → ℕ → Move
+space_move netlist space i = move_at netlist i (place_in space netlist.storages)
+
 abbrev pub memory_move : Netlist → ℕ → Move
-memory_move netlist i = move_at netlist i (memory_id netlist.storages)
+memory_move netlist i = space_move netlist InMemory i
 
 -- the word steps: the program counter becomes itself plus 1
 pub record Steps (netlist : Netlist) (i : ℕ) : Type 0 where
-  pub step : (counter_move netlist i ≡ write (next_of (counter_of netlist.codes) (counter_width netlist)))
-      ⊎ (counter_move netlist i ≡ write (swapped_next_of (counter_of netlist.codes) (counter_width netlist)))
+  pub step : EitherNext (counter_of netlist.codes) (counter_width netlist) (λ next. counter_move netlist i ≡ write next)
 
 -- the word doesn't clash, and the storage keeps what it holds
 pub record Keeps (netlist : Netlist) (storage i : ℕ) : Type 0 where
@@ -80,11 +89,11 @@ reg_moved keep s i id = slice_index s.regs id
 reg_moved (write e) s i id = mean e s i
 reg_moved (write_at a e) s i id = slice_index s.regs id
 
--- what the memory holds after a transfer
-abbrev pub cells_moved : Move → State → ℕ → List ℕ
-cells_moved keep s i = s.cells
-cells_moved (write e) s i = s.cells
-cells_moved (write_at a e) s i = slice_set s.cells (mean a s i) (mean e s i)
+-- what cells are after a transfer
+abbrev pub cells_moved : Move → State → ℕ → List ℕ → List ℕ
+cells_moved keep s i olds = olds
+cells_moved (write e) s i olds = olds
+cells_moved (write_at a e) s i olds = slice_set olds (mean a s i) (mean e s i)
 
 -- the next state is what the transfers of the word say
 pub record Moved (netlist : Netlist) (words : List ℕ) (i : ℕ) (s : State) : Type 0 where
@@ -93,4 +102,4 @@ pub record Moved (netlist : Netlist) (words : List ℕ) (i : ℕ) (s : State) : 
   pub state : IsState netlist next
   pub regs : (id : ℕ) → IsRegister (slice_get netlist.storages id) →
       slice_index next.regs id ≡ reg_moved (move_at netlist i id) s i id
-  pub cells : next.cells ≡ cells_moved (memory_move netlist i) s i
+  pub cells : (space : Space) → held next space ≡ cells_moved (space_move netlist space i) s i (held s space)

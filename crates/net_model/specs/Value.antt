@@ -7,7 +7,7 @@ use Rattle.net_model.specs.declared.hardware.Net.{Net}
 use Rattle.net_model.specs.declared.hardware.Gate.{Gate}
 use Rattle.net_model.specs.declared.hardware.Gate.TheVariants.{Word, Reg, Read, Const, Wire, Un, Bin, Slice, Cat, Zext, Sext, Case, Bus}
 use Rattle.net_model.specs.declared.states.State.{State}
-use Rattle.net_model.specs.Nets.{width_at}
+use Rattle.net_model.specs.Nets.{width_at, space_at, held}
 
 -- a case: the value of the first row with this number, or of the rest
 abbrev pub case_value : (ℕ → ℕ) → ℕ → List (ℕ × ℕ) → Option ℕ → ℕ
@@ -24,7 +24,7 @@ bus_value v (driver ∷ drivers) = if v driver.1 == 1 then v driver.0 else bus_v
 abbrev pub gate_value : (ℕ → ℕ) → Netlist → State → ℕ → ℕ → Gate → ℕ
 gate_value v netlist s word width (Word code) = word
 gate_value v netlist s word width (Reg id) = slice_index s.regs id
-gate_value v netlist s word width (Read memory addr) = slice_index s.cells (v addr)
+gate_value v netlist s word width (Read memory addr) = slice_index (held s (space_at netlist memory)) (v addr)
 gate_value v netlist s word width (Const c) = c
 gate_value v netlist s word width (Wire a) = v a
 gate_value v netlist s word width (Un op a) = apply1_of op width (v a)

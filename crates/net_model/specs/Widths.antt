@@ -5,11 +5,13 @@ use Rattle.rec_bits.specs.Operators.{result_width}
 use Rattle.net_model.specs.declared.hardware.Netlist.{Netlist}
 use Rattle.net_model.specs.declared.hardware.Net.{Net}
 use Rattle.net_model.specs.declared.hardware.Storage.{Storage}
-use Rattle.net_model.specs.declared.hardware.Storage.TheVariants.{Register, Memory}
+use Rattle.net_model.specs.declared.hardware.Storage.TheVariants.{Register, Memory, File}
+use Rattle.net_model.specs.declared.hardware.Cells.{Cells}
+use Rattle.net_model.specs.declared.hardware.Space.{Space}
 use Rattle.net_model.specs.declared.hardware.Gate.{Gate}
 use Rattle.net_model.specs.declared.hardware.Gate.TheVariants.{Word, Reg, Read, Const, Wire, Un, Bin, Slice, Cat, Zext, Sext, Case, Bus}
 use Rattle.net_model.specs.declared.states.State.{State}
-use Rattle.net_model.specs.Nets.{width_at, code_bits, storage_bits, memory_width, memory_size}
+use Rattle.net_model.specs.Nets.{width_at, code_bits, storage_bits, width_in, size_in, space_at, held}
 
 -- a net of this width
 abbrev pub HasWidth : Netlist → ℕ → ℕ → Type 0
@@ -37,7 +39,8 @@ DriversFit netlist width (driver ∷ drivers) =
 abbrev pub GateFits : Netlist → ℕ → Gate → Type 0
 GateFits netlist width (Word code) = code_bits (slice_get netlist.codes code) ≡ width
 GateFits netlist width (Reg id) = storage_bits (slice_get netlist.storages id) ≡ width
-GateFits netlist width (Read memory addr) = IsNet netlist addr × (memory_width netlist.storages ≡ width)
+GateFits netlist width (Read memory addr) =
+    IsNet netlist addr × (width_in (space_at netlist memory) netlist.storages ≡ width)
 GateFits netlist width (Const c) = c < 2 ^ width
 GateFits netlist width (Wire a) = HasWidth netlist a width
 GateFits netlist width (Un op a) = HasWidth netlist a width
@@ -61,11 +64,15 @@ abbrev pub WhenFits : Netlist → Option ℕ → Type 0
 WhenFits netlist None = Unit {0}
 WhenFits netlist (Some when) = HasWidth netlist when 1
 
+abbrev pub ArrayFits : Netlist → Cells → Type 0
+ArrayFits netlist cells =
+    HasWidth netlist cells.value cells.width × HasWidth netlist cells.addr cells.addr_width × WhenFits netlist cells.when
+
 -- what feeds a storage has its width
 abbrev pub StorageFits : Netlist → Storage → Type 0
 StorageFits netlist (Register name width input when) = HasWidth netlist input width × WhenFits netlist when
-StorageFits netlist (Memory name width size addr_width value addr when) =
-    HasWidth netlist value width × HasWidth netlist addr addr_width × WhenFits netlist when
+StorageFits netlist (Memory cells) = ArrayFits netlist cells
+StorageFits netlist (File cells) = ArrayFits netlist cells
 
 -- each net and each storage has the width that feeds it
 pub record IsTyped (netlist : Netlist) : Type 0 where
@@ -76,7 +83,7 @@ pub record IsTyped (netlist : Netlist) : Type 0 where
 -- the values of a state fit
 pub record StateFits (netlist : Netlist) (s : State) : Type 0 where
   pub regs : (id : ℕ) → slice_index s.regs id < 2 ^ storage_bits (slice_get netlist.storages id)
-  pub cells : (a : ℕ) → slice_index s.cells a < 2 ^ memory_width netlist.storages
+  pub cells : (space : Space) (a : ℕ) → slice_index (held s space) a < 2 ^ width_in space netlist.storages
 
 -- an instruction word fits
 pub record WordFits (netlist : Netlist) (word : ℕ) : Type 0 where
@@ -90,5 +97,5 @@ pub record ValuesFit (netlist : Netlist) (v : ℕ → ℕ) : Type 0 where
 -- a state that fits the netlist's widths and sizes
 pub record IsState (netlist : Netlist) (s : State) : Type 0 where
   pub regs : length s.regs ≡ length netlist.storages
-  pub cells : length s.cells ≡ memory_size netlist.storages
+  pub cells : (space : Space) → length (held s space) ≡ size_in space netlist.storages
   pub fits : StateFits netlist s

@@ -2,6 +2,7 @@
 use Rattle.std.specs.Prelude.{ℕ, ◌≡◌, refl, List, [], ◌∷◌, Some, None, codes}
 use Rattle.rec_bits.specs.declared.operator.Op1.TheVariants.{Not}
 use Rattle.rec_bits.specs.declared.operator.Op2.TheVariants.{Add, Sub, Eq}
+use Rattle.net_model.specs.declared.hardware.Space.TheVariants.{Memory as InMemory}
 use Rattle.net_model.specs.declared.hardware.Netlist.{Netlist}
 use Rattle.net_model.specs.declared.hardware.Net.{Net}
 use Rattle.net_model.specs.declared.hardware.Storage.TheVariants.{Register, Memory}
@@ -28,8 +29,10 @@ s8 = record {
       ∷ net 1 (Slice 0 7 7) ∷ net 4 (Const 1) ∷ net 4 (Bin Add 6 2) ∷ net 4 (Slice 0 3 0)
       ∷ net 4 (Case 1 ((0, 3) ∷ (1, 4) ∷ []) None) ∷ net 4 (Reg 0)
       ∷ net 5 (Slice 0 4 0) ∷ net 2 (Slice 0 6 5) ∷ net 1 (Slice 0 7 7) ∷ net 1 (Un Not 9) ∷ [];
-  storages = Register (codes "PC") 4 5 None ∷ Memory (codes "M") 5 4 2 7 8 (Some 10) ∷ [];
+  storages = Register (codes "PC") 4 5 None ∷ Memory (record { name = codes "M"; width = 5; size = 4; addr_width = 2; value = 7; addr = 8; when = (Some 10) }) ∷ [];
   codes = record { name = codes "I"; bits = 8; words = 16; counter = 0 } ∷ [];
+  edition = 1;
+  special = None;
 }
 
 -- an accumulator, a memory, an adder and a branch where the accumulator is 0 op = I[11:8], f =
@@ -52,8 +55,10 @@ a16 = record {
       ∷ net 4 (Const 4) ∷ net 1 (Bin Eq 2 30) ∷ [];
   storages =
       Register (codes "PC") 8 22 None ∷ Register (codes "ACC") 16 25 (Some 28)
-      ∷ Memory (codes "M") 16 256 8 29 4 (Some 31) ∷ [];
+      ∷ Memory (record { name = codes "M"; width = 16; size = 256; addr_width = 8; value = 29; addr = 4; when = (Some 31) }) ∷ [];
   codes = record { name = codes "I"; bits = 12; words = 256; counter = 0 } ∷ [];
+  edition = 1;
+  special = None;
 }
 
 -- the same with a flag Z, which an addition or a subtraction sets, in place of eq(ACC, 0#16)
@@ -73,8 +78,10 @@ z16 = record {
       ∷ net 4 (Const 4) ∷ net 1 (Bin Eq 2 34) ∷ [];
   storages =
       Register (codes "PC") 8 20 None ∷ Register (codes "ACC") 16 23 (Some 26) ∷ Register (codes "Z") 1 29 (Some 32)
-      ∷ Memory (codes "M") 16 256 8 27 4 (Some 35) ∷ [];
+      ∷ Memory (record { name = codes "M"; width = 16; size = 256; addr_width = 8; value = 27; addr = 4; when = (Some 35) }) ∷ [];
   codes = record { name = codes "I"; bits = 12; words = 256; counter = 0 } ∷ [];
+  edition = 1;
+  special = None;
 }
 
 -- code I : 4 size 4 at PC;
@@ -91,12 +98,14 @@ b2 = record {
       ∷ net 1 (Const 0) ∷ net 1 (Const 0) ∷ [];
   storages =
       Register (codes "PC") 2 2 None ∷ Register (codes "X") 2 9 None
-      ∷ Memory (codes "M") 2 1 1 4 10 (Some 11) ∷ [];
+      ∷ Memory (record { name = codes "M"; width = 2; size = 1; addr_width = 1; value = 4; addr = 10; when = (Some 11) }) ∷ [];
   codes = record { name = codes "I"; bits = 4; words = 4; counter = 0 } ∷ [];
+  edition = 1;
+  special = None;
 }
 
 abbrev state : List ℕ → List ℕ → State
-state regs cells = record { regs = regs; cells = cells }
+state regs cells = record { regs = regs; cells = cells; file = [] }
 
 -- ---- clocks
 
@@ -165,10 +174,10 @@ pub s8_goes : counter_move s8 130 ≡ write (slice (word 8) 3 0)
 s8_goes = refl
 
 -- a subtraction of z16 writes the accumulator and the flag, and keeps the memory
-pub z16_subtracts : move_at z16 771 1 ≡ write (bin Sub (reg 1 16) (read (slice (word 12) 7 0) 16))
+pub z16_subtracts : move_at z16 771 1 ≡ write (bin Sub (reg 1 16) (read InMemory (slice (word 12) 7 0) 16))
 z16_subtracts = refl
 
-pub z16_flags : move_at z16 771 2 ≡ write (bin Eq (bin Sub (reg 1 16) (read (slice (word 12) 7 0) 16)) (const 16 0))
+pub z16_flags : move_at z16 771 2 ≡ write (bin Eq (bin Sub (reg 1 16) (read InMemory (slice (word 12) 7 0) 16)) (const 16 0))
 z16_flags = refl
 
 pub z16_keeps : memory_move z16 771 ≡ keep
@@ -182,7 +191,7 @@ z16_branches = refl
 -- ---- symbolic values and their meaning
 
 -- net 14 of a16, the adder, under the word 305
-pub a16_symbol : sym_of a16 773 14 ≡ bin Sub (reg 1 16) (read (slice (word 12) 7 0) 16)
+pub a16_symbol : sym_of a16 773 14 ≡ bin Sub (reg 1 16) (read InMemory (slice (word 12) 7 0) 16)
 a16_symbol = refl
 
 pub a16_means : mean (sym_of a16 771 14) (state (0 ∷ 2 ∷ 0 ∷ []) (0 ∷ 0 ∷ 0 ∷ 5 ∷ [])) 771
@@ -196,7 +205,7 @@ a16_value = refl
 -- ---- nets that depend on themselves still have a value: 0 behind as many gates as there are nets
 
 abbrev pub ring : Netlist
-ring = record { nets = net 1 (Un Not 1) ∷ net 1 (Wire 0) ∷ []; storages = []; codes = [] }
+ring = record { nets = net 1 (Un Not 1) ∷ net 1 (Wire 0) ∷ []; storages = []; codes = []; edition = 1; special = None }
 
 pub ring_value : value_of ring no_state 0 0 ≡ 1
 ring_value = refl

@@ -2,6 +2,7 @@
 use Rattle.std.specs.Prelude.{ℕ, ◌≡◌, refl, List, [], ◌∷◌, Some, None, codes, false, true}
 use Rattle.rec_bits.specs.declared.operator.Op1.TheVariants.{Not}
 use Rattle.rec_bits.specs.declared.operator.Op2.TheVariants.{Add, Sub, Eq}
+use Rattle.net_model.specs.declared.hardware.Space.TheVariants.{Memory as InMemory}
 use Rattle.net_model.specs.declared.hardware.Storage.TheVariants.{Register}
 use Rattle.net_model.specs.declared.hardware.Net.{Net}
 use Rattle.net_model.specs.declared.hardware.Gate.{Gate}
@@ -9,7 +10,7 @@ use Rattle.net_model.specs.declared.hardware.Gate.TheVariants.{Word, Reg, Const,
 use Rattle.grammar.specs.declared.words.Ident.{Ident}
 use Rattle.net_model.specs.declared.units.Port.{Port}
 use Rattle.net_model.specs.Written.{Entry, code, register, memory, net, bus, module_item, part, Phrase, named, const, un, bin, zext, read, case, no_rows, row, no_rest, rest}
-use Rattle.net_model.specs.Elaborated.{netlist_of}
+use Rattle.net_model.specs.Elaborated.{netlist_in}
 use Rattle.net_model.specs.Worked.{s8, a16, b2}
 
 -- a net of an item at the beginning of the text
@@ -46,10 +47,10 @@ s8_items =
     ∷ register (ident (codes "PC")) 4
     (case (bit (codes "I") 7)
     (row (0 ∷ []) (bin Add (of (codes "PC")) (const 1 4)) (row (1 ∷ []) (bits (codes "I") 3 0) no_rows)) no_rest) None
-    ∷ memory (ident (codes "M")) 5 4 2 (bits (codes "I") 4 0) (bits (codes "I") 6 5) (Some (un Not (bit (codes "I") 7)))
+    ∷ memory InMemory (ident (codes "M")) 5 4 2 (bits (codes "I") 4 0) (bits (codes "I") 6 5) (Some (un Not (bit (codes "I") 7)))
     ∷ []
 
-pub s8_elaborated : netlist_of s8_items ≡ s8
+pub s8_elaborated : netlist_in 1 s8_items ≡ s8
 s8_elaborated = refl
 
 abbrev pub a16_items : List Entry
@@ -83,11 +84,11 @@ a16_items =
     ∷ register (ident (codes "ACC")) 16
     (case (of (codes "op")) (row (5 ∷ []) (zext (of (codes "f")) 16) no_rows) (rest (output (codes "alu") (codes "y"))))
     (Some (case (of (codes "op")) (row (1 ∷ 2 ∷ 3 ∷ 5 ∷ []) (const 1 1) no_rows) (rest (const 0 1))))
-    ∷ memory (ident (codes "M")) 16 256 8 (of (codes "ACC")) (of (codes "f"))
+    ∷ memory InMemory (ident (codes "M")) 16 256 8 (of (codes "ACC")) (of (codes "f"))
     (Some (bin Eq (of (codes "op")) (const 4 4)))
     ∷ []
 
-pub a16_elaborated : netlist_of a16_items ≡ a16
+pub a16_elaborated : netlist_in 1 a16_items ≡ a16
 a16_elaborated = refl
 
 abbrev pub b2_items : List Entry
@@ -97,10 +98,10 @@ b2_items =
     ∷ register (ident (codes "X")) 2 (of (codes "B")) None
     ∷ bus (ident (codes "B")) 2
     ((bits (codes "I") 3 2, bit (codes "I") 0) ∷ (un Not (of (codes "X")), bit (codes "I") 1) ∷ [])
-    ∷ memory (ident (codes "M")) 2 1 1 (of (codes "X")) (const 0 1) (Some (const 0 1))
+    ∷ memory InMemory (ident (codes "M")) 2 1 1 (of (codes "X")) (const 0 1) (Some (const 0 1))
     ∷ []
 
-pub b2_elaborated : netlist_of b2_items ≡ b2
+pub b2_elaborated : netlist_in 1 b2_items ≡ b2
 b2_elaborated = refl
 
 -- code I : 4 size 2 at R;
@@ -123,7 +124,7 @@ part_items =
     ∷ []
 
 -- the link, the wires of the ports, and the equation, all numbered for the part
-pub part_elaborated : netlist_of part_items ≡ record {
+pub part_elaborated : netlist_in 1 part_items ≡ record {
   nets =
       record { width = 4; name_at = 5; gate = Word 0 }
       ∷ record { width = 4; name_at = 80; gate = Un Not 0 } ∷ record { width = 4; name_at = 80; gate = Wire 1 }
@@ -132,6 +133,8 @@ pub part_elaborated : netlist_of part_items ≡ record {
       ∷ record { width = 1; name_at = 109; gate = Reg 0 } ∷ [];
   storages = Register (codes "R") 1 3 None ∷ [];
   codes = record { name = codes "I"; bits = 4; words = 2; counter = 0 } ∷ [];
+  edition = 1;
+  special = None;
 }
 part_elaborated = refl
 
@@ -153,7 +156,7 @@ outputs_items =
 
 -- the wires of the outputs and the nets of their equations come in the order of the ports, and not
 -- of the equations
-pub outputs_elaborated : netlist_of outputs_items ≡ record {
+pub outputs_elaborated : netlist_in 1 outputs_items ≡ record {
   nets =
       gate_net 4 (Word 0) ∷ gate_net 4 (Wire 0)
       ∷ gate_net 1 (Wire 5) ∷ gate_net 4 (Wire 6)
@@ -161,5 +164,7 @@ pub outputs_elaborated : netlist_of outputs_items ≡ record {
       ∷ gate_net 1 (Reg 0) ∷ gate_net 4 (Reg 1) ∷ [];
   storages = Register (codes "R") 1 2 None ∷ Register (codes "Q") 4 3 None ∷ [];
   codes = record { name = codes "I"; bits = 4; words = 2; counter = 0 } ∷ [];
+  edition = 1;
+  special = None;
 }
 outputs_elaborated = refl

@@ -2,6 +2,7 @@
 use Rattle.std.specs.Prelude.{ℕ, ◌≡◌, refl, List, [], ◌∷◌, ◌++◌, Some, None, codes, true, false}
 use Rattle.rec_bits.specs.declared.operator.Op2.TheVariants.{Add}
 use Rattle.grammar.specs.declared.words.Ident.{Ident}
+use Rattle.net_model.specs.declared.hardware.Space.TheVariants.{Memory as InMemory}
 use Rattle.net_model.specs.declared.fault.NetFault.TheVariants.{Duplicate, Unknown, Width, Driver, Limit}
 use Rattle.net_model.specs.declared.fault.NetKind.TheVariants.{Cells, Words}
 use Rattle.net_model.specs.Written.{Entry, code, register, memory, net, module_item, part, Phrase, named, const, bin, cat, read, case, no_rows, row, no_rest}
@@ -27,7 +28,7 @@ control number =
 
 abbrev cells : ℕ → ℕ → Entry
 cells size top =
-    memory (ident (codes "M") 97) 5 size 2 (named (ident (codes "I") 121) None (Some (top, 0)))
+    memory InMemory (ident (codes "M") 97) 5 size 2 (named (ident (codes "I") 121) None (Some (top, 0)))
     (named (ident (codes "I") 131) None (Some (6, 5))) None
 
 abbrev s8 : List Entry

@@ -3,6 +3,7 @@
 use Rattle.std.specs.Prelude.{ℕ, ◌≡◌, refl, [], ◌∷◌, Some, None, codes, true, false}
 use mathlib.Core.Logic.{inl, inr}
 use Rattle.rec_bits.specs.declared.operator.Op2.TheVariants.{Add}
+use Rattle.net_model.specs.declared.hardware.Space.TheVariants.{Memory as InMemory}
 use Rattle.net_model.specs.declared.hardware.Netlist.{Netlist}
 use Rattle.net_model.specs.declared.hardware.Net.{Net}
 use Rattle.net_model.specs.declared.hardware.Storage.TheVariants.{Register}
@@ -33,6 +34,8 @@ k8 = record {
       ∷ net 8 (Slice 0 7 0) ∷ net 4 (Slice 8 3 0) ∷ [];
   storages = Register (codes "PC") 2 3 None ∷ Register (codes "X") 4 4 None ∷ Register (codes "Y") 8 8 None ∷ [];
   codes = record { name = codes "I"; bits = 8; words = 4; counter = 0 } ∷ [];
+  edition = 1;
+  special = None;
 }
 
 -- a slice of a slice is one slice
@@ -79,7 +82,7 @@ pub joined : move_at k8 0 2 ≡ write (cat (reg 1 4) (sext (slice (word 8) 4 3) 
 joined = refl
 
 -- the word 24 has ones in bits 4 and 3, and the extension repeats bit 4
-pub joined_value : value_of k8 (record { regs = 0 ∷ 5 ∷ 0 ∷ []; cells = [] }) 24 8 ≡ 95
+pub joined_value : value_of k8 (record { regs = 0 ∷ 5 ∷ 0 ∷ []; cells = []; file = [] }) 24 8 ≡ 95
 joined_value = refl
 
 -- the counter plus 1 steps, and so does 1 plus the counter
@@ -120,10 +123,10 @@ pub sum_lacks : occurs 2 sum ≡ false
 sum_lacks = refl
 
 -- a slice of anything but the word has the bits of what it is a slice of
-pub deep_fields : fields (slice (read (slice (word 8) 6 5) 5) 1 0) ≡ 96
+pub deep_fields : fields (slice (read InMemory (slice (word 8) 6 5) 5) 1 0) ≡ 96
 deep_fields = refl
 
-pub deep_read : has_read (slice (read (slice (word 8) 6 5) 5) 1 0) ≡ true
+pub deep_read : has_read (slice (read InMemory (slice (word 8) 6 5) 5) 1 0) ≡ true
 deep_read = refl
 
 -- a store has the bits of its address and of its value

@@ -4,6 +4,7 @@ use Rattle.std.specs.Prelude.{◌≡◌, refl, Box}
 use Rattle.std.specs.declared.alloc.Global.{Global}
 use Rattle.rec_bits.specs.declared.operator.Op1.TheVariants.{Not}
 use Rattle.rec_bits.specs.declared.operator.Op2.TheVariants.{Sub}
+use Rattle.net_model.specs.declared.hardware.Space.TheVariants.{Memory as InMemory}
 use Rattle.net_model.specs.declared.expression.Expr.TheVariants.{Word, Reg, Const, Read', Un', Bin', Slice', Cat', Zext', Sext', Select'}
 use Rattle.net_model.specs.declared.expression.Transfer.TheVariants.{Keep, Write, WriteAt}
 use Rattle.net_model.specs.Terms.{word, reg, const, read, un, bin, slice, cat, zext, sext, select, keep, write, write_at, term_of, move_of}
@@ -18,7 +19,7 @@ module _ (p q r : Box (Unit {0}) Global) where
   pub seen_constant : term_of (Const 4 9) ≡ const 4 9
   seen_constant = refl
 
-  pub seen_read : term_of (Read' p (Reg 1 8) 16) ≡ read (reg 1 8) 16
+  pub seen_read : term_of (Read' p (Reg 1 8) 16) ≡ read InMemory (reg 1 8) 16
   seen_read = refl
 
   pub seen_not : term_of (Un' Not p (Word 12)) ≡ un Not (word 12)
@@ -44,7 +45,7 @@ module _ (p q r : Box (Unit {0}) Global) where
   seen_choice = refl
 
   -- an expression in an expression
-  pub seen_within : term_of (Zext' p (Read' q (Slice' r (Word 12) 7 0) 8) 16) ≡ zext (read (slice (word 12) 7 0) 8) 16
+  pub seen_within : term_of (Zext' p (Read' q (Slice' r (Word 12) 7 0) 8) 16) ≡ zext (read InMemory (slice (word 12) 7 0) 8) 16
   seen_within = refl
 
   pub seen_keep : move_of Keep ≡ keep

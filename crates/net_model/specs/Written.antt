@@ -5,6 +5,8 @@ use Rattle.rec_bits.specs.declared.operator.Op1.{Op1}
 use Rattle.rec_bits.specs.declared.operator.Op2.{Op2}
 use Rattle.grammar.specs.declared.words.Ident.{Ident}
 use Rattle.net_model.specs.declared.units.Port.{Port}
+use Rattle.net_model.specs.declared.units.Units.{Units}
+use Rattle.net_model.specs.declared.hardware.Space.{Space}
 use Rattle.net_model.specs.declared.units.Unit.{Unit as Item}
 use Rattle.net_model.specs.declared.units.Unit.TheVariants.{Code, Register, Memory, Net, Bus, Module, Part}
 use Rattle.net_model.specs.declared.units.NetExpr.{NetExpr, Named, Const, Un', Bin', Cat', Slice', Zext', Sext', Read', Case', Row_of-NetExpr-Case-1-2, end_of-NetExpr-Case-1-2, more_of-NetExpr-Case-1-2, Held-NetExpr-Case-2, None', Some'}
@@ -75,7 +77,7 @@ rest_of (Some a) = rest a
 pub data Entry : Type 0 where
   code : Ident → ℕ → ℕ → Ident → Entry
   register : Ident → ℕ → Phrase → Option Phrase → Entry
-  memory : Ident → ℕ → ℕ → ℕ → Phrase → Phrase → Option Phrase → Entry
+  memory : Space → Ident → ℕ → ℕ → ℕ → Phrase → Phrase → Option Phrase → Entry
   net : Ident → ℕ → Phrase → Entry
   bus : Ident → ℕ → List (Phrase × Phrase) → Entry
   module_item : Ident → List Port → List (Ident × Phrase) → Entry
@@ -94,9 +96,19 @@ binding_of b = (b.0, phrase_of b.1)
 abbrev pub entry_of : Item → Entry
 entry_of (Code name bits size counter) = code name bits size counter
 entry_of (Register name width input when) = register name width (phrase_of input) (when_of when)
-entry_of (Memory name width size addr_width value addr when) =
-    memory name width size addr_width (phrase_of value) (phrase_of addr) (when_of when)
+entry_of (Memory space name width size addr_width value addr when) =
+    memory space name width size addr_width (phrase_of value) (phrase_of addr) (when_of when)
 entry_of (Net name width value) = net name width (phrase_of value)
 entry_of (Bus name width drivers) = bus name width (map driver_of drivers)
 entry_of (Module name ports equations) = module_item name ports (map binding_of equations)
 entry_of (Part name of links) = part name of (map binding_of links)
+
+-- ---- texts
+
+-- the edition of a text, and its items
+pub record Text : Type 0 where
+  pub edition : ℕ
+  pub items : List Entry
+
+abbrev pub text_of : Units → Text
+text_of units = record { edition = units.edition; items = map entry_of units.items }

@@ -1,21 +1,21 @@
 //! A netlist that was checked.
 
 ghost use Rattle.std.specs.Prelude.{◌≡◌, ◌<◌, ◌^◌, IfOk, length, option_copied};
-ghost use Rattle.net_model.specs.Nets.{counter_of, memory_id, memory_size, memory_width, storage_bits, storage_cells};
+ghost use Rattle.net_model.specs.Nets.{counter_of, memory_id, memory_size, memory_width, place_in, size_in, storage_bits, storage_cells, width_in};
 ghost use Rattle.net_model.specs.CheckedRules.{KeepsRules};
 ghost use Rattle.rec_bits.specs.Operators.{IsWidth};
 ghost use Rattle.net_model.specs.Control.{IsSound};
 ghost use Rattle.net_model.specs.Flags.{flag_at};
 ghost use Rattle.net_model.specs.Symbolic.{is_static};
-ghost use Rattle.net_model.specs.Texts.{memory_name};
+ghost use Rattle.net_model.specs.Texts.{memory_name, space_name};
 
-use crate::{Netlist, Property, Storage, flags_of};
+use crate::{Netlist, Property, Space, Storage, flags_of};
 use rec_bits::{Items, NoMemory};
 use std::alloc::Global;
 use std::marker::Model;
 
-/// A netlist that keeps the rules N1 to N9 and N11, and an order of its nets in which each stands
-/// after those that it depends on.
+/// A netlist that keeps the rules N1 to N9, N11 and N14, and an order of its nets in which each
+/// stands after those that it depends on.
 #[derive(Drop)]
 pub struct Checked {
     netlist: Netlist,
@@ -59,8 +59,8 @@ impl Checked {
         &self.order
     }
 
-    /// For each net whether it is static: that neither it nor what it depends on reads a register
-    /// or the memory.
+    /// For each net whether it is static: that neither it nor what it depends on reads a register,
+    /// the memory or the file.
     pub fn static_flags(&self, alloc: Global) -> Result<Items<bool>, NoMemory>
         ensures long { IfOk result (λ flags. length flags ≡ length self.now.netlist.nets) }
         ensures flags { IfOk result (λ flags. flag_at flags ≡ is_static self.now.netlist) }
@@ -79,18 +79,50 @@ impl Checked {
         }
     }
 
+    /// The number of the storage that has the cells of a space, and that of storages where none
+    /// has.
+    pub fn place(&self, space: Space) -> u32
+        ensures { result ≡ place_in space self.now.netlist.storages }
+    {
+        first_place(space, self.netlist.storages.as_slice())
+    }
+
+    /// The number of cells of a space, and 0 where it isn't there.
+    pub fn size(&self, space: Space) -> u32
+        ensures { result ≡ size_in space self.now.netlist.storages }
+    {
+        size_of(self.netlist.storage(self.place(space)))
+    }
+
+    /// The number of bits of a cell of a space, and 0 where it isn't there.
+    pub fn width(&self, space: Space) -> u8
+        ensures { result ≡ width_in space self.now.netlist.storages }
+    {
+        bits_of(self.netlist.storage(self.place(space)))
+    }
+
+    /// The name of a space's storage, and none where it isn't there.
+    pub fn name(&self, space: Space) -> &[u8]
+        ensures { result.now ≡ space_name self.now.netlist space }
+    {
+        match self.netlist.storage(self.place(space)) {
+            Some(storage) => storage.name(),
+            None => &[],
+        }
+    }
+
     /// The number of the data memory's storage.
     pub fn memory(&self) -> u32
         ensures { result ≡ memory_id self.now.netlist.storages }
     {
-        memory_place(self.netlist.storages.as_slice())
+        self.place(Space::Memory)
     }
 
     /// The number of cells of the data memory.
     pub fn memory_size(&self) -> u32
         ensures { result ≡ memory_size self.now.netlist.storages }
     {
-        cells_of(self.netlist.storage(self.memory()))
+        self.size(Space::Memory)
     }
 
     /// The number of bits of a cell of the data memory, 1 to 64.
@@ -105,21 +137,18 @@ impl Checked {
     pub fn memory_name(&self) -> &[u8]
         ensures { result.now ≡ memory_name self.now.netlist }
     {
-        match self.netlist.storage(self.memory()) {
-            Some(Storage::Memory { name, .. } | Storage::Register { name, .. }) => name.as_slice(),
-            None => &[],
-        }
+        self.name(Space::Memory)
     }
 }
 
-// The place of the first memory, and the length where there is none.
-fn memory_place(storages: &[Storage]) -> u32
+// The place of the first storage with cells of a space, and the length where there is none.
+fn first_place(space: Space, storages: &[Storage]) -> u32
     requires { length storages.now < 2 ^ 32 }
-    ensures { result ≡ memory_id storages.now }
+    ensures { result ≡ place_in space storages.now }
 {
     let mut place = 0;
     for storage in storages {
-        if let Storage::Memory { .. } = storage {
+        if storage.is_in(space) {
             return place;
         }
         place += 1;
@@ -127,22 +156,23 @@ fn memory_place(storages: &[Storage]) -> u32
     place
 }
 
-// The number of a memory's cells.
-fn cells_of(storage: Option<&Storage>) -> u32
+// The number of a storage's cells.
+fn size_of(storage: Option<&Storage>) -> u32
     ensures { result ≡ storage_cells (option_copied storage.entry) }
 {
     match storage {
-        Some(Storage::Memory { size, .. }) => *size,
+        Some(Storage::Memory(cells) | Storage::File(cells)) => cells.size,
         _ => 0,
     }
 }
 
-// The width of a register, or of a memory's cells.
+// The width of a register, or of a storage's cells.
 fn bits_of(storage: Option<&Storage>) -> u8
     ensures { result ≡ storage_bits (option_copied storage.entry) }
 {
     match storage {
-        Some(Storage::Memory { width, .. } | Storage::Register { width, .. }) => *width,
+        Some(Storage::Register { width, .. }) => *width,
+        Some(Storage::Memory(cells) | Storage::File(cells)) => cells.width,
         None => 0,
     }
 }

@@ -1,9 +1,11 @@
 //! The nets that enable writes and the drivers of buses.
 
 ghost use Rattle.std.specs.Prelude.{◌≡◌, ◌++◌, map, option_to_list, IfOk, OnOk};
+ghost use Rattle.rec_bits.specs.Faults.{gather};
+ghost use Rattle.net_model.specs.CheckedRules.{file_addrs, gate_file_addrs, storage_file_addrs};
 ghost use Rattle.net_model.specs.Control.{control_places, enables, gate_enables, selectors, storage_enables, write_enables};
 
-use crate::{Gate, Netlist, Storage};
+use crate::{Gate, Netlist, Space, Storage};
 use rec_bits::{Items, NoMemory};
 use std::alloc::Global;
 
@@ -13,7 +15,8 @@ impl Storage {
         ensures { option_to_list result ≡ storage_enables self.now }
     {
         match self {
-            Storage::Register { when, .. } | Storage::Memory { when, .. } => *when,
+            Storage::Register { when, .. } => *when,
+            Storage::Memory(cells) | Storage::File(cells) => cells.when,
         }
     }
 }
@@ -59,6 +62,44 @@ impl Netlist {
     {
         let mut nets = self.enables(alloc)?;
         self.push_selectors(&mut nets)?;
+        Ok(nets)
+    }
+
+    // The addresses at which the file is written, in order of the storages.
+    fn file_writes(&self, alloc: Global) -> Result<Items<u32>, NoMemory>
+        ensures { IfOk result (λ nets. nets ≡ gather storage_file_addrs self.now.storages) }
+    {
+        let mut nets = Items::new(alloc);
+        for storage in self.storages.as_slice() {
+            if let Storage::File(cells) = storage {
+                nets.push(cells.addr)?;
+            }
+        }
+        Ok(nets)
+    }
+
+    // Adds the address of a gate that reads the file; any other gate adds none.
+    fn push_file_read(&self, nets: &mut Items<u32>, gate: &Gate) -> Result<(), NoMemory>
+        ensures { OnOk result (nets.new ≡ nets.old ++ gate_file_addrs self.now gate.now) }
+    {
+        match gate {
+            Gate::Read { memory, addr } => match self.space(*memory) {
+                Space::Memory => Ok(()),
+                Space::File => nets.push(*addr),
+            },
+            _ => Ok(()),
+        }
+    }
+
+    /// The nets of the addresses at which the file is written, in order of the storages, then of
+    /// those at which it is read, in order of the nets.
+    pub fn file_addrs(&self, alloc: Global) -> Result<Items<u32>, NoMemory>
+        ensures { IfOk result (λ nets. nets ≡ file_addrs self.now) }
+    {
+        let mut nets = self.file_writes(alloc)?;
+        for net in self.nets.as_slice() {
+            self.push_file_read(&mut nets, &net.gate)?;
+        }
         Ok(nets)
     }
 

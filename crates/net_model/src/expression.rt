@@ -2,15 +2,18 @@
 
 use rec_bits::{Op1, Op2};
 
-/// An expression over registers, the memory, constants and the instruction word. Each tells its own
-/// width: in `Word`, `Reg` and `Read` the last number is the width, in `Zext` and `Sext` the width
-/// that is reached.
+/// An expression over registers, the memory, the register file, constants and the instruction word.
+/// Each tells its own width: in `Word`, `Reg`, `Read` and `Cell` the last number is the width, in
+/// `Zext` and `Sext` the width that is reached.
 #[derive(Drop)]
 pub enum Expr {
     Word(u8),
     Reg(u32, u8),
     Const { width: u8, value: u64 },
+    /// A cell of the memory at an address.
     Read(Box<Expr>, u8),
+    /// A cell of the register file at an address.
+    Cell(Box<Expr>, u8),
     Un(Op1, Box<Expr>),
     Bin(Op2, Box<Expr>, Box<Expr>),
     /// The bits from the first number down to the second.
@@ -28,6 +31,6 @@ pub enum Transfer {
     Keep,
     /// A register takes a value.
     Write(Expr),
-    /// The memory takes the second value at the first as the address.
+    /// The memory or the file takes the second value at the first as the address.
     WriteAt(Expr, Expr),
 }

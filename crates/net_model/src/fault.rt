@@ -40,6 +40,9 @@ pub enum NetFault {
     PatternLarge(u64),
     /// N13: a net has too many expressions.
     TooMany(u64),
+    /// N14: a register file is read or written at an address that depends on more than the
+    /// instruction word.
+    FileAddr(u64),
 }
 
 /// What each processor has one of.
@@ -50,6 +53,7 @@ pub enum Role {
     Pc,
     Size,
     Addr,
+    File,
 }
 
 /// What there may be too much of in a netlist.
@@ -59,6 +63,7 @@ pub enum NetKind {
     Registers,
     Cells,
     Words,
+    File,
 }
 
 /// Why a netlist was not accepted: by the call that asks some of the rules.

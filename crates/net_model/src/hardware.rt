@@ -1,7 +1,7 @@
 //! A netlist: nets, storages and codes.
 
 ghost use Rattle.std.specs.Prelude.{◌≡◌, option_copied, slice_get};
-ghost use Rattle.net_model.specs.Nets.{width_of, word_width};
+ghost use Rattle.net_model.specs.Nets.{is_in, space_at, storage_name, width_of, word_width};
 ghost use Rattle.net_model.specs.NetFaults.{name_at};
 ghost use Rattle.net_model.specs.CheckedRules.{code_size};
 
@@ -14,7 +14,7 @@ pub enum Gate {
     Word(u32),
     /// A register's state.
     Reg(u32),
-    /// The memory's cell at an address, and 0 past its size.
+    /// The cell at an address of the memory or the file of this number, and 0 past its size.
     Read {
         memory: u32,
         addr: u32,
@@ -57,8 +57,28 @@ pub struct Net {
     pub gate: Gate,
 }
 
-/// A register or a memory. What feeds it is named by the numbers of nets; without a `when` it takes
-/// its input at each clock.
+/// Which cells: those of the data memory, or those of the register file.
+#[derive(Clone, Copy, PartialEq, Eq)]
+pub enum Space {
+    Memory,
+    File,
+}
+
+/// Cells at addresses, and the nets that write one of them at each clock: its value, its address
+/// and, if not always, its enable.
+#[derive(Drop)]
+pub struct Cells {
+    pub name: Name,
+    pub width: u8,
+    pub size: u32,
+    pub addr_width: u8,
+    pub value: u32,
+    pub addr: u32,
+    pub when: Option<u32>,
+}
+
+/// A register, a memory or a register file. What feeds it is named by the numbers of nets; without
+/// a `when` it takes its input at each clock.
 #[derive(Drop)]
 pub enum Storage {
     Register {
@@ -67,15 +87,8 @@ pub enum Storage {
         input: u32,
         when: Option<u32>,
     },
-    Memory {
-        name: Name,
-        width: u8,
-        size: u32,
-        addr_width: u8,
-        value: u32,
-        addr: u32,
-        when: Option<u32>,
-    },
+    Memory(Cells),
+    File(Cells),
 }
 
 /// An instruction memory: the bits of a word, how many words there may be, and the storage that
@@ -94,6 +107,32 @@ pub struct Netlist {
     pub nets: Items<Net>,
     pub storages: Items<Storage>,
     pub codes: Items<Code>,
+    /// The edition of its text: 2 where it is of register files, and otherwise 1.
+    pub edition: u8,
+    /// The storage that a later edition adds.
+    pub special: Option<u32>,
+}
+
+impl Storage {
+    /// The storage's name.
+    pub fn name(&self) -> &[u8]
+        ensures { result.now ≡ storage_name self.now }
+    {
+        match self {
+            Storage::Register { name, .. } => name.as_slice(),
+            Storage::Memory(cells) | Storage::File(cells) => cells.name.as_slice(),
+        }
+    }
+
+    /// Whether the storage has the cells of this space.
+    pub fn is_in(&self, space: Space) -> bool
+        ensures { result ≡ is_in space self.now }
+    {
+        match (space, self) {
+            (Space::Memory, Storage::Memory(_)) | (Space::File, Storage::File(_)) => true,
+            _ => false,
+        }
+    }
 }
 
 impl Netlist {
@@ -109,6 +148,16 @@ impl Netlist {
         ensures { option_copied result ≡ slice_get self.now.storages id }
     {
         self.storages.get(id as usize)
+    }
+
+    /// The cells that a read of the storage of this number is of.
+    pub fn space(&self, id: u32) -> Space
+        ensures { result ≡ space_at self.now id }
+    {
+        match self.storage(id) {
+            Some(Storage::File(_)) => Space::File,
+            _ => Space::Memory,
+        }
     }
 
     /// The width of the net of this number, or None past the last.

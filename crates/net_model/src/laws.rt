@@ -18,8 +18,8 @@ pub fn law_of_values()
         (n : ℕ) → mean (sym_of netlist word n) s word ≡ value_of netlist s word n }
 {}
 
-/// Under a word without clash, the next state is what the word's transfers say of each register and
-/// of the memory.
+/// Under a word without clash, the next state is what the word's transfers say of each register, of
+/// the memory and of the register file.
 pub fn law_of_transfers()
     ensures { (netlist : Netlist) (words : List ℕ) (word : ℕ) (s : State) → IsSound netlist → IsState netlist s →
         IsClean netlist word → word_at netlist words s ≡ word → Moved netlist words word s }

@@ -1,12 +1,12 @@
-//! Netlists of registers, memories, buses and operators: their types, and in `specs/` what they
-//! mean.
+//! Netlists of registers, memories, register files, buses and operators: their types, and in
+//! `specs/` what they mean.
 //!
 //! Promise: `law_of_values`: the value of a net is what its symbolic value means (`value_of`,
 //! `sym_of`, `mean`). `law_of_transfers`: under a word without clash the next state is what the
-//! word's transfers say (`Moved`). Whoever holds a `Checked` has a netlist that keeps N1 to N9 and
-//! N11, with an order of its nets (`kept`: `KeepsRules`, `sound`: `IsSound`). `flags_of`,
-//! `enables`, `selectors`, `control_places` and `named` tell of nets exactly what they are defined
-//! to be.
+//! word's transfers say (`Moved`). Whoever holds a `Checked` has a netlist that keeps N1 to N9, N11
+//! and N14, with an order of its nets (`kept`: `KeepsRules`, `sound`: `IsSound`). `flags_of`,
+//! `enables`, `selectors`, `control_places`, `file_addrs` and `named` tell of nets exactly what
+//! they are defined to be.
 //!
 //! Invariant: a `Checked` keeps `KeepsRules`: in its order each net stands behind those that its
 //! gate names. `flags_of` goes along such an order, so that one pass tells what a net has together
@@ -16,19 +16,21 @@
 //!
 //! - `units`, `words`: the items of a netlist text as written, and the words of its tokens.
 //! - `hardware`, `states`: a `Netlist` of nets, storages and codes by their numbers, and a `State`.
+//!   A memory and a register file have the same `Cells`; a `Space` tells which of the two is meant.
 //! - `expression`: expressions and transfers, which are what a net or a storage gets under one
 //!   word.
 //! - `fault`: the broken rules, and why a netlist was not accepted.
-//! - `named`, `controls`: the nets that a gate names, and those in control places.
+//! - `named`, `controls`: the nets that a gate names, those in control places, and the addresses of
+//!   a register file.
 //! - `flags`: what is told of each net by its gate and by what is told of the nets that it names.
-//! - `checked`: `Checked`, with its program counter, its memory and its static nets.
+//! - `checked`: `Checked`, with its program counter, its memory, its file and its static nets.
 //! - `laws`: the two laws above.
 //! - `specs/` of meaning, cited publicly: `Nets`, `Value`, `Clock`, `Symbolic`, `Terms`, `Meaning`,
 //!   `Transfers`, `Patterns`, `Texts`, `Fields`, `Occurs`, `Widths`, `Control`, `MemoryText`; of
-//!   rules and texts, likewise: `Written`, `Grammar`, `TextNames`, `Numbering`, `Elaborated`,
-//!   `Elaborable`, `NameRules`, `TextWidths`, `WidthRules`, `DriverRules`, `LimitRules`,
-//!   `TextRules`, `Depends`, `Order`, `CheckedRules`, `NetFaults`, `Flags`. `Worked..` are
-//!   computed. `specs/Inner/`: `Nodes`, by which recursions end.
+//!   rules and texts, likewise: `Written`, `Editions`, `Grammar`, `TextNames`, `Numbering`,
+//!   `Elaborated`, `Elaborable`, `NameRules`, `TextWidths`, `WidthRules`, `DriverRules`,
+//!   `LimitRules`, `TextRules`, `Depends`, `Order`, `CheckedRules`, `NetFaults`, `Flags`.
+//!   `Worked..` are computed. `specs/Inner/`: `Nodes`, by which recursions end.
 //! - `proofs/`: `Meanings` and `Syms` carry the law of values, `Effects` and `NextStates` that of
 //!   transfers, `KeptRules` and `KeptTexts` what follows from the rules, `TermLaws` what others
 //!   cite.
@@ -51,7 +53,7 @@ pub use expression::{Expr, Transfer};
 pub use fault::{CheckFault, NetFault, NetKind, Role};
 pub use flags::{Property, flags_of, is_set};
 pub use grammar::Ident;
-pub use hardware::{Code, Gate, Net, Netlist, Storage};
+pub use hardware::{Cells, Code, Gate, Net, Netlist, Space, Storage};
 pub use laws::{law_of_transfers, law_of_values};
 pub use states::State;
 pub use units::{NetExpr, Port, Unit, Units};

@@ -1,11 +1,13 @@
 //! The items of a netlist text, as written.
 
+use crate::Space;
 use grammar::Ident;
 use rec_bits::{Items, Op1, Op2};
 
-/// The items of a text, in their order.
+/// The edition of a text, 1 where it tells none, and its items, in their order.
 #[derive(Drop)]
 pub struct Units {
+    pub edition: u8,
     pub items: Items<Unit>,
 }
 
@@ -24,7 +26,9 @@ pub enum Unit {
         input: NetExpr,
         when: Option<NetExpr>,
     },
+    /// A memory, or a register file.
     Memory {
+        space: Space,
         name: Ident,
         width: u64,
         size: u64,
@@ -87,7 +91,7 @@ pub enum NetExpr {
     /// Widened to so many bits, by zeros or by copies of the top bit.
     Zext(Box<NetExpr>, u64),
     Sext(Box<NetExpr>, u64),
-    /// The cell of a memory at an address.
+    /// The cell of a memory or a file at an address.
     Read(Ident, Box<NetExpr>),
     /// What the row with the selector's number gives, or the rest; a row's numbers and its value.
     Case {

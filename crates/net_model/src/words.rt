@@ -24,6 +24,7 @@ pub enum ItemWord {
     Code,
     Register,
     Memory,
+    File,
     Net,
     Bus,
     Module,
@@ -66,6 +67,7 @@ pub enum Symbol {
     Addr,
     Write,
     Else,
+    Version,
 }
 
 impl Exact for Symbol {

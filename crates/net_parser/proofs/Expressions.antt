@@ -6,7 +6,8 @@ use Rattle.grammar.specs.Reading.{Return, Bind, ListOf, head, never, Reads, Lead
 use Rattle.grammar.proofs.Steps.{token_reads, leads_as}
 use Rattle.grammar.proofs.Passing.{There, there_bind, there_return, there_many, Apart, maybe_apart, starts_bind, returned}
 use Rattle.grammar.proofs.Repeats.{Repeated}
-use Rattle.net_model.specs.Grammar.{Lexed, Word, LeafBehind, IsLeaf, IsExpr, ExprBehind, IsOperated, NumbersBehind, IsArm, IsRow, RowsBehind, IsElse, Arms, ArmsBehind}
+use Rattle.net_model.specs.Editions.{Lexed, Word}
+use Rattle.net_model.specs.Grammar.{LeafBehind, IsLeaf, IsExpr, ExprBehind, IsOperated, NumbersBehind, IsArm, IsRow, RowsBehind, IsElse, Arms, ArmsBehind}
 use Rattle.grammar.specs.declared.words.Word.TheVariants.{Name, Number, Symbol as Shows, Key as Keyed, Other}
 use Rattle.net_model.specs.declared.words.Key.TheVariants.{Item, Operator as Operates}
 use Rattle.net_model.specs.declared.words.Operator.{Operator}

@@ -7,7 +7,8 @@ use Rattle.grammar.proofs.Passing.{There, there_token, there_bind, there_return,
 use Rattle.grammar.proofs.Repeats.{Repeated}
 use Rattle.grammar.specs.declared.words.Ident.{Ident}
 use Rattle.net_model.specs.declared.units.Port.{Port}
-use Rattle.net_model.specs.Grammar.{Lexed, Word, LeafBehind, ExprBehind, IsExpr, IsSized, IsWhen, IsFed, IsWrite, IsDirection, IsDriver, IsDrivers, IsBinding, IsBindings, IsEquation, IsLinks, IsPort, IsPorts, ItemByWord, IsItem, direction}
+use Rattle.net_model.specs.Editions.{Lexed, Word}
+use Rattle.net_model.specs.Grammar.{LeafBehind, ExprBehind, IsExpr, IsSized, IsWhen, IsFed, IsWrite, IsDirection, IsDriver, IsDrivers, IsBinding, IsBindings, IsEquation, IsLinks, IsPort, IsPorts, ItemByWord, IsItem, direction}
 use Rattle.grammar.specs.declared.words.Word.TheVariants.{Name, Number, Symbol as Shows, Key as Keyed}
 use Rattle.net_model.specs.declared.words.Key.TheVariants.{Item as Begins, Operator as Operates}
 use Rattle.net_model.specs.declared.words.ItemWord.{ItemWord}

@@ -3,7 +3,8 @@ use Rattle.std.proofs.Common.{◌≡◌, ℕ, false, List, Option, refl, ap}
 use Rattle.grammar.specs.Reading.{Return, Bind}
 use Rattle.grammar.proofs.Passing.{There, there_bind, there_return, there_maybe, Apart, maybe_apart}
 use Rattle.grammar.specs.declared.words.Ident.{Ident}
-use Rattle.net_model.specs.Grammar.{Lexed, Word, IsRange, IsBits, LeafBehind, IsLeaf}
+use Rattle.net_model.specs.Editions.{Lexed, Word}
+use Rattle.net_model.specs.Grammar.{IsRange, IsBits, LeafBehind, IsLeaf}
 use Rattle.grammar.specs.declared.words.Word.TheVariants.{Name, Number, Symbol as Shows}
 use Rattle.net_model.specs.declared.words.Symbol.TheVariants.{Dot}
 use Rattle.net_model.specs.Written.{Phrase}

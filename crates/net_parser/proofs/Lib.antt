@@ -2,3 +2,4 @@ pub mod Expressions
 pub mod ItemParts
 pub mod Leaves
 pub mod TextFaults
+pub mod Heads

@@ -3,8 +3,9 @@ use Rattle.std.specs.Prelude.{ℕ, List}
 use Rattle.rec_bits.specs.declared.fault.ParseFault.{ParseFault}
 use Rattle.rec_bits.specs.declared.fault.ParseFault.TheVariants.{Text, Memory}
 use Rattle.net_lexer.specs.Netlists.{net_tokens}
-use Rattle.net_model.specs.Grammar.{Lexed, IsItems}
-use Rattle.net_model.specs.Written.{Entry}
+use Rattle.net_model.specs.Editions.{Lexed}
+use Rattle.net_model.specs.Grammar.{IsText}
+use Rattle.net_model.specs.Written.{Text as NetText}
 use Rattle.grammar.specs.Parses.{IsFaultAt}
 use Rattle.net_parser.specs.Words.{net_words}
 
@@ -12,14 +13,14 @@ use Rattle.net_parser.specs.Words.{net_words}
 abbrev pub net_lexed : List ℕ → List Lexed
 net_lexed bytes = net_words bytes (net_tokens bytes)
 
--- the bytes are a netlist text, of these items
-pub record IsNetText (bytes : List ℕ) (entries : List Entry) : Type 0 where
-  pub spelled : IsItems (net_lexed bytes) entries
+-- the bytes are a netlist text, of this edition and these items
+pub record IsNetText (bytes : List ℕ) (text : NetText) : Type 0 where
+  pub spelled : IsText (net_lexed bytes) text
 
 -- the bytes are none: the offset of the first token with which those before it begin no text any
 -- more, or the length of the bytes
 pub record IsNoNetText (bytes : List ℕ) (offset : ℕ) : Type 0 where
-  pub fault : IsFaultAt IsItems bytes (net_lexed bytes) offset
+  pub fault : IsFaultAt IsText bytes (net_lexed bytes) offset
 
 -- nothing is said where memory ran out
 abbrev pub IsNetTextFault : List ℕ → ParseFault → Type 0

@@ -7,7 +7,7 @@ use Rattle.rec_bits.specs.declared.operator.Op2.{Op2}
 use Rattle.rec_bits.specs.declared.operator.Op2.TheVariants.{Add, Sub, Mul, And, Or, Xor, Shl, Shr, Sar, Eq, Ltu, Lts}
 use Rattle.lexing.specs.declared.token.Token.{Token}
 use Rattle.lexing.specs.Words.{or_word, lexed_all}
-use Rattle.net_model.specs.Grammar.{Lexed, Word}
+use Rattle.net_model.specs.Editions.{Lexed, Word, edited}
 use Rattle.grammar.specs.declared.words.Word.TheVariants.{Symbol as Shows, Key as Keyed, Other}
 use Rattle.net_model.specs.declared.words.Key.TheVariants.{Item, Operator as Operates}
 use Rattle.net_model.specs.declared.words.ItemWord.{ItemWord}
@@ -106,4 +106,4 @@ sign_word text = or_word Shows (sign_of text) Other
 
 -- all tokens of a netlist text, with the words that they are
 abbrev pub net_words : List ℕ → List Token → List Lexed
-net_words = lexed_all reserved_of sign_word
+net_words bytes tokens = edited (lexed_all reserved_of sign_word bytes tokens)

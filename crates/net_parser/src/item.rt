@@ -2,10 +2,10 @@
 
 ghost use Rattle.std.specs.Prelude.{◌≡◌, MatchOption, map};
 ghost use Rattle.grammar.specs.Reading.{Gives, never};
-ghost use Rattle.net_model.specs.declared.words.ItemWord.TheVariants.{Bus, Code, Memory as Holds, Module, Net, Part, Register};
+ghost use Rattle.net_model.specs.declared.words.ItemWord.TheVariants.{Bus, Code, Module, Net, Part, Register};
 ghost use Rattle.net_model.specs.declared.words.Symbol.TheVariants.{At, Semicolon};
 ghost use Rattle.grammar.specs.Tokens.{Before, Behind, IsName};
-ghost use Rattle.net_model.specs.Grammar.{IsFed, IsItem, IsItems, IsWrite, ItemBehind};
+ghost use Rattle.net_model.specs.Grammar.{IsCells, IsFed, IsItem, IsItems, IsWrite, ItemBehind};
 ghost use Rattle.net_model.specs.Written.{entry_of, phrase_of, when_of};
 ghost use Rattle.net_parser.specs.Inner.Steps.{HasNoItem, OpensItem, after_items};
 
@@ -14,7 +14,7 @@ use crate::parts::{
     LEVELS, braced_drivers, braced_equations, enclosed_links, enclosed_ports, sized_name, when_end,
 };
 use grammar::{Stop, expect, front, keeping, name, name_behind, number_behind};
-use net_model::{Ident, ItemWord, Key, Lexed, NetExpr, Symbol, Unit, Word};
+use net_model::{Ident, ItemWord, Key, Lexed, NetExpr, Space, Symbol, Unit, Word};
 use rec_bits::Items;
 use std::alloc::Global;
 
@@ -82,7 +82,7 @@ fn register(alloc: Global, ts: &[Lexed]) -> Result<(Unit, &[Lexed]), Stop>
     Ok((unit, rest))
 }
 
-/// What is written to a memory, where and when, and the end of the item.
+/// What is written to a memory or a file, where and when, and the end of the item.
 fn written(alloc: Global, ts: &[Lexed]) -> Result<((NetExpr, Fed), &[Lexed]), Stop>
     ensures { Gives (λ x. ((phrase_of x.0.0, (phrase_of x.0.1.0, when_of x.0.1.1)), x.1.now))
         IsWrite never ts.now result }
@@ -92,15 +92,16 @@ fn written(alloc: Global, ts: &[Lexed]) -> Result<((NetExpr, Fed), &[Lexed]), St
     Ok(((value, fed), rest))
 }
 
-/// A memory, behind its word.
-fn memory(alloc: Global, ts: &[Lexed]) -> Result<(Unit, &[Lexed]), Stop>
-    ensures { Gives (λ x. (entry_of x.0, x.1.now)) (ItemBehind Holds) never ts.now result }
+/// A memory or a register file, behind its word.
+fn memory(alloc: Global, space: Space, ts: &[Lexed]) -> Result<(Unit, &[Lexed]), Stop>
+    ensures { Gives (λ x. (entry_of x.0, x.1.now)) (IsCells space) never ts.now result }
 {
     let ((name, width), rest) = sized_name(alloc, ts)?;
     let (size, rest) = number_behind(Symbol::Size, rest)?;
     let (addr_width, rest) = number_behind(Symbol::Addr, rest)?;
     let ((value, (addr, when)), rest) = written(alloc, rest)?;
     let unit = Unit::Memory {
+        space,
         name,
         width,
         size,
@@ -179,7 +180,8 @@ fn item_behind(alloc: Global, word: ItemWord, ts: &[Lexed]) -> Result<(Unit, &[L
     match word {
         ItemWord::Code => code(alloc, ts),
         ItemWord::Register => register(alloc, ts),
-        ItemWord::Memory => memory(alloc, ts),
+        ItemWord::Memory => memory(alloc, Space::Memory, ts),
+        ItemWord::File => memory(alloc, Space::File, ts),
         ItemWord::Net => net(alloc, ts),
         ItemWord::Bus => bus(alloc, ts),
         ItemWord::Module => module(alloc, ts),

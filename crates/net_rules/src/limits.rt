@@ -7,13 +7,15 @@ ghost use Rattle.net_model.specs.Written.{entry_of};
 
 use crate::count::count_items;
 use crate::text::Text;
-use net_model::{NetFault, NetKind, Unit};
+use net_model::{NetFault, NetKind, Space, Unit};
 use rec_bits::NoMemory;
 use std::alloc::Global;
 
 const NETS: u64 = 4096;
 
 const REGISTERS: u64 = 13;
+
+const FILE: u64 = 32;
 
 const CELLS: u64 = 65536;
 
@@ -49,21 +51,25 @@ fn count_registers(units: &[Unit]) -> u64
     total
 }
 
-fn cells_of(unit: &Unit) -> u64
-    ensures { result ≡ cells_of (entry_of unit.now) }
+fn cells_of(space: Space, unit: &Unit) -> u64
+    ensures { result ≡ cells_of space (entry_of unit.now) }
 {
     match unit {
-        Unit::Memory { size, .. } => *size,
+        Unit::Memory {
+            space: own,
+            size,
+            ..
+        } if *own == space => *size,
         _ => 0,
     }
 }
 
-fn greatest_memory(units: &[Unit]) -> u64
-    ensures { result ≡ greatest cells_of (map entry_of units.now) }
+fn greatest_cells(space: Space, units: &[Unit]) -> u64
+    ensures { result ≡ greatest (cells_of space) (map entry_of units.now) }
 {
     let mut size = 0;
     for unit in units {
-        size = cells_of(unit).max(size);
+        size = cells_of(space, unit).max(size);
     }
     size
 }
@@ -103,7 +109,10 @@ pub(crate) fn first_limit(
     if let Some(fault) = over(NetKind::Registers, REGISTERS, count_registers(units)) {
         return Ok(Some(fault));
     }
-    if let Some(fault) = over(NetKind::Cells, CELLS, greatest_memory(units)) {
+    if let Some(fault) = over(NetKind::File, FILE, greatest_cells(Space::File, units)) {
+        return Ok(Some(fault));
+    }
+    if let Some(fault) = over(NetKind::Cells, CELLS, greatest_cells(Space::Memory, units)) {
         return Ok(Some(fault));
     }
     Ok(over(NetKind::Words, WORDS, greatest_code(units)))

@@ -20,7 +20,7 @@ const LEAST_WIDTH: u64 = 1;
 
 const GREATEST_WIDTH: u64 = 64;
 
-/// The widths of a memory: of a cell, and of an address.
+/// The widths of a memory or a file: of a cell, and of an address.
 #[derive(Clone, Copy)]
 struct Cells {
     cell: u64,

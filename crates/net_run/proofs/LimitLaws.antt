@@ -8,7 +8,7 @@ use Rattle.net_model.specs.CheckedRules.{CodeKeeps, KeepsRules}
 use Rattle.net_model.specs.Elaborated.{netlist_of}
 use Rattle.net_model.specs.Nets.{code_bits}
 use Rattle.net_model.specs.Widths.{WordFits}
-use Rattle.net_model.specs.Written.{Entry}
+use Rattle.net_model.specs.Written.{Text}
 use Rattle.net_front.specs.Fronts.{IsNetFile}
 use Rattle.code_model.specs.declared.image.Word.{Word}
 use Rattle.code_model.specs.ImageFits.{CodeFits, limits_in, limits_of}
@@ -21,7 +21,7 @@ narrow_code netlist (code ∷ codes) keeps few one = record { some = keeps.0.0.0
 narrow_rules : (netlist : Netlist) (order : List ℕ) → KeepsRules netlist order → Narrow (limits_of netlist)
 narrow_rules netlist order rules = narrow_code netlist netlist.codes rules.formed.codes rules.formed.limits.words rules.roles.code
 
-pub narrow_of : (net : List ℕ) (entries : List Entry) → IsNetFile net entries → Narrow (limits_of (netlist_of entries))
+pub narrow_of : (net : List ℕ) (entries : Text) → IsNetFile net entries → Narrow (limits_of (netlist_of entries))
 narrow_of net entries file = narrow_rules (netlist_of entries) file.keeps.order file.keeps.rules
 
 -- a word that fits the limits fits the netlist

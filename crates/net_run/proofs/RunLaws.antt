@@ -3,7 +3,7 @@ use Rattle.std.proofs.Common.{◌≡◌, ℕ, List, sym, ◌∙◌, ap, subst}
 use Rattle.net_model.specs.Clock.{Reached, Clashed}
 use Rattle.net_model.specs.Elaborated.{netlist_of}
 use Rattle.net_model.specs.NetFaults.{name_at}
-use Rattle.net_model.specs.Written.{Entry}
+use Rattle.net_model.specs.Written.{Text}
 use Rattle.net_front.specs.Fronts.{IsNetFile}
 use Rattle.net_model.specs.MemoryText.{IsMemoryText, IsMemoryFault}
 use Rattle.net_run.specs.Runs.{Loaded, IsLoaded, IsImageFile, IsNoImageFile, IsNoMemoryFile, ClashedAt, Clashes, ShowsState, clocked}
@@ -14,7 +14,7 @@ use Rattle.code_model.specs.ImageFits.{limits_of}
 use Rattle.code_model.specs.ImageLines.{IsImageText, IsLineFault}
 
 -- bytes say one list of items
-one_list : (net : List ℕ) (e f : List Entry) → IsNetFile net e → IsNetFile net f → f ≡ e
+one_list : (net : List ℕ) (e f : Text) → IsNetFile net e → IsNetFile net f → f ≡ e
 one_list net e f p q = q.says.only e p.says.text
 
 module _ (net image : List ℕ) where

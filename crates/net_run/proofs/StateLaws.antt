@@ -16,7 +16,7 @@ use Rattle.net_run.proofs.ImageLaws.{cut}
 module _ (netlist : Netlist) where
   no_lead : (s t : State) (line : List ℕ) → SetsNothing netlist line → SetsLine netlist s line t → ⊥
   no_lead s t line none (inl (id, value, h, e)) = none.no_register id value h
-  no_lead s t line none (inr (address, value, h, e)) = none.no_cell address value h
+  no_lead s t line none (inr (space, address, value, h, e)) = none.no_cell space address value h
 
   -- lines that lead on have no line among them that sets nothing
   all_set : (s : State) (before : List (List ℕ)) (line : List ℕ) (behind : List (List ℕ)) (t : State) → AllLead netlist s (before ++ line ∷ behind) t → SetsNothing netlist line → ⊥

@@ -6,7 +6,7 @@ use Rattle.net_model.specs.CheckedRules.{Ordered}
 use Rattle.net_model.specs.Clock.{Run, run, Reached, Clashed}
 use Rattle.net_model.specs.Elaborated.{netlist_of}
 use Rattle.net_model.specs.NetFaults.{name_at}
-use Rattle.net_model.specs.Written.{Entry}
+use Rattle.net_model.specs.Written.{Text}
 use Rattle.net_parser.specs.Texts.{IsNoNetText}
 use Rattle.net_front.specs.Fronts.{IsNetFile, BreaksRule}
 use Rattle.code_model.specs.declared.image.Image.{Image}
@@ -20,9 +20,9 @@ use Rattle.net_run.specs.declared.machine.RunFault.TheVariants.{NetText, Net, Im
 
 -- ---- texts
 
--- a netlist's items, an image for the netlist, and a state of it
+-- a netlist's text, an image for the netlist, and a state of it
 pub record Loaded : Type 0 where
-  pub entries : List Entry
+  pub entries : Text
   pub image : Image
   pub start : State
 
@@ -34,14 +34,14 @@ pub record IsLoaded (net image memory : List ℕ) (loaded : Loaded) : Type 0 whe
 
 -- the first bytes are a netlist's, and the second an image's for it
 pub record IsImageFile (net image : List ℕ) : Type 0 where
-  pub entries : List Entry
+  pub entries : Text
   pub said : Image
   pub net_file : IsNetFile net entries
   pub image_text : IsImageText (limits_of (netlist_of entries)) image said
 
 -- this netlist, which was checked, is that of the bytes
 pub record IsNetRead (net : List ℕ) (checked : Ordered) : Type 0 where
-  pub entries : List Entry
+  pub entries : Text
   pub file : IsNetFile net entries
   pub netlist : checked.netlist ≡ netlist_of entries
 
@@ -82,13 +82,13 @@ pub record Clashes (net image memory : List ℕ) (clocks : ℕ) (clash : Clashed
 
 -- the first bytes are a netlist's, and the second no image's for it, which shows at this offset
 pub record IsNoImageFile (net image : List ℕ) (at : ℕ) : Type 0 where
-  pub entries : List Entry
+  pub entries : Text
   pub net_file : IsNetFile net entries
   pub none : IsLineFault (limits_of (netlist_of entries)) image at
 
 -- the first bytes are a netlist's, and the second no memory text for it, which shows at this offset
 pub record IsNoMemoryFile (net memory : List ℕ) (at : ℕ) : Type 0 where
-  pub entries : List Entry
+  pub entries : Text
   pub net_file : IsNetFile net entries
   pub none : IsMemoryFault (netlist_of entries) memory at
 

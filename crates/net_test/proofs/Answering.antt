@@ -1,21 +1,22 @@
 -- From what the parts give to the text of a self-test, and to the refusals.
-use Rattle.std.proofs.Common.{◌≡◌, ℕ, ◌*◌, ◌-◌, ◌<◌, ◌≤◌, ◌^◌, List, [], ◌∷◌, Some, None, length, refl, sym, ◌∙◌, ap, arith, subst}
+use Rattle.std.proofs.Common.{◌≡◌, ℕ, zero, suc, ◌*◌, ◌-◌, ◌<◌, ◌≤◌, ◌^◌, List, [], ◌∷◌, Some, None, length, refl, sym, ◌∙◌, ap, arith, subst}
 use Rattle.std.specs.List.{AllByRecursion}
 use Rattle.std.proofs.Math.Nat.{mul-le-mul_left, mul-le-mul_right}
 use Rattle.rec_bits.specs.Counts.{capped}
-use Rattle.net_model.specs.CheckedRules.{KeepsRules, code_size}
+use Rattle.net_model.specs.CheckedRules.{KeepsRules, code_size, files_of}
 use Rattle.net_model.specs.Clock.{Reached, Run, run}
 use Rattle.net_model.specs.declared.hardware.Code.{Code}
 use Rattle.net_model.specs.declared.hardware.Netlist.{Netlist}
 use Rattle.net_model.specs.Nets.{memory_size}
 use Rattle.net_model.specs.Patterns.{Pattern}
-use Rattle.net_extract.specs.Extracts.{IsRoutedNet}
+use Rattle.net_extract.specs.Taken.{IsTakenNet}
 use Rattle.net_model.specs.CheckedRules.{Ordered}
 use Rattle.form_model.specs.Rules.{Rule}
 use Rattle.fault_sim.specs.Reports.{bits_of, faults_of}
 use Rattle.fault_sim.proofs.Counting.{faults_counted}
 use Rattle.net_code.specs.Refusals.{IsStepless}
 use Rattle.self_test.specs.Cells.{test_need, test_works}
+use Rattle.word_fit.specs.Fits.{HasNoFile}
 use Rattle.test_code.specs.Codes.{IsCodeOf}
 use Rattle.test_code.specs.declared.code.TestCode.{TestCode}
 use Rattle.test_code.specs.Tried.{test_stock}
@@ -25,7 +26,7 @@ use Rattle.test_run.specs.Texts.{text_of}
 use Rattle.net_test.specs.Inner.Codes.{IsTestCode}
 use Rattle.net_test.specs.Refusals.{HasForms, HasTestCells, IsTestable, IsTestDataFull, IsTestText, test_cost, test_count, test_limit}
 use Rattle.net_test.specs.Tested.{IsRightTest}
-use Rattle.net_test.specs.Texts.{IsTestFault, IsTested, LacksTest, NetHolds}
+use Rattle.net_test.specs.Texts.{IsTestFault, IsTested, LacksTest, NetHolds, tested_edition}
 use Rattle.net_test.specs.declared.fault.TestFault.{TestFault}
 use Rattle.net_test.specs.declared.fault.TestFault.TheVariants as fault
 use Rattle.net_test.proofs.Right.{right_test}
@@ -107,9 +108,9 @@ module _ (netlist : Netlist) (code : TestCode) (c : IsTestCode netlist code) whe
 
   -- ---- the run
 
-  module _ (order : List ℕ) (keeps : KeepsRules netlist order) (room : length code.words.items ≤ code_size netlist.codes) where
+  module _ (order : List ℕ) (keeps : KeepsRules netlist order) (bare : HasNoFile netlist) (room : length code.words.items ≤ code_size netlist.codes) where
     right : (good : List ℕ) × IsRightTest netlist c.tried code.words.items good
-    right = right_test netlist order keeps c.tried code.words.items c.made c.cells room
+    right = right_test netlist order keeps bare c.tried code.words.items c.made c.cells room
 
     abbrev ran : Run
     ran = run netlist code.words.items (test_start netlist) (length code.words.items)
@@ -131,9 +132,18 @@ module _ (netlist : Netlist) (code : TestCode) (c : IsTestCode netlist code) whe
 
 -- ---- bytes
 
-module _ (net : List ℕ) (checked : Ordered) (routed : IsRoutedNet net checked) where
+-- a netlist whose text's edition is tested has no register file
+pub without_file : (netlist : Netlist) (order : List ℕ) → KeepsRules netlist order → netlist.edition ≤ tested_edition → HasNoFile netlist
+without_file netlist order keeps taken = keeps.roles.file.0 ∙ by netlist.edition taken
+  where
+    by : (edition : ℕ) → edition ≤ 1 → files_of edition ≡ 0
+    by zero le = refl
+    by (suc zero) le = refl
+    by (suc (suc edition)) le = absurd (omega (arith, le))
+
+module _ (net : List ℕ) (checked : Ordered) (is : IsTakenNet tested_edition net checked) where
   holds : (P : Netlist → Type 0) → P checked.netlist → NetHolds net P
-  holds P h = record { entries = routed.entries; file = routed.file; holds = subst P routed.netlist.netlist h }
+  holds P h = record { entries = is.routed.entries; file = is.routed.file; taken = is.taken; holds = subst P is.routed.netlist.netlist h }
 
   pub tested : (text : List ℕ) → IsTestText checked.netlist text → IsTested net text
   tested text h = holds (λ netlist. IsTestText netlist text) h

@@ -13,7 +13,7 @@ use Rattle.form_model.specs.Live.{no_regs}
 use Rattle.src_trees.specs.Doing.{AllLie, all_done, done}
 use Rattle.src_trees.specs.Lowered.{Work}
 use Rattle.src_trees.proofs.Behind.{Alike, all_done_behind, all_lie_behind}
-use Rattle.word_fit.specs.Fits.{fits_over}
+use Rattle.word_fit.specs.Fits.{HasNoFile, fits_over}
 use Rattle.word_fit.specs.Runs.{RunsTo, StandAt}
 use Rattle.word_fit.proofs.Least.{all_fit}
 use Rattle.right_code.specs.Jobs.{IsCovered, job_steps}
@@ -47,14 +47,14 @@ pub record LeavesAll (netlist : Netlist) (code : List ℕ) (temps : ℕ) (jobs :
 alike_on : (at : ℕ) (xs ys zs : List ℕ) → Alike at xs ys → Alike at ys zs → Alike at xs zs
 alike_on at xs ys zs a b = record { same = a.same ∙ b.same; long = a.long ∙ b.long }
 
-module _ (netlist : Netlist) (code : List ℕ) (patterns : List Pattern) (stock : Stock) (formed : AreFormed patterns (length netlist.storages) stock.rules) where
+module _ (netlist : Netlist) (bare : HasNoFile netlist) (code : List ℕ) (patterns : List Pattern) (stock : Stock) (formed : AreFormed patterns (length netlist.storages) stock.rules) where
   -- the words of one job
   one_left : (job : Work) (choice : Choice) (words : List ℕ) (s : State) → AreJobWords netlist patterns stock job choice words → IsCovered stock job choice → HasOne job.destination job.trees
       → AllLie stock.temps s.cells (job ∷ []) → IsState netlist s → StandAt code (counter_in netlist s) words → counter_in netlist s + length words ≤ 2 ^ counter_width netlist
       → (r : RunsTo netlist code s (length words) no_regs (steps_effect (operation_of patterns) (job_steps stock job choice) s)) × Alike stock.temps (done job s.cells) r.last.cells
   one_left job choice words s made covered one lies state stands room =
       let r : RunsTo netlist code s (length words) no_regs (steps_effect (operation_of patterns) (job_steps stock job choice) s) =
-      made.packing.means code words s (all_fit (operation_of patterns) (fits_over netlist (operation_of patterns)) no_regs words made.groups made.least) state stands room in
+      made.packing.means bare code words s (all_fit (operation_of patterns) (fits_over netlist (operation_of patterns)) no_regs words made.groups made.least) state stands room in
       let l : LeavesDone stock.temps (job ∷ []) s (steps_effect (operation_of patterns) (job_steps stock job choice) s) =
       job_left stock patterns (length netlist.storages) formed job choice s covered one state.regs lies.0 in
       (r, record { same = l.same ∙ ap (drop stock.temps) (sym r.agree.cells); long = l.long ∙ ap length (sym r.agree.cells) })

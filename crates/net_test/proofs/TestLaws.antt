@@ -7,11 +7,11 @@ use Rattle.net_model.specs.declared.hardware.Netlist.{Netlist}
 use Rattle.net_model.specs.declared.states.State.{State}
 use Rattle.net_model.specs.Elaborated.{netlist_of}
 use Rattle.net_model.specs.Patterns.{Pattern}
-use Rattle.net_model.specs.Written.{Entry}
+use Rattle.net_model.specs.Written.{Text}
 use Rattle.net_parser.specs.Texts.{IsNoNetText}
 use Rattle.net_front.proofs.FrontLaws.{no_text_fault}
-use Rattle.net_extract.specs.Extracts.{BreaksAnyRule}
-use Rattle.net_extract.proofs.RoutedLaws.{no_broken_any}
+use Rattle.net_extract.specs.Taken.{BreaksAnyTaken}
+use Rattle.net_extract.proofs.RoutedTaken.{no_broken_any_taken}
 use Rattle.transfer_set.proofs.OnePatterns.{patterns_one}
 use Rattle.form_model.specs.Covers.{Choice, IsChosen, Stock, job_cost}
 use Rattle.form_model.specs.Rules.{Rule}
@@ -26,7 +26,7 @@ use Rattle.test_code.specs.Tried.{AreTried, IsMadeFor, cost_sum, skipped_count, 
 use Rattle.test_run.specs.Starts.{test_start}
 use Rattle.test_run.specs.Texts.{shown_text}
 use Rattle.net_test.specs.Refusals.{HasForms, HasTestCells, IsBeyondLimit, IsTestable, IsTestDataFull, IsTestText, IsTestTooLong, test_cost}
-use Rattle.net_test.specs.Texts.{IsTested, NetHolds}
+use Rattle.net_test.specs.Texts.{IsTested, NetHolds, tested_edition}
 
 -- ---- of a netlist
 
@@ -120,17 +120,17 @@ module _ (net : List ℕ) where
   -- what holds of their netlist, and what else does, holds of the same one
   pub together : (P Q : Netlist → Type 0) (G : Type 0) → ((netlist : Netlist) → P netlist → Q netlist → G) → NetHolds net P → NetHolds net Q → G
   together P Q G f a b =
-      f (netlist_of a.entries) a.holds (subst (λ (e : List Entry). Q (netlist_of e)) (b.file.file.says.only a.entries a.file.file.says.text) b.holds)
+      f (netlist_of a.entries) a.holds (subst (λ (e : Text). Q (netlist_of e)) (b.file.file.says.only a.entries a.file.file.says.text) b.holds)
 
   -- and so does what follows
   pub weaker : (P Q : Netlist → Type 0) → ((netlist : Netlist) → P netlist → Q netlist) → NetHolds net P → NetHolds net Q
-  weaker P Q f h = record { entries = h.entries; file = h.file; holds = f (netlist_of h.entries) h.holds }
+  weaker P Q f h = record { entries = h.entries; file = h.file; taken = h.taken; holds = f (netlist_of h.entries) h.holds }
 
   pub no_net_text : (P : Netlist → Type 0) (at : ℕ) → NetHolds net P → IsNoNetText net at → ⊥
   no_net_text P at h none = no_text_fault net h.entries at h.file.file.says none
 
-  pub no_broken : (P : Netlist → Type 0) (fault : NetFault) → NetHolds net P → BreaksAnyRule net fault → ⊥
-  no_broken P fault h broken = no_broken_any net h.entries fault h.file broken
+  pub no_broken : (P : Netlist → Type 0) (fault : NetFault) → NetHolds net P → BreaksAnyTaken tested_edition net fault → ⊥
+  no_broken P fault h broken = no_broken_any_taken tested_edition net h.entries fault h.file h.taken broken
 
   -- ---- cells and steps
 

@@ -18,7 +18,7 @@ module _ (netlist : Netlist) where
   tree_reads temps cells at (word w) h = tt
   tree_reads temps cells at (reg r w) h = (tt, h)
   tree_reads temps cells at (const w v) h = tt
-  tree_reads temps cells at (read a w) h = (tt, h)
+  tree_reads temps cells at (read space a w) h = (tt, h)
   tree_reads temps cells at (un o a) h = tree_reads temps cells at a h
   tree_reads temps cells at (bin o a b) h = (tree_reads temps cells at a h, tree_reads temps cells (at + operands a) b (omega (arith, h)))
   tree_reads temps cells at (slice a hi lo) h = by (is_field (slice a hi lo)) (tree_reads temps cells at a h)
@@ -45,7 +45,7 @@ module _ (netlist : Netlist) where
     value_same at (word w) h = refl
     value_same at (reg r w) h = same at (omega (arith, h))
     value_same at (const w v) h = refl
-    value_same at (read a w) h = same at (omega (arith, h))
+    value_same at (read space a w) h = same at (omega (arith, h))
     value_same at (un o a) h = ap (apply1_of o (term_width (tree_from (widths_of netlist) at a))) (value_same at a h)
     value_same at (bin o a b) h =
         let p = value_same at a (omega (arith, h)) in

@@ -1,19 +1,26 @@
 -- What `test` answers for the bytes of a netlist.
-use Rattle.std.specs.Prelude.{ℕ, List}
+use Rattle.std.specs.Prelude.{ℕ, ◌≤◌, List}
 use Rattle.net_model.specs.declared.hardware.Netlist.{Netlist}
 use Rattle.net_model.specs.Elaborated.{netlist_of}
-use Rattle.net_model.specs.Written.{Entry}
+use Rattle.net_model.specs.Written.{Text}
 use Rattle.net_parser.specs.Texts.{IsNoNetText}
-use Rattle.net_extract.specs.Extracts.{BreaksAnyRule, IsRoutedFile}
+use Rattle.net_extract.specs.Extracts.{IsRoutedFile}
+use Rattle.net_extract.specs.Taken.{BreaksAnyTaken}
 use Rattle.net_code.specs.Refusals.{IsStepless}
 use Rattle.net_test.specs.Refusals.{HasTestCells, IsBeyondLimit, IsTestable, IsTestDataFull, IsTestText, IsTestTooLong}
 use Rattle.net_test.specs.declared.fault.TestFault.{TestFault}
 use Rattle.net_test.specs.declared.fault.TestFault.TheVariants.{NetText, Net, DataFull, NoStep, ImageFull, TestLimit, Memory}
 
--- the bytes are a netlist text that keeps all rules, and this holds of the netlist
+-- the newest edition of the netlist texts that are tested
+abbrev pub tested_edition : ℕ
+tested_edition = 1
+
+-- the bytes are a netlist text of the first edition that keeps all rules, and this holds of the
+-- netlist
 pub record NetHolds (net : List ℕ) (P : Netlist → Type 0) : Type 0 where
-  pub entries : List Entry
+  pub entries : Text
   pub file : IsRoutedFile net entries
+  pub taken : entries.edition ≤ tested_edition
   pub holds : P (netlist_of entries)
 
 -- the text is that of a right self-test of the netlist, to which no refusal applies
@@ -32,6 +39,6 @@ LacksTest netlist _ = ⊥
 -- when each refusal comes; nothing is said where memory ran out
 abbrev pub IsTestFault : List ℕ → TestFault → Type 0
 IsTestFault net (NetText at) = IsNoNetText net at
-IsTestFault net (Net fault) = BreaksAnyRule net fault
+IsTestFault net (Net fault) = BreaksAnyTaken tested_edition net fault
 IsTestFault net Memory = Unit {0}
 IsTestFault net fault = NetHolds net (λ netlist. LacksTest netlist fault)

@@ -11,6 +11,7 @@ ghost use Rattle.transfer_set.specs.Ready.{IsReady};
 ghost use Rattle.transfer_set.specs.Rows.{row_patterns};
 ghost use Rattle.net_code.specs.Machines.{machine_netlist, machine_patterns};
 ghost use Rattle.self_test.specs.Told.{IsTold};
+ghost use Rattle.word_fit.specs.Fits.{HasNoFile};
 ghost use Rattle.net_test.specs.Inner.Codes.{AreTestJobs, IsTestCode};
 ghost use Rattle.net_test.specs.Refusals.{HasForms, IsTestText, test_count, test_limit};
 ghost use Rattle.net_test.specs.Texts.{IsTestFault, IsTested, LacksTest};
@@ -21,13 +22,16 @@ use bit_bdd::Book;
 use form_model::Forms;
 use form_set::forms;
 use net_code::{Machine, only_control};
-use net_extract::{Extracted, read_extracted};
+use net_extract::{Extracted, read_extracted_taken};
 use net_model::{Checked, Net, Netlist};
 use rec_bits::{Items, NoMemory};
 use self_test::{TestJobs, candidates};
 use std::alloc::Global;
 use test_code::{TestCode, code_of};
 use test_run::report;
+
+// The newest edition of the netlist texts that are tested.
+const EDITION: u8 = 1;
 
 // The most evaluations of nets that a self-test may take: one for each fault, word and net.
 const LIMIT: u64 = 100_000_000;
@@ -74,6 +78,7 @@ fn code(
     book: &mut Book,
     forms: &Forms,
 ) -> Result<TestCode, TestFault>
+    requires bare { HasNoFile (machine_netlist machine.now) }
     requires ready { IsReady (machine_netlist machine.now) book.old machine.now.pool.now machine.now.patterns.now }
     requires patterns { ArePatterns (machine_netlist machine.now) (machine_patterns machine.now) }
     requires forms { AreForms (machine_netlist machine.now) (machine_patterns machine.now)
@@ -140,6 +145,7 @@ fn check_words(checked: &Checked, code: &TestCode) -> Result<(), TestFault>
 // The text of what the code's words show.
 fn text(alloc: Global, checked: &Checked, code: &TestCode) -> Result<Items<u8>, TestFault>
     requires rules { KeepsRules checked.now.netlist checked.now.order }
+    requires bare { HasNoFile checked.now.netlist }
     requires code { IsTestCode checked.now.netlist code.now }
     ensures text { IfOk result (IsTestText checked.now.netlist) }
     ensures refused { IfErr result (LacksTest checked.now.netlist) }
@@ -159,6 +165,7 @@ fn text_of(
     extracted: &mut Extracted,
 ) -> Result<Items<u8>, TestFault>
     requires rules { KeepsRules checked.now.netlist checked.now.order }
+    requires bare { HasNoFile checked.now.netlist }
     requires extracted { IsExtractedFrom checked.now.netlist extracted.old }
     requires patterns { ArePatterns checked.now.netlist (row_patterns extracted.old.pool extracted.old.patterns.rows) }
     ensures text { IfOk result (IsTestText checked.now.netlist) }
@@ -181,7 +188,8 @@ fn text_of(
 }
 
 /// The text of the self-test of the netlist that `net` is: words made of the netlist's own forms,
-/// and which stuck-at faults a run of them shows in the memory. Each refusal comes exactly where it
+/// and which stuck-at faults a run of them shows in the memory. A text that tells an edition is
+/// refused as one that breaks N6. Each refusal comes exactly where it
 /// is the first that applies, in the order in which they are listed; whether the words are too many
 /// is said of the words that are made.
 pub fn test(alloc: Global, net: &[u8]) -> Result<Items<u8>, TestFault>
@@ -189,6 +197,6 @@ pub fn test(alloc: Global, net: &[u8]) -> Result<Items<u8>, TestFault>
     ensures tested { IfOk result (IsTested net.now) }
     ensures refused { IfErr result (IsTestFault net.now) }
 {
-    let (checked, mut extracted) = read_extracted(alloc, net)?;
+    let (checked, mut extracted) = read_extracted_taken(alloc, net, EDITION)?;
     text_of(alloc, &checked, &mut extracted)
 }

@@ -2,6 +2,7 @@
 use Rattle.std.proofs.Common.{◌≡◌, ℕ, zero, suc, ◌+◌, ◌^◌, ◌<◌, ◌≤◌, List, [], ◌∷◌, length, map, take, drop, refl, sym, ap, ◌∙◌, subst, arith}
 use Rattle.std.specs.List.{AllByRecursion}
 use Rattle.std.specs.Prelude.{slice_get}
+use Rattle.net_model.specs.declared.hardware.Space.TheVariants.{Memory as InMemory}
 use Rattle.net_model.specs.declared.hardware.Code.{Code}
 use Rattle.net_model.specs.declared.hardware.Netlist.{Netlist}
 use Rattle.net_model.specs.declared.states.State.{State}
@@ -58,7 +59,7 @@ module _ (netlist : Netlist) (order : List ℕ) (rules : KeepsRules netlist orde
     first = refl;
     places = laid.places;
     within = within image.temps (memory_size netlist.storages) vars (subst (λ places. Apart image.temps places (memory_size netlist.storages)) laid.places laid.apart);
-    few = omega (arith, few_cells netlist order start rules state, state.cells);
+    few = omega (arith, few_cells netlist order start InMemory rules state, state.cells InMemory);
     narrow = (memory_width_of netlist order rules).1;
     marks = fits.in_order;
   }

@@ -1,39 +1,81 @@
 -- Words that all wanted sets hold and that have the wanted fields are those that fit.
-use Rattle.std.proofs.Common.{◌≡◌, ℕ, ◌<◌, ◌^◌, ◌==◌, ◌&&◌, not, Bool, true, false, List, [], ◌∷◌, ◌++◌, map, length, Option, Some, None, refl, sym, ◌∙◌, arith, subst}
+use Rattle.std.proofs.Common.{◌≡◌, ℕ, ◌<◌, ◌^◌, ◌==◌, nat_eq, nat_lt, if◌then◌else◌, ◌&&◌, not, Bool, true, false, List, [], ◌∷◌, ◌++◌, map, length, Option, Some, None, refl, sym, ◌∙◌, ap, arith, subst}
 use Rattle.std.specs.List.{slice_get}
-use Rattle.std.proofs.lemmas.Bool.{true≢false, eq-eqb, ne_eqb, and_parts, and_from, not_from_false}
+use Rattle.std.specs.Option.{option_eq}
+use Rattle.std.proofs.lemmas.Bool.{true≢false, eq-eqb, ne_eqb, ltb-false, and_parts, and_from, not_from_false, or_from, or_left, or_right}
 use Rattle.bit_bdd.specs.Diagrams.{Diagrams, has_word}
 use Rattle.net_model.specs.declared.hardware.Netlist.{Netlist}
+use Rattle.net_model.specs.declared.hardware.Space.{Space}
+use Rattle.net_model.specs.declared.hardware.Space.TheVariants.{Memory as InMemory, File as InFile}
 use Rattle.net_model.specs.declared.hardware.Storage.{Storage}
-use Rattle.net_model.specs.declared.hardware.Storage.TheVariants.{Register, Memory}
+use Rattle.net_model.specs.declared.hardware.Storage.TheVariants.{Register, Memory, File}
 use Rattle.net_model.specs.CheckedRules.{KeepsRules, memory_count}
-use Rattle.net_model.specs.Nets.{IsRegister, memory_id}
+use Rattle.net_model.specs.Nets.{IsRegister, memory_id, place_in}
 use Rattle.net_model.specs.Transfers.{IsClean}
-use Rattle.net_model.proofs.KeptRules.{few_storages}
-use Rattle.net_model.proofs.Storages.{memory_no_register, other_register, register_within}
+use Rattle.net_model.proofs.KeptRules.{few_storages, one_each}
+use Rattle.net_model.proofs.Storages.{array_no_register, other_register, register_within}
 use Rattle.sym_expr.specs.declared.pool.Node.{Node}
 use Rattle.transfer_set.specs.Ready.{IsReady}
-use Rattle.transfer_set.specs.Tables.{Table}
+use Rattle.transfer_set.specs.Tables.{Table, file_place}
 use Rattle.transfer_set.specs.declared.row.Row.{Row}
 use Rattle.transfer_set.proofs.ReadyLaws.{row_clean}
 use Rattle.form_model.specs.declared.forms.Step.{Step}
 use Rattle.form_model.specs.Live.{Regs, group_writes}
 use Rattle.word_fit.specs.Fits.{FitsGroup, FitsJump, group_stores}
 use Rattle.word_fit.specs.Steps.{step_operation}
-use Rattle.nop_synth.specs.Wanted.{all_hold, AllBelow, has_fields, row_set, step_set, step_field, memory_sets, is_wanted, register_sets, group_sets}
+use Rattle.nop_synth.specs.Wanted.{all_hold, AllBelow, has_cells, has_fields, row_set, step_set, step_field, memory_sets, is_wanted, register_sets, group_sets}
 use Rattle.nop_synth.proofs.HeldSteps.{below-append, false_not, hold_both, hold_parts, step_does, step_held, steps_below, steps_do, steps_held}
 use Rattle.nop_synth.proofs.HeldStorages.{memory_below, memory_held, memory_kept, registers_below, registers_held, registers_kept}
 
 memory_there : (storages : List Storage) → memory_count storages ≡ 1 → memory_id storages < length storages
 memory_there [] e = absurd (omega arith)
-memory_there (Register name width input when ∷ storages) e = omega (arith, memory_there storages e)
-memory_there (Memory name width size addr_width value addr when ∷ storages) e = omega arith
+memory_there (Register name width input when ∷ storages) e = omega (arith, memory_there storages (omega (arith, e)))
+memory_there (Memory cells ∷ storages) e = omega arith
+memory_there (File cells ∷ storages) e = omega (arith, memory_there storages (omega (arith, e)))
+
+-- ---- the number of a file
+
+named : (o : Option ℕ) (r : ℕ) → o ≡ Some r → option_eq nat_eq o (Some r) ≡ true
+named None r e = absurd (cc)
+named (Some k) r e = let same : k ≡ r = cc in eq-eqb k r same
+
+unnamed : (o : Option ℕ) (r : ℕ) → (o ≡ Some r → ⊥) → option_eq nat_eq o (Some r) ≡ false
+unnamed None r e = refl
+unnamed (Some k) r e = ne_eqb k r (λ same. e (ap Some same))
+
+placed : (storages : List Storage) (r : ℕ) → r ≡ place_in InFile storages → r < length storages → file_place storages ≡ Some r
+placed storages r same lt = by (nat_lt (place_in InFile storages) (length storages)) refl
+  where
+    by : (b : Bool) → nat_lt (place_in InFile storages) (length storages) ≡ b → (if b then Some (place_in InFile storages) else None) ≡ Some r
+    by true e = ap Some (sym same)
+    by false e = absurd (omega (arith, ltb-false _ _ e, same, lt))
+
+place_of : (storages : List Storage) (r : ℕ) → file_place storages ≡ Some r → r ≡ place_in InFile storages
+place_of storages r = by (nat_lt (place_in InFile storages) (length storages))
+  where
+    by : (b : Bool) → (if b then Some (place_in InFile storages) else None) ≡ Some r → r ≡ place_in InFile storages
+    by true e = cc
+    by false e = absurd (cc)
 
 module _ (netlist : Netlist) (order : List ℕ) (keeps : KeepsRules netlist order) (book : Diagrams) (pool : List Node) (table : Table) (ready : IsReady netlist book pool table) (empty : (word : ℕ) → has_word book 0 word ≡ false) where
   -- ---- registers that are to be kept
 
-  wanted_from : (live written : Regs) (r : ℕ) → live r ≡ true → (r ≡ table.memory → ⊥) → written r ≡ false → is_wanted table live written r ≡ true
-  wanted_from live written r l ne w = and_from _ _ l (and_from _ _ (not_from_false _ (ne_eqb r table.memory ne)) (not_from_false _ w))
+  -- where a storage has cells
+  cells_at : (space : Space) (r : ℕ) → r ≡ place_in space netlist.storages → r < length netlist.storages → has_cells table r ≡ true
+  cells_at InMemory r same lt = or_left (r == table.memory) (option_eq nat_eq table.file (Some r)) (eq-eqb r table.memory (same ∙ sym ready.patterns.memory))
+  cells_at InFile r same lt = or_right (r == table.memory) (option_eq nat_eq table.file (Some r)) (named table.file r (ready.patterns.file ∙ placed netlist.storages r same lt))
+
+  -- a register has none
+  no_cells : (r : ℕ) → IsRegister (slice_get netlist.storages r) → has_cells table r ≡ false
+  no_cells r is =
+      or_from (r == table.memory) (option_eq nat_eq table.file (Some r)) (ne_eqb r table.memory (λ same. away InMemory (same ∙ ready.patterns.memory)))
+      (unnamed table.file r (λ e. away InFile (place_of netlist.storages r (sym ready.patterns.file ∙ e))))
+    where
+      away : (space : Space) → r ≡ place_in space netlist.storages → ⊥
+      away space same = array_no_register space netlist.storages (subst (λ k. IsRegister (slice_get netlist.storages k)) same is)
+
+  wanted_from : (live written : Regs) (r : ℕ) → live r ≡ true → IsRegister (slice_get netlist.storages r) → written r ≡ false → is_wanted table live written r ≡ true
+  wanted_from live written r l is w = and_from _ _ l (and_from _ _ (not_from_false _ (no_cells r is)) (not_from_false _ w))
 
   not_true : (b : Bool) → not b ≡ true → b ≡ false
   not_true true e = absurd (true≢false (sym e))
@@ -41,15 +83,15 @@ module _ (netlist : Netlist) (order : List ℕ) (keeps : KeepsRules netlist orde
 
   wanted_register : (live written : Regs) (r : ℕ) → is_wanted table live written r ≡ true → r < length netlist.storages → IsRegister (slice_get netlist.storages r)
   wanted_register live written r e lt =
-      let p = and_parts (live r) (not (r == table.memory) && not (written r)) e in
-      let q = and_parts (not (r == table.memory)) (not (written r)) p.1 in
-      other_register netlist.storages r keeps.roles.memory lt
-      (λ same. false_not (r == table.memory) (not_true _ q.0) (eq-eqb r table.memory (same ∙ sym ready.patterns.memory)))
+      let p = and_parts (live r) (not (has_cells table r) && not (written r)) e in
+      let q = and_parts (not (has_cells table r)) (not (written r)) p.1 in
+      other_register netlist.storages r (one_each netlist keeps.roles) lt
+      (λ space same. false_not (has_cells table r) (not_true _ q.0) (cells_at space r same lt))
 
   wanted_parts : (live written : Regs) (r : ℕ) → is_wanted table live written r ≡ true → (live r ≡ true) × (written r ≡ false)
   wanted_parts live written r e =
-      let p = and_parts (live r) (not (r == table.memory) && not (written r)) e in
-      (p.0, not_true _ (and_parts (not (r == table.memory)) (not (written r)) p.1).1)
+      let p = and_parts (live r) (not (has_cells table r) && not (written r)) e in
+      (p.0, not_true _ (and_parts (not (has_cells table r)) (not (written r)) p.1).1)
 
   -- ---- groups
 
@@ -75,8 +117,7 @@ module _ (netlist : Netlist) (order : List ℕ) (keeps : KeepsRules netlist orde
         registers = λ r is l w.
             registers_kept netlist book pool table ready live (group_writes (step_operation pool table) g) 16 word r lt p.1
             (omega (arith, few_storages netlist order keeps, register_within netlist.storages r is)) (register_within netlist.storages r is)
-            (wanted_from live (group_writes (step_operation pool table) g) r l
-            (λ same. memory_no_register netlist.storages (subst (λ k. IsRegister (slice_get netlist.storages k)) (same ∙ ready.patterns.memory) is)) w);
+            (wanted_from live (group_writes (step_operation pool table) g) r l is w);
       }
 
   -- a word that fits is held

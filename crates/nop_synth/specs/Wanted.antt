@@ -1,6 +1,7 @@
 -- What is wanted of a word: sets that hold it, and values of fields.
-use Rattle.std.specs.Prelude.{ℕ, zero, suc, ◌<◌, ◌==◌, ◌&&◌, not, if◌then◌else◌, Bool, true, List, [], ◌∷◌, ◌++◌, map, length, min, slice_get, bit_and, Option, Some, None}
+use Rattle.std.specs.Prelude.{ℕ, zero, suc, ◌<◌, ◌==◌, nat_eq, ◌&&◌, ◌||◌, not, if◌then◌else◌, Bool, true, List, [], ◌∷◌, ◌++◌, map, length, min, slice_get, bit_and, Option, Some, None}
 use Rattle.std.specs.Int.{bit_at}
+use Rattle.std.specs.Option.{option_eq}
 use Rattle.bit_bdd.specs.Diagrams.{Diagrams, has_word}
 use Rattle.transfer_set.specs.declared.row.Row.{Row}
 use Rattle.transfer_set.specs.Tables.{Table}
@@ -68,9 +69,13 @@ option_list (Some set) = set ∷ []
 abbrev pub memory_sets : Table → Bool → List ℕ
 memory_sets table stored = if stored then [] else option_list (slice_get table.keeps table.memory)
 
+-- a storage with cells: the memory's or the file's
+abbrev pub has_cells : Table → ℕ → Bool
+has_cells table storage = (storage == table.memory) || option_eq nat_eq table.file (Some storage)
+
 -- a live register that no step writes is to be kept
 abbrev pub is_wanted : Table → Regs → Regs → ℕ → Bool
-is_wanted table live written r = live r && (not (r == table.memory) && not (written r))
+is_wanted table live written r = live r && (not (has_cells table r) && not (written r))
 
 -- words that keep those among the first registers
 unfoldable pub register_sets : Table → Regs → Regs → ℕ → List ℕ

@@ -4,7 +4,7 @@ ghost use Rattle.std.specs.Prelude.{◌≡◌, false, ◌<◌, [], ◌++◌, if�
 ghost use Rattle.form_model.specs.Live.{group_writes, regs_of};
 ghost use Rattle.word_fit.specs.Fits.{group_stores};
 ghost use Rattle.word_fit.specs.Steps.{step_operation};
-ghost use Rattle.nop_synth.specs.Wanted.{group_sets, is_wanted, memory_sets, option_list, register_sets, row_fields, row_set, step_field, step_set};
+ghost use Rattle.nop_synth.specs.Wanted.{group_sets, has_cells, is_wanted, memory_sets, option_list, register_sets, row_fields, row_set, step_field, step_set};
 
 use crate::meet::FieldValue;
 use bit_bdd::SetId;
@@ -84,6 +84,13 @@ fn add_memory(patterns: &Patterns, sets: &mut Items<SetId>, stored: bool) -> Res
     Ok(())
 }
 
+// Whether a storage has cells: those of the memory or of the file.
+fn has_cells(patterns: &Patterns, storage: u32) -> bool
+    ensures { result ≡ has_cells patterns.now storage }
+{
+    storage == patterns.memory() || patterns.file() == Some(storage)
+}
+
 // Whether a register is to be kept.
 fn is_kept(patterns: &Patterns, _pool: &Pool, group: &[Step], live: RegSet, register: u32) -> bool
     requires { register < 16 }
@@ -92,7 +99,7 @@ fn is_kept(patterns: &Patterns, _pool: &Pool, group: &[Step], live: RegSet, regi
         (group_writes (step_operation _pool.now patterns.now) group.now) register }
 {
     (live >> register) & 1 == 1
-        && register != patterns.memory()
+        && !has_cells(patterns, register)
         && !writes(patterns, group, register)
 }
 

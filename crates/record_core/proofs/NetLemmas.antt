@@ -1,6 +1,6 @@
 -- What is answered for the text of a netlist that has to keep all rules.
 use Rattle.std.proofs.Common.{◌≡◌, ℕ, List, inl, inr, refl}
-use Rattle.net_model.specs.Written.{Entry}
+use Rattle.net_model.specs.Written.{Text}
 use Rattle.net_model.specs.declared.fault.NetFault.{NetFault}
 use Rattle.net_parser.specs.Texts.{IsNoNetText}
 use Rattle.net_parser.proofs.TextFaults.{one_net_fault}
@@ -18,14 +18,14 @@ module _ (line : Status → List ℕ) (net : List ℕ) (Later : Status → List 
   NetStages = Then line (By NetText (IsNoNetText net)) (Then line (By Net (BreaksAnyRule net)) Later)
 
   -- a text that keeps all rules passes them
-  pub past_rules : (entries : List Entry) → IsRoutedFile net entries → (status : Status) (text : List ℕ) → Later status text → NetStages status text
+  pub past_rules : (entries : Text) → IsRoutedFile net entries → (status : Status) (text : List ℕ) → Later status text → NetStages status text
   past_rules entries file status text later = inr (
     By-none NetText (IsNoNetText net) (λ at faulty. no_text_fault net entries at file.file.says faulty),
     inr (By-none Net (BreaksAnyRule net) (λ fault breaks. no_broken_any net entries fault file breaks), later),
   )
 
   -- and what is answered for it, the later stages answer
-  pub behind_rules : (entries : List Entry) → IsRoutedFile net entries → (status : Status) (text : List ℕ) → NetStages status text → Later status text
+  pub behind_rules : (entries : Text) → IsRoutedFile net entries → (status : Status) (text : List ℕ) → NetStages status text → Later status text
   behind_rules entries file status text stages =
       Then-behind line (By Net (BreaksAnyRule net)) Later (By-none Net (BreaksAnyRule net) (λ fault breaks. no_broken_any net entries fault file breaks)) status text
       (Then-behind line (By NetText (IsNoNetText net)) (Then line (By Net (BreaksAnyRule net)) Later)

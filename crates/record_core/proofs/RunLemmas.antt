@@ -3,7 +3,7 @@ use Rattle.std.proofs.Common.{◌≡◌, ◌⊎◌, ℕ, List, Some, None, inl, 
 use Rattle.std.specs.declared.option.Option.{Option}
 use Rattle.net_front.proofs.FrontLaws.{no_text_fault, no_broken_rule}
 use Rattle.net_front.specs.Fronts.{IsNetFile, BreaksRule}
-use Rattle.net_model.specs.Written.{Entry}
+use Rattle.net_model.specs.Written.{Text}
 use Rattle.net_model.specs.declared.fault.NetFault.{NetFault}
 use Rattle.net_parser.specs.Texts.{IsNoNetText}
 use Rattle.net_run.proofs.RunLaws.{no_image_fault, no_memory_fault}
@@ -25,7 +25,7 @@ module _ (line : Option ℕ → Status → List ℕ) (net image memory : List �
   abbrev image_answers : Status → List ℕ → Type 0
   image_answers = Then (line None) (By ImageText (IsNoImageFile net image)) memory_answers
 
-  past_net : (entries : List Entry) → IsNetFile net entries → (status : Status) (text : List ℕ) → image_answers status text → RunAnswers line net image memory clocks status text
+  past_net : (entries : Text) → IsNetFile net entries → (status : Status) (text : List ℕ) → image_answers status text → RunAnswers line net image memory clocks status text
   past_net entries file status text later = inr (
     By-none NetText (IsNoNetText net) (λ at faulty. no_text_fault net entries at file.says faulty),
     inr (By-none Net (BreaksRule net) (λ fault breaks. no_broken_rule net entries fault file breaks), later),

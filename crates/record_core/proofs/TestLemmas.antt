@@ -1,19 +1,22 @@
 -- What `test` answers for the text of a netlist.
 use Rattle.std.proofs.Common.{◌≡◌, ◌⊎◌, ℕ, List, inl, inr, refl}
 use Rattle.net_model.specs.declared.hardware.Netlist.{Netlist}
+use Rattle.net_model.specs.declared.fault.NetFault.{NetFault}
+use Rattle.net_parser.specs.Texts.{IsNoNetText}
+use Rattle.net_extract.specs.Taken.{BreaksAnyTaken}
+use Rattle.net_extract.proofs.RoutedTaken.{no_text_fault_where_taken}
 use Rattle.net_code.specs.Refusals.{IsStepless}
-use Rattle.net_test.proofs.TestLaws.{cells_of, no_full, no_stepless, testable_of_text, weaker}
+use Rattle.net_test.proofs.TestLaws.{cells_of, no_broken, no_full, no_net_text, no_stepless, testable_of_text, weaker}
 use Rattle.net_test.specs.Refusals.{HasTestCells, IsBeyondLimit, IsTestable, IsTestDataFull, IsTestTooLong}
-use Rattle.net_test.specs.Texts.{IsTested, IsTestFault, LacksTest, NetHolds}
+use Rattle.net_test.specs.Texts.{IsTested, IsTestFault, LacksTest, NetHolds, tested_edition}
 use Rattle.net_test.specs.declared.fault.TestFault.{TestFault}
 use Rattle.net_test.specs.declared.fault.TestFault.TheVariants as testing
-use Rattle.record_core.proofs.NetLemmas.{past_rules, stops_at_rule, stops_at_text}
 use Rattle.record_core.proofs.StageLemmas.{By-none, Just-none, Then-past}
 use Rattle.record_core.specs.Answers.{TestAnswers, TestEnds}
 use Rattle.record_core.specs.Inner.Statuses.{test_status}
 use Rattle.record_core.specs.Stages.{By, Just, Then}
 use Rattle.record_core.specs.declared.status.Status.{Status}
-use Rattle.record_core.specs.declared.status.Status.TheVariants.{DataFull, Done, ImageFull, Memory, NoStep, TestLimit}
+use Rattle.record_core.specs.declared.status.Status.TheVariants.{DataFull, Done, ImageFull, Memory, Net, NetText, NoStep, TestLimit}
 
 module _ (line : Status → List ℕ) (net : List ℕ) where
   -- the later stages, by what the netlist has
@@ -30,7 +33,16 @@ module _ (line : Status → List ℕ) (net : List ℕ) where
   cell_answers = Then line full step_answers
 
   past_net : (P : Netlist → Type 0) → NetHolds net P → (status : Status) (text : List ℕ) → cell_answers status text → TestAnswers line net status text
-  past_net P h = past_rules line net cell_answers h.entries h.file
+  past_net P h status text later = inr (
+    By-none NetText (IsNoNetText net) (λ at none. no_net_text net P at h none),
+    inr (By-none Net (BreaksAnyTaken tested_edition net) (λ fault breaks. no_broken net P fault h breaks), later),
+  )
+
+  answers_broken : (fault : NetFault) → BreaksAnyTaken tested_edition net fault → TestAnswers line net (Net fault) (line (Net fault))
+  answers_broken fault breaks = inr (
+    By-none NetText (IsNoNetText net) (λ at none. no_text_fault_where_taken tested_edition net fault at breaks none),
+    inl ((fault, breaks, refl), refl),
+  )
 
   past_cells : NetHolds net HasTestCells → (status : Status) (text : List ℕ) → step_answers status text → TestAnswers line net status text
   past_cells h status text later = past_net HasTestCells h status text
@@ -68,8 +80,8 @@ module _ (line : Status → List ℕ) (net : List ℕ) where
 
   -- why there is no self-test is what is answered
   pub answers_test_fault : (fault : TestFault) → IsTestFault net fault → (test_status fault ≡ Memory) ⊎ TestAnswers line net (test_status fault) (line (test_status fault))
-  answers_test_fault (testing.NetText at) is = inr (stops_at_text line net cell_answers at is)
-  answers_test_fault (testing.Net broken) is = inr (stops_at_rule line net cell_answers broken is)
+  answers_test_fault (testing.NetText at) is = inr (inl ((at, is, refl), refl))
+  answers_test_fault (testing.Net broken) is = inr (answers_broken broken is)
   answers_test_fault (testing.DataFull need have) is = inr (answers_full need have is)
   answers_test_fault testing.NoStep is = inr (answers_stepless is)
   answers_test_fault (testing.ImageFull len size bound) is = inr (answers_long len size bound is)

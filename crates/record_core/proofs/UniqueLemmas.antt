@@ -7,6 +7,7 @@ use Rattle.net_parser.proofs.TextFaults.{one_net_fault}
 use Rattle.net_front.proofs.FrontLaws.{one_broken_rule}
 use Rattle.src_parser.proofs.TextFaults.{one_src_fault}
 use Rattle.net_extract.specs.Extracts.{IsExtracted}
+use Rattle.net_extract.proofs.RoutedTaken.{one_broken_any_taken}
 use Rattle.job_gen.specs.NetText.{net_text as job_netlist}
 use Rattle.job_gen.specs.SrcText.{src_text as job_program}
 use Rattle.net_compile.specs.Compiled.{IsCompiled}
@@ -20,6 +21,7 @@ use Rattle.net_asm.specs.Assembled.{IsAssembled}
 use Rattle.net_asm.specs.Disassembled.{IsDisassembled}
 use Rattle.net_explain.specs.Explained.{IsExplained}
 use Rattle.net_test.proofs.TestLaws.{one_full as one_test_full, one_limit as one_test_limit, one_too_long}
+use Rattle.net_test.specs.Texts.{tested_edition}
 use Rattle.rec_io.specs.Causes.{Rose}
 use Rattle.rec_io.specs.Files.{Files, file_of}
 use Rattle.rec_io.specs.Shelf.{ShelfState}
@@ -36,7 +38,7 @@ use Rattle.record_core.specs.Words.{command_of, names_of}
 use Rattle.record_core.specs.declared.words.Command.{Command}
 use Rattle.record_core.specs.declared.words.Command.TheVariants.{Compile, Extract, Run, Go, Make, Asm, Dis, Test, Explain}
 use Rattle.record_core.specs.declared.status.Status.{Status}
-use Rattle.record_core.specs.declared.status.Status.TheVariants.{Done, Usage, ReadFault, TooLong, NetText, Net, SrcText, Src, NoStep, NoJump, NoCover, DataFull, NoReach, ImageFull, ImageText, MemText, Clash, AsmText, AsmWord, TestLimit, Memory}
+use Rattle.record_core.specs.declared.status.Status.TheVariants.{Done, Usage, ReadFault, TooLong, NetText, Net, Later as NotYet, SrcText, Src, NoStep, NoJump, NoCover, DataFull, NoReach, ImageFull, ImageText, MemText, Clash, AsmText, AsmWord, TestLimit, Memory}
 
 one_read : (names : List (List ℕ)) (before now : ShelfState) (x y : ℕ) → IsFileReadFault names before now x → IsFileReadFault names before now y → x ≡ y
 one_read names before now x y p q = let a = p.place in let b = q.place in cc
@@ -71,11 +73,12 @@ module _ (Alike : Status → Status → Type 0) (same : (s t : Status) → s ≡
   FormAnswers-alike : (net src : List ℕ) (Later : Status → List ℕ → Type 0) → AllAlike Alike Later → AllAlike Alike (FormAnswers line net src Later)
   FormAnswers-alike net src Later later =
       NetStages-alike line net _ Alike same (
+      stage _ _ (Just-unique (NotYet 0) _) (
       stage _ _ (By-unique SrcText _ (one_src_fault src)) (
       stage _ _ (By-unique Src _ (one_broken net src)) (
       stage _ _ (By-unique (λ (p : ℕ × ℕ). DataFull p.0 p.1) _ (one_full net src)) (
       stage _ _ (Just-unique NoStep _) (
-      stage _ _ (Just-unique NoJump _) later)))))
+      stage _ _ (Just-unique NoJump _) later))))))
 
 -- ---- commands that make code
 
@@ -179,9 +182,10 @@ module _ (line : Status → List ℕ) (net : List ℕ) where
 
   TestAnswers-agree : AllAlike TestsAgree (TestAnswers line net)
   TestAnswers-agree =
-      NetStages-alike line net _ TestsAgree (λ s t e. inl e) (
+      stage TestsAgree (λ s t e. inl e) line _ _ (By-unique NetText _ (one_net_fault net)) (
+      stage TestsAgree (λ s t e. inl e) line _ _ (By-unique Net _ (one_broken_any_taken tested_edition net)) (
       stage TestsAgree (λ s t e. inl e) line _ _ (By-unique (λ (p : ℕ × ℕ). DataFull p.0 p.1) _ (one_test_full net)) (
-      stage TestsAgree (λ s t e. inl e) line _ _ (Just-unique NoStep _) TestEnds-agree))
+      stage TestsAgree (λ s t e. inl e) line _ _ (Just-unique NoStep _) TestEnds-agree)))
 
 -- ---- all commands
 

@@ -5,11 +5,13 @@ use Rattle.std.specs.Str.{bytes_eq}
 use Rattle.net_parser.specs.Texts.{IsNoNetText}
 use Rattle.net_front.specs.Fronts.{BreaksRule}
 use Rattle.net_extract.specs.Extracts.{BreaksAnyRule, IsExtracted}
+use Rattle.net_extract.specs.Taken.{BreaksAnyTaken}
 use Rattle.src_parser.specs.Texts.{IsNoSrcText}
 use Rattle.right_code.specs.Covered.{HasBareTree}
 use Rattle.net_code.specs.Refusals.{IsBeyondReach, IsJumpless, IsStepless, IsImageTooLong as HasLongImage}
 use Rattle.net_compile.specs.Code.{HasRightCode, IsDataFull, IsWithin}
 use Rattle.net_compile.specs.Compiled.{IsCompiled, BreaksSrc}
+use Rattle.net_compile.specs.Nets.{IsLater}
 use Rattle.net_compile.specs.Tasks.{TaskHolds}
 use Rattle.job_gen.specs.NetText.{net_text as job_netlist}
 use Rattle.job_gen.specs.SrcText.{src_text as job_program}
@@ -18,7 +20,7 @@ use Rattle.net_asm.specs.Assembled.{IsAssembled, IsNoAsmFile, IsWordless}
 use Rattle.net_asm.specs.Disassembled.{IsDisassembled}
 use Rattle.net_explain.specs.Explained.{IsExplained}
 use Rattle.net_test.specs.Refusals.{IsBeyondLimit, IsTestDataFull, IsTestTooLong}
-use Rattle.net_test.specs.Texts.{IsTested, NetHolds}
+use Rattle.net_test.specs.Texts.{IsTested, NetHolds, tested_edition}
 use Rattle.net_run.specs.Runs.{IsNoImageFile, IsNoMemoryFile, ClashedAt, Clashes, ShowsState}
 use Rattle.rec_io.specs.Causes.{Rose}
 use Rattle.rec_io.specs.Files.{Files, file_of}
@@ -33,7 +35,7 @@ use Rattle.record_core.specs.Words.{command_of, names_of}
 use Rattle.record_core.specs.declared.words.Command.{Command}
 use Rattle.record_core.specs.declared.words.Command.TheVariants.{Compile, Extract, Run, Go, Make, Asm, Dis, Test, Explain}
 use Rattle.record_core.specs.declared.status.Status.{Status}
-use Rattle.record_core.specs.declared.status.Status.TheVariants.{Done, Usage, ReadFault, TooLong, WriteFault, NetText, Net, SrcText, Src, NoStep, NoJump, NoCover, DataFull, NoReach, ImageFull, Memory, ImageText, MemText, Clash, AsmText, AsmWord, TestLimit}
+use Rattle.record_core.specs.declared.status.Status.TheVariants.{Done, Usage, ReadFault, TooLong, WriteFault, NetText, Net, Later as NotYet, SrcText, Src, NoStep, NoJump, NoCover, DataFull, NoReach, ImageFull, Memory, ImageText, MemText, Clash, AsmText, AsmWord, TestLimit}
 
 -- the most bytes of a file
 abbrev pub file_limit : ℕ
@@ -90,11 +92,12 @@ abbrev pub FormAnswers : (Status → List ℕ) → List ℕ → List ℕ → (St
 FormAnswers line net src Later =
     Then line (By NetText (IsNoNetText net)) (
     Then line (By Net (BreaksAnyRule net)) (
+    Then line (Just (NotYet 0) (IsLater net)) (
     Then line (By SrcText (IsNoSrcText src)) (
     Then line (By Src (BreaksSrc net src)) (
     Then line (By (λ (p : ℕ × ℕ). DataFull p.0 p.1) (λ (p : ℕ × ℕ). TaskHolds net src (IsDataFull p.0 p.1))) (
     Then line (Just NoStep (TaskHolds net src (λ task. IsStepless task.netlist))) (
-    Then line (Just NoJump (TaskHolds net src (λ task. IsJumpless task.netlist))) Later))))))
+    Then line (Just NoJump (TaskHolds net src (λ task. IsJumpless task.netlist))) Later)))))))
 
 -- what a command answers that makes code of these two texts, and what the later stages answer once
 -- there is an image
@@ -182,11 +185,11 @@ TestEnds line net status text =
     × (status ≡ TestLimit count bound) × (text ≡ line (TestLimit count bound)))
     ⊎ ((status ≡ Done) × IsTested net text))
 
--- what `test` answers for this text
+-- what `test` answers for this text, which has to be of the first edition
 abbrev pub TestAnswers : (Status → List ℕ) → List ℕ → Status → List ℕ → Type 0
 TestAnswers line net =
     Then line (By NetText (IsNoNetText net)) (
-    Then line (By Net (BreaksAnyRule net)) (
+    Then line (By Net (BreaksAnyTaken tested_edition net)) (
     Then line (By (λ (p : ℕ × ℕ). DataFull p.0 p.1)
     (λ (p : ℕ × ℕ). NetHolds net (λ netlist. IsTestDataFull netlist p.0 p.1))) (
     Then line (Just NoStep (NetHolds net IsStepless)) (

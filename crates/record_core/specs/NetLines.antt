@@ -4,11 +4,11 @@ use Rattle.std.specs.Fmt.{decimal}
 use Rattle.std.specs.List.{concat}
 use Rattle.lexing.specs.Bytes.{is_name_byte}
 use Rattle.net_model.specs.declared.fault.NetFault.{NetFault}
-use Rattle.net_model.specs.declared.fault.NetFault.TheVariants.{Duplicate, Unknown, Width, Driver, Cycle, Role as NoRole, Enable, ControlOp, WideSelect, AlwaysClash, Limit, PatternLarge, TooMany}
+use Rattle.net_model.specs.declared.fault.NetFault.TheVariants.{Duplicate, Unknown, Width, Driver, Cycle, Role as NoRole, Enable, ControlOp, WideSelect, AlwaysClash, Limit, PatternLarge, TooMany, FileAddr}
 use Rattle.net_model.specs.declared.fault.NetKind.{NetKind}
-use Rattle.net_model.specs.declared.fault.NetKind.TheVariants.{Nets, Registers, Cells, Words}
+use Rattle.net_model.specs.declared.fault.NetKind.TheVariants.{Nets, Registers, Cells, Words, File as FileCells}
 use Rattle.net_model.specs.declared.fault.Role.{Role}
-use Rattle.net_model.specs.declared.fault.Role.TheVariants.{Code, Memory, Pc, Size, Addr}
+use Rattle.net_model.specs.declared.fault.Role.TheVariants.{Code, Memory, Pc, Size, Addr, File}
 
 abbrev pub role_text : Role → List ℕ
 role_text Code = codes "code"
@@ -16,12 +16,14 @@ role_text Memory = codes "memory"
 role_text Pc = codes "pc"
 role_text Size = codes "size"
 role_text Addr = codes "addr"
+role_text File = codes "file"
 
 abbrev pub net_kind_text : NetKind → List ℕ
 net_kind_text Nets = codes "nets"
 net_kind_text Registers = codes "registers"
 net_kind_text Cells = codes "cells"
 net_kind_text Words = codes "words"
+net_kind_text FileCells = codes "file"
 
 -- where the name stands that the rule's line tells, if it tells one
 abbrev pub name_place : NetFault → Option ℕ
@@ -38,6 +40,7 @@ name_place AlwaysClash = None
 name_place (Limit kind count bound) = None
 name_place (PatternLarge at) = Some at
 name_place (TooMany at) = Some at
+name_place (FileAddr at) = Some at
 
 -- the name that begins there in the netlist's text
 abbrev pub name_from : List ℕ → Option ℕ → List ℕ
@@ -59,6 +62,7 @@ net_rule_text AlwaysClash = codes "N10 AlwaysClash"
 net_rule_text (Limit kind count bound) = codes "N11 Limit"
 net_rule_text (PatternLarge at) = codes "N12 PatternLarge"
 net_rule_text (TooMany at) = codes "N13 TooMany"
+net_rule_text (FileAddr at) = codes "N14 FileAddr"
 
 -- the line of a broken rule; the name is the one at the rule's offset
 abbrev pub net_line : List ℕ → NetFault → List ℕ

@@ -30,6 +30,7 @@ fn role_name(role: Role) -> &'static str
         Role::Pc => "pc",
         Role::Size => "size",
         Role::Addr => "addr",
+        Role::File => "file",
     }
 }
 
@@ -41,6 +42,7 @@ fn net_kind_name(kind: NetKind) -> &'static str
         NetKind::Registers => "registers",
         NetKind::Cells => "cells",
         NetKind::Words => "words",
+        NetKind::File => "file",
     }
 }
 
@@ -68,7 +70,8 @@ fn name_place(fault: NetFault) -> Option<u64>
         | NetFault::ControlOp(at)
         | NetFault::WideSelect(at)
         | NetFault::PatternLarge(at)
-        | NetFault::TooMany(at) => Some(at),
+        | NetFault::TooMany(at)
+        | NetFault::FileAddr(at) => Some(at),
         NetFault::Role(_) | NetFault::AlwaysClash | NetFault::Limit { .. } => None,
     }
 }
@@ -142,6 +145,7 @@ fn net_rule_name(fault: NetFault) -> &'static str
         NetFault::Limit { .. } => "N11 Limit",
         NetFault::PatternLarge(_) => "N12 PatternLarge",
         NetFault::TooMany(_) => "N13 TooMany",
+        NetFault::FileAddr(_) => "N14 FileAddr",
     }
 }
 
@@ -206,6 +210,7 @@ pub fn fault_line(
         }
         Status::NetText(at) => format!(in alloc; "error net text {at}\n"),
         Status::Net(fault) => net_fault_line(alloc, name, fault),
+        Status::Later(file) => format!(in alloc; "error later {file}\n"),
         Status::SrcText(at) => format!(in alloc; "error source text {at}\n"),
         Status::Src(fault) => src_fault_line(alloc, fault),
         Status::NoStep => String::from_str(alloc, "error no step\n"),

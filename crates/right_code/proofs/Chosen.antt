@@ -3,7 +3,7 @@ use Rattle.std.proofs.Common.{ℕ, zero, suc, ◌≡◌, ◌≤◌, ◌+◌, Lis
 use Rattle.std.specs.List.{AllByRecursion}
 use Rattle.net_model.specs.declared.hardware.Netlist.{Netlist}
 use Rattle.net_model.specs.declared.hardware.Storage.{Storage}
-use Rattle.net_model.specs.declared.hardware.Storage.TheVariants.{Register, Memory}
+use Rattle.net_model.specs.declared.hardware.Storage.TheVariants.{Register, Memory, File}
 use Rattle.net_model.specs.CheckedRules.{KeepsRules, StorageKeeps, code_size, memory_addr_width, memory_count}
 use Rattle.net_model.specs.Nets.{memory_size, memory_width}
 use Rattle.src_model.specs.Written.{Listing}
@@ -127,8 +127,9 @@ module _ (task : Task) (image : Image) (made : IsMadeFor task image) (most : ℕ
 -- addresses of the data memory have some bits
 some_addresses : (netlist : Netlist) (storages : List Storage) → AllByRecursion (StorageKeeps netlist) storages → memory_count storages ≡ 1 → 1 ≤ memory_addr_width storages
 some_addresses netlist [] h e = absurd (omega (arith, e))
-some_addresses netlist (Register name width input when ∷ storages) h e = some_addresses netlist storages h.1 e
-some_addresses netlist (Memory name width size addr_width value addr when ∷ storages) h e = h.0.1.0
+some_addresses netlist (Register name width input when ∷ storages) h e = some_addresses netlist storages h.1 (omega (arith, e))
+some_addresses netlist (Memory cells ∷ storages) h e = h.0.1.0
+some_addresses netlist (File cells ∷ storages) h e = some_addresses netlist storages h.1 (omega (arith, e))
 
 -- the variables of a program that the memory has room for are in reach of its addresses
 pub in_reach : (netlist : Netlist) (order : List ℕ) → KeepsRules netlist order → (width : ℕ) (l : Listing) → memory_width netlist.storages ≡ width → need_of width l ≤ memory_size netlist.storages

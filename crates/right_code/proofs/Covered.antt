@@ -1,5 +1,6 @@
 -- A chosen cover of a small tree has cells for all its cuts.
 use Rattle.std.proofs.Common.{ℕ, ◌≡◌, ◌≤◌, ◌+◌, ◌==◌, ◌&&◌, Bool, true, false, if◌then◌else◌, List, [], ◌∷◌, Some, slice_get, refl, subst, arith, zero, suc}
+use Rattle.net_model.specs.declared.hardware.Space.{Space}
 use Rattle.net_model.specs.Terms.{Term, word, reg, const, read, un, bin, slice, cat, zext, sext, select, term_width}
 use Rattle.src_model.specs.Sizes.{is_word}
 use Rattle.form_model.specs.Trees.{is_number}
@@ -29,24 +30,24 @@ none_own : (b : Bool) → one_if (b && false) ≤ 0
 none_own true = omega arith
 none_own false = omega arith
 
-read_nodes : (bits w : ℕ) (a : Term) (n : Bool) → is_number a ≡ n → Nodes bits a → Nodes bits (read a w)
-read_nodes bits w (const v x) n e h = record { below = omega arith; all = (let o = none_own (w == bits) in omega (arith, o)) }
-read_nodes bits w (word v) n e h = let k = h.all in let o = own bits w in record { below = k; all = omega (arith, k, o) }
-read_nodes bits w (reg r v) n e h = let k = h.all in let o = own bits w in record { below = k; all = omega (arith, k, o) }
-read_nodes bits w (read a v) n e h = let k = h.all in let o = own bits w in record { below = k; all = omega (arith, k, o) }
-read_nodes bits w (un p a) n e h = let k = h.all in let o = own bits w in record { below = k; all = omega (arith, k, o) }
-read_nodes bits w (bin p a b) n e h = let k = h.all in let o = own bits w in record { below = k; all = omega (arith, k, o) }
-read_nodes bits w (slice a hi lo) n e h = let k = h.all in let o = own bits w in record { below = k; all = omega (arith, k, o) }
-read_nodes bits w (cat a b) n e h = let k = h.all in let o = own bits w in record { below = k; all = omega (arith, k, o) }
-read_nodes bits w (zext a v) n e h = let k = h.all in let o = own bits w in record { below = k; all = omega (arith, k, o) }
-read_nodes bits w (sext a v) n e h = let k = h.all in let o = own bits w in record { below = k; all = omega (arith, k, o) }
-read_nodes bits w (select c a b) n e h = let k = h.all in let o = own bits w in record { below = k; all = omega (arith, k, o) }
+read_nodes : (bits w : ℕ) (space : Space) (a : Term) (n : Bool) → is_number a ≡ n → Nodes bits a → Nodes bits (read space a w)
+read_nodes bits w space (const v x) n e h = record { below = omega arith; all = (let o = none_own (w == bits) in omega (arith, o)) }
+read_nodes bits w space (word v) n e h = let k = h.all in let o = own bits w in record { below = k; all = omega (arith, k, o) }
+read_nodes bits w space (reg r v) n e h = let k = h.all in let o = own bits w in record { below = k; all = omega (arith, k, o) }
+read_nodes bits w space (read inner a v) n e h = let k = h.all in let o = own bits w in record { below = k; all = omega (arith, k, o) }
+read_nodes bits w space (un p a) n e h = let k = h.all in let o = own bits w in record { below = k; all = omega (arith, k, o) }
+read_nodes bits w space (bin p a b) n e h = let k = h.all in let o = own bits w in record { below = k; all = omega (arith, k, o) }
+read_nodes bits w space (slice a hi lo) n e h = let k = h.all in let o = own bits w in record { below = k; all = omega (arith, k, o) }
+read_nodes bits w space (cat a b) n e h = let k = h.all in let o = own bits w in record { below = k; all = omega (arith, k, o) }
+read_nodes bits w space (zext a v) n e h = let k = h.all in let o = own bits w in record { below = k; all = omega (arith, k, o) }
+read_nodes bits w space (sext a v) n e h = let k = h.all in let o = own bits w in record { below = k; all = omega (arith, k, o) }
+read_nodes bits w space (select c a b) n e h = let k = h.all in let o = own bits w in record { below = k; all = omega (arith, k, o) }
 
 nodes : (bits : ℕ) (t : Term) → Nodes bits t
 nodes bits (word w) = record { below = omega arith; all = (let o = own bits w in omega (arith, o)) }
 nodes bits (reg r w) = record { below = omega arith; all = (let o = own bits w in omega (arith, o)) }
 nodes bits (const w v) = record { below = omega arith; all = (let o = own bits w in omega (arith, o)) }
-nodes bits (read a w) = read_nodes bits w a (is_number a) refl (nodes bits a)
+nodes bits (read space a w) = read_nodes bits w space a (is_number a) refl (nodes bits a)
 nodes bits (un o a) = let k = (nodes bits a).all in let p = own bits (term_width a) in record { below = k; all = omega (arith, k, p) }
 nodes bits (bin o a b) =
     let k = (nodes bits a).all in

@@ -2,6 +2,7 @@
 use Rattle.std.proofs.Common.{◌≡◌, ℕ, ◌+◌, ◌<◌, ◌==◌, ◌⊎◌, inl, inr, Bool, true, false, if◌then◌else◌, List, Option, Some, None, length, slice_get, refl, sym, ◌∙◌, ap, subst, arith}
 use Rattle.std.proofs.lemmas.Bool.{eq-eqb}
 use Rattle.std.proofs.lemmas.Nat.{and_le_l}
+use Rattle.net_model.specs.declared.hardware.Space.TheVariants.{Memory as InMemory, File as InFile}
 use Rattle.net_model.specs.declared.hardware.Netlist.{Netlist}
 use Rattle.net_model.specs.CheckedRules.{KeepsRules}
 use Rattle.net_model.specs.Fields.{move_fields}
@@ -22,18 +23,19 @@ use Rattle.form_set.proofs.RuleLists.{plain_not_jump}
 use Rattle.emit_seq.specs.Cells.{AddressReadsWords, AllReadWords, ReadsWords}
 use Rattle.emit_seq.specs.Formed.{AreFormed, IsFormed}
 use Rattle.emit_seq.specs.Spares.{AreShared, ReadsCounter}
+use Rattle.word_fit.specs.Fits.{HasNoFile}
 use Rattle.right_code.specs.Inner.Known.{AreKnown}
 use Rattle.right_code.proofs.Plain.{plain_formed}
 use Rattle.right_code.proofs.Swapping.{AddrSwapped, AreSwapped, swapped_sides}
 use Rattle.right_code.proofs.Turning.{test_once, test_swapped, test_terms}
 
-module _ (netlist : Netlist) (order : List ℕ) (keeps : KeepsRules netlist order) (some : 0 < word_width netlist) (patterns : List Pattern) (known : AreKnown netlist patterns) where
+module _ (netlist : Netlist) (order : List ℕ) (keeps : KeepsRules netlist order) (bare : HasNoFile netlist) (some : 0 < word_width netlist) (patterns : List Pattern) (known : AreKnown netlist patterns) where
   zero_plus : (n : ℕ) → 0 + n ≡ n
   zero_plus n = omega arith
 
   of_formed : (reach number : ℕ) (p : Pattern) (rule : Rule) → slice_get patterns number ≡ Some p → IsFormOf netlist reach number p rule → IsFormed patterns (length netlist.storages) rule rule.goal
   of_formed reach number p rule at (of_plain choice clobbers plain are e) =
-      subst (λ (r : Rule). IsFormed patterns (length netlist.storages) r r.goal) (sym e) (plain_formed netlist order keeps some patterns known p number choice clobbers at plain are)
+      subst (λ (r : Rule). IsFormed patterns (length netlist.storages) r r.goal) (sym e) (plain_formed netlist order keeps bare some patterns known p number choice clobbers at plain are)
   of_formed reach number p rule at (of_jump h e) =
       subst (λ (r : Rule). IsFormed patterns (length netlist.storages) r r.goal) (sym e) tt
   of_formed reach number p rule at (of_branch choice parts b e) =
@@ -126,7 +128,8 @@ module _ (netlist : Netlist) (order : List ℕ) (keeps : KeepsRules netlist orde
     reads_words (word w) h = tt
     reads_words (reg r w) h = tt
     reads_words (const w v) h = tt
-    reads_words (read a w) h = (h.1, reads_words a h.0)
+    reads_words (read InMemory a w) h = (h.1, reads_words a h.0)
+    reads_words (read InFile a w) h = reads_words a h.0
     reads_words (un o a) h = reads_words a h
     reads_words (bin o a b) h = (reads_words a h.0, reads_words b h.1)
     reads_words (slice a hi lo) h = reads_words a h.0

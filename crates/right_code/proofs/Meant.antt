@@ -2,6 +2,7 @@
 use Rattle.std.proofs.Common.{ℕ, zero, suc, ◌≡◌, ◌≤◌, true, List, [], ◌∷◌, length, drop, refl, ap, arith, slice_index}
 use Rattle.rec_bits.proofs.Booleans.{both}
 use Rattle.rec_bits.specs.Operators.{apply1_of, apply2_of, slice_of, sext_of as extended_of}
+use Rattle.net_model.specs.declared.hardware.Space.TheVariants.{Memory as InMemory, File as InFile}
 use Rattle.net_model.specs.declared.states.State.{State}
 use Rattle.net_model.specs.Terms.{Term, word, reg, const, read, un, bin, slice, cat, zext, sext, select, term_width}
 use Rattle.net_model.specs.Meaning.{mean}
@@ -13,7 +14,8 @@ pub tree_mean : (t : Term) (s : State) → is_tree t ≡ true → mean t s 0 ≡
 tree_mean (word w) s h = absurd (cc h)
 tree_mean (reg r w) s h = absurd (cc h)
 tree_mean (const w v) s h = refl
-tree_mean (read a w) s h = ap (slice_index s.cells) (tree_mean a s h)
+tree_mean (read InMemory a w) s h = ap (slice_index s.cells) (tree_mean a s h)
+tree_mean (read InFile a w) s h = absurd (cc h)
 tree_mean (un o a) s h = ap (apply1_of o (term_width a)) (tree_mean a s h)
 tree_mean (bin o a b) s h =
     let k = both (is_tree a) (is_tree b) h in
@@ -30,7 +32,8 @@ pub tree_reads : (at : ℕ) (t : Term) (s : State) → is_tree t ≡ true → Re
 tree_reads at (word w) s h r = tt
 tree_reads at (reg n w) s h r = tt
 tree_reads at (const w v) s h r = tt
-tree_reads at (read a w) s h r = let e = tree_mean a s h in let l = r.1 in (omega (arith, e, l), tree_reads at a s h r.0)
+tree_reads at (read InFile a w) s h r = absurd (cc h)
+tree_reads at (read InMemory a w) s h r = let e = tree_mean a s h in let l = r.1 in (omega (arith, e, l), tree_reads at a s h r.0)
 tree_reads at (un o a) s h r = tree_reads at a s h r
 tree_reads at (bin o a b) s h r = let k = both (is_tree a) (is_tree b) h in (tree_reads at a s k.0 r.0, tree_reads at b s k.1 r.1)
 tree_reads at (slice a hi lo) s h r = tree_reads at a s h r

@@ -2,8 +2,9 @@
 use Rattle.std.proofs.Common.{◌≡◌, ℕ, zero, suc, ◌≤◌, ◌^◌, ◌==◌, Bool, true, false, if◌then◌else◌, List, [], ◌∷◌, length, Option, Some, None, slice_get, refl, sym, ap, subst, ◌∙◌, arith}
 use Rattle.std.specs.List.{AllByRecursion}
 use Rattle.net_model.specs.declared.hardware.Netlist.{Netlist}
+use Rattle.net_model.specs.declared.hardware.Cells.{Cells}
 use Rattle.net_model.specs.declared.hardware.Storage.{Storage}
-use Rattle.net_model.specs.declared.hardware.Storage.TheVariants.{Register, Memory}
+use Rattle.net_model.specs.declared.hardware.Storage.TheVariants.{Register, Memory, File}
 use Rattle.net_model.specs.CheckedRules.{KeepsRules}
 use Rattle.net_model.specs.Nets.{counter_of, counter_width, storage_bits}
 use Rattle.net_model.specs.Patterns.{IsPattern, Pattern}
@@ -13,7 +14,7 @@ use Rattle.net_model.specs.Clock.{is_enabled}
 use Rattle.std.proofs.Math.Pow.{pow_mono}
 use Rattle.std.proofs.lemmas.Nat.{pow_pos}
 use Rattle.net_model.specs.Terms.{Term, word, reg, const, read, un, bin, slice, cat, zext, sext, select, keep, term_width, write, write_at}
-use Rattle.net_model.specs.Transfers.{move_at, same_reg, transfer_of}
+use Rattle.net_model.specs.Transfers.{array_move, move_at, same_reg, transfer_of}
 use Rattle.net_model.specs.Widths.{StorageFits}
 use Rattle.net_model.proofs.KeptRules.{sound_of}
 use Rattle.net_model.proofs.Meanings.{width_is}
@@ -29,7 +30,7 @@ reach_within bits (const w v) fits = by (v == 0)
     by : (b : Bool) → (if b then 1 else 0) ≤ 2 ^ w
     by true = let p = pow_pos w in omega (arith, p)
     by false = omega arith
-reach_within bits (read a w) fits = omega arith
+reach_within bits (read space a w) fits = omega arith
 reach_within bits (un o a) fits = omega arith
 reach_within bits (bin o a b) fits = omega arith
 reach_within bits (slice a hi lo) fits = omega arith
@@ -57,6 +58,14 @@ module _ (netlist : Netlist) (order : List ℕ) (keeps : KeepsRules netlist orde
   there None id e = tt
   there (Some storage) id e = all_get (StorageFits netlist) netlist.storages id storage (sound_of netlist order keeps).typed.storages e
 
+  -- cells are written at addresses
+  no_write : (i : ℕ) (cells : Cells) (e : Term) → array_move (sym_of netlist i) (value_of netlist no_state i) cells ≡ write e → ⊥
+  no_write i cells e is = by (is_enabled (value_of netlist no_state i) cells.when) is
+    where
+      by : (on : Bool) → (if on then write_at (sym_of netlist i cells.addr) (sym_of netlist i cells.value) else keep) ≡ write e → ⊥
+      by true p = absurd (cc)
+      by false p = absurd (cc)
+
   taken_width : (i id : ℕ) (e : Term) (o : Option Storage) → FitsThere netlist o → transfer_of netlist i id o ≡ write e → term_width e ≡ storage_bits o
   taken_width i id e None f is = absurd (cc)
   taken_width i id e (Some (Register name width input when)) f is =
@@ -67,11 +76,8 @@ module _ (netlist : Netlist) (order : List ℕ) (keeps : KeepsRules netlist orde
       by true false p =
           ap term_width (sym (written_one (sym_of netlist i input) e p)) ∙ width_is netlist i (sound_of netlist order keeps).typed (length netlist.nets) input ∙ f.0.1
       by false same p = absurd (cc)
-  taken_width i id e (Some (Memory name width size addr_width value addr when)) f is = by (is_enabled (value_of netlist no_state i) when) is
-    where
-      by : (on : Bool) → (if on then write_at (sym_of netlist i addr) (sym_of netlist i value) else keep) ≡ write e → term_width e ≡ width
-      by true p = absurd (cc)
-      by false p = absurd (cc)
+  taken_width i id e (Some (Memory cells)) f is = absurd (no_write i cells e is)
+  taken_width i id e (Some (File cells)) f is = absurd (no_write i cells e is)
 
   -- a target that the program counter takes
   pub target_width : (p : Pattern) → IsPattern netlist p → p.storage ≡ counter_of netlist.codes → (e : Term) → p.move ≡ write e → term_width e ≡ counter_width netlist

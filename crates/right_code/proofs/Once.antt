@@ -17,7 +17,7 @@ abbrev pub WordsIn : ℕ → Term → Type 0
 WordsIn n (word w) = w ≡ n
 WordsIn n (reg r w) = Unit {0}
 WordsIn n (const w v) = Unit {0}
-WordsIn n (read a w) = WordsIn n a
+WordsIn n (read space a w) = WordsIn n a
 WordsIn n (un o a) = WordsIn n a
 WordsIn n (bin o a b) = WordsIn n a × WordsIn n b
 WordsIn n (slice a hi lo) = WordsIn n a × (is_word a ≡ true → (lo ≤ hi) × (hi < n))
@@ -46,7 +46,7 @@ occurs : (n : ℕ) (t : Term) → WordsIn n t → (k : ℕ) → uses t k ≡ tru
 occurs n (word w) f k u = inr (λ j l. bit_at_ones w j (omega (arith, f, l)))
 occurs n (reg r w) f k u = absurd (true≢false (sym u))
 occurs n (const w v) f k u = absurd (true≢false (sym u))
-occurs n (read a w) f k u = occurs n a f k u
+occurs n (read space a w) f k u = occurs n a f k u
 occurs n (un o a) f k u = occurs n a f k u
 occurs n (bin o a b) f k u =
     elim (or_some (uses a k) (uses b k) u) as (λ _. Occurs n (bit_or (fields a) (fields b)) k) [
@@ -106,7 +106,7 @@ pub once_of : (n : ℕ) (free : ℕ) (t : Term) → 0 < n → WordsIn n t → is
 once_of n free (word w) p f h = tt
 once_of n free (reg r w) p f h = tt
 once_of n free (const w v) p f h = tt
-once_of n free (read a w) p f h = once_of n free a p f h
+once_of n free (read space a w) p f h = once_of n free a p f h
 once_of n free (un o a) p f h = once_of n free a p f h
 once_of n free (bin o a b) p f h =
     let q : (are_apart free a b ≡ true) × ((is_linear free a && is_linear free b) ≡ true) = and_parts _ _ h in

@@ -20,7 +20,7 @@ use Rattle.form_model.specs.Covers.{Stock}
 use Rattle.form_model.specs.Effects.{operation_of}
 use Rattle.form_model.specs.Steps.{branch_setting}
 use Rattle.emit_seq.specs.Formed.{AreFormed}
-use Rattle.word_fit.specs.Fits.{fits_over, FitsJump}
+use Rattle.word_fit.specs.Fits.{fits_over, FitsJump, HasNoFile}
 use Rattle.word_fit.proofs.Least.{all_fit}
 use Rattle.src_trees.specs.Lowered.{Work}
 use Rattle.src_trees.specs.Flows.{places_in, program_flow, program_works}
@@ -142,12 +142,12 @@ module _ (netlist : Netlist) (order : List ℕ) (keeps : KeepsRules netlist orde
     }
 
 -- and traces the program
-pub ordered_right : (netlist : Netlist) (order : List ℕ) → KeepsRules netlist order → (image : Image) (patterns : List Pattern) (stock : Stock) → AreFormed patterns (length netlist.storages) stock.rules → (reach : ℕ)
+pub ordered_right : (netlist : Netlist) (order : List ℕ) → KeepsRules netlist order → HasNoFile netlist → (image : Image) (patterns : List Pattern) (stock : Stock) → AreFormed patterns (length netlist.storages) stock.rules → (reach : ℕ)
     → AreTurns netlist patterns stock.rules reach → (bits addr : ℕ) (l : Listing) (parts : List Part) → first_fault bits l ≡ None → memory_width netlist.storages ≡ bits → InReach bits addr stock.temps l.vars
     → stock.temps + cell_count l.vars ≤ memory_size netlist.storages → image.places ≡ places_from stock.temps (variables_of l.vars)
     → IsLaidCode netlist patterns stock image (program_flow l) (program_works (memory_map bits addr stock.temps l.vars) l) parts reach
     → ((a : ℕ) → WordFits netlist (slice_index (words_of image) a)) → TracesRight netlist image (strace bits l)
-ordered_right netlist order keeps image patterns stock formed reach turns bits addr l parts kept wide inreach room places laid fits =
-    code_right netlist order keeps image patterns stock formed bits addr l parts kept wide inreach room places
+ordered_right netlist order keeps plain image patterns stock formed reach turns bits addr l parts kept wide inreach room places laid fits =
+    code_right netlist order keeps plain image patterns stock formed bits addr l parts kept wide inreach room places
     (laid_made netlist order keeps image patterns stock reach turns (program_flow l) (program_works (memory_map bits addr stock.temps l.vars) l) parts (places_in (acts_of l.body)) (program_is_flow l) (program_upto l) laid)
     laid.long fits

@@ -10,7 +10,7 @@ use Rattle.net_model.specs.Nets.{IsRegister, memory_id, word_width}
 use Rattle.net_model.specs.Patterns.{Pattern}
 use Rattle.net_model.specs.Terms.{Term, word, reg, const, read, un, bin, slice, cat, zext, sext, select, term_width, Move, keep, write, write_at}
 use Rattle.net_model.specs.Transfers.{move_at}
-use Rattle.net_model.proofs.Storages.{lone_memory, memory_no_register, storage_within, stores_memory, writes_register}
+use Rattle.net_model.proofs.Storages.{lone_memory, memory_no_register, storage_within, stores_cells, writes_register}
 use Rattle.sym_expr.specs.Pools.{TermFits}
 use Rattle.net_model.specs.Fields.{fields}
 use Rattle.transfer_set.specs.Inner.Widths.{MoveFits}
@@ -25,6 +25,8 @@ use Rattle.form_set.proofs.FormLaws.{own_clobber}
 use Rattle.form_set.proofs.LinearLaws.{linear_is}
 use Rattle.form_set.proofs.SwapLaws.{swapped_alike}
 use Rattle.emit_seq.specs.Formed.{BitsApart, MeansAlike, IsFormed, IsIntoMemory, IsIntoReg, IsOnce, uses}
+use Rattle.word_fit.specs.Fits.{HasNoFile}
+use Rattle.word_fit.proofs.Plain.{memory_only}
 use Rattle.right_code.specs.Inner.Known.{AreKnown}
 use Rattle.right_code.proofs.Once.{WordsIn, apart_of, meet_none, once_of}
 use Rattle.right_code.proofs.Swapping.{AreSwapped, IsSwapped, is_word, swapped_sides}
@@ -43,7 +45,7 @@ pub words_in : (netlist : Netlist) (t : Term) → IsTermOf netlist t → TermFit
 words_in netlist (word w) h f = h
 words_in netlist (reg r w) h f = tt
 words_in netlist (const w v) h f = tt
-words_in netlist (read a w) h f = words_in netlist a h.0 f.0
+words_in netlist (read space a w) h f = words_in netlist a h.0 f.0
 words_in netlist (un o a) h f = words_in netlist a h f
 words_in netlist (bin o a b) h f = (words_in netlist a h.0 f.0, words_in netlist b h.1 f.1)
 words_in netlist (slice a hi lo) h f = (words_in netlist a h.0 f.0, λ e. (f.1.0, let w = word_is netlist a h.0 e in let lt = f.1.1 in omega (arith, w, lt)))
@@ -52,7 +54,7 @@ words_in netlist (zext a w) h f = words_in netlist a h.0 f.0
 words_in netlist (sext a w) h f = words_in netlist a h.0 f.0
 words_in netlist (select c a b) h f = (words_in netlist c h.0 f.0, words_in netlist a h.1 f.1, words_in netlist b h.2 f.2)
 
-module _ (netlist : Netlist) (order : List ℕ) (keeps : KeepsRules netlist order) (some : 0 < word_width netlist) (patterns : List Pattern) (known : AreKnown netlist patterns) where
+module _ (netlist : Netlist) (order : List ℕ) (keeps : KeepsRules netlist order) (bare : HasNoFile netlist) (some : 0 < word_width netlist) (patterns : List Pattern) (known : AreKnown netlist patterns) where
   -- ---- a plain form
 
   into_register : (p : Pattern) (number choice clobbers : ℕ) → slice_get patterns number ≡ Some p → IsPlain netlist p → AreClobbers netlist p clobbers → (storage : ℕ) (move : Move) → p ≡ record { storage = storage; move = move }
@@ -62,7 +64,7 @@ module _ (netlist : Netlist) (order : List ℕ) (keeps : KeepsRules netlist orde
   into_register p number choice clobbers at plain are storage (write_at a v) e ne =
       let k = known number p at in
       let g : move_at netlist k.is.word storage ≡ write_at a v = ap (λ (q : Pattern). move_at netlist k.is.word q.storage) (sym e) ∙ k.is.given.gives ∙ ap (λ (q : Pattern). q.move) e in
-      let m = lone_memory netlist.storages storage keeps.roles.memory (stores_memory netlist k.is.word storage a v (slice_get netlist.storages storage) g) in
+      let m = lone_memory netlist.storages storage keeps.roles.memory (memory_only netlist.storages storage bare (stores_cells netlist k.is.word storage a v (slice_get netlist.storages storage) g)) in
       absurd (true≢false (sym (eq-eqb storage (memory_id netlist.storages) m) ∙ ne))
   into_register p number choice clobbers at plain are storage (write v) e ne =
       let k = known number p at in

@@ -5,6 +5,8 @@ use Rattle.std.proofs.lemmas.Bool.{true≢false}
 use Rattle.std.proofs.lemmas.Nat.{or_comm as join_comm}
 use Rattle.rec_bits.specs.declared.operator.Op1.{Op1}
 use Rattle.rec_bits.specs.declared.operator.Op2.{Op2}
+use Rattle.net_model.specs.declared.hardware.Space.{Space}
+use Rattle.net_model.specs.declared.hardware.Space.TheVariants.{Memory as InMemory, File as InFile}
 use Rattle.net_model.specs.Fields.{fields}
 use Rattle.net_model.specs.Terms.{Term, word, reg, const, read, un, bin, slice, cat, zext, sext, select}
 use Rattle.form_model.specs.Effects.{register, term_reads}
@@ -54,14 +56,22 @@ in_un o a b h = record {
   words = h.words;
 }
 
-in_read : (w : ℕ) (a b : Term) → IsSwapped a b → IsSwapped (read a w) (read b w)
-in_read w a b h = record {
+in_read : (space : Space) (w : ℕ) (a b : Term) → IsSwapped a b → IsSwapped (read space a w) (read space b w)
+in_read InMemory w a b h = record {
   reads = h.reads;
   used = h.used;
   fields_same = h.fields_same;
   word_same = refl;
   once = h.once;
   words = λ bits e. (e.0, h.words bits e.1);
+}
+in_read InFile w a b h = record {
+  reads = h.reads;
+  used = h.used;
+  fields_same = h.fields_same;
+  word_same = refl;
+  once = h.once;
+  words = h.words;
 }
 
 in_zext : (w : ℕ) (a b : Term) → IsSwapped a b → IsSwapped (zext a w) (zext b w)
@@ -150,7 +160,7 @@ pub swap_at_swapped : (chosen : Path → Bool) (t : Term) → IsSwapped t (swap_
 swap_at_swapped chosen (word w) = unswapped (word w)
 swap_at_swapped chosen (reg r w) = unswapped (reg r w)
 swap_at_swapped chosen (const w v) = unswapped (const w v)
-swap_at_swapped chosen (read a w) = in_read w a (swap_at (λ path. chosen (0 ∷ path)) a) (swap_at_swapped (λ path. chosen (0 ∷ path)) a)
+swap_at_swapped chosen (read space a w) = in_read space w a (swap_at (λ path. chosen (0 ∷ path)) a) (swap_at_swapped (λ path. chosen (0 ∷ path)) a)
 swap_at_swapped chosen (un o a) = in_un o a (swap_at (λ path. chosen (0 ∷ path)) a) (swap_at_swapped (λ path. chosen (0 ∷ path)) a)
 swap_at_swapped chosen (bin o a b) =
     by (can_swap o && chosen []) (in_bin o a b c d (swap_at_swapped (λ path. chosen (0 ∷ path)) a) (swap_at_swapped (λ path. chosen (1 ∷ path)) b))

@@ -11,6 +11,7 @@ use Rattle.form_set.specs.Listing.{AreForms, goal_at, goal_reach, greatest_reach
 use Rattle.form_set.specs.Words.{CanJump}
 use Rattle.form_set.specs.Promises.{IsFormOf, is_control_goal, of_branch, of_jump, of_plain}
 use Rattle.branch_fix.specs.Items.{jump_form, reaches}
+use Rattle.word_fit.specs.Fits.{HasNoFile}
 use Rattle.right_code.specs.Inner.Forks.{IsBranchForm, IsJumpForm}
 use Rattle.right_code.specs.Inner.Known.{AreKnown}
 use Rattle.right_code.specs.Inner.Laid.{AreTurns, TargetReaches}
@@ -62,7 +63,7 @@ plain_goal netlist storage k e h = true≢false (sym h ∙ ap is_control_goal e 
     by true = refl
     by false = refl
 
-module _ (netlist : Netlist) (order : List ℕ) (keeps : KeepsRules netlist order) (some : 0 < word_width netlist) (patterns : List Pattern) (known : AreKnown netlist patterns) (reach : ℕ) (rules : List Rule) (forms : AreForms netlist patterns rules reach) where
+module _ (netlist : Netlist) (order : List ℕ) (keeps : KeepsRules netlist order) (bare : HasNoFile netlist) (some : 0 < word_width netlist) (patterns : List Pattern) (known : AreKnown netlist patterns) (reach : ℕ) (rules : List Rule) (forms : AreForms netlist patterns rules reach) where
   record IsJumping (rule : Rule) : Type 0 where
     form : IsJumpForm netlist patterns rule
     shown : (v : ℕ) → v < reach → shows rule.value v ≡ true
@@ -107,14 +108,14 @@ module _ (netlist : Netlist) (order : List ℕ) (keeps : KeepsRules netlist orde
   -- a form that branches is made of its pattern
   pub fork_form : (k : ℕ) (turn : Rule) (when_one : Bool) (way : BranchTarget) → slice_get rules k ≡ Some turn → turn.goal ≡ branches when_one way → IsBranchForm netlist patterns turn when_one way
   fork_form k turn when_one way at g =
-      let r = placed netlist order keeps some patterns known reach rules forms.list k turn at in
+      let r = placed netlist order keeps bare some patterns known reach rules forms.list k turn at in
       (turning r.number r.pattern turn when_one way r.at r.of g).form
 
   -- where there is a jump form
   pub are_turns : 1 ≤ reach → AreTurns netlist patterns rules reach
   are_turns l =
       let f = first_jump rules reach l forms.greatest_is in
-      let q = placed netlist order keeps some patterns known reach rules forms.list f.place f.rule f.at in
+      let q = placed netlist order keeps bare some patterns known reach rules forms.list f.place f.rule f.at in
       let j = jumping q.number q.pattern f.rule q.at q.of f.goal in
       record {
         rule = f.rule;
@@ -123,7 +124,7 @@ module _ (netlist : Netlist) (order : List ℕ) (keeps : KeepsRules netlist orde
         shown = j.shown;
         narrow = j.narrow;
         forks = fork_form;
-        reaches = λ k turn when_one way at g. (let r = placed netlist order keeps some patterns known reach rules forms.list k turn at in (turning r.number r.pattern turn when_one way r.at r.of g).reached);
+        reaches = λ k turn when_one way at g. (let r = placed netlist order keeps bare some patterns known reach rules forms.list k turn at in (turning r.number r.pattern turn when_one way r.at r.of g).reached);
       }
 
   -- ---- words of jumps and branches
@@ -141,7 +142,7 @@ module _ (netlist : Netlist) (order : List ℕ) (keeps : KeepsRules netlist orde
   can_turn number p rule at (of_branch choice parts b e) g = record { pattern = p; at = ap (λ (r : Rule). slice_get patterns r.pattern) e ∙ at; is = (known number p at).is; can = b.can }
 
   pub turn_can : (k : ℕ) (rule : Rule) → slice_get rules k ≡ Some rule → is_control_goal rule.goal ≡ true → CanTurn rule
-  turn_can k rule at g = let r = placed netlist order keeps some patterns known reach rules forms.list k rule at in can_turn r.number r.pattern rule r.at r.of g
+  turn_can k rule at g = let r = placed netlist order keeps bare some patterns known reach rules forms.list k rule at in can_turn r.number r.pattern rule r.at r.of g
 
   pub jump_can : 1 ≤ reach → (rule : Rule) → jump_form rules reach ≡ Some rule → CanTurn rule
   jump_can l rule e =

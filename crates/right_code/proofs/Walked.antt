@@ -13,7 +13,7 @@ use Rattle.code_model.specs.Machine.{IsAt}
 use Rattle.form_model.specs.Covers.{Stock}
 use Rattle.form_model.specs.Effects.{Operation, operation_of, steps_effect}
 use Rattle.form_model.specs.Live.{Regs, live_before}
-use Rattle.word_fit.specs.Fits.{fits_over, FitsGroup}
+use Rattle.word_fit.specs.Fits.{fits_over, FitsGroup, HasNoFile}
 use Rattle.word_fit.specs.Groups.{Agree, GroupsFit}
 use Rattle.word_fit.specs.Runs.{IsClocked, StandAt, RunsTo}
 use Rattle.word_fit.proofs.Clocks.{clocks}
@@ -29,7 +29,7 @@ use Rattle.right_code.proofs.Jobs.{jobs_left}
 reached_same : (s t : State) → Reached s ≡ Reached t → s ≡ t
 reached_same s t e = cc
 
-module _ (netlist : Netlist) (order : List ℕ) (keeps : KeepsRules netlist order) (image : Image) where
+module _ (netlist : Netlist) (order : List ℕ) (keeps : KeepsRules netlist order) (plain : HasNoFile netlist) (image : Image) where
   -- a walk is a run
   walk_runs : (n at cycle : ℕ) (s t : State) → Walks netlist image at s n t → run_from cycle netlist (words_of image) s n ≡ Reached t
   walk_runs zero at cycle s t w = ap Reached w.0
@@ -45,7 +45,7 @@ module _ (netlist : Netlist) (order : List ℕ) (keeps : KeepsRules netlist orde
     walk (w ∷ ws) (g ∷ gs) at s f h p b =
         let l : Regs = live_before m gs after in
         let fit : FitsGroup netlist m w g l = f.0 in
-        let d : IsClocked netlist m (words_of image) g l s = clocks netlist order keeps (words_of image) w s h.state fit.clean (ap (slice_index (words_of image)) h.counter ∙ p.0) m g l fit in
+        let d : IsClocked netlist m (words_of image) g l s = clocks netlist order keeps plain (words_of image) w s h.state fit.clean (ap (slice_index (words_of image)) h.counter ∙ p.0) m g l fit in
         let c : counter_in netlist s ≡ at = h.counter in
         let one : counter_in netlist d.next ≡ at + 1 = d.counter ∙ mod-eq_of_lt (omega (arith, b, c)) ∙ ap (λ n. n + 1) c in
         let r = walk ws gs (at + 1) d.next f.1 (record { state = d.state; counter = one }) p.1 (omega (arith, b)) in
@@ -59,7 +59,7 @@ module _ (netlist : Netlist) (order : List ℕ) (keeps : KeepsRules netlist orde
         let c : counter_in netlist s ≡ at = h.counter in
         let w = walk ws gs at s f h p b in
         let r : RunsTo netlist (words_of image) s (length ws) after (steps_effect m xs s) =
-        means (words_of image) ws s f h.state (subst (λ n. StandAt (words_of image) n ws) (sym c) p) (omega (arith, b, c)) in
+        means plain (words_of image) ws s f h.state (subst (λ n. StandAt (words_of image) n ws) (sym c) p) (omega (arith, b, c)) in
         let e : r.last ≡ w.0 = reached_same r.last w.0 (sym r.is ∙ walk_runs (length ws) at 0 s w.0 w.1) in
         record { last = w.0; walks = w.1; agree = subst (λ t. Agree after t (steps_effect m xs s)) e r.agree }
 

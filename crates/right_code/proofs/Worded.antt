@@ -24,7 +24,7 @@ use Rattle.emit_seq.specs.Spares.{AreSpare, step_clobbers, wanted}
 use Rattle.emit_seq.proofs.Settled.{steps_of_forms}
 use Rattle.emit_seq.proofs.Spared.{clobbers_at, steps_spare}
 use Rattle.src_trees.specs.Lowered.{Work}
-use Rattle.word_fit.specs.Fits.{fits_over}
+use Rattle.word_fit.specs.Fits.{fits_over, HasNoFile}
 use Rattle.word_fit.specs.Groups.{AllHaveWords}
 use Rattle.block_words.specs.Formed.{AreWorded, IsWorded}
 use Rattle.block_words.proofs.Worded.{have_words}
@@ -55,7 +55,7 @@ swapped_fields choice (write_at a v) n =
     let x : Sides = record { addr = Some a; value = v } in
     sides_fields (Some a) (swapped choice x).addr v (swapped choice x).value (swapped_sides choice x)
 
-module _ (netlist : Netlist) (order : List ℕ) (keeps : KeepsRules netlist order) (some : 0 < word_width netlist) (patterns : List Pattern) (known : AreKnown netlist patterns) (reach : ℕ) (stock : Stock) (list : AreRules netlist reach 0 patterns stock.rules) where
+module _ (netlist : Netlist) (order : List ℕ) (keeps : KeepsRules netlist order) (bare : HasNoFile netlist) (some : 0 < word_width netlist) (patterns : List Pattern) (known : AreKnown netlist patterns) (reach : ℕ) (stock : Stock) (list : AreRules netlist reach 0 patterns stock.rules) where
   no_step : (goal other : Kind) → goal ≡ other → IsStepping goal → (IsStepping other → ⊥) → ⊥
   no_step goal other e h n = n (subst IsStepping e h)
 
@@ -76,7 +76,7 @@ module _ (netlist : Netlist) (order : List ℕ) (keeps : KeepsRules netlist orde
         };
         mask = clobbers;
         same = ap (λ n. step_clobbers stock.rules (record { pattern = n; setting = x.setting })) same
-            ∙ ap (λ n. regs_of n) (clobbers_at stock.rules (are_shared netlist order keeps some patterns known reach stock.rules list) k rule listed ∙ ap (λ (r : Rule). r.clobbers) e);
+            ∙ ap (λ n. regs_of n) (clobbers_at stock.rules (are_shared netlist order keeps bare some patterns known reach stock.rules list) k rule listed ∙ ap (λ (r : Rule). r.clobbers) e);
         words = plain_words netlist p clobbers plain are;
       }
 
@@ -84,7 +84,7 @@ module _ (netlist : Netlist) (order : List ℕ) (keeps : KeepsRules netlist orde
   all_worded [] h = tt
   all_worded (x ∷ xs) h =
       let o : IsOfForm stock.rules x = h.0 in
-      let f : Placed netlist order keeps some patterns known reach stock.rules list o.rule = placed netlist order keeps some patterns known reach stock.rules list o.destination o.rule o.listed in
+      let f : Placed netlist order keeps bare some patterns known reach stock.rules list o.rule = placed netlist order keeps bare some patterns known reach stock.rules list o.destination o.rule o.listed in
       (of_form x o.rule o.destination o.listed o.goal o.pattern o.within f.number f.pattern f.at f.of, all_worded xs h.1)
 
   forms_on : (xs ys : List Step) → AreOfForms stock.rules xs → AreOfForms stock.rules ys → AreOfForms stock.rules (xs ++ ys)
@@ -108,8 +108,8 @@ module _ (netlist : Netlist) (order : List ℕ) (keeps : KeepsRules netlist orde
       let xs : List Step = jobs_steps stock jobs choices in
       have_words netlist patterns (step_clobbers stock.rules) xs (regs_of 0) (all_worded xs (jobs_forms jobs choices c))
       (spare_less (operation_of patterns) (step_clobbers stock.rules) xs no_regs (regs_of 0) (λ r e. cc (e, bit_at-zero r))
-      (jobs_spare stock patterns (length netlist.storages) (counter_of netlist.codes) (are_formed netlist order keeps some patterns known reach stock.rules list) (are_shared netlist order keeps some patterns known reach stock.rules list)
-      (is_counter netlist order keeps some patterns known reach stock.rules list) jobs choices c).0)
+      (jobs_spare stock patterns (length netlist.storages) (counter_of netlist.codes) (are_formed netlist order keeps bare some patterns known reach stock.rules list) (are_shared netlist order keeps bare some patterns known reach stock.rules list)
+      (is_counter netlist order keeps bare some patterns known reach stock.rules list) jobs choices c).0)
 
   -- the steps of a test, where registers of its condition are live behind it
   pub test_words : (job : Work) (choice : Choice) (live : Regs) → IsCovered stock (test_of job) choice → ((r : ℕ) → live r ≡ true → wanted stock tested (tree_used (test_of job) choice) choice.plan r ≡ true)
@@ -119,7 +119,7 @@ module _ (netlist : Netlist) (order : List ℕ) (keeps : KeepsRules netlist orde
       let xs : List Step = job_steps stock (test_of job) choice in
       let s : AreSpare stock patterns (counter_of netlist.codes) tested used choice.plan =
       subst (λ t. AreSpare stock patterns (counter_of netlist.codes) tested t choice.plan) (sym (ap tree_or_none c.covers.used))
-      (steps_spare stock patterns (length netlist.storages) (counter_of netlist.codes) (are_formed netlist order keeps some patterns known reach stock.rules list) (are_shared netlist order keeps some patterns known reach stock.rules list)
-      (is_counter netlist order keeps some patterns known reach stock.rules list) tested c.covers.tree choice.plan tt c.covers.orderly) in
+      (steps_spare stock patterns (length netlist.storages) (counter_of netlist.codes) (are_formed netlist order keeps bare some patterns known reach stock.rules list) (are_shared netlist order keeps bare some patterns known reach stock.rules list)
+      (is_counter netlist order keeps bare some patterns known reach stock.rules list) tested c.covers.tree choice.plan tt c.covers.orderly) in
       have_words netlist patterns (step_clobbers stock.rules) xs live (all_worded xs (job_forms (test_of job) choice c))
       (spare_less (operation_of patterns) (step_clobbers stock.rules) xs (wanted stock tested used choice.plan) live f s.spare)

@@ -20,9 +20,10 @@ pub record Task : Type 0 where
   pub width : ℕ
   pub listing : Listing
 
--- the netlist keeps its rules and the program its own, its words are those of the data memory, and
--- the memory has a cell for each of its cells
+-- the netlist is of the first edition and keeps its rules, and the program its own; its words are
+-- those of the data memory, and the memory has a cell for each of its cells
 pub record IsChecked (order : List ℕ) (task : Task) : Type 0 where
+  pub first : task.netlist.edition ≡ 1
   pub netlist : KeepsRules task.netlist order
   pub program : first_fault task.width task.listing ≡ None
   pub words : memory_width task.netlist.storages ≡ task.width

@@ -48,7 +48,7 @@ both_later book book' pool pool' e g routes t word =
 module _ (old new : List Node) (g : Grows old new) where
   pub head-same : (head : Head) → AllBelow (length old) (head_parts head) → (s t : Term) → s ≡ t → head_term head (term_at new) s ≡ head_term head (term_at old) t
   head-same Same h s t e = e
-  head-same (Read w) h s t e = (λ j. read (e j) w)
+  head-same (Read space w) h s t e = (λ j. read space (e j) w)
   head-same (Un o) h s t e = (λ j. un o (e j))
   head-same (Slice i l) h s t e = (λ j. sliced (e j) i l)
   head-same (Zext w) h s t e = (λ j. zext (e j) w)
@@ -59,7 +59,7 @@ module _ (old new : List Node) (g : Grows old new) where
 
   pub fits-later : (head : Head) → AllBelow (length old) (head_parts head) → (v w : ℕ) → v ≡ w → LastFits head (term_at old) v → LastFits head (term_at new) w
   fits-later Same h v w e f = tt
-  fits-later (Read i) h v w e f = f
+  fits-later (Read space i) h v w e f = f
   fits-later (Un o) h v w e f = tt
   fits-later (Slice i l) h v w e f = (f.0, omega (arith, f.1, e))
   fits-later (Zext i) h v w e f = (omega (arith, f.0, e), f.1)

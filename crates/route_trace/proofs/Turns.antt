@@ -130,21 +130,21 @@ module _ (netlist : Netlist) (order : List ℕ) (o : IsOrder netlist order) (i :
 
     -- what the gate gives is the net's symbolic value
     at_sym : (net : Net) → slice_get netlist.nets (slice_index order i) ≡ Some net → (word : ℕ) (terms : List Term)
-        → terms ≡ only book legal word (gate_term (sym_of netlist word) (value_of netlist no_state word) (is_static netlist) net.width net.gate) → terms ≡ only book' legal word (sym_of netlist word (slice_index order i))
+        → terms ≡ only book legal word (gate_term (sym_of netlist word) (value_of netlist no_state word) (is_static netlist) netlist net.width net.gate) → terms ≡ only book' legal word (sym_of netlist word (slice_index order i))
     at_sym net at word terms is =
-        let s = sym_is netlist word order o (slice_index order i) (o.nets i within) ∙ ap (net_term (sym_of netlist word) (value_of netlist no_state word) (is_static netlist)) at in
+        let s = sym_is netlist word order o (slice_index order i) (o.nets i within) ∙ ap (net_term (sym_of netlist word) (value_of netlist no_state word) (is_static netlist) netlist) at in
         let w = same_words book book' e legal legal_in word in
         is ∙ (λ j. if sym w j then sym s j ∷ [] else [])
 
     -- the routes that were given up are right so far
     pub over_sym : (net : Net) → slice_get netlist.nets (slice_index order i) ≡ Some net → all_nets (kept_at verdicts) (gate_nets net.gate) ≡ true
-        → IsOver book' pool' (λ word terms. (t : ℕ → Term) → AllGive book pool nets legal t word (gate_nets net.gate) → terms ≡ only book legal word (gate_term t (value_of netlist no_state word) (is_static netlist) net.width net.gate))
+        → IsOver book' pool' (λ word terms. (t : ℕ → Term) → AllGive book pool nets legal t word (gate_nets net.gate) → terms ≡ only book legal word (gate_term t (value_of netlist no_state word) (is_static netlist) netlist net.width net.gate))
         → IsOver book' pool' (λ word terms. terms ≡ only book' legal word (sym_of netlist word (slice_index order i)))
     over_sym net at kept over = many_in Many book' pool' _ _ (λ word fits terms h. inr (at_sym net at word terms (h (sym_of netlist word) (all_given net at kept word (low word fits))))) over
 
     module _ (out : List Route) (table : IsRouteTable book' pool' out)
         (net : Net) (at : slice_get netlist.nets (slice_index order i) ≡ Some net)
-        (gives : (word : ℕ) → word < 2 ^ book.bits → terms_under book' pool' out word ≡ only book legal word (gate_term (sym_of netlist word) (value_of netlist no_state word) (is_static netlist) net.width net.gate)) where
+        (gives : (word : ℕ) → word < 2 ^ book.bits → terms_under book' pool' out word ≡ only book legal word (gate_term (sym_of netlist word) (value_of netlist no_state word) (is_static netlist) netlist net.width net.gate)) where
       pub new_gives : (word : ℕ) → word < 2 ^ book.bits → terms_under book' pool' out word ≡ only book' legal word (sym_of netlist word (slice_index order i))
       new_gives word fits = at_sym net at word (terms_under book' pool' out word) (gives word fits)
 

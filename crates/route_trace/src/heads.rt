@@ -6,6 +6,7 @@ ghost use Rattle.net_model.specs.Terms.{term_width};
 ghost use Rattle.sym_expr.specs.Pools.{AllBelow, Grows, term_at};
 ghost use Rattle.route_trace.specs.Inner.Heads.{LastFits, binary_head, head_parts, head_term, slice_parts};
 
+use net_model::Space;
 use rec_bits::{NoMemory, Op1, Op2};
 use std::alloc::Global;
 use sym_expr::{ExprId, Node, Pool};
@@ -14,7 +15,7 @@ use sym_expr::{ExprId, Node, Pool};
 #[derive(Clone, Copy)]
 pub(crate) enum Head {
     Same,
-    Read(u8),
+    Read(Space, u8),
     Un(Op1),
     Slice(u8, u8),
     Zext(u8),
@@ -33,7 +34,7 @@ fn slice_of_node(node: Node) -> Option<(ExprId, u8, u8)>
         Node::Word(_) => None,
         Node::Reg(..) => None,
         Node::Const { .. } => None,
-        Node::Read(..) => None,
+        Node::Read(..) | Node::Cell(..) => None,
         Node::Un(..) => None,
         Node::Bin(..) => None,
         Node::Cat(..) => None,
@@ -86,7 +87,8 @@ pub(crate) fn close(
 {
     match head {
         Head::Same => Ok(last),
-        Head::Read(width) => pool.intern(alloc, Node::Read(last, width)),
+        Head::Read(Space::Memory, width) => pool.intern(alloc, Node::Read(last, width)),
+        Head::Read(Space::File, width) => pool.intern(alloc, Node::Cell(last, width)),
         Head::Un(op) => pool.intern(alloc, Node::Un(op, last)),
         Head::Slice(hi, lo) => make_slice(alloc, pool, last, hi, lo),
         Head::Zext(width) => pool.intern(alloc, Node::Zext(last, width)),

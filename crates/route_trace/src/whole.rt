@@ -73,12 +73,12 @@ pub(crate) fn net_routes(
         AllGive book.old pool.old nets.now controls.now.legal t word (gate_nets net.now.gate) →
         terms_under book.new pool.new out word
         ≡ only book.old controls.now.legal word (gate_term t (value_of netlist.now no_state word)
-        (is_static netlist.now) net.now.width net.now.gate)) }
+        (is_static netlist.now) netlist.now net.now.width net.now.gate)) }
     ensures many { IfErr result (λ stop. IfMany stop (IsOver book.new pool.new
         (λ word terms. (t : ℕ → Term) →
         AllGive book.old pool.old nets.now controls.now.legal t word (gate_nets net.now.gate) →
         terms ≡ only book.old controls.now.legal word (gate_term t (value_of netlist.now no_state word)
-        (is_static netlist.now) net.now.width net.now.gate)))) }
+        (is_static netlist.now) netlist.now net.now.width net.now.gate)))) }
 {
     let legal = controls.legal;
     let width = net.width;
@@ -89,8 +89,17 @@ pub(crate) fn net_routes(
             let value = *value;
             routes_of_leaf(alloc, book, pool, legal, Node::Const { width, value })
         }
-        Gate::Read { addr, .. } => {
-            routes_under(alloc, book, pool, legal, Head::Read(width), nets, *addr)
+        Gate::Read { memory, addr } => {
+            let space = netlist.space(*memory);
+            routes_under(
+                alloc,
+                book,
+                pool,
+                legal,
+                Head::Read(space, width),
+                nets,
+                *addr,
+            )
         }
         Gate::Wire(a) => routes_under(alloc, book, pool, legal, Head::Same, nets, *a),
         Gate::Un(op, a) => routes_under(alloc, book, pool, legal, Head::Un(*op), nets, *a),

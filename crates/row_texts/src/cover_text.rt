@@ -32,7 +32,7 @@ fn program_of(alloc: Global, text: &str, width: u8) -> Result<Typed, RowFault> {
 // The bits of an address of the data memory.
 fn address_width(checked: &Checked) -> u8 {
     match checked.netlist().storage(checked.memory()) {
-        Some(Storage::Memory { addr_width, .. }) => *addr_width,
+        Some(Storage::Memory(cells)) => cells.addr_width,
         _ => 0,
     }
 }

@@ -2,7 +2,7 @@
 
 use crate::fault::RowFault;
 use crate::text::put;
-use net_model::{Checked, Expr, Storage};
+use net_model::{Checked, Expr, Space};
 use std::alloc::AllocError;
 use transfer_set::{word_of_one, word_of_two};
 
@@ -17,9 +17,7 @@ fn add_name(text: &mut String, name: &[u8]) -> Result<(), RowFault> {
 /// Adds the name of the storage of this number.
 pub fn add_storage(text: &mut String, checked: &Checked, id: u32) -> Result<(), RowFault> {
     match checked.netlist().storage(id) {
-        Some(Storage::Register { name, .. } | Storage::Memory { name, .. }) => {
-            add_name(text, name.as_slice())
-        }
+        Some(storage) => add_name(text, storage.name()),
         None => Err(RowFault::Name),
     }
 }
@@ -50,9 +48,9 @@ fn add_ends(text: &mut String, hi: u8, lo: u8) -> Result<(), AllocError> {
     put(text, ",", u64::from(lo))
 }
 
-// Adds the name of the data memory, and a comma.
-fn add_memory(text: &mut String, checked: &Checked) -> Result<(), RowFault> {
-    add_storage(text, checked, checked.memory())?;
+// Adds the name of a space, and a comma.
+fn add_space(text: &mut String, checked: &Checked, space: Space) -> Result<(), RowFault> {
+    add_storage(text, checked, checked.place(space))?;
     Ok(text.push_str(",")?)
 }
 
@@ -75,7 +73,11 @@ fn word_of(expr: &Expr) -> &'static str {
 fn add_operands(text: &mut String, checked: &Checked, expr: &Expr) -> Result<(), RowFault> {
     match expr {
         Expr::Read(a, _) => {
-            add_memory(text, checked)?;
+            add_space(text, checked, Space::Memory)?;
+            add_expr(text, checked, a)
+        }
+        Expr::Cell(a, _) => {
+            add_space(text, checked, Space::File)?;
             add_expr(text, checked, a)
         }
         Expr::Un(_, a) => add_expr(text, checked, a),

@@ -15,7 +15,7 @@ split : (w : ℕ) (t : Term) → wide_nodes w t ≡ cond (is_cell t) 0 (is_word 
 split w (word v) = omega arith
 split w (reg r v) = omega arith
 split w (const v n) = omega arith
-split w (read a v) = by (is_number a)
+split w (read space a v) = by (is_number a)
   where
     by : (b : Bool) → cond b 0 (is_word w v + wide_nodes w a) ≡ cond b 0 (is_word w v + cond b 0 (wide_nodes w a))
     by true = refl
@@ -33,7 +33,7 @@ module _ (m : Widths) where
   cell_is at (word w) = refl
   cell_is at (reg r w) = refl
   cell_is at (const w v) = refl
-  cell_is at (read a w) = refl
+  cell_is at (read space a w) = refl
   cell_is at (un o a) = refl
   cell_is at (bin o a b) = refl
   cell_is at (slice a hi lo) = by (is_field (slice a hi lo))
@@ -59,7 +59,7 @@ module _ (m : Widths) where
   width_is at (word w) = refl
   width_is at (reg r w) = refl
   width_is at (const w v) = refl
-  width_is at (read a w) = refl
+  width_is at (read space a w) = refl
   width_is at (un o a) = width_is at a
   width_is at (bin o a b) = ap (result_width o) (width_is at a)
   width_is at (slice a hi lo) = by (is_field (slice a hi lo))
@@ -91,7 +91,7 @@ module _ (m : Widths) where
   inner_is w at (word v) = refl
   inner_is w at (reg r v) = refl
   inner_is w at (const v n) = refl
-  inner_is w at (read a v) = refl
+  inner_is w at (read space a v) = refl
   inner_is w at (un o a) = nodes_are w at a ∙ ap (node w a) (inner_is w at a)
   inner_is w at (bin o a b) =
       ap (λ n. n + wide_nodes w (tree_from m (at + operands a) b)) (nodes_are w at a ∙ ap (node w a) (inner_is w at a))

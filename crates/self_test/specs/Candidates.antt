@@ -17,7 +17,7 @@ abbrev pub has_registers : ℕ → Term → Bool
 has_registers w (word v) = true
 has_registers w (reg r v) = v == w
 has_registers w (const v n) = true
-has_registers w (read a v) = has_registers w a
+has_registers w (read space a v) = has_registers w a
 has_registers w (un o a) = has_registers w a
 has_registers w (bin o a b) = has_registers w a && has_registers w b
 has_registers w (slice a hi lo) = has_registers w a
@@ -31,7 +31,7 @@ abbrev pub has_field_reads : Term → Bool
 has_field_reads (word v) = true
 has_field_reads (reg r v) = true
 has_field_reads (const v n) = true
-has_field_reads (read a v) = is_shape a
+has_field_reads (read space a v) = is_shape a
 has_field_reads (un o a) = has_field_reads a
 has_field_reads (bin o a b) = has_field_reads a && has_field_reads b
 has_field_reads (slice a hi lo) = has_field_reads a
@@ -45,7 +45,7 @@ abbrev pub has_tree : Term → Bool
 has_tree (word v) = true
 has_tree (reg r v) = true
 has_tree (const v n) = true
-has_tree (read a v) = has_tree a
+has_tree (read space a v) = has_tree a
 has_tree (un o a) = has_tree a
 has_tree (bin o a b) = has_tree a && has_tree b
 has_tree (slice a hi lo) = has_tree a

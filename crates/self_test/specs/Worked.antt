@@ -1,6 +1,7 @@
 -- The candidates of small netlists, their trees and their cells, computed.
 use Rattle.std.specs.Prelude.{ℕ, ◌≡◌, refl, List, [], ◌∷◌, None, true, false}
 use Rattle.rec_bits.specs.declared.operator.Op2.TheVariants.{Add, Sub}
+use Rattle.net_model.specs.declared.hardware.Space.TheVariants.{Memory as InMemory}
 use Rattle.net_model.specs.Terms.{Term, word, reg, const, read, bin, slice, cat, zext, sext, write, write_at}
 use Rattle.net_model.specs.Patterns.{Pattern}
 use Rattle.net_model.specs.Worked.{a16}
@@ -23,7 +24,7 @@ abbrev form : ℕ → Rule
 form number = record { pattern = number; goal = into_reg 1; addr = None; value = const 0 0; fields = 0; clobbers = 0 }
 
 -- an accumulator plus a cell is one, and so are a load, an immediate and a store
-pub sum_is : is_candidate a16 (to_acc (bin Add acc (read f 16))) ≡ true
+pub sum_is : is_candidate a16 (to_acc (bin Add acc (read InMemory f 16))) ≡ true
 sum_is = refl
 
 pub store_is : is_candidate a16 (record { storage = 2; move = write_at f acc }) ≡ true
@@ -37,21 +38,21 @@ counter_is_none = refl
 pub naming_is_none : is_candidate a16 (to_acc (zext (reg 0 8) 16)) ≡ false
 naming_is_none = refl
 
-pub indexed_is_none : is_candidate a16 (to_acc (read (slice acc 7 0) 16)) ≡ false
+pub indexed_is_none : is_candidate a16 (to_acc (read InMemory (slice acc 7 0) 16)) ≡ false
 indexed_is_none = refl
 
 pub joined_is_none : is_candidate a16 (to_acc (cat f f)) ≡ false
 joined_is_none = refl
 
 -- the tree of a difference: two operands in cells 5 and 6
-pub difference_tree : tree_from (widths_of a16) 5 (bin Sub acc (read f 16)) ≡ bin Sub (read (const 8 5) 16) (read (const 8 6) 16)
+pub difference_tree : tree_from (widths_of a16) 5 (bin Sub acc (read InMemory f 16)) ≡ bin Sub (read InMemory (const 8 5) 16) (read InMemory (const 8 6) 16)
 difference_tree = refl
 
 -- the word of all ones gives an immediate of 8 bits 255, and its extension 255 or 65,535
 pub immediate_tree : tree_from (widths_of a16) 5 (zext f 16) ≡ const 16 255
 immediate_tree = refl
 
-pub signed_tree : tree_from (widths_of a16) 5 (bin Add acc (sext f 16)) ≡ bin Add (read (const 8 5) 16) (const 16 65535)
+pub signed_tree : tree_from (widths_of a16) 5 (bin Add acc (sext f 16)) ≡ bin Add (read InMemory (const 8 5) 16) (const 16 65535)
 signed_tree = refl
 
 -- two sums, one below the other: one node of 16 bits below the root, beside the cells
@@ -61,7 +62,7 @@ inner_nodes = refl
 -- of four patterns of which the first gives no form and the third is none: cells 0 and 1 for the
 -- operands of the sum, 2 for the store's, and the outputs in 3 and 4
 abbrev four : List Pattern
-four = to_acc (read f 16) ∷ to_acc (bin Add acc (read f 16)) ∷ record { storage = 0; move = write f }
+four = to_acc (read InMemory f 16) ∷ to_acc (bin Add acc (read InMemory f 16)) ∷ record { storage = 0; move = write f }
     ∷ record { storage = 2; move = write_at f acc } ∷ []
 
 abbrev forms : List Rule
@@ -74,6 +75,6 @@ pub five_cells : test_need a16 forms four ≡ 5
 five_cells = refl
 
 pub two_jobs : test_works a16 forms four
-    ≡ record { destination = cell 3; trees = bin Add (read (const 8 0) 16) (read (const 8 1) 16) ∷ [] }
-    ∷ record { destination = cell 4; trees = read (const 8 2) 16 ∷ [] } ∷ []
+    ≡ record { destination = cell 3; trees = bin Add (read InMemory (const 8 0) 16) (read InMemory (const 8 1) 16) ∷ [] }
+    ∷ record { destination = cell 4; trees = read InMemory (const 8 2) 16 ∷ [] } ∷ []
 two_jobs = refl

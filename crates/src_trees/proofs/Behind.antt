@@ -2,6 +2,7 @@
 use Rattle.std.proofs.Common.{ℕ, zero, suc, ◌≡◌, ◌≤◌, ◌+◌, ◌-◌, ◌==◌, if◌then◌else◌, List, [], ◌∷◌, length, drop, refl, sym, ◌∙◌, ap, arith, slice_index, slice_set}
 use Rattle.std.proofs.lemmas.List.{get_or-drop, length-set}
 use Rattle.rec_bits.specs.Operators.{apply1_of, apply2_of, slice_of, cat_of, sext_of as extended_of}
+use Rattle.net_model.specs.declared.hardware.Space.TheVariants.{Memory as InMemory, File as InFile}
 use Rattle.net_model.specs.Terms.{Term, word, reg, const, read, un, bin, slice, cat, zext, sext, select, term_width}
 use Rattle.form_model.specs.Rules.{Destination, into, cell, stored, temporary, tested}
 use Rattle.src_trees.specs.Lowered.{Work}
@@ -23,7 +24,8 @@ module _ (at : ℕ) (cells others : List ℕ) (alike : Alike at cells others) wh
   value_behind (word w) r = refl
   value_behind (reg n w) r = refl
   value_behind (const w v) r = refl
-  value_behind (read a w) r = cell_behind at (tree_value cells a) cells others alike.same r.1 ∙ ap (slice_index others) (value_behind a r.0)
+  value_behind (read InFile a w) r = absurd r
+  value_behind (read InMemory a w) r = cell_behind at (tree_value cells a) cells others alike.same r.1 ∙ ap (slice_index others) (value_behind a r.0)
   value_behind (un o a) r = ap (apply1_of o (term_width a)) (value_behind a r)
   value_behind (bin o a b) r = let p = value_behind a r.0 in let q = value_behind b r.1 in (λ j. apply2_of o (term_width a) (p j) (q j))
   value_behind (slice a hi lo) r = ap (λ n. slice_of n hi lo) (value_behind a r)
@@ -40,7 +42,8 @@ module _ (at : ℕ) (cells others : List ℕ) (alike : Alike at cells others) wh
   reads_behind (word w) r = tt
   reads_behind (reg n w) r = tt
   reads_behind (const w v) r = tt
-  reads_behind (read a w) r = let v = value_behind a r.0 in (reads_behind a r.0, omega (arith, r.1, v))
+  reads_behind (read InFile a w) r = absurd r
+  reads_behind (read InMemory a w) r = let v = value_behind a r.0 in (reads_behind a r.0, omega (arith, r.1, v))
   reads_behind (un o a) r = reads_behind a r
   reads_behind (bin o a b) r = (reads_behind a r.0, reads_behind b r.1)
   reads_behind (slice a hi lo) r = reads_behind a r

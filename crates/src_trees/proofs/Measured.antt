@@ -10,6 +10,7 @@ use Rattle.src_model.specs.Written.{shape_at}
 use Rattle.src_model.proofs.Bounds.{rules_hold}
 use Rattle.src_trees.specs.Flows.{program_works}
 use Rattle.src_model.proofs.SoundLemmas.{program_sound}
+use Rattle.net_model.specs.declared.hardware.Space.TheVariants.{Memory as InMemory}
 use Rattle.net_model.specs.Terms.{Term, const, read, bin, slice, term_width, size_of}
 use Rattle.src_model.specs.declared.program.Cmp.{Cmp}
 use Rattle.src_model.specs.declared.program.Cmp.TheVariants.{Eq, Ne, Lt, Le, Gt, Ge, Slt, Sle, Sgt, Sge}
@@ -123,7 +124,7 @@ module _ (bits addr temps : ℕ) (vars : List Declared) (inreach : InReach bits 
     pub width : term_width t ≡ w
 
   element_same : (name : List ℕ) (o : Option ℕ) (t : Term) (x : Shape) → term_width t ≡ bits → wide_nodes bits t ≡ all_of (part bits bits x)
-      → Same (read (element_address mem name o t) bits) (all_of (read_part bits o (part bits bits x))) (read_part bits o (part bits bits x)).below (read_part bits o (part bits bits x)).width
+      → Same (read InMemory (element_address mem name o t) bits) (all_of (read_part bits o (part bits bits x))) (read_part bits o (part bits bits x)).below (read_part bits o (part bits bits x)).width
   element_same name (Some n) t x w h = record { all = refl; below = refl; width = refl }
   element_same name None t x w h =
       let c = computed_wide name t w in

@@ -2,6 +2,7 @@
 use Rattle.std.proofs.Common.{ℕ, ◌≡◌, ◌≤◌, ◌<◌, ◌+◌, ◌-◌, max, nat_lt, Bool, true, false, if◌then◌else◌, List, [], ◌∷◌, ◌++◌, Option, Some, None, arith, refl}
 use Rattle.std.proofs.lemmas.Bool.Decides.{nat_tests}
 use Rattle.rec_bits.specs.declared.operator.Op2.TheVariants.{Add}
+use Rattle.net_model.specs.declared.hardware.Space.TheVariants.{Memory as InMemory}
 use Rattle.net_model.specs.Terms.{Term, const, read, bin, slice}
 use Rattle.src_model.specs.declared.program.Cmp.{Cmp}
 use Rattle.src_model.specs.declared.program.Cmp.TheVariants.{Eq, Ne, Lt, Le, Gt, Ge, Slt, Sle, Sgt, Sge}
@@ -39,14 +40,14 @@ module _ (m : MemoryMap) where
       by true e = record { most = omega (arith, h.most); same = λ lt. omega (arith, h.same lt) }
       by false e = record { most = omega (arith, h.most); same = λ lt. (let far : m.word ≤ m.addr = grind (arith, nat_tests, e) in absurd (omega arith)) }
 
-  read_counts : (t : Term) (n v : ℕ) → Has (node_size t) n → Has (node_size (read (narrowed m (bin Add t (const m.word v))) m.word)) (4 + n)
+  read_counts : (t : Term) (n v : ℕ) → Has (node_size t) n → Has (node_size (read InMemory (narrowed m (bin Add t (const m.word v))) m.word)) (4 + n)
   read_counts t n v h = by (nat_lt m.addr m.word) refl
     where
-      by : (b : Bool) → nat_lt m.addr m.word ≡ b → Has (node_size (read (if b then slice (bin Add t (const m.word v)) (m.addr - 1) 0 else bin Add t (const m.word v)) m.word)) (4 + n)
+      by : (b : Bool) → nat_lt m.addr m.word ≡ b → Has (node_size (read InMemory (if b then slice (bin Add t (const m.word v)) (m.addr - 1) 0 else bin Add t (const m.word v)) m.word)) (4 + n)
       by true e = record { most = omega (arith, h.most); same = λ lt. omega (arith, h.same lt) }
       by false e = record { most = omega (arith, h.most); same = λ lt. (let far : m.word ≤ m.addr = grind (arith, nat_tests, e) in absurd (omega arith)) }
 
-  element_counts : (name : List ℕ) (o : Option ℕ) (t : Term) (n : ℕ) → Has (node_size t) n → Has (node_size (read (element_address m name o t) m.word)) (read_nodes o n)
+  element_counts : (name : List ℕ) (o : Option ℕ) (t : Term) (n : ℕ) → Has (node_size t) n → Has (node_size (read InMemory (element_address m name o t) m.word)) (read_nodes o n)
   element_counts name (Some k) t n h = record { most = omega arith; same = λ lt. refl }
   element_counts name None t n h = read_counts t n (base_of m.places name) h
 

@@ -2,6 +2,7 @@
 use Rattle.std.proofs.Common.{ℕ, zero, suc, ◌≡◌, ◌≤◌, ◌<◌, ◌+◌, ◌-◌, ◌^◌, Bool, true, false, not, nat_lt, if◌then◌else◌, List, [], ◌∷◌, ◌++◌, length, Some, None, refl, sym, ◌∙◌, ap, subst, arith, slice_get, slice_index, ◌==◌, eq-eqb, ◌⊎◌, inl, inr}
 use Rattle.std.proofs.lemmas.Bool.Decides.{nat_tests}
 use Rattle.rec_bits.specs.Operators.{bit_of}
+use Rattle.net_model.specs.declared.hardware.Space.TheVariants.{Memory as InMemory}
 use Rattle.net_model.specs.Terms.{Term}
 use Rattle.net_model.specs.declared.hardware.Netlist.{Netlist}
 use Rattle.net_model.specs.declared.states.State.{State}
@@ -198,7 +199,7 @@ module _ (netlist : Netlist) (image : Image) (bits addr temps : ℕ) (vars : Lis
       by_assigns x item (inr same) = ap (λ y. is_assign (slice_get flow (b + y))) same ∙ ap is_assign item
 
       long : (s : State) → IsAt netlist (starts b) s → temps + cell_count vars ≤ length (all_done (jobs_at flow jobs b n) s.cells)
-      long s a = let e = all_done_length (jobs_at flow jobs b n) s.cells in let f = a.state.cells in omega (arith, room)
+      long s a = let e = all_done_length (jobs_at flow jobs b n) s.cells in let f = a.state.cells InMemory in omega (arith, room)
 
       met : (s : State) → IsAt netlist (starts b) s → Meets bits vars c (store_in image s) → Meets bits vars j (seen_store mem (all_done (jobs_at flow jobs b n) s.cells))
       met s a m = subst (Meets bits vars j) (sym (p.store s a m)) (p.meets s a m)
@@ -260,7 +261,7 @@ module _ (netlist : Netlist) (image : Image) (bits addr temps : ℕ) (vars : Lis
   asking i tree yes_to no_to work cmp test j k other at_flow at_jobs tells = by (holds_at_one cmp) refl at_flow
     where
       long : (s : State) → Stated i j s → temps + cell_count vars ≤ length s.cells
-      long s q = let f = q.0.state.cells in omega (arith, room)
+      long s q = let f = q.0.state.cells InMemory in omega (arith, room)
 
       met : (s : State) → Stated i j s → Meets bits vars j (seen_store mem s.cells)
       met s q = subst (Meets bits vars j) (store_is s) q.1
@@ -496,8 +497,8 @@ start_fits : (netlist : Netlist) (image : Image) (bits temps : ℕ) (vars : List
 start_fits netlist image bits temps vars s wide room places h =
     subst (λ ps. FitsStore bits vars (cells_at ps s.cells)) (sym places)
     (record {
-      all_cells = seen_length temps vars s.cells (let c = h.cells in omega arith);
-      below = seen_below (2 ^ bits) temps vars s.cells (λ c. subst (λ w. slice_index s.cells c < 2 ^ w) wide (h.fits.cells c));
+      all_cells = seen_length temps vars s.cells (let c = h.cells InMemory in omega arith);
+      below = seen_below (2 ^ bits) temps vars s.cells (λ c. subst (λ w. slice_index s.cells c < 2 ^ w) wide (h.fits.cells InMemory c));
     })
 
 -- words that do what a program's flow says trace the program

@@ -1,6 +1,7 @@
 -- The trees of a program, over the places of its variables in memory.
 use Rattle.std.specs.Prelude.{ℕ, ◌+◌, ◌-◌, nat_lt, if◌then◌else◌, Bool, true, false, not, List, [], ◌∷◌, ◌++◌, Option, Some, None}
 use Rattle.rec_bits.specs.declared.operator.Op2.TheVariants.{Add, Sub, Eq as Equal, Ltu, Lts}
+use Rattle.net_model.specs.declared.hardware.Space.TheVariants.{Memory as InMemory}
 use Rattle.net_model.specs.Terms.{Term, const, read, un, bin, slice, zext, sext}
 use Rattle.src_model.specs.declared.program.Cmp.{Cmp}
 use Rattle.src_model.specs.declared.program.Cmp.TheVariants.{Eq, Ne, Lt, Le, Gt, Ge, Slt, Sle, Sgt, Sge}
@@ -41,8 +42,8 @@ element_address m name None index = computed_address m name index
 -- the tree of an expression, given the width asked of a literal
 abbrev pub tree_of : MemoryMap → ℕ → Shape → Term
 tree_of m asked (num n) = const asked n
-tree_of m asked (plain name at) = read (const m.addr (base_of m.places name)) m.word
-tree_of m asked (element name at to x) = read (element_address m name (number_of x) (tree_of m m.word x)) m.word
+tree_of m asked (plain name at) = read InMemory (const m.addr (base_of m.places name)) m.word
+tree_of m asked (element name at to x) = read InMemory (element_address m name (number_of x) (tree_of m m.word x)) m.word
 tree_of m asked (un_of op at x) = un op (tree_of m asked x)
 tree_of m asked (bin_of op at x to y) =
     bin op (tree_of m (operand_width m.word x y) x) (tree_of m (operand_width m.word x y) y)
@@ -124,7 +125,7 @@ counting_work m counter at to = compare_work m Ne (plain counter at) (num (to + 
 abbrev pub step_work : MemoryMap → List ℕ → Work
 step_work m counter = record {
   destination = cell (base_of m.places counter);
-  trees = bin Add (read (const m.addr (base_of m.places counter)) m.word) (const m.word 1) ∷ [];
+  trees = bin Add (read InMemory (const m.addr (base_of m.places counter)) m.word) (const m.word 1) ∷ [];
 }
 
 abbrev mutual

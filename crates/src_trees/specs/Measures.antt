@@ -13,7 +13,7 @@ abbrev pub wide_nodes : ℕ → Term → ℕ
 wide_nodes bits (word w) = is_word bits w
 wide_nodes bits (reg r w) = is_word bits w
 wide_nodes bits (const w v) = is_word bits w
-wide_nodes bits (read a w) = if is_number a then 0 else is_word bits w + wide_nodes bits a
+wide_nodes bits (read space a w) = if is_number a then 0 else is_word bits w + wide_nodes bits a
 wide_nodes bits (un o a) = is_word bits (term_width a) + wide_nodes bits a
 wide_nodes bits (bin o a b) = is_word bits (term_width (bin o a b)) + (wide_nodes bits a + wide_nodes bits b)
 wide_nodes bits (slice a hi lo) = is_word bits (term_width (slice a hi lo)) + wide_nodes bits a
@@ -28,7 +28,7 @@ abbrev pub wide_below : ℕ → Term → ℕ
 wide_below bits (word w) = 0
 wide_below bits (reg r w) = 0
 wide_below bits (const w v) = 0
-wide_below bits (read a w) = if is_number a then 0 else wide_nodes bits a
+wide_below bits (read space a w) = if is_number a then 0 else wide_nodes bits a
 wide_below bits (un o a) = wide_nodes bits a
 wide_below bits (bin o a b) = wide_nodes bits a + wide_nodes bits b
 wide_below bits (slice a hi lo) = wide_nodes bits a
@@ -62,7 +62,7 @@ abbrev pub node_size : Term → ℕ
 node_size (word w) = 1
 node_size (reg r w) = 1
 node_size (const w v) = 1
-node_size (read a w) = if is_number a then 1 else 1 + node_size a
+node_size (read space a w) = if is_number a then 1 else 1 + node_size a
 node_size (un o a) = 1 + node_size a
 node_size (bin o a b) = 1 + node_size a + node_size b
 node_size (slice a hi lo) = 1 + node_size a

@@ -1,6 +1,7 @@
 -- Programs and the memory that holds their variables: the store that is seen there, and when a tree
 -- reads nothing below an address.
 use Rattle.std.specs.Prelude.{ℕ, ◌+◌, ◌^◌, ◌≡◌, ◌<◌, ◌≤◌, true, List, [], length, slice_index}
+use Rattle.net_model.specs.declared.hardware.Space.TheVariants.{Memory as InMemory, File as InFile}
 use Rattle.net_model.specs.Terms.{Term, word, reg, const, read, un, bin, slice, cat, zext, sext, select}
 use Rattle.net_model.specs.Meaning.{mean}
 use Rattle.src_model.specs.declared.program.Var.{Var as Declared}
@@ -23,14 +24,15 @@ seen_store m cells = cells_at m.places cells
 
 -- the value of a tree over the cells of the memory
 abbrev pub tree_value : List ℕ → Term → ℕ
-tree_value cells t = mean t (record { regs = []; cells = cells }) 0
+tree_value cells t = mean t (record { regs = []; cells = cells; file = [] }) 0
 
--- the tree reads no cell below an address
+-- the tree reads no cell below an address, and no register file
 abbrev pub ReadsCells : ℕ → List ℕ → Term → Type 0
 ReadsCells at cells (word w) = Unit {0}
 ReadsCells at cells (reg r w) = Unit {0}
 ReadsCells at cells (const w v) = Unit {0}
-ReadsCells at cells (read a w) = ReadsCells at cells a × (at ≤ tree_value cells a)
+ReadsCells at cells (read InMemory a w) = ReadsCells at cells a × (at ≤ tree_value cells a)
+ReadsCells at cells (read InFile a w) = ⊥
 ReadsCells at cells (un o a) = ReadsCells at cells a
 ReadsCells at cells (bin o a b) = ReadsCells at cells a × ReadsCells at cells b
 ReadsCells at cells (slice a hi lo) = ReadsCells at cells a

@@ -1,6 +1,7 @@
 -- The flow, the jobs and the values of worked programs.
 use Rattle.std.specs.Prelude.{ℕ, ◌≡◌, refl, true, false, List, [], ◌∷◌, Some, None}
 use Rattle.rec_bits.specs.declared.operator.Op2.TheVariants.{Add, Sub, Eq as Equal, Ltu}
+use Rattle.net_model.specs.declared.hardware.Space.TheVariants.{Memory as InMemory}
 use Rattle.net_model.specs.Terms.{const, read, bin, slice, sext}
 use Rattle.src_model.specs.declared.program.Cmp.TheVariants.{Eq, Ne, Lt, Le}
 use Rattle.src_model.specs.Written.{Shape, num, plain, element, bin as bin_of, sext as sext_of, low, Phrase, Act, assign, choice, while, count, without, otherwise, acts_of, Listing}
@@ -42,10 +43,10 @@ counted_flow = refl
 counted_works : program_works (memory_map 16 8 3 counted.vars) counted ≡
     record {
       destination = tested;
-      trees = bin Equal (read (const 8 3) 16) (const 16 0)
-          ∷ bin Equal (bin Sub (read (const 8 3) 16) (const 16 0)) (const 16 0) ∷ [];
+      trees = bin Equal (read InMemory (const 8 3) 16) (const 16 0)
+          ∷ bin Equal (bin Sub (read InMemory (const 8 3) 16) (const 16 0)) (const 16 0) ∷ [];
     }
-    ∷ record { destination = cell 3; trees = bin Sub (read (const 8 3) 16) (const 16 1) ∷ [] } ∷ []
+    ∷ record { destination = cell 3; trees = bin Sub (read InMemory (const 8 3) 16) (const 16 1) ∷ [] } ∷ []
 counted_works = refl
 
 -- var a, x[4]; for a = 0 to 2 { if x[a] < 5 { x[a] = x[3]; } else { } }
@@ -70,18 +71,18 @@ nested_works : program_works (memory_map 16 8 3 nested.vars) nested ≡
     record { destination = cell 3; trees = const 16 0 ∷ [] }
     ∷ record {
       destination = tested;
-      trees = bin Equal (read (const 8 3) 16) (const 16 3)
-          ∷ bin Equal (bin Sub (read (const 8 3) 16) (const 16 3)) (const 16 0) ∷ [];
+      trees = bin Equal (read InMemory (const 8 3) 16) (const 16 3)
+          ∷ bin Equal (bin Sub (read InMemory (const 8 3) 16) (const 16 3)) (const 16 0) ∷ [];
     }
     ∷ record {
       destination = tested;
-      trees = bin Ltu (read (slice (bin Add (read (const 8 3) 16) (const 16 4)) 7 0) 16) (const 16 5) ∷ [];
+      trees = bin Ltu (read InMemory (slice (bin Add (read InMemory (const 8 3) 16) (const 16 4)) 7 0) 16) (const 16 5) ∷ [];
     }
     ∷ record {
-      destination = stored (slice (bin Add (read (const 8 3) 16) (const 16 4)) 7 0);
-      trees = read (const 8 7) 16 ∷ [];
+      destination = stored (slice (bin Add (read InMemory (const 8 3) 16) (const 16 4)) 7 0);
+      trees = read InMemory (const 8 7) 16 ∷ [];
     }
-    ∷ record { destination = cell 3; trees = bin Add (read (const 8 3) 16) (const 16 1) ∷ [] } ∷ []
+    ∷ record { destination = cell 3; trees = bin Add (read InMemory (const 8 3) 16) (const 16 1) ∷ [] } ∷ []
 nested_works = refl
 
 -- three nodes below the read, and the literal beside it
@@ -114,12 +115,12 @@ wide_address = refl
 
 -- sext(low(a, 8) + 255, 16): a literal is as wide as the operand beside it
 narrow_literal : tree_of wide 16 (sext_of 0 (bin_of Add 0 (low 0 (plain a 0) 8) 0 (num 255)) 16)
-    ≡ sext (bin Add (slice (read (const 16 3) 16) 7 0) (const 8 255)) 16
+    ≡ sext (bin Add (slice (read InMemory (const 16 3) 16) 7 0) (const 8 255)) 16
 narrow_literal = refl
 
 -- a <= 5 is no 5 < a
 at_most : test_work wide (record { cmp = Le; left = phrase (plain a 0); right = phrase (num 5) })
-    ≡ record { destination = tested; trees = bin Ltu (const 16 5) (read (const 16 3) 16) ∷ [] }
+    ≡ record { destination = tested; trees = bin Ltu (const 16 5) (read InMemory (const 16 3) 16) ∷ [] }
 at_most = refl
 
 at_most_targets : asked Le 7 1 2 ≡ Test 7 2 1

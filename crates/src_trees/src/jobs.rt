@@ -1,6 +1,7 @@
 //! The jobs of assignments and tests.
 
 ghost use Rattle.std.specs.Prelude.{◌≡◌, ◌+◌, ◌<◌, ◌^◌, IfOk, map, [], ◌∷◌};
+ghost use Rattle.net_model.specs.declared.hardware.Space.TheVariants.{Memory as InMemory};
 ghost use Rattle.net_model.specs.Terms.{const, read, bin};
 ghost use Rattle.rec_bits.specs.Operators.{IsWidth};
 ghost use Rattle.rec_bits.specs.declared.operator.Op2.TheVariants.{Sub, Eq as Equal};
@@ -215,7 +216,7 @@ pub(crate) fn test_job(
 // The counter of a `for`.
 fn counter_tree(alloc: Global, memory: &DataMemory<'_>, counter: &Name) -> Result<Tree, NoMemory>
     ensures { IfOk result (λ made. tree_term made
-        ≡ read (const memory.now.addr (base_of memory.now.places counter.now)) memory.now.word) }
+        ≡ read InMemory (const memory.now.addr (base_of memory.now.places counter.now)) memory.now.word) }
 {
     let at = Tree::Lit {
         width: memory.addr(),
@@ -245,7 +246,7 @@ fn counted(
 ) -> Result<Tree, NoMemory>
     ensures { IfOk result (λ made.
         tree_term made
-        ≡ bin op (read (const memory.now.addr (base_of memory.now.places counter.now)) memory.now.word)
+        ≡ bin op (read InMemory (const memory.now.addr (base_of memory.now.places counter.now)) memory.now.word)
         (const memory.now.word value)) }
 {
     let count = counter_tree(alloc, memory, counter)?;

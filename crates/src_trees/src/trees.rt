@@ -1,6 +1,7 @@
 //! The trees of expressions.
 
 ghost use Rattle.std.specs.Prelude.{◌≡◌, Ok, IfOk};
+ghost use Rattle.net_model.specs.declared.hardware.Space.TheVariants.{Memory as InMemory};
 ghost use Rattle.net_model.specs.Terms.{read, bin};
 ghost use Rattle.src_model.specs.Written.{shape_of, spot_shape};
 ghost use Rattle.src_model.specs.Fitting.{Fitting};
@@ -145,7 +146,7 @@ pub(crate) fn operand(
 fn address(alloc: Global, memory: &DataMemory<'_>, spot: &Spot) -> Result<Tree, NoMemory>
     requires fitting { Fitting memory.now.word memory.now.word (spot_shape spot.now) }
     requires near { IsNear memory.now.places (spot_shape spot.now) }
-    ensures { IfOk result (λ made. read (tree_term made) memory.now.word
+    ensures { IfOk result (λ made. read InMemory (tree_term made) memory.now.word
         ≡ tree_of memory.now memory.now.word (spot_shape spot.now)) }
 {
     let first = u64::from(memory.base(&spot.name));

@@ -4,13 +4,14 @@ use Rattle.std.proofs.lemmas.List.{append-nil}
 use Rattle.std.proofs.lemmas.Option.{get_or_from_slice_get, slice_get_within}
 use Rattle.std.specs.Prelude.{slice_get}
 use Rattle.net_model.specs.declared.hardware.Storage.{Storage}
-use Rattle.net_model.specs.declared.hardware.Storage.TheVariants.{Register, Memory}
+use Rattle.net_model.specs.declared.hardware.Storage.TheVariants.{Register, Memory, File}
 use Rattle.state_text.specs.Shown.{register_lines, shown_cell, cell_lines}
 use Rattle.net_model.specs.MemoryText.{register_line}
 
 one_register : (regs : List ℕ) (id : ℕ) (storage : Storage) (storages : List Storage) → register_lines regs id (storage ∷ storages) ≡ register_lines regs id (storage ∷ []) ++ register_lines regs (id + 1) storages
 one_register regs id (Register name width input when) storages = ap (λ f. f ++ register_lines regs (id + 1) storages) (sym (append-nil (register_line name (get_or regs id 0))))
-one_register regs id (Memory name width size addr_width value addr when) storages = refl
+one_register regs id (Memory cells) storages = refl
+one_register regs id (File cells) storages = refl
 
 pub register_next : (regs : List ℕ) (id : ℕ) (storages : List Storage) (storage : Storage) → id < length storages → storage ≡ get_or storages id storage →
     register_lines regs id (drop id storages) ≡ register_lines regs id (storage ∷ []) ++ register_lines regs (id + 1) (drop (id + 1) storages)

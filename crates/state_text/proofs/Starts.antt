@@ -1,5 +1,5 @@
 -- States that fit a netlist, with the program counter at 0.
-use Rattle.std.proofs.Common.{◌≡◌, ℕ, zero, suc, ◌^◌, ◌<◌, ◌≤◌, List, [], ◌∷◌, length, get_or, refl, sym, ◌∙◌, arith}
+use Rattle.std.proofs.Common.{ap, subst, ◌≡◌, ℕ, zero, suc, ◌^◌, ◌<◌, ◌≤◌, List, [], ◌∷◌, length, get_or, refl, sym, ◌∙◌, arith}
 use Rattle.std.proofs.Math.ListN.{replicate, set}
 use Rattle.std.proofs.lemmas.List.{length-replicate, get_or-set_other, length-set}
 use Rattle.std.proofs.Math.Nat.{pow-le-pow_right}
@@ -7,8 +7,12 @@ use Rattle.std.specs.Prelude.{slice_get}
 use Rattle.net_model.specs.declared.hardware.Netlist.{Netlist}
 use Rattle.net_model.specs.declared.hardware.Storage.{Storage}
 use Rattle.net_model.specs.declared.states.State.{State}
-use Rattle.net_model.specs.Nets.{counter_of, memory_size, memory_width, storage_bits, IsRegister}
-use Rattle.net_model.specs.MemoryText.{blank}
+use Rattle.net_model.specs.declared.hardware.Space.{Space}
+use Rattle.net_model.specs.declared.hardware.Space.TheVariants.{Memory as InMemory, File as InFile}
+use Rattle.net_model.proofs.Spaces.{by_space}
+use Rattle.net_model.specs.Widths.{StateFits}
+use Rattle.net_model.specs.Nets.{counter_of, size_in, width_in, held, storage_bits, IsRegister}
+use Rattle.net_model.specs.MemoryText.{blank, with_cell}
 use Rattle.state_text.specs.declared.setting.Setting.{Setting}
 use Rattle.state_text.specs.declared.setting.Setting.TheVariants.{Entry, Cell}
 use Rattle.state_text.specs.Settings.{IsStartState}
@@ -22,14 +26,17 @@ zeros_at (suc n) (suc i) = zeros_at n i
 some_power : (w : ℕ) → 0 < 2 ^ w
 some_power w = let p : 2 ^ 0 ≤ 2 ^ w = pow-le-pow_right {n = 2} (omega arith) {i = 0} {j = w} (omega arith) in p
 
+zeros_below_in : (netlist : Netlist) (space : Space) (a : ℕ) → get_or (replicate {A = ℕ} (size_in space netlist.storages) 0) a 0 < 2 ^ width_in space netlist.storages
+zeros_below_in netlist space a = let e = zeros_at (size_in space netlist.storages) a in omega (arith, e, some_power (width_in space netlist.storages))
+
 pub blank_start : (netlist : Netlist) → IsStartState netlist (blank netlist.storages)
 blank_start netlist = record {
   state = record {
     regs = length-replicate (length netlist.storages) 0;
-    cells = length-replicate (memory_size netlist.storages) 0;
+    cells = by_space (λ space. length (held (blank netlist.storages) space) ≡ size_in space netlist.storages) (length-replicate (size_in InMemory netlist.storages) 0) (length-replicate (size_in InFile netlist.storages) 0);
     fits = record {
       regs = λ (id : ℕ). let e = zeros_at (length netlist.storages) id in omega (arith, e, some_power (storage_bits (slice_get netlist.storages id)));
-      cells = λ (a : ℕ). let e = zeros_at (memory_size netlist.storages) a in omega (arith, e, some_power (memory_width netlist.storages));
+      cells = by_space (λ space. (a : ℕ) → get_or (held (blank netlist.storages) space) a 0 < 2 ^ width_in space netlist.storages) (zeros_below_in netlist InMemory) (zeros_below_in netlist InFile);
     };
   };
   counter = zeros_at (length netlist.storages) (counter_of netlist.codes);
@@ -44,6 +51,25 @@ set_below (x ∷ xs) zero (suc j) v bound h k = h (suc j)
 set_below (x ∷ xs) (suc i) zero v bound h k = h 0
 set_below (x ∷ xs) (suc i) (suc j) v bound h k = set_below xs i j v (λ n. bound (suc n)) (λ n. h (suc n)) k
 
+regs_stay : (s : State) (space : Space) (address value : ℕ) → (with_cell s space address value).regs ≡ s.regs
+regs_stay s InMemory address value = refl
+regs_stay s InFile address value = refl
+
+same_regs : (s : State) (space : Space) (address value : ℕ) → length (with_cell s space address value).regs ≡ length s.regs
+same_regs s space address value = ap length (regs_stay s space address value)
+
+cell_long : (s : State) (space other : Space) (address value : ℕ) → length (held (with_cell s space address value) other) ≡ length (held s other)
+cell_long s InMemory InMemory address value = length-set s.cells address value
+cell_long s InMemory InFile address value = refl
+cell_long s InFile InMemory address value = refl
+cell_long s InFile InFile address value = length-set s.file address value
+
+cell_fits : (netlist : Netlist) (s : State) (space other : Space) (address value : ℕ) → StateFits netlist s → value < 2 ^ width_in space netlist.storages → (a : ℕ) → get_or (held (with_cell s space address value) other) a 0 < 2 ^ width_in other netlist.storages
+cell_fits netlist s InMemory InMemory address value h f a = set_below s.cells address a value (λ n. 2 ^ width_in InMemory netlist.storages) (h.cells InMemory) f
+cell_fits netlist s InMemory InFile address value h f a = h.cells InFile a
+cell_fits netlist s InFile InMemory address value h f a = h.cells InMemory a
+cell_fits netlist s InFile InFile address value h f a = set_below s.file address a value (λ n. 2 ^ width_in InFile netlist.storages) (h.cells InFile) f
+
 pub keeps_start : (netlist : Netlist) (s : State) (setting : Setting) → IsStartState netlist s → SettingFits netlist setting → IsStartState netlist (with_setting s setting)
 keeps_start netlist s (Entry id value) h f = record {
   state = record {
@@ -56,16 +82,16 @@ keeps_start netlist s (Entry id value) h f = record {
   };
   counter = get_or-set_other s.regs id (counter_of netlist.codes) value 0 (λ e. f.1 (sym e)) ∙ h.counter;
 }
-keeps_start netlist s (Cell address value) h f = record {
+keeps_start netlist s (Cell space address value) h f = record {
   state = record {
-    regs = h.state.regs;
-    cells = length-set s.cells address value ∙ h.state.cells;
+    regs = same_regs s space address value ∙ h.state.regs;
+    cells = λ other. cell_long s space other address value ∙ h.state.cells other;
     fits = record {
-      regs = h.state.fits.regs;
-      cells = λ (j : ℕ). set_below s.cells address j value (λ n. 2 ^ memory_width netlist.storages) h.state.fits.cells f.1;
+      regs = λ (j : ℕ). subst (λ (regs : List ℕ). get_or regs j 0 < 2 ^ storage_bits (slice_get netlist.storages j)) (sym (regs_stay s space address value)) (h.state.fits.regs j);
+      cells = λ other. cell_fits netlist s space other address value h.state.fits f.1;
     };
   };
-  counter = h.counter;
+  counter = ap (λ (regs : List ℕ). get_or regs (counter_of netlist.codes) 0) (regs_stay s space address value) ∙ h.counter;
 }
 
 pub register_within : (storages : List Storage) (id : ℕ) → IsRegister (slice_get storages id) → id < length storages
@@ -75,4 +101,4 @@ register_within (s ∷ storages) (suc id) h = omega (arith, register_within stor
 
 pub is_within : (netlist : Netlist) (s : State) (setting : Setting) → IsStartState netlist s → SettingFits netlist setting → IsWithin s setting
 is_within netlist s (Entry id value) h f = omega (arith, register_within netlist.storages id f.0, h.state.regs)
-is_within netlist s (Cell address value) h f = omega (arith, f.0, h.state.cells)
+is_within netlist s (Cell space address value) h f = omega (arith, f.0, h.state.cells space)

@@ -5,15 +5,16 @@ use Rattle.std.specs.Prelude.{slice_get}
 use Rattle.std.specs.List.{AllByRecursion}
 use Rattle.net_model.specs.declared.hardware.Netlist.{Netlist}
 use Rattle.net_model.specs.declared.hardware.Storage.{Storage}
-use Rattle.net_model.specs.declared.hardware.Storage.TheVariants.{Register, Memory}
-use Rattle.net_model.specs.Nets.{counter_of, memory_id, storage_bits}
+use Rattle.net_model.specs.declared.hardware.Storage.TheVariants.{Register, Memory, File}
+use Rattle.net_model.specs.Nets.{storage_bits}
 use Rattle.state_text.specs.Inner.Settings.{named_at, setting_at, setting_for}
 use Rattle.net_model.specs.CheckedRules.{StorageKeeps}
 use Rattle.rec_bits.specs.Operators.{IsWidth}
 
 storage_width : (netlist : Netlist) (storage : Storage) → StorageKeeps netlist storage → IsWidth (storage_bits (Some storage))
 storage_width netlist (Register name width input when) k = k.0
-storage_width netlist (Memory name width size addr_width value addr when) k = k.0
+storage_width netlist (Memory cells) k = k.0
+storage_width netlist (File cells) k = k.0
 
 pub width_of_storage : (netlist : Netlist) (storages : List Storage) (id : ℕ) (storage : Storage) → AllByRecursion (StorageKeeps netlist) storages → slice_get storages id ≡ Some storage → IsWidth (storage_bits (Some storage))
 width_of_storage netlist [] id storage k e = absurd cc
@@ -21,6 +22,6 @@ width_of_storage netlist (s ∷ storages) zero storage k e = storage_width netli
 width_of_storage netlist (s ∷ storages) (suc id) storage k e = width_of_storage netlist storages id storage k.1 e
 
 pub found_storage : (netlist : Netlist) (name text : List ℕ) (id : ℕ) (storage : Storage) → named_at netlist.storages name ≡ Some id → slice_get netlist.storages id ≡ Some storage →
-    setting_at (counter_of netlist.codes) (memory_id netlist.storages) id (Some storage) text ≡ setting_for netlist name text
+    setting_at netlist id (Some storage) text ≡ setting_for netlist name text
 unfolding setting_for
 found_storage netlist name text id storage e f = sym (rw (e, f) refl)

@@ -16,18 +16,21 @@ use Rattle.text_lines.proofs.Steps.{bind_ok, bind_again}
 use Rattle.net_model.specs.declared.hardware.Netlist.{Netlist}
 use Rattle.net_model.specs.declared.hardware.Code.{Code}
 use Rattle.net_model.specs.declared.hardware.Storage.{Storage}
-use Rattle.net_model.specs.declared.hardware.Storage.TheVariants.{Register, Memory}
+use Rattle.net_model.specs.declared.hardware.Storage.TheVariants.{Register, Memory, File}
+use Rattle.net_model.specs.declared.hardware.Cells.{Cells}
+use Rattle.net_model.specs.declared.hardware.Space.{Space}
+use Rattle.net_model.specs.declared.hardware.Space.TheVariants.{Memory as InMemory, File as InFile}
 use Rattle.net_model.specs.declared.states.State.{State}
-use Rattle.net_model.specs.Nets.{counter_of, memory_id, memory_size, memory_width, storage_bits, storage_cells, IsRegister}
-use Rattle.net_model.specs.CheckedRules.{storage_name, KeepsRules}
-use Rattle.net_model.specs.MemoryText.{IsOneWord, SetsRegister, SetsCell, SetsNothing, SetsLine, blank}
-use Rattle.net_model.specs.Texts.{name_in, name_of, memory_name}
-use Rattle.net_model.proofs.Memories.{memory_found, memory_wide, few_cells}
+use Rattle.net_model.specs.Nets.{counter_of, place_in, size_in, width_in, storage_bits, storage_cells, storage_name, IsRegister, HasCells}
+use Rattle.net_model.specs.CheckedRules.{KeepsRules}
+use Rattle.net_model.specs.MemoryText.{IsOneWord, SetsRegister, SetsCell, SetsNothing, SetsLine}
+use Rattle.net_model.specs.Texts.{name_in, name_of, space_name}
+use Rattle.net_model.proofs.Memories.{size_found, width_found, few_sizes}
 use Rattle.state_text.specs.declared.setting.Setting.{Setting}
 use Rattle.state_text.specs.declared.setting.Setting.TheVariants.{Entry, Cell}
-use Rattle.state_text.specs.Inner.Settings.{below, number_below, named_at, entry_of, cell_of, setting_at, setting_for, setting_of, with_setting, SettingFits}
+use Rattle.state_text.specs.Inner.Settings.{below, number_below, named_at, entry_of, cell_of, array_at, setting_at, setting_for, setting_of, with_setting, SettingFits}
 use Rattle.state_text.proofs.Rooms.{storage_narrow, below_64}
-use Rattle.state_text.proofs.Starts.{blank_start, register_within}
+use Rattle.state_text.proofs.Starts.{register_within}
 
 -- ---- words
 
@@ -64,7 +67,8 @@ alike (b ∷ bs) = rw (eq-eqb b b refl, alike bs) refl
 
 own_name : (storage : Storage) → name_in (Some storage) ≡ storage_name storage
 own_name (Register name width input when) = refl
-own_name (Memory name width size addr_width value addr when) = refl
+own_name (Memory cells) = refl
+own_name (File cells) = refl
 
 -- a name that differs from all of these isn't that of one of the storages
 no_other : (name : List ℕ) (storages : List Storage) (more : List (List ℕ)) (id : ℕ) → AllByRecursion (λ y. pointwise nat_eq name y ≡ false) (map storage_name storages ++ more) → id < length storages →
@@ -139,42 +143,47 @@ number_below_is width text v e =
 -- the text behind the name of this storage is that of the setting
 abbrev ReadsAs : Netlist → ℕ → List ℕ → Setting → Type 0
 ReadsAs netlist id text (Entry storage value) = (storage ≡ id) × (text ≡ decimal value ++ (10 ∷ []))
-ReadsAs netlist id text (Cell address value) = (id ≡ memory_id netlist.storages) × (text ≡ decimal address ++ (32 ∷ (decimal value ++ (10 ∷ []))))
+ReadsAs netlist id text (Cell space address value) = (id ≡ place_in space netlist.storages) × (text ≡ decimal address ++ (32 ∷ (decimal value ++ (10 ∷ []))))
 
 -- a setting fits, and its text is that
 record IsOf (netlist : Netlist) (id : ℕ) (text : List ℕ) (setting : Setting) : Type 0 where
   pub fits : SettingFits netlist setting
   pub reads : ReadsAs netlist id text setting
 
-at_is : (netlist : Netlist) (id : ℕ) (o : Option Storage) (text : List ℕ) (setting : Setting) → slice_get netlist.storages id ≡ o → setting_at (counter_of netlist.codes) (memory_id netlist.storages) id o text ≡ Some setting → IsOf netlist id text setting
-unfolding setting_at entry_of cell_of
+array_is : (netlist : Netlist) (id : ℕ) (space : Space) (cells : Cells) (o : Option Storage) (text : List ℕ) (setting : Setting) → slice_get netlist.storages id ≡ o → (storage_cells o ≡ cells.size) × (storage_bits o ≡ cells.width) → array_at netlist.storages id space cells text ≡ Some setting → IsOf netlist id text setting
+unfolding array_at cell_of
+array_is netlist id space cells o text setting q same e =
+    let p = cond_some_of (id == place_in space netlist.storages) (cell_of space cells.size cells.width text) setting e in
+    let here : id ≡ place_in space netlist.storages = eqb-true id (place_in space netlist.storages) p.0 in
+    let found : slice_get netlist.storages (place_in space netlist.storages) ≡ o = ap (slice_get netlist.storages) (sym here) ∙ q in
+    let sized : cells.size ≡ size_in space netlist.storages = sym (ap storage_cells found ∙ same.0) ∙ size_found space netlist.storages in
+    let wide : cells.width ≡ width_in space netlist.storages = sym (ap storage_bits found ∙ same.1) ∙ width_found space netlist.storages in
+    let a = bind_ok (parts_at 32 text) _ setting p.1 in
+    let b = bind_ok (number_of a.value.0) _ setting a.then in
+    let d = bind_ok (number_below cells.width a.value.1) _ setting b.then in
+    let r = cond_some (nat_lt b.value cells.size) (Cell space b.value d.value) setting d.then in
+    let v : d.value < 2 ^ cells.width = number_fits cells.width a.value.1 d.value d.first in
+    let in_size : b.value < cells.size = ltb-true b.value cells.size r.0 in
+    let P : ℕ → Type 0 = λ w. d.value < 2 ^ w in
+    let front = number_is a.value.0 b.value b.first in
+    let is : text ≡ decimal b.value ++ (32 ∷ (decimal d.value ++ (10 ∷ []))) =
+    parts_are 32 text a.value.0 a.value.1 a.first ∙ ap (λ x. x ++ (32 ∷ a.value.1)) front.0 ∙ ap (λ y. decimal b.value ++ (32 ∷ y)) (number_below_is cells.width a.value.1 d.value d.first) in
+    subst (IsOf netlist id text) r.1 (record { fits = (omega (arith, in_size, sized), subst P wide v); reads = (here, is) })
+  where
+    cond_some_of : (t : Bool) (o : Option Setting) (setting : Setting) → cond t o None ≡ Some setting → (t ≡ true) × (o ≡ Some setting)
+    cond_some_of true o setting e = (refl, e)
+    cond_some_of false o setting e = absurd cc
+
+at_is : (netlist : Netlist) (id : ℕ) (o : Option Storage) (text : List ℕ) (setting : Setting) → slice_get netlist.storages id ≡ o → setting_at netlist id o text ≡ Some setting → IsOf netlist id text setting
+unfolding setting_at entry_of
 at_is netlist id None text setting q e = absurd cc
 at_is netlist id (Some (Register name width input when)) text setting q e =
     let p = other_id id (counter_of netlist.codes) (entry_of id width text) setting e in
     let b = bind_ok (number_below width text) _ setting p.1 in
     let v : b.value < 2 ^ width = number_fits width text b.value b.first in
     subst (IsOf netlist id text) (same_Some (Entry id b.value) setting b.then) (record { fits = rw q (tt, p.0, v); reads = (refl, number_below_is width text b.value b.first) })
-at_is netlist id (Some (Memory name width size addr_width value addr when)) text setting q e =
-    let p = cond_some_of (id == memory_id netlist.storages) (cell_of size width text) setting e in
-    let here : id ≡ memory_id netlist.storages = eqb-true id (memory_id netlist.storages) p.0 in
-    let found : slice_get netlist.storages (memory_id netlist.storages) ≡ Some (Memory name width size addr_width value addr when) = ap (slice_get netlist.storages) (sym here) ∙ q in
-    let sized : size ≡ memory_size netlist.storages = sym (ap storage_cells found) ∙ memory_found netlist.storages in
-    let wide : width ≡ memory_width netlist.storages = sym (ap storage_bits found) ∙ memory_wide netlist.storages in
-    let a = bind_ok (parts_at 32 text) _ setting p.1 in
-    let b = bind_ok (number_of a.value.0) _ setting a.then in
-    let d = bind_ok (number_below width a.value.1) _ setting b.then in
-    let r = cond_some (nat_lt b.value size) (Cell b.value d.value) setting d.then in
-    let v : d.value < 2 ^ width = number_fits width a.value.1 d.value d.first in
-    let in_size : b.value < size = ltb-true b.value size r.0 in
-    let P : ℕ → Type 0 = λ w. d.value < 2 ^ w in
-    let front = number_is a.value.0 b.value b.first in
-    let is : text ≡ decimal b.value ++ (32 ∷ (decimal d.value ++ (10 ∷ []))) =
-    parts_are 32 text a.value.0 a.value.1 a.first ∙ ap (λ x. x ++ (32 ∷ a.value.1)) front.0 ∙ ap (λ y. decimal b.value ++ (32 ∷ y)) (number_below_is width a.value.1 d.value d.first) in
-    subst (IsOf netlist id text) r.1 (record { fits = (omega (arith, in_size, sized), subst P wide v); reads = (here, is) })
-  where
-    cond_some_of : (t : Bool) (o : Option Setting) (setting : Setting) → cond t o None ≡ Some setting → (t ≡ true) × (o ≡ Some setting)
-    cond_some_of true o setting e = (refl, e)
-    cond_some_of false o setting e = absurd cc
+at_is netlist id (Some (Memory cells)) text setting q e = array_is netlist id InMemory cells (Some (Memory cells)) text setting q (refl, refl) e
+at_is netlist id (Some (File cells)) text setting q e = array_is netlist id InFile cells (Some (File cells)) text setting q (refl, refl) e
 
 -- what is read of a line fits, and the line is that which sets it
 record Told (netlist : Netlist) (line : List ℕ) (setting : Setting) : Type 0 where
@@ -209,11 +218,11 @@ leads_of netlist s line setting e = go setting (told netlist line setting e)
         let same : t.id ≡ id = sym t.is.reads.0 in
         let written : line ≡ name_of netlist id ++ (32 ∷ (decimal value ++ (10 ∷ []))) = t.line_is ∙ ap (λ text. name_of netlist t.id ++ (32 ∷ text)) t.is.reads.1 ∙ ap (λ k. name_of netlist k ++ (32 ∷ (decimal value ++ (10 ∷ [])))) same in
         inl (id, value, record { register = t.is.fits.0; other = t.is.fits.1; name = subst (λ k. IsOneWord (name_of netlist k)) same t.word; fits = t.is.fits.2; line_is = written }, refl)
-    go (Cell address value) t =
-        let same : t.id ≡ memory_id netlist.storages = t.is.reads.0 in
+    go (Cell space address value) t =
+        let same : t.id ≡ place_in space netlist.storages = t.is.reads.0 in
         let digits = decimal address ++ (32 ∷ (decimal value ++ (10 ∷ []))) in
-        let written : line ≡ memory_name netlist ++ (32 ∷ digits) = t.line_is ∙ ap (λ text. name_of netlist t.id ++ (32 ∷ text)) t.is.reads.1 ∙ ap (λ k. name_of netlist k ++ (32 ∷ digits)) same in
-        inr (address, value, record { within = t.is.fits.0; name = subst (λ k. IsOneWord (name_of netlist k)) same t.word; fits = t.is.fits.1; line_is = written }, refl)
+        let written : line ≡ space_name netlist space ++ (32 ∷ digits) = t.line_is ∙ ap (λ text. name_of netlist t.id ++ (32 ∷ text)) t.is.reads.1 ∙ ap (λ k. name_of netlist k ++ (32 ∷ digits)) same in
+        inr (space, address, value, record { within = t.is.fits.0; name = subst (λ k. IsOneWord (name_of netlist k)) same t.word; fits = t.is.fits.1; line_is = written }, refl)
 
 -- ---- what is written
 
@@ -226,30 +235,52 @@ number_below_again width v narrow h =
     (bind_again (line_end text) number_of (decimal v) (Some v) (end_again (decimal v) (avoids-decimal 10 v refl small)) (number_again v small))
     (rw (lt-ltb v (2 ^ width) h) refl)
 
-at_register : (counter memory id value : ℕ) (o : Option Storage) → IsRegister o → id ≢ counter → value < 2 ^ storage_bits o → storage_bits o ≤ 64 →
-    setting_at counter memory id o (decimal value ++ (10 ∷ [])) ≡ Some (Entry id value)
+at_register : (netlist : Netlist) (id value : ℕ) (o : Option Storage) → IsRegister o → id ≢ counter_of netlist.codes → value < 2 ^ storage_bits o → storage_bits o ≤ 64 →
+    setting_at netlist id o (decimal value ++ (10 ∷ [])) ≡ Some (Entry id value)
 unfolding setting_at entry_of
-at_register counter memory id value None r d f narrow = absurd r
-at_register counter memory id value (Some (Register name width input when)) r d f narrow =
-    step (id == counter) refl (bind_again (number_below width (decimal value ++ (10 ∷ []))) _ value (Some (Entry id value)) (number_below_again width value narrow f) refl)
+at_register netlist id value None r d f narrow = absurd r
+at_register netlist id value (Some (Register name width input when)) r d f narrow =
+    step (id == counter_of netlist.codes) refl (bind_again (number_below width (decimal value ++ (10 ∷ []))) _ value (Some (Entry id value)) (number_below_again width value narrow f) refl)
   where
-    step : (test : Bool) → (id == counter) ≡ test → {o : Option Setting} → o ≡ Some (Entry id value) → cond test None o ≡ Some (Entry id value)
-    step true t e = absurd (d (eqb-true id counter t))
+    step : (test : Bool) → (id == counter_of netlist.codes) ≡ test → {o : Option Setting} → o ≡ Some (Entry id value) → cond test None o ≡ Some (Entry id value)
+    step true t e = absurd (d (eqb-true id (counter_of netlist.codes) t))
     step false t e = e
-at_register counter memory id value (Some (Memory name width size addr_width input addr when)) r d f narrow = absurd r
+at_register netlist id value (Some (Memory cells)) r d f narrow = absurd r
+at_register netlist id value (Some (File cells)) r d f narrow = absurd r
 
-at_cell : (counter memory address value : ℕ) (o : Option Storage) → address < storage_cells o → value < 2 ^ storage_bits o → storage_bits o ≤ 64 → address < 2 ^ 64 →
-    setting_at counter memory memory o (decimal address ++ (32 ∷ (decimal value ++ (10 ∷ [])))) ≡ Some (Cell address value)
-unfolding setting_at cell_of
-at_cell counter memory address value None lt f narrow small = absurd (omega (arith, lt))
-at_cell counter memory address value (Some (Register name width input when)) lt f narrow small = absurd (omega (arith, lt))
-at_cell counter memory address value (Some (Memory name width size addr_width input addr when)) lt f narrow small =
+at_array : (storages : List Storage) (space : Space) (cells : Cells) (address value : ℕ) → address < cells.size → value < 2 ^ cells.width → cells.width ≤ 64 → address < 2 ^ 64 →
+    array_at storages (place_in space storages) space cells (decimal address ++ (32 ∷ (decimal value ++ (10 ∷ [])))) ≡ Some (Cell space address value)
+unfolding array_at cell_of
+at_array storages space cells address value lt f narrow small =
     let text = decimal value ++ (10 ∷ []) in
-    let cell : Option Setting = Some (Cell address value) in
-    ap (λ test. cond test (cell_of size width (decimal address ++ (32 ∷ text))) None) (eq-eqb memory memory refl)
+    let cell : Option Setting = Some (Cell space address value) in
+    ap (λ test. cond test (cell_of space cells.size cells.width (decimal address ++ (32 ∷ text))) None) (eq-eqb (place_in space storages) (place_in space storages) refl)
     ∙ bind_again (parts_at 32 (decimal address ++ (32 ∷ text))) _ (decimal address, text) cell (parts_again 32 (decimal address) text (avoids-decimal 32 address refl small))
     (bind_again (number_of (decimal address)) _ address cell (number_again address small)
-    (bind_again (number_below width text) _ value cell (number_below_again width value narrow f) (rw (lt-ltb address size lt) refl)))
+    (bind_again (number_below cells.width text) _ value cell (number_below_again cells.width value narrow f) (rw (lt-ltb address cells.size lt) refl)))
+
+at_cell : (netlist : Netlist) (space : Space) (address value : ℕ) (o : Option Storage) → HasCells space o → address < storage_cells o → value < 2 ^ storage_bits o → storage_bits o ≤ 64 → address < 2 ^ 64 →
+    setting_at netlist (place_in space netlist.storages) o (decimal address ++ (32 ∷ (decimal value ++ (10 ∷ [])))) ≡ Some (Cell space address value)
+unfolding setting_at
+at_cell netlist InMemory address value (Some (Memory cells)) h lt f narrow small = at_array netlist.storages InMemory cells address value lt f narrow small
+at_cell netlist InFile address value (Some (File cells)) h lt f narrow small = at_array netlist.storages InFile cells address value lt f narrow small
+at_cell netlist InMemory address value None h lt f narrow small = absurd h
+at_cell netlist InFile address value None h lt f narrow small = absurd h
+at_cell netlist InMemory address value (Some (Register name width input when)) h lt f narrow small = absurd h
+at_cell netlist InFile address value (Some (Register name width input when)) h lt f narrow small = absurd h
+at_cell netlist InMemory address value (Some (File cells)) h lt f narrow small = absurd h
+at_cell netlist InFile address value (Some (Memory cells)) h lt f narrow small = absurd h
+
+-- a space with cells has its storage
+space_there : (space : Space) (storages : List Storage) → 1 ≤ size_in space storages → HasCells space (slice_get storages (place_in space storages))
+space_there InMemory [] h = absurd (omega (arith, h))
+space_there InFile [] h = absurd (omega (arith, h))
+space_there InMemory (Register name width input when ∷ storages) h = space_there InMemory storages h
+space_there InMemory (Memory cells ∷ storages) h = tt
+space_there InMemory (File cells ∷ storages) h = space_there InMemory storages h
+space_there InFile (Register name width input when ∷ storages) h = space_there InFile storages h
+space_there InFile (Memory cells ∷ storages) h = space_there InFile storages h
+space_there InFile (File cells ∷ storages) h = tt
 
 cells_within : (storages : List Storage) (id address : ℕ) → address < storage_cells (slice_get storages id) → id < length storages
 cells_within [] id address lt = absurd (omega (arith, lt))
@@ -264,7 +295,7 @@ module _ (netlist : Netlist) (order : List ℕ) (rules : KeepsRules netlist orde
 
   -- a line of this name and this text
   named_line : (line : List ℕ) (id : ℕ) (text : List ℕ) (setting : Setting) → IsOneWord (name_of netlist id) → id < length netlist.storages → line ≡ name_of netlist id ++ (32 ∷ text) →
-      setting_at (counter_of netlist.codes) (memory_id netlist.storages) id (slice_get netlist.storages id) text ≡ Some setting → setting_of netlist line ≡ Some setting
+      setting_at netlist id (slice_get netlist.storages id) text ≡ Some setting → setting_of netlist line ≡ Some setting
   unfolding setting_of setting_for
   named_line line id text setting word lt written e =
       let name = name_of netlist id in
@@ -274,19 +305,18 @@ module _ (netlist : Netlist) (order : List ℕ) (rules : KeepsRules netlist orde
   register_told : (line : List ℕ) (id value : ℕ) → SetsRegister netlist line id value → setting_of netlist line ≡ Some (Entry id value)
   register_told line id value h =
       named_line line id (decimal value ++ (10 ∷ [])) (Entry id value) h.name (register_within netlist.storages id h.register) h.line_is
-      (at_register (counter_of netlist.codes) (memory_id netlist.storages) id value (slice_get netlist.storages id) h.register h.other h.fits (storage_narrow netlist netlist.storages id rules.formed.storages))
+      (at_register netlist id value (slice_get netlist.storages id) h.register h.other h.fits (storage_narrow netlist netlist.storages id rules.formed.storages))
 
-  cell_told : (line : List ℕ) (address value : ℕ) → SetsCell netlist line address value → setting_of netlist line ≡ Some (Cell address value)
-  cell_told line address value h =
-      let id = memory_id netlist.storages in
-      let found = memory_found netlist.storages in
-      let wide = memory_wide netlist.storages in
-      let start = (blank_start netlist).state in
+  cell_told : (line : List ℕ) (space : Space) (address value : ℕ) → SetsCell netlist line space address value → setting_of netlist line ≡ Some (Cell space address value)
+  cell_told line space address value h =
+      let id = place_in space netlist.storages in
+      let found = size_found space netlist.storages in
+      let wide = width_found space netlist.storages in
       let within : address < storage_cells (slice_get netlist.storages id) = omega (arith, h.within, found) in
-      let small : address < 2 ^ 64 = omega (arith, h.within, start.cells, few_cells netlist order (blank netlist.storages) rules start) in
+      let small : address < 2 ^ 64 = omega (arith, h.within, few_sizes netlist order rules space) in
       let P : ℕ → Type 0 = λ w. value < 2 ^ w in
-      named_line line id (decimal address ++ (32 ∷ (decimal value ++ (10 ∷ [])))) (Cell address value) h.name (cells_within netlist.storages id address within) h.line_is
-      (at_cell (counter_of netlist.codes) id address value (slice_get netlist.storages id) within (subst P (sym wide) h.fits) (storage_narrow netlist netlist.storages id rules.formed.storages) small)
+      named_line line id (decimal address ++ (32 ∷ (decimal value ++ (10 ∷ [])))) (Cell space address value) h.name (cells_within netlist.storages id address within) h.line_is
+      (at_cell netlist space address value (slice_get netlist.storages id) (space_there space netlist.storages (omega (arith, h.within))) within (subst P (sym wide) h.fits) (storage_narrow netlist netlist.storages id rules.formed.storages) small)
 
   -- what a line does is read of it
   pub record IsRead (s : State) (line : List ℕ) (t : State) : Type 0 where
@@ -296,10 +326,10 @@ module _ (netlist : Netlist) (order : List ℕ) (rules : KeepsRules netlist orde
 
   pub leads_told : (s : State) (line : List ℕ) (t : State) → SetsLine netlist s line t → IsRead s line t
   leads_told s line t (inl (id, value, h, e)) = record { setting = Entry id value; read = register_told line id value h; state = e }
-  leads_told s line t (inr (address, value, h, e)) = record { setting = Cell address value; read = cell_told line address value h; state = e }
+  leads_told s line t (inr (space, address, value, h, e)) = record { setting = Cell space address value; read = cell_told line space address value h; state = e }
 
   pub nothing_told : (line : List ℕ) → setting_of netlist line ≡ None → SetsNothing netlist line
   nothing_told line none = record {
     no_register = λ (id value : ℕ) (h : SetsRegister netlist line id value). let e = register_told line id value h in cc;
-    no_cell = λ (address value : ℕ) (h : SetsCell netlist line address value). let e = cell_told line address value h in cc;
+    no_cell = λ (space : Space) (address value : ℕ) (h : SetsCell netlist line space address value). let e = cell_told line space address value h in cc;
   }

@@ -1,3 +1,4 @@
 pub mod Settings
 pub mod Shown
 pub mod Inner
+pub mod Worked

@@ -2,14 +2,13 @@
 
 ghost use Rattle.std.specs.Prelude.{◌≡◌, ◌≤◌, Some};
 ghost use Rattle.std.specs.Str.{bytes_eq};
-ghost use Rattle.net_model.specs.Nets.{storage_bits};
-ghost use Rattle.net_model.specs.CheckedRules.{storage_name};
+ghost use Rattle.net_model.specs.Nets.{storage_bits, storage_name};
 ghost use Rattle.rec_bits.specs.Operators.{IsWidth};
-ghost use Rattle.state_text.specs.Inner.Settings.{number_below, named_at, entry_of, cell_of, setting_at, setting_for, setting_of};
+ghost use Rattle.state_text.specs.Inner.Settings.{number_below, named_at, entry_of, cell_of, array_at, setting_at, setting_for, setting_of};
 ghost use Rattle.text_lines.specs.Fields.{line_end};
 
 use crate::setting::Setting;
-use net_model::{Checked, Storage};
+use net_model::{Cells, Checked, Space, Storage};
 use rec_bits::mask;
 use text_lines::{cut, line_end, number};
 
@@ -31,10 +30,7 @@ fn number_below(text: &[u8], width: u8) -> Option<u64>
 fn is_named(storage: &Storage, name: &[u8]) -> bool
     ensures { result ≡ bytes_eq (storage_name storage.now) name.now }
 {
-    match storage {
-        Storage::Register { name: own, .. } => own.as_slice() == name,
-        Storage::Memory { name: own, .. } => own.as_slice() == name,
-    }
+    storage.name() == name
 }
 
 // The number of the first storage of this name.
@@ -55,16 +51,17 @@ fn entry_of(storage: u32, width: u8, text: &[u8]) -> Option<Setting>
 }
 
 #[tactic(auto, unfolding(crate::specs::Inner::Settings::cell_of))]
-fn cell_of(size: u32, width: u8, text: &[u8]) -> Option<Setting>
+fn cell_of(space: Space, size: u32, width: u8, text: &[u8]) -> Option<Setting>
     requires some { 1 ≤ width }
     requires narrow { width ≤ 64 }
-    ensures { result ≡ cell_of size width text.now }
+    ensures { result ≡ cell_of space size width text.now }
 {
     let (front, rest) = cut(text, b' ')?;
     let address = number(front)?;
     let value = number_below(rest, width)?;
     if address < u64::from(size) {
         Some(Setting::Cell {
+            space,
             address: address as u32,
             value,
         })
@@ -73,25 +70,33 @@ fn cell_of(size: u32, width: u8, text: &[u8]) -> Option<Setting>
     }
 }
 
+// What stands behind the name of a storage with cells.
+#[tactic(auto, unfolding(crate::specs::Inner::Settings::array_at))]
+fn array_at(checked: &Checked, id: u32, space: Space, cells: &Cells, text: &[u8]) -> Option<Setting>
+    requires { IsWidth cells.now.width }
+    ensures { result ≡ array_at checked.now.netlist.storages id space cells.now text.now }
+{
+    if id != checked.place(space) {
+        return None;
+    }
+    cell_of(space, cells.size, cells.width, text)
+}
+
 // What stands behind the name of a storage.
 #[tactic(auto, unfolding(crate::specs::Inner::Settings::setting_at))]
-fn setting_at(counter: u32, memory: u32, id: u32, storage: &Storage, text: &[u8]) -> Option<Setting>
+fn setting_at(checked: &Checked, id: u32, storage: &Storage, text: &[u8]) -> Option<Setting>
     requires { IsWidth (storage_bits (Some storage.now)) }
-    ensures { result ≡ setting_at counter memory id (Some storage.now) text.now }
+    ensures { result ≡ setting_at checked.now.netlist id (Some storage.now) text.now }
 {
     match storage {
         Storage::Register { width, .. } => {
-            if id == counter {
+            if id == checked.pc() {
                 return None;
             }
             entry_of(id, *width, text)
         }
-        Storage::Memory { width, size, .. } => {
-            if id != memory {
-                return None;
-            }
-            cell_of(*size, *width, text)
-        }
+        Storage::Memory(cells) => array_at(checked, id, Space::Memory, cells, text),
+        Storage::File(cells) => array_at(checked, id, Space::File, cells, text),
     }
 }
 
@@ -103,12 +108,12 @@ fn setting_for(checked: &Checked, name: &[u8], text: &[u8]) -> Option<Setting>
     let storages = &checked.netlist().storages;
     let place = named_at(storages.as_slice(), name)?;
     let storage = storages.get(place)?;
-    setting_at(checked.pc(), checked.memory(), place as u32, storage, text)
+    setting_at(checked, place as u32, storage, text)
 }
 
 /// What a line sets, or None where it isn't of the form: a register's name, but for the program
-/// counter's, and a value, or the memory's name, an address and a value, with single spaces between
-/// and LF behind.
+/// counter's, and a value, or the memory's or the file's name, an address and a value, with single
+/// spaces between and LF behind.
 #[tactic(auto, unfolding(crate::specs::Inner::Settings::setting_of))]
 pub fn setting_of(checked: &Checked, line: &[u8]) -> Option<Setting>
     ensures { result ≡ setting_of checked.now.netlist line.now }

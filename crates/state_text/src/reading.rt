@@ -10,7 +10,7 @@ ghost use Rattle.state_text.specs.Inner.Settings.{with_setting, IsWithin};
 
 use crate::line::setting_of;
 use crate::setting::Setting;
-use net_model::{Checked, State, Storage};
+use net_model::{Checked, Space, State, Storage};
 use rec_bits::{Items, NoMemory, ParseFault};
 use std::alloc::Global;
 use text_lines::first_line;
@@ -28,7 +28,8 @@ fn blank(alloc: Global, checked: &Checked) -> Result<State, NoMemory>
 {
     Ok(State {
         regs: zeros(alloc, checked.netlist().storages.len())?,
-        cells: zeros(alloc, checked.memory_size() as usize)?,
+        cells: zeros(alloc, checked.size(Space::Memory) as usize)?,
+        file: zeros(alloc, checked.size(Space::File) as usize)?,
     })
 }
 
@@ -38,14 +39,23 @@ fn put(state: &mut State, setting: Setting)
 {
     match setting {
         Setting::Entry { storage, value } => state.regs.set(storage as usize, value),
-        Setting::Cell { address, value } => state.cells.set(address as usize, value),
+        Setting::Cell {
+            space: Space::Memory,
+            address,
+            value,
+        } => state.cells.set(address as usize, value),
+        Setting::Cell {
+            space: Space::File,
+            address,
+            value,
+        } => state.file.set(address as usize, value),
     }
 }
 
 /// The state that a memory text sets; what it doesn't name is 0, the program counter is 0. `Text`
 /// comes exactly where a line isn't of the form, or names no storage or the program counter, or has
-/// an address past the memory or a value that is too wide, with the offset of the first such line.
-/// `Memory` is want of memory.
+/// an address past the memory or the file or a value that is too wide, with the offset of the first
+/// such line. `Memory` is want of memory.
 pub fn read_state(alloc: Global, bytes: &[u8], checked: &Checked) -> Result<State, ParseFault>
     requires { length bytes.now < 2 ^ 32 }
     ensures found { IfOk result (IsMemoryText checked.now.netlist bytes.now) }

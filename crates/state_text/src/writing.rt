@@ -1,15 +1,15 @@
 //! From a simulator's state to its text.
 
 ghost use Rattle.std.specs.Prelude.{◌≡◌, ◌+◌, ◌++◌, ◌∷◌, [], ◌<◌, ◌≤◌, ◌^◌, length, slice_get, vec_capacity, IsOk, OnOk, IfOk, IfSome, Some, ℕ};
-ghost use Rattle.net_model.specs.Texts.{memory_name};
+ghost use Rattle.net_model.specs.Nets.{held};
 ghost use Rattle.net_model.specs.Widths.{IsState};
-ghost use Rattle.state_text.specs.Shown.{register_lines, shown_cell, cell_lines, state_text, register_room, state_room};
+ghost use Rattle.state_text.specs.Shown.{register_lines, shown_cell, cell_lines, state_text, register_room, cell_room, state_room};
 ghost use Rattle.net_model.specs.MemoryText.{register_line};
 ghost use Rattle.net_model.specs.declared.states.State.{State};
 
 use cycle_sim::Sim;
 use itoa::Buffer;
-use net_model::{Checked, Storage};
+use net_model::{Checked, Space, Storage};
 use rec_bits::NoMemory;
 use std::alloc::Global;
 
@@ -63,7 +63,7 @@ fn put_storage(
             let value = sim.reg(id as u32).unwrap_or(0);
             put_register(out, name.as_slice(), value)
         }
-        Storage::Memory { .. } => Ok(()),
+        Storage::Memory(_) | Storage::File(_) => Ok(()),
     }
 }
 
@@ -82,16 +82,16 @@ fn put_registers(out: &mut Vec<u8>, storages: &[Storage], sim: &Sim<'_>) -> Resu
     Ok(())
 }
 
-// The lines of the cells that aren't 0, by address.
-fn put_cells(out: &mut Vec<u8>, name: &[u8], sim: &Sim<'_>) -> Result<(), NoMemory>
-    requires { length sim.now.state.cells < 2 ^ 32 }
-    ensures text { OnOk result (out.new.items ≡ out.old.items ++ cell_lines name.now 0 sim.now.state.cells) }
+// The lines of a space's cells that aren't 0, by address.
+fn put_cells(out: &mut Vec<u8>, name: &[u8], space: Space, sim: &Sim<'_>) -> Result<(), NoMemory>
+    requires { length (held sim.now.state space) < 2 ^ 32 }
+    ensures text { OnOk result (out.new.items ≡ out.old.items ++ cell_lines name.now 0 (held sim.now.state space)) }
     ensures room { vec_capacity out.old ≤ vec_capacity out.new }
-    ensures succeeds { length out.old.items + length (cell_lines name.now 0 sim.now.state.cells)
+    ensures succeeds { length out.old.items + length (cell_lines name.now 0 (held sim.now.state space))
         ≤ vec_capacity out.old → IsOk result }
 {
     let mut address = 0;
-    while let Some(value) = sim.cell(address) {
+    while let Some(value) = sim.cell_in(space, address) {
         put_cell(out, name, address, value)?;
         address += 1;
     }
@@ -116,7 +116,8 @@ pub fn write_state(
     out.extend_from_slice(b"cycles")?;
     put_register(out, b"", cycles)?;
     put_registers(out, checked.netlist().storages.as_slice(), sim)?;
-    put_cells(out, checked.memory_name(), sim)?;
+    put_cells(out, checked.name(Space::File), Space::File, sim)?;
+    put_cells(out, checked.name(Space::Memory), Space::Memory, sim)?;
     out.extend_from_slice(b"done\n")?;
     Ok(())
 }
@@ -142,13 +143,24 @@ fn register_room(storages: &[Storage]) -> Option<usize>
     Some(room)
 }
 
+// The room of a space's cells.
+fn cell_room(checked: &Checked, space: Space) -> Option<usize>
+    ensures { IfSome result (λ room. room ≡ cell_room checked.now.netlist space) }
+{
+    let cell = checked.name(space).len().checked_add(CELL)?;
+    (checked.size(space) as usize).checked_mul(cell)
+}
+
 fn room_of(checked: &Checked) -> Option<usize>
     ensures { IfSome result (λ room. room ≡ state_room checked.now.netlist) }
 {
     let registers = register_room(checked.netlist().storages.as_slice())?;
-    let cell = checked.memory_name().len().checked_add(CELL)?;
-    let cells = (checked.memory_size() as usize).checked_mul(cell)?;
-    registers.checked_add(cells)?.checked_add(FRAME)
+    let file = cell_room(checked, Space::File)?;
+    let cells = cell_room(checked, Space::Memory)?;
+    registers
+        .checked_add(file)?
+        .checked_add(cells)?
+        .checked_add(FRAME)
 }
 
 /// Room for the text of any state of the netlist, so that `write_state` into it can't fail.

@@ -10,7 +10,7 @@ use Rattle.rec_bits.specs.Operators.{result_width}
 use Rattle.rec_bits.proofs.Fits.{apply1_fits, apply2_fits, cat_below, sext_below, room_above}
 use Rattle.net_model.specs.Meaning.{mean}
 use Rattle.sym_expr.specs.declared.pool.Node.{Node}
-use Rattle.sym_expr.specs.declared.pool.Node.TheVariants.{Word, Reg, Const, Read, Un, Bin, Slice, Cat, Zext, Sext, Select}
+use Rattle.sym_expr.specs.declared.pool.Node.TheVariants.{Word, Reg, Const, Read, Cell, Un, Bin, Slice, Cat, Zext, Sext, Select}
 use Rattle.sym_expr.specs.Pools.{node_term, children_of, AllBelow, HeadFits, TermFits, Suits}
 
 pub AllFit : (ℕ → Term) → List ℕ → Type 0
@@ -28,6 +28,7 @@ whole_fits (Word w) t h a = h
 whole_fits (Reg r w) t h a = h
 whole_fits (Const w v) t h a = h
 whole_fits (Read i w) t h a = (a.0, h)
+whole_fits (Cell i w) t h a = (a.0, h)
 whole_fits (Un o i) t h a = a.0
 whole_fits (Bin o i j) t h a = (a.0, a.1.0, h)
 whole_fits (Slice i u l) t h a = (a.0, h)
@@ -54,7 +55,7 @@ pub width_fits : (t : Term) → TermFits t → (1 ≤ term_width t) × (term_wid
 width_fits (word w) h = h
 width_fits (reg r w) h = h
 width_fits (const w v) h = (h.0, h.1)
-width_fits (read a w) h = h.1
+width_fits (read space a w) h = h.1
 width_fits (un o a) h = width_fits a h
 width_fits (bin o a b) h = op_width o (term_width a) (width_fits a h.0)
 width_fits (slice a u l) h = let p = width_fits a h.0 in (omega (arith, h.1.0, h.1.1), omega (arith, h.1.0, h.1.1, p.1))
@@ -71,7 +72,7 @@ mean_fits : (t : Term) (s : State) (i : ℕ) → TermFits t → Suits t s i → 
 mean_fits (word w) s i h u = u
 mean_fits (reg r w) s i h u = u
 mean_fits (const w v) s i h u = h.2
-mean_fits (read a w) s i h u = u.1
+mean_fits (read space a w) s i h u = u.1
 mean_fits (un o a) s i h u = apply1_fits o (term_width a) (mean a s i)
 mean_fits (bin o a b) s i h u =
     apply2_fits o (term_width a) (mean a s i) (mean b s i) (mean_fits a s i h.0 u.0) (subst (λ w. mean b s i < 2 ^ w) h.2 (mean_fits b s i h.1 u.1))

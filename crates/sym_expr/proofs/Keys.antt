@@ -9,7 +9,7 @@ use Rattle.rec_bits.specs.declared.operator.Op2.TheVariants.{Add, Sub, Mul, And,
 use Rattle.rec_bits.specs.contracts.operator.Op1PartialEq.TheImpl.{ghosts as op1_eq}
 use Rattle.rec_bits.specs.contracts.operator.Op2PartialEq.TheImpl.{ghosts as op2_eq}
 use Rattle.sym_expr.specs.declared.pool.Node.{Node}
-use Rattle.sym_expr.specs.declared.pool.Node.TheVariants.{Word, Reg, Const, Read, Un, Bin, Slice, Cat, Zext, Sext, Select}
+use Rattle.sym_expr.specs.declared.pool.Node.TheVariants.{Word, Reg, Const, Read, Cell, Un, Bin, Slice, Cat, Zext, Sext, Select}
 use Rattle.sym_expr.specs.contracts.pool.NodePartialEq.TheImpl.{ghosts as node_eq}
 
 exact_op1 : (a b : Op1) → op1_eq.eq a b ≡ true → a ≡ b
@@ -77,6 +77,7 @@ exact_node (Word w) (Word w') h = one Word w w' h
 exact_node (Reg r w) (Reg r' w') h = two Reg r w r' w' h
 exact_node (Const w v) (Const w' v') h = two Const w v w' v' h
 exact_node (Read a w) (Read a' w') h = two Read a w a' w' h
+exact_node (Cell a w) (Cell a' w') h = two Cell a w a' w' h
 exact_node (Un o a) (Un o' a') h =
     let p = both (op1_eq.eq o o') (nat_eq a a') h in
     let eo : o ≡ o' = exact_op1 o o' p.0 in
@@ -101,6 +102,7 @@ alike_node (Word w) = same_number w
 alike_node (Reg r w) = (λ j. same_number r j && same_number w j)
 alike_node (Const w v) = (λ j. same_number w j && same_number v j)
 alike_node (Read a w) = (λ j. same_number a j && same_number w j)
+alike_node (Cell a w) = (λ j. same_number a j && same_number w j)
 alike_node (Un o a) = (λ j. alike_op1 o j && same_number a j)
 alike_node (Bin o a b) = (λ j. alike_op2 o j && (same_number a j && same_number b j))
 alike_node (Slice a h l) = (λ j. same_number a j && (same_number h j && same_number l j))

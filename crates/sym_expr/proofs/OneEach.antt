@@ -3,9 +3,10 @@ use Rattle.std.proofs.Common.{◌≡◌, ℕ, zero, suc, ◌<◌, ◌≤◌, max
 use Rattle.std.proofs.lemmas.Option.{slice_get-get_or}
 use Rattle.std.specs.List.{slice_index_or}
 use Rattle.rec_bits.proofs.Lists.{all_weaker}
+use Rattle.net_model.specs.declared.hardware.Space.TheVariants.{Memory as InMemory, File as InFile}
 use Rattle.net_model.specs.Terms.{Term, word, reg, const, read, un, bin, slice, cat, zext, sext, select}
 use Rattle.sym_expr.specs.declared.pool.Node.{Node}
-use Rattle.sym_expr.specs.declared.pool.Node.TheVariants.{Word, Reg, Const, Read, Un, Bin, Slice, Cat, Zext, Sext, Select}
+use Rattle.sym_expr.specs.declared.pool.Node.TheVariants.{Word, Reg, Const, Read, Cell, Un, Bin, Slice, Cat, Zext, Sext, Select}
 use Rattle.sym_expr.specs.Pools.{node_term, children_of, AllBelow, term_at, IsPool, IsOneEach}
 use Rattle.sym_expr.proofs.Trees.{term_at-node}
 
@@ -15,6 +16,7 @@ with_parts (Word w) is = Word w
 with_parts (Reg r w) is = Reg r w
 with_parts (Const w v) is = Const w v
 with_parts (Read a w) is = Read (slice_index is 0) w
+with_parts (Cell a w) is = Cell (slice_index is 0) w
 with_parts (Un o a) is = Un o (slice_index is 0)
 with_parts (Bin o a b) is = Bin o (slice_index is 0) (slice_index is 1)
 with_parts (Slice a h l) is = Slice (slice_index is 0) h l
@@ -28,7 +30,8 @@ abbrev head_of : Term → Node
 head_of (word w) = Word w
 head_of (reg r w) = Reg r w
 head_of (const w v) = Const w v
-head_of (read a w) = Read 0 w
+head_of (read InMemory a w) = Read 0 w
+head_of (read InFile a w) = Cell 0 w
 head_of (un o a) = Un o 0
 head_of (bin o a b) = Bin o 0 0
 head_of (slice a h l) = Slice 0 h l
@@ -41,7 +44,7 @@ abbrev operands : Term → List Term
 operands (word w) = []
 operands (reg r w) = []
 operands (const w v) = []
-operands (read a w) = a ∷ []
+operands (read space a w) = a ∷ []
 operands (un o a) = a ∷ []
 operands (bin o a b) = a ∷ b ∷ []
 operands (slice a h l) = a ∷ []
@@ -55,6 +58,7 @@ head_node (Word w) t is = refl
 head_node (Reg r w) t is = refl
 head_node (Const w v) t is = refl
 head_node (Read a w) t is = refl
+head_node (Cell a w) t is = refl
 head_node (Un o a) t is = refl
 head_node (Bin o a b) t is = refl
 head_node (Slice a h l) t is = refl
@@ -68,6 +72,7 @@ operands_node (Word w) t = refl
 operands_node (Reg r w) t = refl
 operands_node (Const w v) t = refl
 operands_node (Read a w) t = refl
+operands_node (Cell a w) t = refl
 operands_node (Un o a) t = refl
 operands_node (Bin o a b) t = refl
 operands_node (Slice a h l) t = refl
@@ -81,6 +86,7 @@ own_parts (Word w) = refl
 own_parts (Reg r w) = refl
 own_parts (Const w v) = refl
 own_parts (Read a w) = refl
+own_parts (Cell a w) = refl
 own_parts (Un o a) = refl
 own_parts (Bin o a b) = refl
 own_parts (Slice a h l) = refl

@@ -1,9 +1,10 @@
 -- The expressions of ids while a pool grows.
 use Rattle.std.proofs.Common.{◌≡◌, ℕ, ◌<◌, ◌==◌, Bool, true, false, List, [], ◌∷◌, ◌++◌, length, reverse, slice_get, Some, refl, sym, ap, ◌∙◌, append_assoc, length-append, arith}
 use Rattle.std.proofs.lemmas.List.{reverse-append, length-reverse}
-use Rattle.net_model.specs.Terms.{Term, read, un, bin, slice, cat, zext, sext, select}
+use Rattle.net_model.specs.declared.hardware.Space.TheVariants.{Memory as InMemory}
+use Rattle.net_model.specs.Terms.{Term, read, cell, un, bin, slice, cat, zext, sext, select}
 use Rattle.sym_expr.specs.declared.pool.Node.{Node}
-use Rattle.sym_expr.specs.declared.pool.Node.TheVariants.{Word, Reg, Const, Read, Un, Bin, Slice, Cat, Zext, Sext, Select}
+use Rattle.sym_expr.specs.declared.pool.Node.TheVariants.{Word, Reg, Const, Read, Cell, Un, Bin, Slice, Cat, Zext, Sext, Select}
 use Rattle.sym_expr.specs.Pools.{node_term, children_of, AllBelow, term_of_newest, term_at}
 use Rattle.rec_bits.proofs.Lists.{around}
 use borrow.Author.Tests.{eqb-true, eq-eqb}
@@ -47,7 +48,8 @@ unfolding AllSame
 node_term-same t u (Word w) h = refl
 node_term-same t u (Reg r w) h = refl
 node_term-same t u (Const w v) h = refl
-node_term-same t u (Read a w) h = let e : t a ≡ u a = h.0 in (λ j. read (e j) w)
+node_term-same t u (Read a w) h = let e : t a ≡ u a = h.0 in (λ j. read InMemory (e j) w)
+node_term-same t u (Cell a w) h = let e : t a ≡ u a = h.0 in (λ j. cell (e j) w)
 node_term-same t u (Un o a) h = let e : t a ≡ u a = h.0 in (λ j. un o (e j))
 node_term-same t u (Bin o a b) h = let e : t a ≡ u a = h.0 in let f : t b ≡ u b = h.1.0 in (λ j. bin o (e j) (f j))
 node_term-same t u (Slice a i l) h = let e : t a ≡ u a = h.0 in (λ j. slice (e j) i l)

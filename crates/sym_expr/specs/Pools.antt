@@ -1,18 +1,21 @@
 -- What a pool says: the list of its nodes, where a node's place is its id.
 use Rattle.std.specs.Prelude.{◌≡◌, ◌↔◌, ℕ, ◌+◌, ◌^◌, ◌<◌, ◌≤◌, ◌==◌, if◌then◌else◌, List, [], ◌∷◌, ◌++◌, length, reverse, slice_get, slice_index, Some}
 use Rattle.std.specs.List.{AllByRecursion}
-use Rattle.net_model.specs.Terms.{Term, term_width, word, reg, const, read, un, bin, slice, cat, zext, sext, select}
+use Rattle.net_model.specs.declared.hardware.Space.TheVariants.{Memory as InMemory}
+use Rattle.net_model.specs.Nets.{held}
+use Rattle.net_model.specs.Terms.{Term, term_width, word, reg, const, read, cell, un, bin, slice, cat, zext, sext, select}
 use Rattle.net_model.specs.Meaning.{mean}
 use Rattle.net_model.specs.declared.states.State.{State}
 use Rattle.sym_expr.specs.declared.pool.Node.{Node}
-use Rattle.sym_expr.specs.declared.pool.Node.TheVariants.{Word, Reg, Const, Read, Un, Bin, Slice, Cat, Zext, Sext, Select}
+use Rattle.sym_expr.specs.declared.pool.Node.TheVariants.{Word, Reg, Const, Read, Cell, Un, Bin, Slice, Cat, Zext, Sext, Select}
 
 -- the expression of a node, by those of earlier ids
 abbrev pub node_term : Node → (ℕ → Term) → Term
 node_term (Word w) t = word w
 node_term (Reg r w) t = reg r w
 node_term (Const w v) t = const w v
-node_term (Read a w) t = read (t a) w
+node_term (Read a w) t = read InMemory (t a) w
+node_term (Cell a w) t = cell (t a) w
 node_term (Un o a) t = un o (t a)
 node_term (Bin o a b) t = bin o (t a) (t b)
 node_term (Slice a h l) t = slice (t a) h l
@@ -27,6 +30,7 @@ children_of (Word w) = []
 children_of (Reg r w) = []
 children_of (Const w v) = []
 children_of (Read a w) = a ∷ []
+children_of (Cell a w) = a ∷ []
 children_of (Un o a) = a ∷ []
 children_of (Bin o a b) = a ∷ b ∷ []
 children_of (Slice a h l) = a ∷ []
@@ -60,7 +64,7 @@ abbrev pub HeadFits : Term → Type 0
 HeadFits (word w) = (1 ≤ w) × (w ≤ 64)
 HeadFits (reg r w) = (1 ≤ w) × (w ≤ 64)
 HeadFits (const w v) = (1 ≤ w) × (w ≤ 64) × (v < 2 ^ w)
-HeadFits (read a w) = (1 ≤ w) × (w ≤ 64)
+HeadFits (read space a w) = (1 ≤ w) × (w ≤ 64)
 HeadFits (un o a) = Unit {0}
 HeadFits (bin o a b) = term_width b ≡ term_width a
 HeadFits (slice a h l) = (l ≤ h) × (h < term_width a)
@@ -74,7 +78,7 @@ abbrev pub TermFits : Term → Type 0
 TermFits (word w) = HeadFits (word w)
 TermFits (reg r w) = HeadFits (reg r w)
 TermFits (const w v) = HeadFits (const w v)
-TermFits (read a w) = TermFits a × HeadFits (read a w)
+TermFits (read space a w) = TermFits a × HeadFits (read space a w)
 TermFits (un o a) = TermFits a
 TermFits (bin o a b) = TermFits a × TermFits b × HeadFits (bin o a b)
 TermFits (slice a h l) = TermFits a × HeadFits (slice a h l)
@@ -88,7 +92,7 @@ abbrev pub Suits : Term → State → ℕ → Type 0
 Suits (word w) s i = i < 2 ^ w
 Suits (reg r w) s i = slice_index s.regs r < 2 ^ w
 Suits (const w v) s i = Unit {0}
-Suits (read a w) s i = Suits a s i × (slice_index s.cells (mean a s i) < 2 ^ w)
+Suits (read space a w) s i = Suits a s i × (slice_index (held s space) (mean a s i) < 2 ^ w)
 Suits (un o a) s i = Suits a s i
 Suits (bin o a b) s i = Suits a s i × Suits b s i
 Suits (slice a h l) s i = Suits a s i

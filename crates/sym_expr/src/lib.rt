@@ -1,5 +1,5 @@
-//! Expressions over registers, the memory, constants and the instruction word, in one pool with one
-//! id for each.
+//! Expressions over registers, the memory, the register file, constants and the instruction word,
+//! in one pool with one id for each.
 //!
 //! Promise: `intern` gives the id of an expression and adds no other (`term`, `alone`), and changes
 //! no id that the pool held, on want of memory too (`grows`: `Grows`). Two ids are equal exactly

@@ -18,14 +18,16 @@ use std::marker::Model;
 pub type ExprId = u64;
 
 /// A leaf, or an operator over the ids of its operands, with the meanings of `net_model::Expr`.
-/// Each tells its own width: in `Word`, `Reg` and `Read` the last number is the width, in `Zext`
-/// and `Sext` the width that is reached.
+/// Each tells its own width: in `Word`, `Reg`, `Read` and `Cell` the last number is the width,
+/// in `Zext` and `Sext` the width that is reached.
 #[derive(Clone, Copy, PartialEq, Eq, Hash)]
 pub enum Node {
     Word(u8),
     Reg(u32, u8),
     Const { width: u8, value: u64 },
+    /// A cell of the memory at an address, and one of the register file.
     Read(ExprId, u8),
+    Cell(ExprId, u8),
     Un(Op1, ExprId),
     Bin(Op2, ExprId, ExprId),
     /// The bits from the first number down to the second.
@@ -149,6 +151,9 @@ impl Pool {
             Node::Read(addr, _) => {
                 number_at(state.cells.as_slice(), self.eval(addr, state, word))
             }
+            Node::Cell(addr, _) => {
+                number_at(state.file.as_slice(), self.eval(addr, state, word))
+            }
             Node::Un(op, a) => apply1(op, self.width(a), self.eval(a, state, word)),
             Node::Bin(op, a, b) => apply2(
                 op,
@@ -185,6 +190,7 @@ impl Pool {
             Node::Reg(register, width) => Expr::Reg(register, width),
             Node::Const { width, value } => Expr::Const { width, value },
             Node::Read(addr, width) => Expr::Read(self.boxed(alloc, addr)?, width),
+            Node::Cell(addr, width) => Expr::Cell(self.boxed(alloc, addr)?, width),
             Node::Un(op, a) => Expr::Un(op, self.boxed(alloc, a)?),
             Node::Bin(op, a, b) => Expr::Bin(op, self.boxed(alloc, a)?, self.boxed(alloc, b)?),
             Node::Slice(a, hi, lo) => Expr::Slice(self.boxed(alloc, a)?, hi, lo),
@@ -240,7 +246,7 @@ impl Pool {
             Node::Word(width) => width,
             Node::Reg(_, width) => width,
             Node::Const { width, .. } => width,
-            Node::Read(_, width) => width,
+            Node::Read(_, width) | Node::Cell(_, width) => width,
             Node::Un(_, a) => self.width(a),
             Node::Bin(op, a, _) => result_width(op, self.width(a)),
             Node::Slice(a, hi, lo) => {
@@ -262,7 +268,7 @@ impl Pool {
             Node::Word(_) => 1,
             Node::Reg(..) => 1,
             Node::Const { .. } => 1,
-            Node::Read(a, _) => self.size(a).saturating_add(1),
+            Node::Read(a, _) | Node::Cell(a, _) => self.size(a).saturating_add(1),
             Node::Un(_, a) => self.size(a).saturating_add(1),
             Node::Bin(_, a, b) => self.size(a).saturating_add(self.size(b)).saturating_add(1),
             Node::Slice(a, _, _) => self.size(a).saturating_add(1),

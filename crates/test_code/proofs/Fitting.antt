@@ -18,7 +18,7 @@ use Rattle.form_set.specs.Listing.{AreForms}
 use Rattle.emit_seq.specs.Cells.{AllReadWords}
 use Rattle.src_trees.specs.Lowered.{Work}
 use Rattle.src_trees.specs.Measures.{IsSmall}
-use Rattle.word_fit.specs.Fits.{fits_over}
+use Rattle.word_fit.specs.Fits.{HasNoFile, fits_over}
 use Rattle.word_fit.specs.Groups.{AllHaveWords}
 use Rattle.right_code.specs.Inner.Jobs.{HasOne}
 use Rattle.right_code.specs.Inner.Known.{AreKnown}
@@ -34,7 +34,7 @@ use Rattle.test_code.specs.Inner.Jobs.{IsCellJob}
 small : (bits temps : ℕ) (job : Work) (j : IsCellJob bits temps job) → IsSmall bits temps (size_of j.tree) job
 small bits temps job j = subst (IsSmall bits temps (size_of j.tree)) (sym j.is) (record { destination = tt; trees = (j.plain, j.few, omega arith, tt) })
 
-module _ (netlist : Netlist) (order : List ℕ) (keeps : KeepsRules netlist order) (patterns : List Pattern) (are : ArePatterns netlist patterns) (rules : List Rule) (reach : ℕ) (forms : AreForms netlist patterns rules reach) where
+module _ (netlist : Netlist) (order : List ℕ) (keeps : KeepsRules netlist order) (bare : HasNoFile netlist) (patterns : List Pattern) (are : ArePatterns netlist patterns) (rules : List Rule) (reach : ℕ) (forms : AreForms netlist patterns rules reach) where
   some : 0 < word_width netlist
   some = has_bits netlist order keeps
 
@@ -42,7 +42,7 @@ module _ (netlist : Netlist) (order : List ℕ) (keeps : KeepsRules netlist orde
   known = known_of netlist order keeps patterns are
 
   reads : AllReadWords (memory_width netlist.storages) rules
-  reads = all_read netlist order keeps some patterns known reach rules forms.list
+  reads = all_read netlist order keeps bare some patterns known reach rules forms.list
 
   module _ (temps : ℕ) (job : Work) (choice : Choice) (j : IsCellJob (memory_width netlist.storages) temps job) where
     abbrev stock : Stock
@@ -58,7 +58,7 @@ module _ (netlist : Netlist) (order : List ℕ) (keeps : KeepsRules netlist orde
     pub job_have : IsChosen stock job.destination job.trees choice → AllHaveWords (operation_of patterns) (fits_over netlist (operation_of patterns)) (singles (job_steps stock job choice)) (regs_of 0)
     job_have c =
         subst (λ (steps : List Step). AllHaveWords (operation_of patterns) (fits_over netlist (operation_of patterns)) (singles steps) (regs_of 0)) (append-nil (job_steps stock job choice))
-        (block_words netlist order keeps some patterns known reach stock forms.list (job ∷ []) (choice ∷ []) (job_covered c, one, tt))
+        (block_words netlist order keeps bare some patterns known reach stock forms.list (job ∷ []) (choice ∷ []) (job_covered c, one, tt))
 
 -- words of groups fit
 module _ (netlist : Netlist) where

@@ -24,7 +24,7 @@ module _ (netlist : Netlist) where
   is_plain at (word w) = refl
   is_plain at (reg r w) = refl
   is_plain at (const w v) = refl
-  is_plain at (read a w) = refl
+  is_plain at (read space a w) = refl
   is_plain at (un o a) = is_plain at a
   is_plain at (bin o a b) = both (is_tree (tree_from (widths_of netlist) at a)) (is_tree (tree_from (widths_of netlist) (at + operands a) b)) (is_plain at a) (is_plain (at + operands a) b)
   is_plain at (slice a hi lo) = by (is_field (slice a hi lo)) (is_plain at a)

@@ -14,6 +14,7 @@ ghost use Rattle.src_trees.specs.Jobs.{work_of, works_of};
 ghost use Rattle.transfer_set.specs.Ready.{IsReady};
 ghost use Rattle.net_code.specs.Machines.{machine_netlist, machine_patterns};
 ghost use Rattle.self_test.specs.Cells.{test_temps, test_works};
+ghost use Rattle.word_fit.specs.Fits.{HasNoFile};
 ghost use Rattle.test_code.specs.Codes.{IsCodeOf};
 ghost use Rattle.test_code.specs.Inner.Adding.{HasAdded};
 ghost use Rattle.test_code.specs.Inner.Jobs.{IsCellJob};
@@ -51,6 +52,7 @@ fn job_block(
     job: &Job,
     chosen: &JobCover,
 ) -> Result<PackedBlock, NoMemory>
+    requires bare { HasNoFile (machine_netlist machine.now) }
     requires ready { IsReady (machine_netlist machine.now) book.old machine.now.pool.now machine.now.patterns.now }
     requires patterns { ArePatterns (machine_netlist machine.now) (machine_patterns machine.now) }
     requires forms { AreForms (machine_netlist machine.now) (machine_patterns machine.now)
@@ -81,6 +83,7 @@ fn add_job(
     job: &Job,
     code: &mut TestCode,
 ) -> Result<(), NoMemory>
+    requires bare { HasNoFile (machine_netlist machine.now) }
     requires ready { IsReady (machine_netlist machine.now) book.old machine.now.pool.now machine.now.patterns.now }
     requires patterns { ArePatterns (machine_netlist machine.now) (machine_patterns machine.now) }
     requires forms { AreForms (machine_netlist machine.now) (machine_patterns machine.now)
@@ -103,7 +106,7 @@ fn add_job(
     Ok(())
 }
 
-/// The code of the jobs of a netlist's self-test, by the netlist's forms.
+/// The code of the jobs of the self-test of a netlist without a register file, by its forms.
 pub fn code_of(
     alloc: Global,
     machine: &Machine<'_>,
@@ -111,6 +114,7 @@ pub fn code_of(
     forms: &Forms,
     tests: &TestJobs,
 ) -> Result<TestCode, NoMemory>
+    requires bare { HasNoFile (machine_netlist machine.now) }
     requires ready { IsReady (machine_netlist machine.now) book.old machine.now.pool.now machine.now.patterns.now }
     requires patterns { ArePatterns (machine_netlist machine.now) (machine_patterns machine.now) }
     requires forms { AreForms (machine_netlist machine.now) (machine_patterns machine.now)

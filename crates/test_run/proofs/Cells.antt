@@ -4,7 +4,9 @@ use Rattle.std.proofs.lemmas.Nat.{pow_pos}
 use Rattle.std.proofs.lemmas.List.{length-replicate}
 use Rattle.std.proofs.Math.Nat.{mod-lt}
 use Rattle.net_model.specs.declared.hardware.Netlist.{Netlist}
-use Rattle.net_model.specs.Nets.{memory_size, memory_width}
+use Rattle.net_model.specs.declared.hardware.Space.TheVariants.{File as InFile}
+use Rattle.net_model.proofs.Spaces.{by_space}
+use Rattle.net_model.specs.Nets.{held, memory_size, memory_width, size_in, width_in}
 use Rattle.net_model.specs.Widths.{IsState}
 use Rattle.test_run.specs.Starts.{cells_from, test_start}
 
@@ -25,10 +27,14 @@ length-cells_from w at (suc n) = ap suc (length-cells_from w (at + 1) n)
 pub start_fits : (netlist : Netlist) → IsState netlist (test_start netlist)
 start_fits netlist = record {
   regs = length-replicate _ _;
-  cells = length-cells_from (memory_width netlist.storages) 0 (memory_size netlist.storages);
+  cells = by_space (λ space. length (held (test_start netlist) space) ≡ size_in space netlist.storages)
+      (length-cells_from (memory_width netlist.storages) 0 (memory_size netlist.storages))
+      (length-replicate (size_in InFile netlist.storages) 0);
   fits = record {
     regs = λ id. zeros_below (length netlist.storages) id _;
-    cells = λ a. cells_below (memory_width netlist.storages) 0 (memory_size netlist.storages) a;
+    cells = by_space (λ space. (a : ℕ) → slice_index (held (test_start netlist) space) a < 2 ^ width_in space netlist.storages)
+        (cells_below (memory_width netlist.storages) 0 (memory_size netlist.storages))
+        (λ a. zeros_below (size_in InFile netlist.storages) a _);
   };
 }
 

@@ -4,8 +4,8 @@
 //! words, and gives the text of what they show of each fault; it answers None exactly where the run
 //! without a fault clashes (`text_of` of `specs/Texts`).
 //!
-//! A self-test starts with the number after its address in each cell, as far as a cell's width goes,
-//! and with 0 in all else (`test_start` of `specs/Starts`).
+//! A self-test starts with the number after its address in each cell of the data memory, as far as
+//! a cell's width goes, and with 0 in all else (`test_start` of `specs/Starts`).
 //!
 //! Files:
 //!

@@ -5,7 +5,7 @@ ghost use Rattle.net_model.specs.Widths.{IsState};
 ghost use Rattle.test_run.specs.Starts.{cells_from, test_start};
 
 use cycle_sim::zeros;
-use net_model::{Checked, State};
+use net_model::{Checked, Space, State};
 use rec_bits::{Items, NoMemory, mask};
 use std::alloc::Global;
 
@@ -40,7 +40,8 @@ pub(crate) fn start(alloc: Global, checked: &Checked) -> Result<State, NoMemory>
     let netlist = checked.netlist();
     let regs = zeros(alloc, netlist.storages.len())?;
     let cells = cells(alloc, checked.memory_size(), checked.memory_width())?;
-    Ok(State { regs, cells })
+    let file = zeros(alloc, checked.size(Space::File) as usize)?;
+    Ok(State { regs, cells, file })
 }
 
 /// Another state of the same numbers.
@@ -49,5 +50,6 @@ pub(crate) fn copied(alloc: Global, state: &State) -> Result<State, NoMemory>
 {
     let regs = Items::from_slice(alloc, state.regs.as_slice())?;
     let cells = Items::from_slice(alloc, state.cells.as_slice())?;
-    Ok(State { regs, cells })
+    let file = Items::from_slice(alloc, state.file.as_slice())?;
+    Ok(State { regs, cells, file })
 }

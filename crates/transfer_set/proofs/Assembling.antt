@@ -1,5 +1,5 @@
 -- What is told of all patterns, from what was collected.
-use Rattle.std.proofs.Common.{◌≡◌, ◌≢◌, ◌↔◌, inl, inr, ℕ, ◌^◌, ◌<◌, Bool, true, List, [], ◌∷◌, length, slice_index_or, All, AllPairs, Contains, refl, sym, ap, subst, ◌∙◌, arith}
+use Rattle.std.proofs.Common.{◌≡◌, ◌≢◌, ◌↔◌, inl, inr, ℕ, ◌^◌, ◌<◌, Bool, true, List, [], ◌∷◌, length, slice_index_or, All, AllPairs, Contains, refl, sym, ap, subst, ◌∙◌, arith, Option}
 use Rattle.std.specs.List.{AllByRecursion}
 use Rattle.bit_bdd.specs.Diagrams.{Diagrams, Extends, has_word}
 use Rattle.bit_bdd.proofs.CallerLemmas.{extends_refl, extends_trans, same_words}
@@ -18,7 +18,7 @@ use Rattle.transfer_set.specs.Routes.{IsSet}
 use Rattle.transfer_set.specs.Rows.{AreSorted, AreRowsOf, IsNotAfter, ShowsMove, entries_of, entry_of, row_move, row_pattern, row_patterns}
 use Rattle.transfer_set.specs.Inner.Sources.{changes}
 use Rattle.transfer_set.specs.Inner.Stepping.{any_step}
-use Rattle.transfer_set.specs.Tables.{IsPatternTable, IsRow}
+use Rattle.transfer_set.specs.Tables.{IsPatternTable, IsRow, file_place}
 use Rattle.transfer_set.specs.TextMarks.{HasPlainNames, IsMoveOf}
 use Rattle.transfer_set.proofs.Collecting.{held_entries_later, moves_later, whole_later}
 use Rattle.transfer_set.proofs.SetsFound.{keep_found, step_found}
@@ -147,9 +147,9 @@ module _ (netlist : Netlist) (order : List ℕ) (kept : KeepsRules netlist order
       → (keeps : List ℕ) → AreLeft mid new set entries (length netlist.storages) keeps
       → (counter : Counter) → counter.storage ≡ counter_of netlist.codes → counter.width ≡ counter_width netlist
       → (step : ℕ) → step < length last.nodes → ((word : ℕ) → has_word last step word ≡ any_step new pool counter entries word)
-      → (memory : ℕ) → memory ≡ memory_id netlist.storages
-      → IsPatternTable netlist last pool (record { rows = rows; keeps = keeps; step = step; memory = memory })
-  table_is rows of told ordered keeps are counter storage width step inside words memory is =
+      → (memory : ℕ) → memory ≡ memory_id netlist.storages → (file : Option ℕ) → file ≡ file_place netlist.storages
+      → IsPatternTable netlist last pool (record { rows = rows; keeps = keeps; step = step; memory = memory; file = file })
+  table_is rows of told ordered keeps are counter storage width step inside words memory is file is_file =
       let held_last = held_entries_later mid last later entries held in
       let whole_last = whole_later mid last later netlist pool entries held whole in
       let legal = has_word old set in
@@ -165,4 +165,5 @@ module _ (netlist : Netlist) (order : List ℕ) (kept : KeepsRules netlist order
         keeps = keep_found netlist mid pool entries legal (clean_in mid (extends_refl mid)) (moves_in mid (extends_refl mid)) new last left stepped set (same_words old mid collected set within) (length netlist.storages) keeps are;
         step = step_found netlist new pool entries legal (clean_in new left) (moves_in new left) last stepped.bits counter storage width step inside words;
         memory = is;
+        file = is_file;
       }

@@ -10,19 +10,20 @@ use Rattle.bit_bdd.proofs.CallerLemmas.{same_words}
 use Rattle.ctl_bdd.specs.declared.ControlBits.{ControlBits}
 use Rattle.net_model.specs.declared.hardware.Netlist.{Netlist}
 use Rattle.net_model.specs.declared.hardware.Storage.{Storage}
-use Rattle.net_model.specs.declared.hardware.Storage.TheVariants.{Register, Memory}
+use Rattle.net_model.specs.declared.hardware.Storage.TheVariants.{Register, Memory, File}
+use Rattle.net_model.specs.declared.hardware.Cells.{Cells}
 use Rattle.net_model.specs.Symbolic.{no_state, sym_of}
 use Rattle.net_model.specs.Terms.{Term, Move, keep, write, write_at}
 use Rattle.net_model.specs.Clock.{is_enabled}
-use Rattle.net_model.specs.Transfers.{move_at, same_reg, transfer_of}
+use Rattle.net_model.specs.Transfers.{move_at, same_reg, array_move, storage_move, transfer_of}
 use Rattle.net_model.specs.Value.{value_of}
-use Rattle.net_model.specs.Widths.{StorageFits}
+use Rattle.net_model.specs.Widths.{ArrayFits, StorageFits}
 use Rattle.sym_expr.specs.declared.pool.Node.{Node}
 use Rattle.sym_expr.specs.Pools.{term_at, IsOneEach}
 use Rattle.transfer_set.specs.declared.route.Route.{Route}
 use Rattle.transfer_set.specs.Routes.{RouteIs, terms_under, routes_at}
 use Rattle.transfer_set.specs.Inner.Entries.{ArePairs, AreWrites, each, list_if, memory_moves, register_moves}
-use Rattle.transfer_set.specs.Inner.Sources.{IsOnSet, IsSource, IsStorageKnown, IsWhenKnown, changes, when_set}
+use Rattle.transfer_set.specs.Inner.Sources.{IsArray, memory, file, IsOnSet, IsSource, IsStorageKnown, IsWhenKnown, changes, when_set}
 use Rattle.transfer_set.proofs.Collecting.{sets_later, terms_later}
 use Rattle.transfer_set.proofs.Exact.{exact}
 
@@ -42,7 +43,8 @@ on_later netlist old new e set when h = record {
 known_later : (netlist : Netlist) (old new : Diagrams) → Extends old new → (bits : List (ℕ × List ℕ)) (storage : Option Storage) → IsStorageKnown netlist old bits storage → IsStorageKnown netlist new bits storage
 known_later netlist old new e bits None h = tt
 known_later netlist old new e bits (Some (Register name width input when)) h = (h.0, on_later netlist old new e (when_set bits when) when h.1)
-known_later netlist old new e bits (Some (Memory name width size addr_width value addr when)) h = (h.0, on_later netlist old new e (when_set bits when) when h.1)
+known_later netlist old new e bits (Some (Memory cells)) h = (h.0, on_later netlist old new e (when_set bits cells.when) cells.when h.1)
+known_later netlist old new e bits (Some (File cells)) h = (h.0, on_later netlist old new e (when_set bits cells.when) cells.when h.1)
 
 pub source_later : (netlist : Netlist) (old new : Diagrams) → Extends old new → (pool : List Node) (controls : ControlBits) (nets : List (List Route)) → IsSource netlist old pool controls nets → IsSource netlist new pool controls nets
 source_later netlist old new e pool controls nets s = record {
@@ -64,6 +66,20 @@ source_later netlist old new e pool controls nets s = record {
       (λ k. h.0 (sym w ∙ k), λ k. w ∙ h.1 k);
   storages = λ id. known_later netlist old new e controls.bits (slice_get netlist.storages id) (s.storages id);
 }
+
+-- ---- a storage with cells, of either space
+
+array_known : (netlist : Netlist) (book : Diagrams) (bits : List (ℕ × List ℕ)) (cells : Cells) (storage : Storage) → IsArray cells storage → IsStorageKnown netlist book bits (Some storage) → IsWhenKnown netlist book bits cells.when
+array_known netlist book bits cells _ memory h = h
+array_known netlist book bits cells _ file h = h
+
+array_fits : (netlist : Netlist) (cells : Cells) (storage : Storage) → IsArray cells storage → StorageFits netlist storage → ArrayFits netlist cells
+array_fits netlist cells _ memory h = h
+array_fits netlist cells _ file h = h
+
+array_moves : (t : ℕ → Term) (u : ℕ → ℕ) (id : ℕ) (cells : Cells) (storage : Storage) → IsArray cells storage → storage_move t u id storage ≡ array_move t u cells
+array_moves t u id cells _ memory = refl
+array_moves t u id cells _ file = refl
 
 -- ---- one storage
 
@@ -126,63 +142,65 @@ module _ (netlist : Netlist) (book : Diagrams) (pool : List Node) (controls : Co
         by true true true true e = rw e
         by true true true false e = rw e
 
-  module _ (id : ℕ) (name : List ℕ) (width size addr_width value addr : ℕ) (when : Option ℕ) (at : slice_get netlist.storages id ≡ Some (Memory name width size addr_width value addr when))
-      (fit : StorageFits netlist (Memory name width size addr_width value addr when)) where
-    pub memory_known : IsWhenKnown netlist book controls.bits when
-    memory_known = subst (IsStorageKnown netlist book controls.bits) at (source.storages id)
+  module _ (id : ℕ) (cells : Cells) (storage : Storage) (has : IsArray cells storage) (at : slice_get netlist.storages id ≡ Some storage) (fit : StorageFits netlist storage) where
+    pub memory_known : IsWhenKnown netlist book controls.bits cells.when
+    memory_known = array_known netlist book controls.bits cells storage has (subst (IsStorageKnown netlist book controls.bits) at (source.storages id))
 
-    on_memory : IsOnSet netlist book (when_set controls.bits when) when
+    fit_array : ArrayFits netlist cells
+    fit_array = array_fits netlist cells storage has fit
+
+    on_memory : IsOnSet netlist book (when_set controls.bits cells.when) cells.when
     on_memory = memory_known.1
 
-    memory_is : (word : ℕ) → move_at netlist word id ≡ (if is_enabled (value_of netlist no_state word) when then write_at (sym_of netlist word addr) (sym_of netlist word value) else keep)
-    memory_is word = ap (transfer_of netlist word id) at
+    memory_is : (word : ℕ) → move_at netlist word id ≡ (if is_enabled (value_of netlist no_state word) cells.when then write_at (sym_of netlist word cells.addr) (sym_of netlist word cells.value) else keep)
+    memory_is word = ap (transfer_of netlist word id) at ∙ array_moves (sym_of netlist word) (value_of netlist no_state word) id cells storage has
 
-    pub memory_whole : ArePairs netlist pool book id (when_set controls.bits when) (routes_at nets addr) (routes_at nets value)
+    pub memory_whole : ArePairs netlist pool book id (when_set controls.bits cells.when) (routes_at nets cells.addr) (routes_at nets cells.value)
     memory_whole place a there i v here word fits = (
       λ h.
-          let b = both (has_word book (when_set controls.bits when) word && has_word book a.set word) (has_word book v.set word) h in
-          let d = both (has_word book (when_set controls.bits when) word) (has_word book a.set word) b.0 in
-          let r = (route_is addr fit.1.0 place a there word fits).0 d.1 in
-          let s = (route_is value fit.0.0 i v here word fits).0 b.1 in
+          let b = both (has_word book (when_set controls.bits cells.when) word && has_word book a.set word) (has_word book v.set word) h in
+          let d = both (has_word book (when_set controls.bits cells.when) word) (has_word book a.set word) b.0 in
+          let r = (route_is cells.addr fit_array.1.0 place a there word fits).0 d.1 in
+          let s = (route_is cells.value fit_array.0.0 i v here word fits).0 b.1 in
           record {
             clean = (source.legal word fits).0 r.0;
             gives = memory_is word
-                ∙ ap (λ o. if o then write_at (sym_of netlist word addr) (sym_of netlist word value) else keep) (sym (on_memory.words word fits) ∙ d.0)
+                ∙ ap (λ o. if o then write_at (sym_of netlist word cells.addr) (sym_of netlist word cells.value) else keep) (sym (on_memory.words word fits) ∙ d.0)
                 ∙ (λ j. write_at (sym r.1 j) (sym s.1 j));
           },
-      λ q. back (is_enabled (value_of netlist no_state word) when) (on_memory.words word fits) ((source.legal word fits).1 q.clean) (sym (memory_is word) ∙ q.gives),
+      λ q. back (is_enabled (value_of netlist no_state word) cells.when) (on_memory.words word fits) ((source.legal word fits).1 q.clean) (sym (memory_is word) ∙ q.gives),
     )
       where
-        back : (o : Bool) → has_word book (when_set controls.bits when) word ≡ o → has_word book controls.legal word ≡ true
-            → (if o then write_at (sym_of netlist word addr) (sym_of netlist word value) else keep) ≡ write_at (term_at pool a.expr) (term_at pool v.expr)
-            → ((has_word book (when_set controls.bits when) word && has_word book a.set word) && has_word book v.set word) ≡ true
+        back : (o : Bool) → has_word book (when_set controls.bits cells.when) word ≡ o → has_word book controls.legal word ≡ true
+            → (if o then write_at (sym_of netlist word cells.addr) (sym_of netlist word cells.value) else keep) ≡ write_at (term_at pool a.expr) (term_at pool v.expr)
+            → ((has_word book (when_set controls.bits cells.when) word && has_word book a.set word) && has_word book v.set word) ≡ true
         back true eo l e =
-            let f : sym_of netlist word addr ≡ term_at pool a.expr = cc in
-            let g : sym_of netlist word value ≡ term_at pool v.expr = cc in
-            let h = (route_is addr fit.1.0 place a there word fits).1 (l, sym f) in
-            let k = (route_is value fit.0.0 i v here word fits).1 (l, sym g) in
+            let f : sym_of netlist word cells.addr ≡ term_at pool a.expr = cc in
+            let g : sym_of netlist word cells.value ≡ term_at pool v.expr = cc in
+            let h = (route_is cells.addr fit_array.1.0 place a there word fits).1 (l, sym f) in
+            let k = (route_is cells.value fit_array.0.0 i v here word fits).1 (l, sym g) in
             (λ j. (eo j && h j) && k j)
         back false eo l e = absurd (cc)
 
     pub memory_gives : (n word : ℕ) → word < 2 ^ book.bits
-        → list_if ((id == n) && has_word book (when_set controls.bits when) word) (each (λ (a : Term). each (memory_moves a) (terms_under book pool (routes_at nets value) word)) (terms_under book pool (routes_at nets addr) word))
+        → list_if ((id == n) && has_word book (when_set controls.bits cells.when) word) (each (λ (a : Term). each (memory_moves a) (terms_under book pool (routes_at nets cells.value) word)) (terms_under book pool (routes_at nets cells.addr) word))
         ≡ list_if ((id == n) && has_word book controls.legal word) (changes (move_at netlist word id))
     memory_gives n word fits =
         (let o = on_memory.words word fits in
-        let f = source.routes.gives addr fit.1.0 word fits in
-        let g = source.routes.gives value fit.0.0 word fits in
+        let f = source.routes.gives cells.addr fit_array.1.0 word fits in
+        let g = source.routes.gives cells.value fit_array.0.0 word fits in
         λ j. list_if ((id == n) && o j) (each (λ (a : Term). each (memory_moves a) (g j)) (f j)))
-        ∙ by (id == n) (is_enabled (value_of netlist no_state word) when) (has_word book controls.legal word)
+        ∙ by (id == n) (is_enabled (value_of netlist no_state word) cells.when) (has_word book controls.legal word)
         ∙ ap (λ m. list_if ((id == n) && has_word book controls.legal word) (changes m)) (sym (memory_is word))
       where
         f : Term
-        f = sym_of netlist word addr
+        f = sym_of netlist word cells.addr
 
         g : Term
-        g = sym_of netlist word value
+        g = sym_of netlist word cells.value
 
-        by : (k o l : Bool) → list_if (k && o) (each (λ (a : Term). each (memory_moves a) (if l then sym_of netlist word value ∷ [] else [])) (if l then sym_of netlist word addr ∷ [] else []))
-            ≡ list_if (k && l) (changes (if o then write_at (sym_of netlist word addr) (sym_of netlist word value) else keep))
+        by : (k o l : Bool) → list_if (k && o) (each (λ (a : Term). each (memory_moves a) (if l then sym_of netlist word cells.value ∷ [] else [])) (if l then sym_of netlist word cells.addr ∷ [] else []))
+            ≡ list_if (k && l) (changes (if o then write_at (sym_of netlist word cells.addr) (sym_of netlist word cells.value) else keep))
         by true true true = refl
         by true true false = refl
         by true false true = refl

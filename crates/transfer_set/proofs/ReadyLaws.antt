@@ -90,6 +90,7 @@ module _ (netlist : Netlist) (old new : Diagrams) (grows : Extends old new) wher
           keeps = λ storage lt. keep_later storage (slice_index table.keeps storage) (h.keeps storage lt);
           step = step_later table.step h.step;
           memory = h.memory;
+          file = h.file;
         }
 
 -- it holds in each extension of the book and each growth of the pool

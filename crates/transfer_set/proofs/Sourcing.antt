@@ -11,7 +11,7 @@ use Rattle.rec_bits.proofs.Booleans.{or_left}
 use Rattle.ctl_bdd.proofs.CallerLemmas.{bits_found, one_set, when_placed}
 use Rattle.net_model.specs.declared.hardware.Netlist.{Netlist}
 use Rattle.net_model.specs.declared.hardware.Storage.{Storage}
-use Rattle.net_model.specs.declared.hardware.Storage.TheVariants.{Register, Memory}
+use Rattle.net_model.specs.declared.hardware.Storage.TheVariants.{Register, Memory, File}
 use Rattle.net_model.specs.CheckedRules.{KeepsRules, StorageKeeps}
 use Rattle.net_model.specs.Control.{AllPass, storage_enables}
 use Rattle.net_model.specs.Symbolic.{is_static}
@@ -45,8 +45,12 @@ module _ (netlist : Netlist) (order : List ℕ) (kept : KeepsRules netlist order
       when_known id (Register name width input when) at when refl
       (gathered_at (λ n. is_static netlist n ≡ true) storage_enables netlist.storages id _ at (sound_of netlist order kept).storages)
       (all_at (StorageKeeps netlist) netlist.storages id _ at kept.formed.storages).1.1
-  storage_known id (Some (Memory name width size addr_width value addr when)) at =
-      when_known id (Memory name width size addr_width value addr when) at when refl
+  storage_known id (Some (Memory cells)) at =
+      when_known id (Memory cells) at cells.when refl
+      (gathered_at (λ n. is_static netlist n ≡ true) storage_enables netlist.storages id _ at (sound_of netlist order kept).storages)
+      (all_at (StorageKeeps netlist) netlist.storages id _ at kept.formed.storages).2.2
+  storage_known id (Some (File cells)) at =
+      when_known id (File cells) at cells.when refl
       (gathered_at (λ n. is_static netlist n ≡ true) storage_enables netlist.storages id _ at (sound_of netlist order kept).storages)
       (all_at (StorageKeeps netlist) netlist.storages id _ at kept.formed.storages).2.2
 

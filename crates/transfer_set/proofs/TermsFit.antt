@@ -6,16 +6,17 @@ use Rattle.std.proofs.lemmas.Nat.{pow_pos}
 use Rattle.net_model.specs.declared.hardware.Netlist.{Netlist}
 use Rattle.net_model.specs.declared.hardware.Gate.{Gate}
 use Rattle.net_model.specs.declared.hardware.Gate.TheVariants.{Word, Reg, Read, Const, Wire, Un, Bin, Slice, Cat, Zext, Sext, Case, Bus}
+use Rattle.net_model.specs.declared.hardware.Cells.{Cells}
 use Rattle.net_model.specs.declared.hardware.Storage.{Storage}
-use Rattle.net_model.specs.declared.hardware.Storage.TheVariants.{Register, Memory}
+use Rattle.net_model.specs.declared.hardware.Storage.TheVariants.{Register, Memory, File}
 use Rattle.net_model.specs.Clock.{is_enabled}
 use Rattle.net_model.specs.Control.{GateControlled, IsSound}
 use Rattle.net_model.specs.Nets.{net_width, width_at}
 use Rattle.net_model.specs.Symbolic.{no_state, bus_term, case_term, gate_term, is_static, net_term, sliced, sym_of, sym_within}
 use Rattle.net_model.specs.Terms.{Term, word, reg, const, read, un, bin, slice, cat, zext, sext, select, term_width, keep, write, write_at}
-use Rattle.net_model.specs.Transfers.{move_at, same_reg, storage_move, transfer_of}
+use Rattle.net_model.specs.Transfers.{array_move, move_at, same_reg, storage_move, transfer_of}
 use Rattle.net_model.specs.Value.{value_of, value_within}
-use Rattle.net_model.specs.Widths.{DriversFit, GateFits, HasWidth, NetFits, RestFits, RowsFit, StorageFits}
+use Rattle.net_model.specs.Widths.{ArrayFits, DriversFit, GateFits, HasWidth, NetFits, RestFits, RowsFit, StorageFits}
 use Rattle.net_model.proofs.GateControls.{gate_controlled, is_bit}
 use Rattle.net_model.proofs.Meanings.{width_is}
 use Rattle.sym_expr.specs.Pools.{TermFits}
@@ -32,7 +33,7 @@ sliced_fits (slice a h l) hi lo f p q = (f.0, (let c = f.1.0 in let d = f.1.1 in
 sliced_fits (word w) hi lo f p q = pick TermFits ((lo == 0) && (hi + 1 == term_width (word w))) (word w) (slice (word w) hi lo) f (f, (p, q))
 sliced_fits (reg r w) hi lo f p q = pick TermFits ((lo == 0) && (hi + 1 == term_width (reg r w))) (reg r w) (slice (reg r w) hi lo) f (f, (p, q))
 sliced_fits (const w v) hi lo f p q = pick TermFits ((lo == 0) && (hi + 1 == term_width (const w v))) (const w v) (slice (const w v) hi lo) f (f, (p, q))
-sliced_fits (read a w) hi lo f p q = pick TermFits ((lo == 0) && (hi + 1 == term_width (read a w))) (read a w) (slice (read a w) hi lo) f (f, (p, q))
+sliced_fits (read space a w) hi lo f p q = pick TermFits ((lo == 0) && (hi + 1 == term_width (read space a w))) (read space a w) (slice (read space a w) hi lo) f (f, (p, q))
 sliced_fits (un o a) hi lo f p q = pick TermFits ((lo == 0) && (hi + 1 == term_width (un o a))) (un o a) (slice (un o a) hi lo) f (f, (p, q))
 sliced_fits (bin o a b) hi lo f p q = pick TermFits ((lo == 0) && (hi + 1 == term_width (bin o a b))) (bin o a b) (slice (bin o a b) hi lo) f (f, (p, q))
 sliced_fits (cat a b) hi lo f p q = pick TermFits ((lo == 0) && (hi + 1 == term_width (cat a b))) (cat a b) (slice (cat a b) hi lo) f (f, (p, q))
@@ -64,7 +65,7 @@ module _ (netlist : Netlist) (sound : IsSound netlist) where
     bus_of width [] p q g = (none_of width p q).fits
     bus_of width (driver ∷ drivers) p q g = pick TermFits (u driver.1 == 1) _ _ (h driver.0 g.0.0) (bus_of width drivers p q g.2)
 
-    gate_of : (width : ℕ) (gate : Gate) → 1 ≤ width → width ≤ 64 → GateFits netlist width gate → GateControlled netlist gate → TermFits (gate_term t u (is_static netlist) width gate)
+    gate_of : (width : ℕ) (gate : Gate) → 1 ≤ width → width ≤ 64 → GateFits netlist width gate → GateControlled netlist gate → TermFits (gate_term t u (is_static netlist) netlist width gate)
     gate_of width (Word code) p q g c = (p, q)
     gate_of width (Reg id) p q g c = (p, q)
     gate_of width (Read memory addr) p q g c = (h addr g.0, (p, q))
@@ -102,7 +103,7 @@ module _ (netlist : Netlist) (sound : IsSound netlist) where
   within_fits i (suc k) n lt =
       let net = net_there netlist.nets n lt in
       let f : NetFits netlist (Some net.0) = subst (NetFits netlist) net.1 (sound.typed.nets n) in
-      subst (λ o. TermFits (net_term (sym_within k netlist i) (value_within k netlist no_state i) (is_static netlist) o)) (sym net.1)
+      subst (λ o. TermFits (net_term (sym_within k netlist i) (value_within k netlist no_state i) (is_static netlist) netlist o)) (sym net.1)
       (gate_of (sym_within k netlist i) (value_within k netlist no_state i) (within_fits i k) (width_is netlist i sound.typed k) net.0.width net.0.gate f.0 f.1 f.2
       (gate_controlled netlist sound.controlled n net.0 net.1))
 
@@ -111,13 +112,17 @@ module _ (netlist : Netlist) (sound : IsSound netlist) where
 
   -- ---- transfers
 
+  array_of : (i : ℕ) (cells : Cells) → ArrayFits netlist cells → MoveFits (array_move (sym_of netlist i) (value_of netlist no_state i) cells)
+  array_of i cells f =
+      pick MoveFits (is_enabled (value_of netlist no_state i) cells.when) (write_at (sym_of netlist i cells.addr) (sym_of netlist i cells.value)) keep
+      (sym_fits i cells.addr f.1.0, sym_fits i cells.value f.0.0) tt
+
   storage_of : (i id : ℕ) (storage : Storage) → StorageFits netlist storage → MoveFits (storage_move (sym_of netlist i) (value_of netlist no_state i) id storage)
   storage_of i id (Register name width input when) f =
       pick MoveFits (is_enabled (value_of netlist no_state i) when) _ keep
       (pick MoveFits (same_reg (sym_of netlist i input) id) keep (write (sym_of netlist i input)) tt (sym_fits i input f.0.0)) tt
-  storage_of i id (Memory name width size addr_width value addr when) f =
-      pick MoveFits (is_enabled (value_of netlist no_state i) when) (write_at (sym_of netlist i addr) (sym_of netlist i value)) keep
-      (sym_fits i addr f.1.0, sym_fits i value f.0.0) tt
+  storage_of i id (Memory cells) f = array_of i cells f
+  storage_of i id (File cells) f = array_of i cells f
 
   storages_of : (i id : ℕ) (storages : List Storage) (k : ℕ) → AllByRecursion (StorageFits netlist) storages → MoveFits (transfer_of netlist i id (slice_get storages k))
   storages_of i id [] k f = tt

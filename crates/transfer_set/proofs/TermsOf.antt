@@ -2,18 +2,20 @@
 use Rattle.std.proofs.Common.{lit<, ◌≡◌, ℕ, zero, suc, ◌+◌, ◌^◌, ◌<◌, ◌≤◌, ◌==◌, ◌&&◌, inl, inr, Bool, true, false, cond, List, [], ◌∷◌, length, Option, Some, None, slice_get, sym, ap, arith}
 use Rattle.std.proofs.Math.Nat.{pow-le-pow_right}
 use Rattle.std.proofs.lemmas.Option.{slice_get_cases, slice_get_past}
+use Rattle.net_model.proofs.Storages.{wide_place}
 use Rattle.net_model.specs.declared.hardware.Netlist.{Netlist}
 use Rattle.net_model.specs.declared.hardware.Net.{Net}
 use Rattle.net_model.specs.declared.hardware.Gate.{Gate}
 use Rattle.net_model.specs.declared.hardware.Gate.TheVariants.{Word, Reg, Read, Const, Wire, Un, Bin, Slice, Cat, Zext, Sext, Case, Bus}
 use Rattle.net_model.specs.declared.hardware.Storage.{Storage}
-use Rattle.net_model.specs.declared.hardware.Storage.TheVariants.{Register, Memory}
+use Rattle.net_model.specs.declared.hardware.Storage.TheVariants.{Register, Memory, File}
+use Rattle.net_model.specs.declared.hardware.Cells.{Cells}
 use Rattle.net_model.specs.CheckedRules.{KeepsRules}
-use Rattle.net_model.specs.Nets.{code_bits, net_width, storage_bits, width_at, word_width}
+use Rattle.net_model.specs.Nets.{code_bits, net_width, storage_bits, width_at, word_width, space_at}
 use Rattle.net_model.specs.Symbolic.{no_state, bus_term, case_term, gate_term, is_static, net_term, sliced, sym_of, sym_within}
 use Rattle.net_model.specs.Terms.{Term, reg, slice, term_width, Move, keep, write, write_at}
 use Rattle.net_model.specs.Clock.{is_enabled}
-use Rattle.net_model.specs.Transfers.{move_at, same_reg, storage_move, transfer_of}
+use Rattle.net_model.specs.Transfers.{move_at, same_reg, array_move, storage_move, transfer_of}
 use Rattle.net_model.specs.Value.{value_of, value_within}
 use Rattle.net_model.specs.Widths.{GateFits, IsTyped, NetFits}
 use Rattle.net_model.proofs.KeptRules.{typed_of}
@@ -81,10 +83,10 @@ module _ (netlist : Netlist) (typed : IsTyped netlist) (one : length netlist.cod
     bus_of width [] p = (small width p, small 0 (omega arith))
     bus_of width (driver ∷ drivers) p = pick netlist (u driver.1 == 1) _ _ (h driver.0) (bus_of width drivers p)
 
-    gate_of : (width : ℕ) (gate : Gate) → 1 ≤ width → width ≤ 64 → GateFits netlist width gate → IsTermOf netlist (gate_term t u f width gate)
+    gate_of : (width : ℕ) (gate : Gate) → 1 ≤ width → width ≤ 64 → GateFits netlist width gate → IsTermOf netlist (gate_term t u f netlist width gate)
     gate_of width (Word code) p q g = word_of code width p g
     gate_of width (Reg id) p q g = reg_of id width p g
-    gate_of width (Read memory addr) p q g = (h addr, sym g.1)
+    gate_of width (Read memory addr) p q g = (h addr, sym g.1, wide_place (space_at netlist memory) netlist.storages (omega (arith, p, g.1)))
     gate_of width (Const c) p q g = (small width q, below c width q g)
     gate_of width (Wire a) p q g = h a
     gate_of width (Un op a) p q g = h a
@@ -97,7 +99,7 @@ module _ (netlist : Netlist) (typed : IsTyped netlist) (one : length netlist.cod
         pick netlist (f sel) _ _ (case_of width (u sel) rows rest q) ((h sel, case_of width 1 rows rest q, case_of width 0 rows rest q))
     gate_of width (Bus drivers) p q g = bus_of width drivers q
 
-    net_of : (net : Option Net) → NetFits netlist net → IsTermOf netlist (net_term t u f net)
+    net_of : (net : Option Net) → NetFits netlist net → IsTermOf netlist (net_term t u f netlist net)
     net_of None p = (small 0 (omega arith), small 0 (omega arith))
     net_of (Some net) p = gate_of net.width net.gate p.0 p.1 p.2
 
@@ -108,7 +110,7 @@ module _ (netlist : Netlist) (typed : IsTyped netlist) (one : length netlist.cod
 
 -- the symbolic value of each net under each word; where there is no net it is a constant of no bits
 sym_terms : (netlist : Netlist) (order : List ℕ) → KeepsRules netlist order → (i n : ℕ) → IsTermOf netlist (sym_of netlist i n)
-sym_terms netlist order k i n = within netlist (typed_of netlist k.formed k.roles.memory) k.roles.code i (length netlist.nets) n
+sym_terms netlist order k i n = within netlist (typed_of netlist k.formed k.roles) k.roles.code i (length netlist.nets) n
 
 -- ---- transfers
 
@@ -116,11 +118,15 @@ choose : (netlist : Netlist) (b : Bool) (m n : Move) → IsMoveOf netlist m → 
 choose netlist true m n h k = h
 choose netlist false m n h k = k
 
+array_of_terms : (netlist : Netlist) (t : ℕ → Term) (u : ℕ → ℕ) → ((m : ℕ) → IsTermOf netlist (t m)) → (cells : Cells) → IsMoveOf netlist (array_move t u cells)
+array_of_terms netlist t u h cells =
+    choose netlist (is_enabled u cells.when) (write_at (t cells.addr) (t cells.value)) keep (h cells.addr, h cells.value) tt
+
 storage_of : (netlist : Netlist) (t : ℕ → Term) (u : ℕ → ℕ) (id : ℕ) → ((m : ℕ) → IsTermOf netlist (t m)) → (storage : Storage) → IsMoveOf netlist (storage_move t u id storage)
 storage_of netlist t u id h (Register name width input when) =
     choose netlist (is_enabled u when) _ keep (choose netlist (same_reg (t input) id) keep (write (t input)) tt (h input)) tt
-storage_of netlist t u id h (Memory name width size addr_width value addr when) =
-    choose netlist (is_enabled u when) (write_at (t addr) (t value)) keep (h addr, h value) tt
+storage_of netlist t u id h (Memory cells) = array_of_terms netlist t u h cells
+storage_of netlist t u id h (File cells) = array_of_terms netlist t u h cells
 
 -- what each storage does under each word
 pub move_terms : (netlist : Netlist) (order : List ℕ) → KeepsRules netlist order → (i id : ℕ) → IsMoveOf netlist (move_at netlist i id)

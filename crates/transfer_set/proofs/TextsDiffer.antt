@@ -11,14 +11,16 @@ use Rattle.rec_bits.specs.declared.operator.Op1.{Op1}
 use Rattle.rec_bits.specs.declared.operator.Op1.TheVariants.{Not, Neg}
 use Rattle.rec_bits.specs.declared.operator.Op2.{Op2}
 use Rattle.rec_bits.specs.declared.operator.Op2.TheVariants.{Add, Sub, Mul, And, Or, Xor, Shl, Shr, Sar, Eq, Ltu, Lts}
+use Rattle.net_model.proofs.Storages.{same_space}
+use Rattle.net_model.specs.declared.hardware.Space.{Space}
 use Rattle.net_model.specs.declared.hardware.Netlist.{Netlist}
 use Rattle.net_model.specs.declared.hardware.Code.{Code}
 use Rattle.net_model.specs.declared.hardware.Storage.{Storage}
-use Rattle.net_model.specs.declared.hardware.Storage.TheVariants.{Register, Memory}
-use Rattle.net_model.specs.CheckedRules.{NamesDiffer, storage_names, storage_name}
+use Rattle.net_model.specs.declared.hardware.Storage.TheVariants.{Register, Memory, File}
+use Rattle.net_model.specs.CheckedRules.{NamesDiffer, storage_names}
 use Rattle.net_model.specs.Terms.{Term, word, reg, const, read, un, bin, slice, cat, zext, sext, select}
-use Rattle.net_model.specs.Nets.{memory_id, storage_bits}
-use Rattle.net_model.specs.Texts.{first_name, memory_name, name_of, op1_text, op2_text, name_in, term_text}
+use Rattle.net_model.specs.Nets.{place_in, storage_bits, storage_name, width_in}
+use Rattle.net_model.specs.Texts.{first_name, space_name, name_of, op1_text, op2_text, name_in, term_text}
 use Rattle.transfer_set.specs.TextMarks.{Closes, HasPlainNames, IsTermOf, Marks, Plain, is_close, is_mark}
 
 -- ---- pieces
@@ -58,7 +60,7 @@ data Kind : Type 0 where
   reads slices cats zexts sexts selects : Kind
 
 abbrev kind_of : Term → Kind
-kind_of (read a w) = reads
+kind_of (read space a w) = reads
 kind_of (un o a) = one o
 kind_of (bin o a b) = two o
 kind_of (slice a hi lo) = slices
@@ -73,7 +75,7 @@ module _ (netlist : Netlist) where
   head (word w) = first_name netlist.codes
   head (reg r w) = name_of netlist r
   head (const w v) = decimal v
-  head (read a w) = codes "read"
+  head (read space a w) = codes "read"
   head (un o a) = op1_text o
   head (bin o a b) = op2_text o
   head (slice a hi lo) = codes "slice"
@@ -86,7 +88,7 @@ module _ (netlist : Netlist) where
   tail (word w) x = x
   tail (reg r w) x = x
   tail (const w v) x = 35 ∷ (decimal w ++ x)
-  tail (read a w) x = 40 ∷ (memory_name netlist ++ (44 ∷ (term_text netlist a ++ (41 ∷ x))))
+  tail (read space a w) x = 40 ∷ (space_name netlist space ++ (44 ∷ (term_text netlist a ++ (41 ∷ x))))
   tail (un o a) x = 40 ∷ (term_text netlist a ++ (41 ∷ x))
   tail (bin o a b) x = 40 ∷ (term_text netlist a ++ (44 ∷ (term_text netlist b ++ (41 ∷ x))))
   tail (slice a hi lo) x = 40 ∷ (term_text netlist a ++ (44 ∷ (decimal hi ++ (44 ∷ (decimal lo ++ (41 ∷ x))))))
@@ -100,7 +102,7 @@ module _ (netlist : Netlist) where
   parts (word w) x = refl
   parts (reg r w) x = refl
   parts (const w v) x = joins (decimal v ∷ codes "#" ∷ decimal w ∷ []) x
-  parts (read a w) x = joins (codes "read(" ∷ memory_name netlist ∷ codes "," ∷ term_text netlist a ∷ codes ")" ∷ []) x
+  parts (read space a w) x = joins (codes "read(" ∷ space_name netlist space ∷ codes "," ∷ term_text netlist a ∷ codes ")" ∷ []) x
   parts (un o a) x = joins (op1_text o ∷ codes "(" ∷ term_text netlist a ∷ codes ")" ∷ []) x
   parts (bin o a b) x = joins (op2_text o ∷ codes "(" ∷ term_text netlist a ∷ codes "," ∷ term_text netlist b ∷ codes ")" ∷ []) x
   parts (slice a hi lo) x = joins (codes "slice(" ∷ term_text netlist a ∷ codes "," ∷ decimal hi ∷ codes "," ∷ decimal lo ∷ codes ")" ∷ []) x
@@ -141,7 +143,7 @@ two_told Ltu = refl
 two_told Lts = refl
 
 kind_told : (netlist : Netlist) (t : Term) → kind_of t ≢ leaf → kind_at (head netlist t) ≡ kind_of t
-kind_told netlist (read a w) n = refl
+kind_told netlist (read space a w) n = refl
 kind_told netlist (un o a) n = one_told o
 kind_told netlist (bin o a b) n = two_told o
 kind_told netlist (slice a hi lo) n = refl
@@ -225,7 +227,8 @@ once (x ∷ names) d (suc i) (suc j) s a b = ap suc (once names d.1 i j s a b)
 registers_at : (storages : List Storage) (more : List (List ℕ)) (r : ℕ) → r < length storages → slice_get (map storage_name storages ++ more) r ≡ Some (name_in (slice_get storages r))
 registers_at [] more r lt = absurd (omega (arith, lt))
 registers_at (Register name width input when ∷ storages) more zero lt = refl
-registers_at (Memory name width size addr_width value addr when ∷ storages) more zero lt = refl
+registers_at (Memory cells ∷ storages) more zero lt = refl
+registers_at (File cells ∷ storages) more zero lt = refl
 registers_at (storage ∷ storages) more (suc r) lt = registers_at storages more r (omega (arith, lt))
 
 code_at : (storages : List Storage) (codes : List Code) → length codes ≡ 1 → slice_get (map storage_name storages ++ map (λ (code : Code). code.name) codes) (length storages) ≡ Some (first_name codes)
@@ -311,7 +314,7 @@ module _ (netlist : Netlist) (plain : HasPlainNames netlist) (names : NamesDiffe
   plain_head (word w) f = plain.code
   plain_head (reg r w) f = plain.storages r
   plain_head (const w v) f = plain_decimal v f.1
-  plain_head (read a w) f = plain_of (codes "read") refl
+  plain_head (read space a w) f = plain_of (codes "read") refl
   plain_head (un o a) f = plain_one o
   plain_head (bin o a b) f = plain_two o
   plain_head (slice a hi lo) f = plain_of (codes "slice") refl
@@ -363,10 +366,10 @@ module _ (netlist : Netlist) (plain : HasPlainNames netlist) (names : NamesDiffe
       by (inr n) (inl m) = absurd (no_leaf t u n m x y d e)
       by (inr n) (inr m) = sym (kind_told netlist t n) ∙ ap kind_at h ∙ kind_told netlist u m
 
-  after : (p q : List ℕ) → memory_name netlist ++ (44 ∷ p) ≡ memory_name netlist ++ (44 ∷ q) → p ≡ q
-  after p q e =
-      let name = plain.storages (memory_id netlist.storages) in
-      rest_of 44 44 p q (split (memory_name netlist) (memory_name netlist) (44 ∷ p) (44 ∷ q) name name refl refl e).1
+  after : (space other : Space) → place_in space netlist.storages < length netlist.storages → place_in other netlist.storages < length netlist.storages → (p q : List ℕ) → space_name netlist space ++ (44 ∷ p) ≡ space_name netlist other ++ (44 ∷ q) → (space ≡ other) × (p ≡ q)
+  after space other h k p q e =
+      let s = split (space_name netlist space) (space_name netlist other) (44 ∷ p) (44 ∷ q) (plain.storages (place_in space netlist.storages)) (plain.storages (place_in other netlist.storages)) refl refl e in
+      (same_space space other netlist.storages h (same_register netlist names code (place_in space netlist.storages) (place_in other netlist.storages) h k s.0), rest_of 44 44 p q s.1)
 
   number_then : (m n b : ℕ) (p q : List ℕ) → is_mark b ≡ true → m < 2 ^ 64 → n < 2 ^ 64 → decimal m ++ (b ∷ p) ≡ decimal n ++ (b ∷ q) → (m ≡ n) × (p ≡ q)
   number_then m n b p q k f g e =
@@ -393,11 +396,12 @@ module _ (netlist : Netlist) (plain : HasPlainNames netlist) (names : NamesDiffe
       ((λ j. const (wide j) (same j)), r.1)
   differ (const w v) (word k) f g x y c d e = absurd (true≢false (sym (subst Closes (sym (told (const w v) (word k) f g x y c d e).1) d)))
   differ (const w v) (reg r k) f g x y c d e = absurd (true≢false (sym (subst Closes (sym (told (const w v) (reg r k) f g x y c d e).1) d)))
-  differ (read a w) (read b v) f g x y c d e =
-      let s = told (read a w) (read b v) f g x y c d e in
-      let r = differ a b f.0 g.0 (41 ∷ x) (41 ∷ y) refl refl (after _ _ (rest_of 40 40 _ _ s.1)) in
-      let wide = f.1 ∙ sym g.1 in
-      ((λ j. read (r.0 j) (wide j)), rest_of 41 41 x y r.1)
+  differ (read space a w) (read other b v) f g x y c d e =
+      let s = told (read space a w) (read other b v) f g x y c d e in
+      let n = after space other f.2 g.2 _ _ (rest_of 40 40 _ _ s.1) in
+      let r = differ a b f.0 g.0 (41 ∷ x) (41 ∷ y) refl refl n.1 in
+      let wide = f.1 ∙ ap (λ (sp : Space). width_in sp netlist.storages) n.0 ∙ sym g.1 in
+      ((λ j. read (n.0 j) (r.0 j) (wide j)), rest_of 41 41 x y r.1)
   differ (un o a) (un p b) f g x y c d e =
       let s = told (un o a) (un p b) f g x y c d e in
       let r = differ a b f g (41 ∷ x) (41 ∷ y) refl refl (rest_of 40 40 _ _ s.1) in

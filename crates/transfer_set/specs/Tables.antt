@@ -1,8 +1,10 @@
 -- What is told of all patterns of a netlist.
-use Rattle.std.specs.Prelude.{◌≡◌, ◌≢◌, ℕ, ◌<◌, List, length, slice_index, All, AllPairs, Contains}
+use Rattle.std.specs.Prelude.{◌≡◌, ◌≢◌, ℕ, ◌<◌, List, length, slice_index, Option, Some, None, nat_lt, if◌then◌else◌, All, AllPairs, Contains}
 use Rattle.bit_bdd.specs.Diagrams.{Diagrams, has_word}
 use Rattle.net_model.specs.declared.hardware.Netlist.{Netlist}
-use Rattle.net_model.specs.Nets.{memory_id}
+use Rattle.net_model.specs.declared.hardware.Storage.{Storage}
+use Rattle.net_model.specs.declared.hardware.Space.TheVariants.{File as InFile}
+use Rattle.net_model.specs.Nets.{memory_id, place_in}
 use Rattle.net_model.specs.Patterns.{ArePatterns, IsPattern, Pattern}
 use Rattle.sym_expr.specs.declared.pool.Node.{Node}
 use Rattle.transfer_set.specs.Entries.{IsAddrKnown, IsWordsOf}
@@ -12,13 +14,19 @@ use Rattle.transfer_set.specs.Sets.{IsKeepSet, IsStepSet}
 use Rattle.transfer_set.specs.TextMarks.{HasPlainNames}
 use Rattle.transfer_set.specs.declared.row.Row.{Row}
 
--- the patterns, for each storage the words that keep it, the words that step, and the number of the
--- memory
+-- the number of the register file's storage, where there is one
+abbrev pub file_place : List Storage → Option ℕ
+file_place storages =
+    if nat_lt (place_in InFile storages) (length storages) then Some (place_in InFile storages) else None
+
+-- the patterns, for each storage the words that keep it, the words that step, and the numbers of
+-- the memory and of the file
 pub record Table : Type 0 where
   pub rows : List Row
   pub keeps : List ℕ
   pub step : ℕ
   pub memory : ℕ
+  pub file : Option ℕ
 
 -- a pattern: its ids are the pool's, and its set is all words without clash that give its storage
 -- its transfer, of which there is one
@@ -44,6 +52,7 @@ pub record IsPatternTable (netlist : Netlist) (book : Diagrams) (pool : List Nod
       IsKeepSet netlist book storage (slice_index table.keeps storage)
   pub step : IsStepSet netlist book table.step
   pub memory : table.memory ≡ memory_id netlist.storages
+  pub file : table.file ≡ file_place netlist.storages
 
 -- the sets of these rows are not empty
 abbrev pub AreSets : Diagrams → List Row → Type 0

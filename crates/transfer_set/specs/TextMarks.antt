@@ -1,7 +1,7 @@
 -- When texts of expressions tell the expressions apart.
 use Rattle.std.specs.Prelude.{◌≡◌, ℕ, ◌^◌, ◌<◌, ◌==◌, ◌||◌, Bool, true, false, List, [], ◌∷◌, length, slice_get}
 use Rattle.net_model.specs.declared.hardware.Netlist.{Netlist}
-use Rattle.net_model.specs.Nets.{memory_width, storage_bits, word_width}
+use Rattle.net_model.specs.Nets.{width_in, place_in, storage_bits, word_width}
 use Rattle.net_model.specs.Terms.{Term, word, reg, const, read, un, bin, slice, cat, zext, sext, select, Move, keep, write, write_at}
 use Rattle.net_model.specs.Texts.{first_name, name_of}
 
@@ -38,7 +38,8 @@ abbrev pub IsTermOf : Netlist → Term → Type 0
 IsTermOf netlist (word w) = w ≡ word_width netlist
 IsTermOf netlist (reg r w) = (r < length netlist.storages) × (w ≡ storage_bits (slice_get netlist.storages r))
 IsTermOf netlist (const w v) = (w < 2 ^ 64) × (v < 2 ^ 64)
-IsTermOf netlist (read a w) = IsTermOf netlist a × (w ≡ memory_width netlist.storages)
+IsTermOf netlist (read space a w) =
+    IsTermOf netlist a × (w ≡ width_in space netlist.storages) × (place_in space netlist.storages < length netlist.storages)
 IsTermOf netlist (un o a) = IsTermOf netlist a
 IsTermOf netlist (bin o a b) = IsTermOf netlist a × IsTermOf netlist b
 IsTermOf netlist (slice a hi lo) = IsTermOf netlist a × (hi < 2 ^ 64) × (lo < 2 ^ 64)

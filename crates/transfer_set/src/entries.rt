@@ -18,8 +18,8 @@ use rec_bits::{Items, NoMemory};
 use std::alloc::Global;
 use sym_expr::{ExprId, Node, Pool};
 
-// A transfer of a storage, with an address where the storage is a memory, and the words that give
-// it.
+// A transfer of a storage, with an address where the storage is a memory or a file, and the words
+// that give it.
 #[derive(Clone, Copy, PartialEq, Eq)]
 pub(crate) struct Entry {
     pub(crate) storage: u32,
@@ -152,8 +152,8 @@ pub(crate) fn add_register(
     Ok(())
 }
 
-// Adds the transfers of a memory that takes at one address, under the words of a set, what some
-// routes give.
+// Adds the transfers of a memory or a file that takes at one address, under the words of a set,
+// what some routes give.
 fn add_values(
     alloc: Global,
     book: &mut Book,
@@ -195,8 +195,8 @@ fn add_values(
     Ok(())
 }
 
-// Adds the transfers of a memory that takes, under the words of a set, what some routes give at
-// what others give.
+// Adds the transfers of a memory or a file that takes, under the words of a set, what some routes
+// give at what others give.
 pub(crate) fn add_memory(
     alloc: Global,
     book: &mut Book,

@@ -28,9 +28,11 @@ pub fn expr_fields(pool: &Pool, expr: ExprId) -> u64
     match pool.node(expr) {
         Node::Word(width) => mask(width),
         Node::Reg(..) | Node::Const { .. } => 0,
-        Node::Read(a, _) | Node::Un(_, a) | Node::Zext(a, _) | Node::Sext(a, _) => expr_fields(
-            pool, a,
-        ),
+        Node::Read(a, _)
+        | Node::Cell(a, _)
+        | Node::Un(_, a)
+        | Node::Zext(a, _)
+        | Node::Sext(a, _) => expr_fields(pool, a),
         Node::Bin(_, a, b) | Node::Cat(a, b) => expr_fields(pool, a) | expr_fields(pool, b),
         Node::Slice(a, hi, lo) => match pool.node(a) {
             Node::Word(_) => span(hi, lo),

@@ -2,10 +2,11 @@
 //! them.
 //!
 //! Promise: from the control bits and the routes of a netlist `collect_patterns` gives exactly its
-//! patterns, each with all its words, none twice, in their order; for each storage exactly the
-//! words that keep it; and exactly the words that step (`ready`: `IsReady`). `law_of_growth`: what
-//! the ids of a table mean they mean in each extension of the book and each growth of the pool
-//! (`StaysReady`). `print` writes the text of the patterns (`IsPatternsText`).
+//! patterns, those of the register file among them, each with all its words, none twice, in their
+//! order; for each storage exactly the words that keep it; exactly the words that step; and which
+//! storages are the memory and, where there is one, the file (`ready`: `IsReady`).
+//! `law_of_growth`: what the ids of a table mean they mean in each extension of the book and each
+//! growth of the pool (`StaysReady`). `print` writes the text of the patterns (`IsPatternsText`).
 //!
 //! Invariant: ids mean something only over a netlist, a book and a pool together, which is
 //! `IsReady`; the `Patterns` themselves keep only that there are fewer than 2^32. Entries are

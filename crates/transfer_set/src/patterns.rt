@@ -8,6 +8,7 @@ ghost use Rattle.transfer_set.specs.PatternsText.{IsPatternsText};
 ghost use Rattle.transfer_set.specs.Ready.{IsReady};
 ghost use Rattle.transfer_set.specs.Routes.{AreRoutes};
 ghost use Rattle.transfer_set.specs.Rows.{row_patterns};
+ghost use Rattle.transfer_set.specs.Tables.{file_place};
 
 mod pattern_text;
 
@@ -19,7 +20,7 @@ use crate::sources::collect_entries;
 use crate::stepping::{Counter, step_set};
 use bit_bdd::{Book, SetId};
 use ctl_bdd::ControlBits;
-use net_model::Checked;
+use net_model::{Checked, Space};
 use rec_bits::{Items, NoMemory};
 use std::alloc::Global;
 use std::marker::Model;
@@ -34,6 +35,7 @@ pub struct Patterns {
     keeps: Items<SetId>,
     step: SetId,
     memory: u32,
+    file: Option<u32>,
 }
 
 impl Model for Patterns {
@@ -47,6 +49,7 @@ impl Model for Patterns {
       keeps = patterns.keeps;
       step = patterns.step;
       memory = patterns.memory;
+      file = patterns.file;
     } };
 
     ghost invariant = { λ patterns. length patterns.rows.items < 2 ^ 32 };
@@ -80,7 +83,20 @@ pub fn collect_patterns(
         keeps,
         step,
         memory: checked.memory(),
+        file: file_of(checked),
     })
+}
+
+// The number of the register file's storage, where there is one.
+fn file_of(checked: &Checked) -> Option<u32>
+    ensures { result ≡ file_place checked.now.netlist.storages }
+{
+    let place = checked.place(Space::File);
+    if (place as usize) < checked.netlist().storages.len() {
+        Some(place)
+    } else {
+        None
+    }
 }
 
 impl Patterns {
@@ -120,7 +136,7 @@ impl Patterns {
     }
 
     /// The address and the value of the pattern's transfer, with an address exactly where the
-    /// storage is a memory; `None` past the last pattern.
+    /// storage is the memory or the register file; `None` past the last pattern.
     pub fn expr_of(&self, pattern: u32) -> Option<(Option<ExprId>, ExprId)>
         ensures { result ≡ option_map (λ row. (row.addr, row.value)) (slice_get self.now.rows pattern) }
     {
@@ -148,6 +164,13 @@ impl Patterns {
         ensures { result ≡ self.now.step }
     {
         self.step
+    }
+
+    /// The number of the register file's storage, and None exactly where there is none.
+    pub fn file(&self) -> Option<u32>
+        ensures { result ≡ self.now.file }
+    {
+        self.file
     }
 
     /// The number of the data memory's storage.

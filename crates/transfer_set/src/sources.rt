@@ -8,13 +8,13 @@ ghost use Rattle.net_model.specs.Transfers.{move_at};
 ghost use Rattle.net_model.specs.Nets.{word_width};
 ghost use Rattle.transfer_set.specs.Routes.{routes_at};
 ghost use Rattle.transfer_set.specs.Inner.Entries.{HaveWords, AreKnown, AreWhole, list_if, moves_under, patterns_of};
-ghost use Rattle.transfer_set.specs.Inner.Sources.{HasSet, IsSource, changes, when_set as set_of_when};
+ghost use Rattle.transfer_set.specs.Inner.Sources.{HasSet, IsArrayAt, IsSource, changes, when_set as set_of_when};
 
 use crate::entries::{Entry, add_memory, add_register};
 use crate::route::{Route, Routes};
 use bit_bdd::{Book, SetId};
 use ctl_bdd::ControlBits;
-use net_model::{Checked, Storage};
+use net_model::{Cells, Checked, Storage};
 use rec_bits::{Items, NoMemory};
 use std::alloc::Global;
 use sym_expr::Pool;
@@ -42,6 +42,40 @@ fn when_set(controls: &ControlBits, when: Option<u32>) -> SetId
             None => 0,
         },
     }
+}
+
+// The transfers of a memory or a file, each with all words that give it.
+fn add_array(
+    alloc: Global,
+    checked: &Checked,
+    controls: &ControlBits,
+    routes: &Routes,
+    book: &mut Book,
+    pool: &Pool,
+    out: &mut Items<Entry>,
+    id: u32,
+    cells: &Cells,
+) -> Result<(), NoMemory>
+    requires at { IsArrayAt checked.now.netlist id cells.now }
+    requires source { IsSource checked.now.netlist book.old pool.now controls.now routes.now.of }
+    requires words { HaveWords book.old out.old }
+    ensures grows { Extends book.old book.new }
+    ensures words { OnOk result (HaveWords book.new out.new) }
+    ensures moves { OnOk result ((n word : ℕ) → word < 2 ^ book.old.bits →
+        moves_under book.new pool.now out.new n word
+        ≡ moves_under book.old pool.now out.old n word
+        ++ list_if ((id == n) && has_word book.old controls.now.legal word)
+        (changes (move_at checked.now.netlist word id))) }
+    ensures whole { OnOk result (AreWhole checked.now.netlist pool.now book.old out.old →
+        AreWhole checked.now.netlist pool.now book.new out.new) }
+    ensures known { OnOk result (AreKnown (length pool.now) out.old → AreKnown (length pool.now) out.new) }
+{
+    let _ids = pool.len();
+    let _netlist = checked.netlist();
+    let on = when_set(controls, cells.when);
+    let addrs = routes_of(routes, cells.addr);
+    let values = routes_of(routes, cells.value);
+    add_memory(alloc, book, out, id, on, addrs, values)
 }
 
 // Adds the transfers of a storage.
@@ -77,16 +111,11 @@ fn add_storage(
             let inputs = routes_of(routes, *input);
             add_register(alloc, book, pool, out, id, on, inputs)
         }
-        Storage::Memory {
-            value,
-            addr,
-            when,
-            ..
-        } => {
-            let on = when_set(controls, *when);
-            let addrs = routes_of(routes, *addr);
-            let values = routes_of(routes, *value);
-            add_memory(alloc, book, out, id, on, addrs, values)
+        Storage::Memory(cells) => {
+            add_array(alloc, checked, controls, routes, book, pool, out, id, cells)
+        }
+        Storage::File(cells) => {
+            add_array(alloc, checked, controls, routes, book, pool, out, id, cells)
         }
     }
 }

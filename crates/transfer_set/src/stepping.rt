@@ -30,7 +30,8 @@ impl Counter {
     {
         let storage = checked.pc();
         let width = match checked.netlist().storages.get(storage as usize) {
-            Some(Storage::Register { width, .. }) | Some(Storage::Memory { width, .. }) => *width,
+            Some(Storage::Register { width, .. }) => *width,
+            Some(Storage::Memory(cells) | Storage::File(cells)) => cells.width,
             None => 0,
         };
         Counter { storage, width }

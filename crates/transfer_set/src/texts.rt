@@ -3,12 +3,12 @@
 ghost use Rattle.std.specs.Prelude.{◌≡◌, ◌<◌, ◌∷◌, [], ◌++◌, codes, length, IfOk, OnOk};
 ghost use Rattle.std.specs.Fmt.{decimal};
 ghost use Rattle.std.specs.List.{concat};
-ghost use Rattle.net_model.specs.Texts.{first_name, memory_name, move_text, name_of, op1_text, op2_text, term_text};
+ghost use Rattle.net_model.specs.Texts.{first_name, space_name, move_text, name_of, op1_text, op2_text, term_text};
 ghost use Rattle.sym_expr.specs.Pools.{term_at};
 ghost use Rattle.transfer_set.specs.Entries.{IsAddrKnown, ids_move};
 
 use itoa::Buffer;
-use net_model::{Checked, Storage};
+use net_model::{Checked, Space};
 use rec_bits::{NoMemory, Op1, Op2};
 use std::alloc::Global;
 use sym_expr::{ExprId, Node, Pool};
@@ -18,7 +18,7 @@ fn storage_name(checked: &Checked, id: u32) -> &[u8]
     ensures { result.now ≡ name_of checked.now.netlist id }
 {
     match checked.netlist().storage(id) {
-        Some(Storage::Register { name, .. } | Storage::Memory { name, .. }) => name.as_slice(),
+        Some(storage) => storage.name(),
         None => &[],
     }
 }
@@ -114,13 +114,13 @@ fn add_bounds(text: &mut Vec<u8>, hi: u8, lo: u8) -> Result<(), NoMemory>
     add_last(text, lo)
 }
 
-// `read(MEMORY`.
-fn add_memory(text: &mut Vec<u8>, checked: &Checked) -> Result<(), NoMemory>
+// `read(MEMORY`, and so for a file.
+fn add_memory(text: &mut Vec<u8>, checked: &Checked, space: Space) -> Result<(), NoMemory>
     ensures { OnOk result (text.new.items
-        ≡ text.old.items ++ concat (codes "read(" ∷ memory_name checked.now.netlist ∷ [])) }
+        ≡ text.old.items ++ concat (codes "read(" ∷ space_name checked.now.netlist space ∷ [])) }
 {
     add_bytes(text, b"read(")?;
-    add_bytes(text, checked.memory_name())
+    add_bytes(text, checked.name(space))
 }
 
 // `WORD(A`.
@@ -152,20 +152,21 @@ fn add_next(text: &mut Vec<u8>, checked: &Checked, pool: &Pool, b: ExprId) -> Re
     add_term(text, checked, pool, b)
 }
 
-// `read(MEMORY,ADDRESS)`.
+// `read(MEMORY,ADDRESS)`, and so for a file.
 #[cycle(term)]
 fn add_read(
     text: &mut Vec<u8>,
     checked: &Checked,
     pool: &Pool,
+    space: Space,
     addr: ExprId,
 ) -> Result<(), NoMemory>
     requires { addr < length pool.now }
     ensures { OnOk result (text.new.items ≡ text.old.items ++ concat
-        (codes "read(" ∷ memory_name checked.now.netlist ∷ codes ","
+        (codes "read(" ∷ space_name checked.now.netlist space ∷ codes ","
         ∷ term_text checked.now.netlist (term_at pool.now addr) ∷ codes ")" ∷ [])) }
 {
-    add_memory(text, checked)?;
+    add_memory(text, checked, space)?;
     add_next(text, checked, pool, addr)?;
     add_bytes(text, b")")
 }
@@ -285,7 +286,8 @@ fn add_term(
         Node::Word(_) => add_bytes(text, word_name(checked)),
         Node::Reg(id, _) => add_bytes(text, storage_name(checked, id)),
         Node::Const { width, value } => add_constant(text, value, width),
-        Node::Read(addr, _) => add_read(text, checked, pool, addr),
+        Node::Read(addr, _) => add_read(text, checked, pool, Space::Memory, addr),
+        Node::Cell(addr, _) => add_read(text, checked, pool, Space::File, addr),
         Node::Un(op, a) => add_one(text, checked, pool, word_of_one(op).as_bytes(), a),
         Node::Bin(op, a, b) => add_two(text, checked, pool, word_of_two(op).as_bytes(), a, b),
         Node::Slice(a, hi, lo) => add_slice(text, checked, pool, a, hi, lo),
@@ -334,8 +336,8 @@ fn add_transfer(
     add_term(text, checked, pool, value)
 }
 
-/// The text of a transfer of a storage: of the memory where there is an address, and otherwise of a
-/// register.
+/// The text of a transfer of a storage: of the memory or the register file where there is an
+/// address, and otherwise of a register.
 pub(crate) fn transfer_text(
     alloc: Global,
     checked: &Checked,

@@ -2,6 +2,7 @@
 use Rattle.std.proofs.Common.{◌≡◌, ℕ, zero, suc, ◌+◌, List, [], ◌∷◌, ◌++◌, length, Some, arith, subst, sym, ap, ◌∙◌, refl, length-append}
 use Rattle.std.specs.Prelude.{slice_get, Result, OnOk}
 use Rattle.std.proofs.lemmas.Result.{on_ok_weaker}
+use Rattle.net_model.specs.declared.hardware.Space.{Space}
 use Rattle.net_model.specs.Terms.{Term, word, reg, const, read, un, bin, slice, cat, zext, sext, select, size_of}
 use Rattle.tree_grammar.specs.Numbers.{subtrees, HoldsSubtrees}
 use Rattle.tree_grammar.specs.declared.parts.Part.{Part}
@@ -12,7 +13,7 @@ pub size_length : (t : Term) → length (subtrees t) ≡ size_of t
 size_length (word w) = refl
 size_length (reg r w) = refl
 size_length (const w v) = refl
-size_length (read a w) = let h = size_length a in omega (arith, h)
+size_length (read space a w) = let h = size_length a in omega (arith, h)
 size_length (un o a) = let h = size_length a in omega (arith, h)
 size_length (bin o a b) = let h = size_length a in let k = size_length b in omega (arith, h, k, length-append (subtrees a) (subtrees b))
 size_length (slice a x y) = let h = size_length a in omega (arith, h)
@@ -50,7 +51,7 @@ first_is : (t : Term) → slice_get (subtrees t) 0 ≡ Some t
 first_is (word w) = refl
 first_is (reg r w) = refl
 first_is (const w v) = refl
-first_is (read a w) = refl
+first_is (read space a w) = refl
 first_is (un o a) = refl
 first_is (bin o a b) = refl
 first_is (slice a x y) = refl
@@ -62,8 +63,8 @@ first_is (select c a b) = refl
 pub holds_here : (nodes : List Term) (at : ℕ) (t : Term) → HoldsSubtrees nodes at t → slice_get nodes at ≡ Some t
 holds_here nodes at t h = let e : at + 0 ≡ at = omega arith in subst (λ i. slice_get nodes i ≡ Some t) e (h 0 t (first_is t))
 
-pub holds_read : (nodes : List Term) (at : ℕ) (a : Term) (w : ℕ) → HoldsSubtrees nodes at (read a w) → HoldsSubtrees nodes (at + 1) a
-holds_read nodes at a w h = lists_tail nodes at (read a w) (subtrees a) h
+pub holds_read : (nodes : List Term) (at : ℕ) (space : Space) (a : Term) (w : ℕ) → HoldsSubtrees nodes at (read space a w) → HoldsSubtrees nodes (at + 1) a
+holds_read nodes at space a w h = lists_tail nodes at (read space a w) (subtrees a) h
 
 pub holds_left : (nodes : List Term) (at : ℕ) (x : Term) (a b : Term) → Lists nodes at (x ∷ (subtrees a ++ subtrees b)) → HoldsSubtrees nodes (at + 1) a
 holds_left nodes at x a b h = lists_left nodes (at + 1) (subtrees a) (subtrees b) (lists_tail nodes at x (subtrees a ++ subtrees b) h)

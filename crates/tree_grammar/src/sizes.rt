@@ -65,7 +65,7 @@ pub fn expr_width(e: &Expr) -> u64
         Expr::Word(w) => u64::from(*w),
         Expr::Reg(_, w) => u64::from(*w),
         Expr::Const { width, .. } => u64::from(*width),
-        Expr::Read(_, w) => u64::from(*w),
+        Expr::Read(_, w) | Expr::Cell(_, w) => u64::from(*w),
         Expr::Un(_, a) => expr_width(a),
         Expr::Bin(o, a, _) => written_result_width(*o, expr_width(a)),
         Expr::Slice(_, hi, lo) => slice_width(*hi, *lo),

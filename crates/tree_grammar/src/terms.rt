@@ -240,6 +240,7 @@ pub(crate) fn take<'a>(
         }
         Expr::Word(_)
         | Expr::Const { .. }
+        | Expr::Cell(_, _)
         | Expr::Un(_, _)
         | Expr::Slice(_, _, _)
         | Expr::Zext(_, _)

@@ -1,6 +1,7 @@
 -- The subtrees of a tree in order: the tree, then those of its operands.
 use Rattle.std.proofs.Common.{◌≡◌, List, [], ◌∷◌, ◌++◌, append_assoc, refl, sym, ap, ◌∙◌}
 use Rattle.std.proofs.lemmas.List.{append-nil}
+use Rattle.net_model.specs.declared.hardware.Space.TheVariants.{Memory as InMemory}
 use Rattle.net_model.specs.Terms.{Term, read, un, slice, zext, sext}
 use Rattle.form_model.specs.Trees.{tree_term}
 use Rattle.form_model.specs.Rules.{Destination, into, cell, stored, temporary, tested}
@@ -15,7 +16,7 @@ one x xs = ap (λ l. x ∷ l) (sym (append-nil xs))
 
 subtrees_are : (t : Tree) → subtrees (tree_term t) ≡ tree_term t ∷ (operand_subtrees (first_of (tree_term t)) ++ operand_subtrees (second_of (tree_term t)))
 subtrees_are (Lit w v) = refl
-subtrees_are (Read' p a w) = one (read (tree_term a) w) (subtrees (tree_term a))
+subtrees_are (Read' p a w) = one (read InMemory (tree_term a) w) (subtrees (tree_term a))
 subtrees_are (Un' o p a) = one (un o (tree_term a)) (subtrees (tree_term a))
 subtrees_are (Bin' o p a q b) = refl
 subtrees_are (Slice' p a hi lo) = one (slice (tree_term a) hi lo) (subtrees (tree_term a))

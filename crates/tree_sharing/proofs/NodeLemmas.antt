@@ -50,7 +50,7 @@ pub whole_tree : (t : Term) → Whole (subtrees t)
 whole_tree (word w) = whole_root (word w) [] refl whole_none
 whole_tree (reg r w) = whole_root (reg r w) [] refl whole_none
 whole_tree (const w v) = whole_root (const w v) [] refl whole_none
-whole_tree (read a w) = whole_root (read a w) (subtrees a) refl (whole_tree a)
+whole_tree (read space a w) = whole_root (read space a w) (subtrees a) refl (whole_tree a)
 whole_tree (un o a) = whole_root (un o a) (subtrees a) refl (whole_tree a)
 whole_tree (bin o a b) = whole_root (bin o a b) (subtrees a ++ subtrees b) refl (whole_append (subtrees a) (subtrees b) (whole_tree a) (whole_tree b))
 whole_tree (slice a x y) = whole_root (slice a x y) (subtrees a) refl (whole_tree a)

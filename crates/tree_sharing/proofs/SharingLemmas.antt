@@ -14,6 +14,7 @@ use Rattle.rec_bits.specs.declared.operator.Op2.{Op2}
 use Rattle.rec_bits.specs.declared.operator.Op2.TheVariants.{Add, Sub, Mul, And, Or, Xor, Shl, Shr, Sar, Eq, Ltu, Lts}
 use Rattle.rec_bits.specs.contracts.operator.Op1PartialEq.TheImpl.{ghosts as op1_eq}
 use Rattle.rec_bits.specs.contracts.operator.Op2PartialEq.TheImpl.{ghosts as op2_eq}
+use Rattle.net_model.specs.declared.hardware.Space.TheVariants.{Memory as InMemory}
 use Rattle.net_model.specs.Terms.{Term, const, read, un, bin, slice, zext, sext, size_of}
 use Rattle.form_model.specs.Trees.{tree_term}
 use Rattle.form_model.specs.Rules.{Destination, into, cell, stored, temporary, tested}
@@ -128,7 +129,7 @@ one_first nodes t a b p q = let h : a ≤ b = p.least b q.at in let k : b ≤ a 
 
 one_root : (nodes : List Term) (a b : Root) (t : Term) → IsRootOf nodes a t → IsRootOf nodes b t → a ≡ b
 one_root nodes a b (const w v) p q = p ∙ sym q
-one_root nodes a b (read x w) p q = p.2 ∙ ap (λ i. Read i w) (one_first nodes x p.0 q.0 p.1 q.1) ∙ sym q.2
+one_root nodes a b (read InMemory x w) p q = p.2 ∙ ap (λ i. Read i w) (one_first nodes x p.0 q.0 p.1 q.1) ∙ sym q.2
 one_root nodes a b (un op x) p q = p.2 ∙ ap (λ i. Un op i) (one_first nodes x p.0 q.0 p.1 q.1) ∙ sym q.2
 one_root nodes a b (bin op x y) p q =
     let e : p.0 ≡ q.0 = one_first nodes x p.0 q.0 p.2 q.2 in
@@ -147,7 +148,7 @@ bin_of op (Some x) (Some y) = Some (bin op x y)
 -- the tree with a root, whose operands are the trees of the root's numbers
 abbrev root_term : List Term → Root → Option Term
 root_term nodes (Lit width value) = Some (const width value)
-root_term nodes (Read a w) = option_map (λ x. read x w) (slice_get nodes a)
+root_term nodes (Read a w) = option_map (λ x. read InMemory x w) (slice_get nodes a)
 root_term nodes (Un op a) = option_map (λ x. un op x) (slice_get nodes a)
 root_term nodes (Bin op a b) = bin_of op (slice_get nodes a) (slice_get nodes b)
 root_term nodes (Slice a hi lo) = option_map (λ x. slice x hi lo) (slice_get nodes a)
@@ -156,7 +157,7 @@ root_term nodes (Sext a w) = option_map (λ x. sext x w) (slice_get nodes a)
 
 root_gives : (nodes : List Term) (root : Root) (t : Term) → IsRootOf nodes root t → root_term nodes root ≡ Some t
 root_gives nodes root (const w v) p = ap (root_term nodes) p
-root_gives nodes root (read x w) p = ap (root_term nodes) p.2 ∙ ap (option_map (λ y. read y w)) p.1.at
+root_gives nodes root (read InMemory x w) p = ap (root_term nodes) p.2 ∙ ap (option_map (λ y. read InMemory y w)) p.1.at
 root_gives nodes root (un op x) p = ap (root_term nodes) p.2 ∙ ap (option_map (λ y. un op y)) p.1.at
 root_gives nodes root (bin op x y) p =
     let e = p.2.at in let f = p.3.at in
@@ -262,7 +263,7 @@ get_push (x ∷ xs) y (suc i) f h = elim (get_push xs y i f h) [ inl p ↦ inl p
 -- ---- operands
 
 holds_first : (nodes : List Term) (at : ℕ) (t a : Term) → first_of t ≡ Some a → HoldsSubtrees nodes at t → HoldsSubtrees nodes (at + 1) a
-holds_first nodes at (read b w) a e h = let same : b ≡ a = cc in subst (λ x. HoldsSubtrees nodes (at + 1) x) same (lists_tail nodes at (read b w) (subtrees b) h)
+holds_first nodes at (read InMemory b w) a e h = let same : b ≡ a = cc in subst (λ x. HoldsSubtrees nodes (at + 1) x) same (lists_tail nodes at (read InMemory b w) (subtrees b) h)
 holds_first nodes at (un op b) a e h = let same : b ≡ a = cc in subst (λ x. HoldsSubtrees nodes (at + 1) x) same (lists_tail nodes at (un op b) (subtrees b) h)
 holds_first nodes at (bin op b c) a e h = let same : b ≡ a = cc in subst (λ x. HoldsSubtrees nodes (at + 1) x) same (holds_left nodes at (bin op b c) b c h)
 holds_first nodes at (slice b x y) a e h = let same : b ≡ a = cc in subst (λ x. HoldsSubtrees nodes (at + 1) x) same (lists_tail nodes at (slice b x y) (subtrees b) h)

@@ -1,28 +1,31 @@
 -- A clock under a word that fits a group follows the group.
-use Rattle.std.proofs.Common.{◌≡◌, inl, inr, ℕ, ◌+◌, ◌%◌, ◌^◌, ◌<◌, ◌≤◌, List, [], ◌∷◌, slice_get, slice_index, slice_set, bit_and, bit_or, sym, ◌∙◌, ap, arith, subst}
+use Rattle.std.proofs.Common.{◌≡◌, inl, inr, ℕ, ◌+◌, ◌%◌, ◌^◌, ◌<◌, ◌≤◌, List, [], ◌∷◌, Option, slice_get, slice_index, slice_set, bit_and, bit_or, sym, ◌∙◌, ap, arith, subst}
 use Rattle.std.proofs.lemmas.Nat.{and_le_l}
 use Rattle.net_model.specs.declared.hardware.Netlist.{Netlist}
+use Rattle.net_model.specs.declared.hardware.Space.TheVariants.{Memory as InMemory, File as InFile}
+use Rattle.net_model.specs.declared.hardware.Storage.{Storage}
 use Rattle.net_model.specs.declared.states.State.{State}
 use Rattle.net_model.specs.CheckedRules.{KeepsRules}
 use Rattle.net_model.specs.Terms.{Term, Move, keep, write, write_at}
 use Rattle.net_model.specs.Meaning.{mean}
-use Rattle.net_model.specs.Nets.{IsRegister, memory_id, counter_of, counter_width}
+use Rattle.net_model.specs.Nets.{IsRegister, memory_id, place_in, counter_of, counter_width}
 use Rattle.net_model.specs.Clock.{clash_in, counter_in, word_at}
 use Rattle.net_model.specs.Value.{value_of}
 use Rattle.net_model.specs.Widths.{IsState}
-use Rattle.net_model.specs.Transfers.{IsClean, Moved, Steps, move_at, reg_moved, cells_moved}
+use Rattle.net_model.specs.Transfers.{IsClean, Moved, Steps, move_at, reg_moved, cells_moved, transfer_of}
 use Rattle.net_model.proofs.Effects.{moved}
 use Rattle.net_model.proofs.KeptRules.{sound_of}
 use Rattle.net_model.proofs.Masks.{both_left, both_right, masked_self}
-use Rattle.net_model.proofs.Storages.{register_within, lone_memory, writes_register, stores_memory}
+use Rattle.net_model.proofs.Storages.{register_within, lone_memory, writes_register, stores_cells}
 use Rattle.net_model.proofs.TermLaws.{mean_fields}
 use Rattle.net_model.proofs.WordWidths.{less_fits, move_fits}
 use Rattle.net_model.specs.Fields.{fields, move_fields, WordFitsMove, WordFitsTerm}
 use Rattle.form_model.specs.Effects.{Operation}
 use Rattle.form_model.specs.Live.{Regs}
-use Rattle.word_fit.specs.Fits.{Does, DoesAll, FitsGroup}
+use Rattle.word_fit.specs.Fits.{Does, DoesAll, FitsGroup, HasNoFile}
 use Rattle.word_fit.specs.Runs.{IsClocked}
 use Rattle.word_fit.proofs.Storages.{outcome_next, other_kept, register_or_not}
+use Rattle.word_fit.proofs.Plain.{memory_only, past_file}
 use Rattle.word_fit.proofs.Follows.{IsMade, AllMade, follows}
 
 -- an expression means under a setting what it means under the word
@@ -30,7 +33,7 @@ pub mean_fixed : (t : Term) (s : State) (w setting f : ℕ) → bit_and w f ≡ 
 mean_fixed t s w setting f e fit same =
     mean_fields t s w setting fit (less_fits t w setting (subst (λ n. n ≤ w) e (and_le_l w f)) fit) same
 
-module _ (netlist : Netlist) (order : List ℕ) (keeps : KeepsRules netlist order) (code : List ℕ) (w : ℕ) (s : State) (state : IsState netlist s) (clean : IsClean netlist w) (here : word_at netlist code s ≡ w) where
+module _ (netlist : Netlist) (order : List ℕ) (keeps : KeepsRules netlist order) (plain : HasNoFile netlist) (code : List ℕ) (w : ℕ) (s : State) (state : IsState netlist s) (clean : IsClean netlist w) (here : word_at netlist code s ≡ w) where
   step : Moved netlist code w s
   step = moved netlist code w s (sound_of netlist order keeps) state clean here
 
@@ -42,10 +45,15 @@ module _ (netlist : Netlist) (order : List ℕ) (keeps : KeepsRules netlist orde
         step.regs q r ∙ ap (λ k. reg_moved k s w q) g ∙ mean_fixed v s w i (fields v) e f (masked_self w i (fields v) e),
       )
   made_by q i (write_at a v) g e f =
-      let same : q ≡ memory_id netlist.storages = lone_memory netlist.storages q keeps.roles.memory (stores_memory netlist w q a v (slice_get netlist.storages q) g) in
-      step.cells ∙ ap (λ k. cells_moved k s w) (ap (λ k. move_at netlist w k) (sym same) ∙ g)
+      let same : q ≡ memory_id netlist.storages = lone_memory netlist.storages q keeps.roles.memory (memory_only netlist.storages q plain (stores_cells netlist w q a v (slice_get netlist.storages q) g)) in
+      step.cells InMemory ∙ ap (λ k. cells_moved k s w s.cells) (ap (λ k. move_at netlist w k) (sym same) ∙ g)
       ∙ ap (λ k. slice_set s.cells k (mean v s w)) (mean_fixed a s w i (bit_or (fields a) (fields v)) e f.0 (both_left w i (fields a) (fields v) (masked_self w i (bit_or (fields a) (fields v)) e)))
       ∙ ap (λ k. slice_set s.cells (mean a s i) k) (mean_fixed v s w i (bit_or (fields a) (fields v)) e f.1 (both_right w i (fields a) (fields v) (masked_self w i (bit_or (fields a) (fields v)) e)))
+
+  file_stays : step.next.file ≡ s.file
+  file_stays =
+      step.cells InFile
+      ∙ ap (λ (o : Option Storage). cells_moved (transfer_of netlist w (place_in InFile netlist.storages) o) s w s.file) (past_file netlist.storages plain)
 
   made : (d : Operation) → Does netlist w d → IsMade d.storage d.setting d.move s step.next
   made d h =
@@ -83,7 +91,8 @@ module _ (netlist : Netlist) (order : List ℕ) (keeps : KeepsRules netlist orde
     clocked = step.clocked;
     state = step.state;
     follows = follows s step.next (step.state.regs ∙ sym state.regs) m g live (all_made m g f.does)
-        (λ e. step.cells ∙ ap (λ k. cells_moved k s w) (f.memory e))
+        (λ e. step.cells InMemory ∙ ap (λ k. cells_moved k s w s.cells) (f.memory e))
+        file_stays
         (λ r e h. kept r (λ q. f.registers r q e h));
     counter = one_on f.steps;
   }

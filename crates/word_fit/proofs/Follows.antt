@@ -65,7 +65,16 @@ module _ (s t : State) (size : length t.regs ≡ length s.regs) where
   cells_kept (write v) q i n e = refl
   cells_kept (write_at a v) q i n e = absurd (true≢false e)
 
+  put_file : (move : Move) (q i : ℕ) (n : State) → (apply_move q move i s n).file ≡ n.file
+  put_file keep q i n = refl
+  put_file (write v) q i n = refl
+  put_file (write_at a v) q i n = refl
+
   module _ {A : Type 0} (m : A → Operation) where
+    puts_file : (g : List A) (n : State) → (apply_all m g s n).file ≡ n.file
+    puts_file [] n = refl
+    puts_file (x ∷ g) n = puts_file g (apply_operation (m x) s n) ∙ put_file (m x).move (m x).storage (m x).setting n
+
     puts_size : (g : List A) (n : State) → length (apply_all m g s n).regs ≡ length n.regs
     puts_size [] n = refl
     puts_size (x ∷ g) n = puts_size g (apply_operation (m x) s n) ∙ put_size (m x).move (m x).storage (m x).setting n
@@ -96,10 +105,11 @@ module _ (s t : State) (size : length t.regs ≡ length s.regs) where
         ]
 
     -- the state follows the group
-    pub follows : (g : List A) (live : Regs) → AllMade m g s t → (group_stores m g ≡ false → t.cells ≡ s.cells) → ((r : ℕ) → live r ≡ true → group_writes m g r ≡ false → slice_index t.regs r ≡ slice_index s.regs r) → Follows m g live s t
-    follows g live d k f = record {
+    pub follows : (g : List A) (live : Regs) → AllMade m g s t → (group_stores m g ≡ false → t.cells ≡ s.cells) → t.file ≡ s.file → ((r : ℕ) → live r ≡ true → group_writes m g r ≡ false → slice_index t.regs r ≡ slice_index s.regs r) → Follows m g live s t
+    follows g live d k e f = record {
       size = size ∙ sym (puts_size g s);
       cells = sym (all_cells g s d k refl);
+      file = e ∙ sym (puts_file g s);
       regs = λ r e. at r (cases_Bool (group_writes m g r)) e;
     }
       where

@@ -3,6 +3,8 @@ use Rattle.std.proofs.Common.{◌≡◌, ℕ, ◌≤◌, ◌==◌, ◌||◌, ◌
 use Rattle.std.proofs.lemmas.Bool.{true≢false, ne_eqb, cases_eq, cases_lt, or_left, or_right}
 use Rattle.std.proofs.Math.Bool.{or_assoc}
 use Rattle.std.proofs.lemmas.List.{get_or-set_same, get_or-set_other, length-set, set_past, get_or_past}
+use Rattle.net_model.proofs.Spaces.{by_space}
+use Rattle.net_model.specs.Nets.{held}
 use Rattle.net_model.specs.declared.states.State.{State}
 use Rattle.net_model.specs.Terms.{Term, Move, keep, write, write_at}
 use Rattle.net_model.specs.Meaning.{mean}
@@ -14,12 +16,12 @@ use Rattle.word_fit.specs.Groups.{Agree}
 use Rattle.word_fit.proofs.Occurring.{reads_occurs}
 
 pub agree_less : (k l : Regs) (s t : State) → ((r : ℕ) → l r ≡ true → k r ≡ true) → Agree k s t → Agree l s t
-agree_less k l s t h a = record { size = a.size; cells = a.cells; regs = λ r e. a.regs r (h r e) }
+agree_less k l s t h a = record { size = a.size; cells = a.cells; file = a.file; regs = λ r e. a.regs r (h r e) }
 
 pub agree_trans : (l : Regs) (s t u : State) → Agree l s t → Agree l t u → Agree l s u
-agree_trans l s t u a b = record { size = a.size ∙ b.size; cells = a.cells ∙ b.cells; regs = λ r e. a.regs r e ∙ b.regs r e }
+agree_trans l s t u a b = record { size = a.size ∙ b.size; cells = a.cells ∙ b.cells; file = a.file ∙ b.file; regs = λ r e. a.regs r e ∙ b.regs r e }
 
--- two states with the same memory, and the same in each register that is read
+-- two states with the same memory and file, and the same in each register that is read
 abbrev SeenAlike : Regs → State → State → Type 0
 SeenAlike reads o p = AgreeOn reads true o p
 
@@ -58,10 +60,11 @@ move_alike : (move : Move) (storage setting : ℕ) (o u n k : State) (l : Regs) 
 move_alike keep storage setting o u n k l a b = agree_less l _ n k (λ r e. or_false (l r) e) b
 move_alike (write v) storage setting o u n k l a b =
     let e : mean v o setting ≡ mean v u setting = mean_seen v setting o u (a) in
-    subst (λ x. Agree (λ r. l r || move_writes storage (write v) r) (apply_move storage (write v) setting o n) (let s : State = record { regs = slice_set k.regs storage x; cells = k.cells } in s)) e
+    subst (λ x. Agree (λ r. l r || move_writes storage (write v) r) (apply_move storage (write v) setting o n) (let s : State = record { regs = slice_set k.regs storage x; cells = k.cells; file = k.file } in s)) e
     (record {
       size = length-set n.regs storage (mean v o setting) ∙ b.size ∙ sym (length-set k.regs storage (mean v o setting));
       cells = b.cells;
+      file = b.file;
       regs = λ r f. set_alike n.regs k.regs storage (mean v o setting) r (l r) b.size (b.regs r) f;
     })
 move_alike (write_at c v) storage setting o u n k l a b =
@@ -70,6 +73,7 @@ move_alike (write_at c v) storage setting o u n k l a b =
     record {
       size = b.size;
       cells = rw (e, f, b.cells) refl;
+      file = b.file;
       regs = λ r z. b.regs r (or_false (l r) z);
     }
 
@@ -99,5 +103,5 @@ module _ {A : Type 0} (m : A → Operation) where
   effect_alike g l s t a =
       agree_less _ _ _ _ (λ r z. kept_or_written (l r) (group_writes m g r) z)
       (all_alike g s t s t (λ r. l r && not (group_writes m g r))
-      (record { cells = λ z. a.cells; regs = λ r z. a.regs r (or_left (group_reads m g r) (l r && not (group_writes m g r)) z) })
+      (record { cells = λ z. by_space (λ space. held s space ≡ held t space) a.cells a.file; regs = λ r z. a.regs r (or_left (group_reads m g r) (l r && not (group_writes m g r)) z) })
       (agree_less _ _ s t (λ r z. or_right (group_reads m g r) (l r && not (group_writes m g r)) z) a))

@@ -2,6 +2,7 @@
 use Rattle.std.proofs.Common.{◌≡◌, ◌==◌, lit<, [], ◌∷◌, refl, sym, inl}
 use Rattle.std.proofs.lemmas.Bool.{true≢false}
 use Rattle.rec_bits.specs.declared.operator.Op2.TheVariants.{Sub}
+use Rattle.net_model.specs.declared.hardware.Space.TheVariants.{Memory as InMemory}
 use Rattle.net_model.specs.Terms.{word, reg, read, bin, slice, keep, write}
 use Rattle.net_model.specs.Transfers.{IsClean, move_at}
 use Rattle.net_model.specs.Worked.{z16}
@@ -12,7 +13,7 @@ use Rattle.word_fit.specs.Fits.{FitsGroup}
 
 -- the accumulator, register 1 of the processor with a flag, takes its difference with cell 2
 abbrev subtracts : Operation
-subtracts = record { storage = 1; move = write (bin Sub (reg 1 16) (read (slice (word 12) 7 0) 16)); setting = 2 }
+subtracts = record { storage = 1; move = write (bin Sub (reg 1 16) (read InMemory (slice (word 12) 7 0) 16)); setting = 2 }
 
 abbrev as_is : Operation → Operation
 as_is d = d

@@ -1,12 +1,18 @@
 -- Which words fit a group of steps, over the netlist alone.
 use Rattle.std.specs.Prelude.{ℕ, ◌≡◌, ◌≢◌, ◌≤◌, ◌||◌, Bool, true, false, List, [], ◌∷◌, slice_get, bit_and}
 use Rattle.net_model.specs.declared.hardware.Netlist.{Netlist}
+use Rattle.net_model.specs.declared.hardware.Space.TheVariants.{File as InFile}
+use Rattle.net_model.specs.CheckedRules.{count_in}
 use Rattle.net_model.specs.Nets.{IsRegister}
 use Rattle.net_model.specs.Terms.{keep}
 use Rattle.net_model.specs.Transfers.{IsClean, Steps, move_at, memory_move}
 use Rattle.net_model.specs.Fields.{move_fields}
 use Rattle.form_model.specs.Effects.{Operation, is_store}
 use Rattle.form_model.specs.Live.{Regs, group_writes}
+
+-- the netlist has no register file
+abbrev pub HasNoFile : Netlist → Type 0
+HasNoFile netlist = count_in InFile netlist.storages ≡ 0
 
 -- the word does the transfer, which is one other than to keep, with its setting: the word's bits in
 -- the fields of the transfer

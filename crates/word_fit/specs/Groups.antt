@@ -48,10 +48,11 @@ pub record AreLeast {A : Type 0} (m : A → Operation) (fits : ℕ → List A �
 
 -- ---- what words leave
 
--- the same memory, and the same in each register of the set
+-- the same memory and file, and the same in each register of the set
 pub record Agree (live : Regs) (s t : State) : Type 0 where
   pub size : length s.regs ≡ length t.regs
   pub cells : s.cells ≡ t.cells
+  pub file : s.file ≡ t.file
   pub regs : (r : ℕ) → live r ≡ true → slice_index s.regs r ≡ slice_index t.regs r
 
 -- t may follow s under a word that fits the group with these live registers

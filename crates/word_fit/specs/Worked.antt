@@ -1,5 +1,6 @@
 -- Worked groups: their live registers, and what they do at one clock edge.
 use Rattle.std.specs.Prelude.{◌≡◌, ℕ, true, false, [], ◌∷◌, refl}
+use Rattle.net_model.specs.declared.hardware.Space.TheVariants.{Memory as InMemory}
 use Rattle.net_model.specs.Terms.{word, reg, read, slice, write, write_at}
 use Rattle.form_model.specs.Effects.{Operation, group_effect, steps_effect}
 use Rattle.form_model.specs.Live.{no_regs, live_before}
@@ -7,7 +8,7 @@ use Rattle.word_fit.specs.Fits.{group_stores}
 
 -- register 1 takes the cell whose address is in register 2
 abbrev loads : Operation
-loads = record { storage = 1; move = write (read (reg 2 8) 16); setting = 0 }
+loads = record { storage = 1; move = write (read InMemory (reg 2 8) 16); setting = 0 }
 
 -- the cell whose address the low four bits of the word give takes register 1
 abbrev stores : ℕ → Operation
@@ -21,16 +22,16 @@ abbrev as_is : Operation → Operation
 as_is d = d
 
 -- one clock edge swaps two registers, and one after the other the steps don't
-swapped : (group_effect as_is (copies 0 1 ∷ copies 1 0 ∷ []) (record { regs = 5 ∷ 6 ∷ []; cells = [] })).regs
+swapped : (group_effect as_is (copies 0 1 ∷ copies 1 0 ∷ []) (record { regs = 5 ∷ 6 ∷ []; cells = []; file = [] })).regs
     ≡ 6 ∷ 5 ∷ []
 swapped = refl
 
-copied : (steps_effect as_is (copies 0 1 ∷ copies 1 0 ∷ []) (record { regs = 5 ∷ 6 ∷ []; cells = [] })).regs
+copied : (steps_effect as_is (copies 0 1 ∷ copies 1 0 ∷ []) (record { regs = 5 ∷ 6 ∷ []; cells = []; file = [] })).regs
     ≡ 6 ∷ 6 ∷ []
 copied = refl
 
 -- a step under a setting writes the cell that the setting names
-stored : (group_effect as_is (stores 2 ∷ []) (record { regs = 5 ∷ 6 ∷ []; cells = 0 ∷ 0 ∷ 0 ∷ [] })).cells
+stored : (group_effect as_is (stores 2 ∷ []) (record { regs = 5 ∷ 6 ∷ []; cells = 0 ∷ 0 ∷ 0 ∷ []; file = [] })).cells
     ≡ 0 ∷ 0 ∷ 6 ∷ []
 stored = refl
 

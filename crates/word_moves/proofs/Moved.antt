@@ -6,13 +6,14 @@ use Rattle.word_moves.specs.declared.moves.StorageMove.{StorageMove}
 use Rattle.std.specs.List.{AllByRecursion}
 use Rattle.net_model.specs.declared.hardware.Netlist.{Netlist}
 use Rattle.net_model.specs.declared.hardware.Storage.{Storage}
-use Rattle.net_model.specs.declared.hardware.Storage.TheVariants.{Register, Memory}
+use Rattle.net_model.specs.declared.hardware.Storage.TheVariants.{Register, Memory, File}
+use Rattle.net_model.specs.declared.hardware.Cells.{Cells}
 use Rattle.net_model.specs.Terms.{Term, keep, write, write_at}
 use Rattle.net_model.specs.Value.{value_of}
-use Rattle.net_model.specs.Widths.{StorageFits, IsTyped}
+use Rattle.net_model.specs.Widths.{ArrayFits, StorageFits, IsTyped}
 use Rattle.net_model.specs.Symbolic.{no_state, sym_of}
 use Rattle.net_model.specs.Clock.{is_enabled}
-use Rattle.net_model.specs.Transfers.{same_reg, storage_move, transfer_of, move_at}
+use Rattle.net_model.specs.Transfers.{same_reg, array_move, storage_move, transfer_of, move_at}
 use Rattle.sym_expr.specs.declared.pool.Node.{Node}
 use Rattle.word_moves.specs.Inner.Gates.{StorageKnown, net_terms}
 use Rattle.word_moves.specs.Moves.{AreIds, IsMoveWithin, move_in}
@@ -20,15 +21,20 @@ use Rattle.word_moves.specs.Moves.{AreIds, IsMoveWithin, move_in}
 module _ (netlist : Netlist) (word : ℕ) (nodes : List Node) (ids : List ℕ) (a : AreIds netlist word nodes ids) where
   pub storage_known : (storage : Storage) → StorageFits netlist storage → StorageKnown nodes ids storage
   storage_known (Register name width input when) f = a.within input f.0.0
-  storage_known (Memory name width size addr_width value addr when) f = (a.within addr f.1.0, a.within value f.0.0)
+  storage_known (Memory cells) f = (a.within cells.addr f.1.0, a.within cells.value f.0.0)
+  storage_known (File cells) f = (a.within cells.addr f.1.0, a.within cells.value f.0.0)
+
+  array_same : (u : ℕ → ℕ) (cells : Cells) → ArrayFits netlist cells → array_move (net_terms nodes ids) u cells ≡ array_move (sym_of netlist word) u cells
+  array_same u cells f =
+      let x = a.terms cells.addr f.1.0 in
+      let y = a.terms cells.value f.0.0 in
+      (λ j. if is_enabled u cells.when then write_at (x j) (y j) else keep)
 
   pub storage_same : (u : ℕ → ℕ) (id : ℕ) (storage : Storage) → StorageFits netlist storage → storage_move (net_terms nodes ids) u id storage ≡ storage_move (sym_of netlist word) u id storage
   storage_same u id (Register name width input when) f =
       ap (λ (e : Term). if is_enabled u when then (if same_reg e id then keep else write e) else keep) (a.terms input f.0.0)
-  storage_same u id (Memory name width size addr_width value addr when) f =
-      let x = a.terms addr f.1.0 in
-      let y = a.terms value f.0.0 in
-      (λ j. if is_enabled u when then write_at (x j) (y j) else keep)
+  storage_same u id (Memory cells) f = array_same u cells f
+  storage_same u id (File cells) f = array_same u cells f
 
 all_at : {X : Type 0} (P : X → Type 0) (xs : List X) (i : ℕ) (x : X) → AllByRecursion P xs → slice_get xs i ≡ Some x → P x
 all_at P [] i x h e = absurd (cc)

@@ -57,14 +57,14 @@ module _ (netlist : Netlist) (word : ℕ) (order : List ℕ) (o : IsOrder netlis
   pub turn_controlled : IsControlled netlist → GateControlled netlist net.gate
   turn_controlled c = gate_controlled netlist c (slice_index order i) net there
 
-  turn_term : (values : ℕ → ℕ) → values ≡ value_of netlist no_state word → gate_term (net_terms nodes ids) values (is_static netlist) net.width net.gate ≡ sym_of netlist word (slice_index order i)
+  turn_term : (values : ℕ → ℕ) → values ≡ value_of netlist no_state word → gate_term (net_terms nodes ids) values (is_static netlist) netlist net.width net.gate ≡ sym_of netlist word (slice_index order i)
   turn_term values e =
-      same_gate (net_terms nodes ids) (sym_of netlist word) values (value_of netlist no_state word) (is_static netlist) net.width net.gate
+      same_gate (net_terms nodes ids) (sym_of netlist word) values (value_of netlist no_state word) (is_static netlist) netlist net.width net.gate
       (before (λ m. (net_terms nodes ids m ≡ sym_of netlist word m) × (values m ≡ value_of netlist no_state word m)) (λ m h. ((done m h).is, ap (λ v. v m) e)))
-      ∙ sym (sym_is netlist word order o (slice_index order i) (o.nets i inside) ∙ ap (net_term (sym_of netlist word) (value_of netlist no_state word) (is_static netlist)) there)
+      ∙ sym (sym_is netlist word order o (slice_index order i) (o.nets i inside) ∙ ap (net_term (sym_of netlist word) (value_of netlist no_state word) (is_static netlist) netlist) there)
 
   -- what one turn over the order does
-  pub turn_traced : (long : length ids ≡ length netlist.nets) (values : ℕ → ℕ) (statics : ℕ → Bool) → values ≡ value_of netlist no_state word → statics ≡ is_static netlist → (new : List Node) → Grows nodes new → (id : ℕ) → id < length new → term_at new id ≡ gate_term (net_terms nodes ids) values statics net.width net.gate → (m : ℕ) → position_of order m < i + 1 → IsTraced netlist word new (slice_set ids (slice_index order i) id) m
+  pub turn_traced : (long : length ids ≡ length netlist.nets) (values : ℕ → ℕ) (statics : ℕ → Bool) → values ≡ value_of netlist no_state word → statics ≡ is_static netlist → (new : List Node) → Grows nodes new → (id : ℕ) → id < length new → term_at new id ≡ gate_term (net_terms nodes ids) values statics netlist net.width net.gate → (m : ℕ) → position_of order m < i + 1 → IsTraced netlist word new (slice_set ids (slice_index order i) id) m
   turn_traced long values statics ve se new g id within e m h =
       elim (cases_eq m (slice_index order i)) as (λ _. IsTraced netlist word new (slice_set ids (slice_index order i) id) m) [
         | inl q ↦
@@ -73,7 +73,7 @@ module _ (netlist : Netlist) (word : ℕ) (order : List ℕ) (o : IsOrder netlis
             subst (λ k. IsTraced netlist word new (slice_set ids (slice_index order i) id) k) (sym q)
             (record {
               within = subst (λ k. k < length new) (sym same) within;
-              is = ap (term_at new) same ∙ e ∙ ap (λ (f : ℕ → Bool). gate_term (net_terms nodes ids) values f net.width net.gate) se ∙ turn_term values ve;
+              is = ap (term_at new) same ∙ e ∙ ap (λ (f : ℕ → Bool). gate_term (net_terms nodes ids) values f netlist net.width net.gate) se ∙ turn_term values ve;
             })
         | inr q ↦
             let same : slice_index (slice_set ids (slice_index order i) id) m ≡ slice_index ids m = get_or-set_other ids (slice_index order i) m id 0 q in

@@ -77,19 +77,19 @@ module _ (netlist : Netlist) (nodes : List Node) (ids : List ℕ) (width : ℕ) 
       let d : GateControlled netlist (Case sel rows rest) = subst (GateControlled netlist) e c in
       (k.0.0, k.0.1 ∙ is_bit netlist sel d.selectors.0 s)
 
-module _ (t : ℕ → Term) (u : ℕ → ℕ) (f : ℕ → Bool) (width : ℕ) (gate : Gate) where
-  pub case_static : (sel key : ℕ) (rows : List (ℕ × ℕ)) (rest target : Option ℕ) → gate ≡ Case sel rows rest → f sel ≡ true → key ≡ u sel → target ≡ case_target key rows rest → term_there t width target ≡ gate_term t u f width gate
+module _ (t : ℕ → Term) (u : ℕ → ℕ) (f : ℕ → Bool) (netlist : Netlist) (width : ℕ) (gate : Gate) where
+  pub case_static : (sel key : ℕ) (rows : List (ℕ × ℕ)) (rest target : Option ℕ) → gate ≡ Case sel rows rest → f sel ≡ true → key ≡ u sel → target ≡ case_target key rows rest → term_there t width target ≡ gate_term t u f netlist width gate
   case_static sel key rows rest target e s k h =
       ap (term_there t width) h ∙ case_term_there t width key rows rest ∙ ap (λ n. case_term t width n rows rest) k
-      ∙ sym (ap (gate_term t u f width) e ∙ ap (λ (b : Bool). if b then case_term t width (u sel) rows rest else select (t sel) (case_term t width 1 rows rest) (case_term t width 0 rows rest)) s)
+      ∙ sym (ap (gate_term t u f netlist width) e ∙ ap (λ (b : Bool). if b then case_term t width (u sel) rows rest else select (t sel) (case_term t width 1 rows rest) (case_term t width 0 rows rest)) s)
 
-  pub case_open : (sel : ℕ) (rows : List (ℕ × ℕ)) (rest one zero : Option ℕ) → gate ≡ Case sel rows rest → f sel ≡ false → one ≡ case_target 1 rows rest → zero ≡ case_target 0 rows rest → select (t sel) (term_there t width one) (term_there t width zero) ≡ gate_term t u f width gate
+  pub case_open : (sel : ℕ) (rows : List (ℕ × ℕ)) (rest one zero : Option ℕ) → gate ≡ Case sel rows rest → f sel ≡ false → one ≡ case_target 1 rows rest → zero ≡ case_target 0 rows rest → select (t sel) (term_there t width one) (term_there t width zero) ≡ gate_term t u f netlist width gate
   case_open sel rows rest one zero e s h k =
       let x = ap (term_there t width) h ∙ case_term_there t width 1 rows rest in
       let y = ap (term_there t width) k ∙ case_term_there t width 0 rows rest in
       (λ j. select (t sel) (x j) (y j))
-      ∙ sym (ap (gate_term t u f width) e ∙ ap (λ (b : Bool). if b then case_term t width (u sel) rows rest else select (t sel) (case_term t width 1 rows rest) (case_term t width 0 rows rest)) s)
+      ∙ sym (ap (gate_term t u f netlist width) e ∙ ap (λ (b : Bool). if b then case_term t width (u sel) rows rest else select (t sel) (case_term t width 1 rows rest) (case_term t width 0 rows rest)) s)
 
-  pub bus_is : (drivers : List (ℕ × ℕ)) (target : Option ℕ) → gate ≡ Bus drivers → target ≡ driver_target u drivers → term_there t width target ≡ gate_term t u f width gate
+  pub bus_is : (drivers : List (ℕ × ℕ)) (target : Option ℕ) → gate ≡ Bus drivers → target ≡ driver_target u drivers → term_there t width target ≡ gate_term t u f netlist width gate
   bus_is drivers target e h =
-      ap (term_there t width) h ∙ bus_term_there t u width drivers ∙ sym (ap (gate_term t u f width) e)
+      ap (term_there t width) h ∙ bus_term_there t u width drivers ∙ sym (ap (gate_term t u f netlist width) e)

@@ -17,6 +17,7 @@ fn blank_state(alloc: Global) -> State
     State {
         regs: Items::new(alloc),
         cells: Items::new(alloc),
+        file: Items::new(alloc),
     }
 }
 

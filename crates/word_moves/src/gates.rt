@@ -14,7 +14,7 @@ ghost use Rattle.net_model.specs.Flags.{flag_at};
 
 use crate::choices::{driver_of, target_of};
 use cycle_sim::value_at;
-use net_model::{Gate, Net, Netlist, is_set};
+use net_model::{Gate, Net, Netlist, Space, is_set};
 use rec_bits::NoMemory;
 use std::alloc::Global;
 use sym_expr::{ExprId, Node, Pool};
@@ -39,13 +39,19 @@ pub(crate) fn gate_id(
     ensures within { IfOk result (λ id. id < length pool.new) }
     ensures term { IfOk result (λ id. term_at pool.new id
         ≡ gate_term (net_terms pool.old ids.now) (slice_index values.now) (flag_at statics.now)
-        net.now.width net.now.gate) }
+        netlist.now net.now.width net.now.gate) }
 {
     let width = net.width;
     match &net.gate {
         Gate::Word(_) => pool.intern(alloc, Node::Word(width)),
         Gate::Reg(id) => pool.intern(alloc, Node::Reg(*id, width)),
-        Gate::Read { addr, .. } => pool.intern(alloc, Node::Read(value_at(ids, *addr), width)),
+        Gate::Read { memory, addr } => {
+            let at = value_at(ids, *addr);
+            match netlist.space(*memory) {
+                Space::Memory => pool.intern(alloc, Node::Read(at, width)),
+                Space::File => pool.intern(alloc, Node::Cell(at, width)),
+            }
+        }
         Gate::Const(value) => pool.intern(
             alloc,
             Node::Const {

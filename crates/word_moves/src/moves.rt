@@ -24,7 +24,7 @@ pub enum StorageMove {
     Keep,
     /// A register takes a value.
     Write(ExprId),
-    /// The memory takes a value at an address.
+    /// The memory or the register file takes a value at an address.
     WriteAt { addr: ExprId, value: ExprId },
 }
 
@@ -132,16 +132,11 @@ fn move_of(pool: &Pool, ids: &[ExprId], values: &[u64], id: usize, storage: &Sto
                 StorageMove::Keep
             }
         }
-        Storage::Memory {
-            value,
-            addr,
-            when,
-            ..
-        } => {
-            if enables(values, *when) {
+        Storage::Memory(cells) | Storage::File(cells) => {
+            if enables(values, cells.when) {
                 StorageMove::WriteAt {
-                    addr: value_at(ids, *addr),
-                    value: value_at(ids, *value),
+                    addr: value_at(ids, cells.addr),
+                    value: value_at(ids, cells.value),
                 }
             } else {
                 StorageMove::Keep

@@ -20,7 +20,7 @@ use Rattle.compaction.specs.declared.machine.Machine.{Machine}
 
 -- ---- the machine
 
--- for each of the first ids of a pool whether its expression reads the memory
+-- for each of the first ids of a pool whether its expression reads the memory or the file
 abbrev pub AreReaders : List Node → List Bool → Type 0
 AreReaders pool flags = (id : ℕ) → id < length flags → slice_index_or flags id false ≡ has_read (term_at pool id)
 

@@ -1,6 +1,7 @@
 -- The flagged trees in the order of their first places.
 use Rattle.std.specs.Prelude.{ℕ, ◌<◌, ◌≡◌, ◌&&◌, ◌==◌, Bool, false, List, ◌++◌, Some, slice_get}
 use Rattle.std.specs.Borrow.{Bor}
+use Rattle.net_model.specs.declared.hardware.Space.TheVariants.{Memory as InMemory}
 use Rattle.net_model.specs.Terms.{Term, const, read, un, bin, slice, zext, sext}
 use Rattle.form_model.specs.Rules.{Destination}
 use Rattle.form_model.specs.Covers.{Stock}
@@ -13,7 +14,7 @@ use Rattle.cover_lacks.specs.Inner.Flags.{AreFlags, IsFlagged, IsLackingIn, IsSe
 -- whether two trees are equal
 abbrev pub same_trees : Term → Term → Bool
 same_trees (const w v) (const x u) = (w == x) && (v == u)
-same_trees (read a w) (read b x) = (w == x) && same_trees a b
+same_trees (read InMemory a w) (read InMemory b x) = (w == x) && same_trees a b
 same_trees (un o a) (un p b) = same_op1 o p && same_trees a b
 same_trees (bin o a b) (bin p c d) = same_op2 o p && (same_trees a c && same_trees b d)
 same_trees (slice a h l) (slice b i m) = (h == i) && ((l == m) && same_trees a b)

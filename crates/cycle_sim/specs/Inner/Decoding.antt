@@ -6,10 +6,10 @@ use Rattle.rec_bits.specs.declared.operator.Op2.TheVariants.{Add, Sub, Mul, And,
 use Rattle.net_model.specs.declared.hardware.Netlist.{Netlist}
 use Rattle.net_model.specs.declared.hardware.Net.{Net}
 use Rattle.net_model.specs.declared.hardware.Storage.{Storage}
-use Rattle.net_model.specs.declared.hardware.Storage.TheVariants.{Register, Memory}
+use Rattle.net_model.specs.declared.hardware.Storage.TheVariants.{Register, Memory, File}
 use Rattle.net_model.specs.declared.hardware.Gate.{Gate}
 use Rattle.net_model.specs.declared.hardware.Gate.TheVariants.{Word, Reg, Read, Const, Wire, Un, Bin, Slice, Cat, Zext, Sext, Case, Bus}
-use Rattle.net_model.specs.Nets.{width_at}
+use Rattle.net_model.specs.Nets.{width_at, space_at}
 use Rattle.cycle_sim.specs.declared.edge.BusDrivers.{BusDrivers}
 use Rattle.cycle_sim.specs.declared.edge.Latch.{Latch}
 use Rattle.cycle_sim.specs.declared.edge.Latch.TheVariants.{Input, Held}
@@ -76,7 +76,7 @@ binary_of op from width a b = Binary op from a b
 abbrev pub decoded : Netlist → (ℕ → ℕ) → ℕ → Gate → Option Operation
 decoded netlist f width (Word code) = None
 decoded netlist f width (Reg id) = None
-decoded netlist f width (Read memory addr) = Some (Recall (f addr))
+decoded netlist f width (Read memory addr) = Some (Recall (space_at netlist memory) (f addr))
 decoded netlist f width (Const c) = None
 decoded netlist f width (Wire a) = None
 decoded netlist f width (Un op a) = Some (Unary op width (f a))
@@ -113,7 +113,8 @@ inlets_from n (net ∷ nets) = inlets_with n net.gate (inlets_from (n + 1) nets)
 
 abbrev pub latch_by : (ℕ → ℕ) → Storage → Latch
 latch_by f (Register name width input when) = Input (f input) (optional f when)
-latch_by f (Memory name width size addr_width value addr when) = Held
+latch_by f (Memory cells) = Held
+latch_by f (File cells) = Held
 
 abbrev pub latches_by : (ℕ → ℕ) → List Storage → List Latch
 latches_by f storages = map (latch_by f) storages

@@ -3,6 +3,7 @@ use Rattle.std.specs.Prelude.{ℕ, ◌+◌, ◌-◌, ◌*◌, ◌/◌, ◌%◌, 
 use Rattle.std.specs.List.{AllByRecursion}
 use Rattle.rec_bits.specs.Operators.{apply1_of, apply2_of, bit_of, sext_of}
 use Rattle.net_model.specs.declared.states.State.{State}
+use Rattle.net_model.specs.Nets.{held}
 use Rattle.net_model.specs.Value.{bus_value, case_value}
 use Rattle.cycle_sim.specs.declared.operation.Inlet.{Inlet}
 use Rattle.cycle_sim.specs.declared.operation.Instruction.{Instruction}
@@ -11,7 +12,7 @@ use Rattle.cycle_sim.specs.declared.operation.Operation.TheVariants.{Recall, Sum
 
 -- the number that an operation gives, where v gives the number at each place
 abbrev pub operation_value : (ℕ → ℕ) → State → Operation → ℕ
-operation_value v s (Recall addr) = slice_index s.cells (v addr)
+operation_value v s (Recall space addr) = slice_index (held s space) (v addr)
 operation_value v s (Sum a b mask) = bit_and ((v a + v b) % 2 ^ 64) mask
 operation_value v s (Difference a b mask) = bit_and ((v a + (2 ^ 64 - v b)) % 2 ^ 64) mask
 operation_value v s (Product a b mask) = bit_and ((v a * v b) % 2 ^ 64) mask
@@ -49,7 +50,7 @@ run_of s (instruction ∷ instructions) values =
 
 -- operands are among so many places, and the widths are those of numbers of at most 64 bits
 abbrev pub HasOperands : ℕ → Operation → Type 0
-HasOperands n (Recall addr) = addr < n
+HasOperands n (Recall space addr) = addr < n
 HasOperands n (Sum a b mask) = (a < n) × (b < n)
 HasOperands n (Difference a b mask) = (a < n) × (b < n)
 HasOperands n (Product a b mask) = (a < n) × (b < n)

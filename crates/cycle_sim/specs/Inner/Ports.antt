@@ -1,16 +1,13 @@
--- How the data memory is written, looked up once.
-use Rattle.std.specs.Prelude.{ℕ, ◌≤◌, ◌&&◌, nat_lt, if◌then◌else◌, List, [], ◌∷◌, Option, Some, None, slice_set}
-use Rattle.net_model.specs.declared.hardware.Storage.{Storage}
-use Rattle.net_model.specs.declared.hardware.Storage.TheVariants.{Register, Memory}
+-- How the cells of a space are written, looked up once.
+use Rattle.std.specs.Prelude.{ℕ, ◌≤◌, ◌&&◌, nat_lt, if◌then◌else◌, List, Option, Some, None, slice_set}
+use Rattle.net_model.specs.declared.hardware.Cells.{Cells}
 use Rattle.net_model.specs.Clock.{is_enabled}
 use Rattle.cycle_sim.specs.declared.edge.Port.{Port}
 
--- the data memory is the first one
-abbrev pub port_of : List Storage → Option Port
-port_of [] = None
-port_of (Register name width input when ∷ storages) = port_of storages
-port_of (Memory name width size addr_width value addr when ∷ storages) =
-    Some (record { width = width; value = value; addr = addr; when = when })
+abbrev pub port_of : Option Cells → Option Port
+port_of None = None
+port_of (Some cells) =
+    Some (record { width = cells.width; value = cells.value; addr = cells.addr; when = cells.when })
 
 -- what the cells become
 abbrev pub cells_by : (ℕ → ℕ) → Option Port → List ℕ → List ℕ

@@ -5,6 +5,10 @@ use Rattle.net_model.specs.declared.hardware.Net.{Net}
 use Rattle.net_model.specs.declared.hardware.Gate.{Gate}
 use Rattle.net_model.specs.declared.hardware.Gate.TheVariants.{Word, Reg, Const, Wire, Zext}
 use Rattle.net_model.specs.declared.states.State.{State}
+use Rattle.net_model.specs.declared.hardware.Space.{Space}
+use Rattle.net_model.specs.declared.hardware.Space.TheVariants.{Memory as InMemory, File as InFile}
+use Rattle.net_model.specs.Nets.{array_in}
+use Rattle.cycle_sim.specs.declared.edge.Port.{Port}
 use Rattle.net_model.specs.Clock.{clash_in, enabled_count, is_enabled, next_cells, next_regs}
 use Rattle.net_model.specs.Order.{position_of}
 use Rattle.net_model.specs.Value.{value_of}
@@ -110,6 +114,11 @@ pub record Runs (netlist : Netlist) (instructions : List Instruction) : Type 0 w
 
 -- ---- programs
 
+-- how the cells of a space are written
+abbrev pub port_at : Program → Space → Option Port
+port_at program InMemory = program.port
+port_at program InFile = program.file_port
+
 -- an array from which buses, registers and memory take what they take from the values of the nets
 pub record RunsAs (netlist : Netlist) (s : State) (word : ℕ) (values : List ℕ) (program : Program) : Type 0 where
   pub room : IsRoom netlist values
@@ -117,12 +126,12 @@ pub record RunsAs (netlist : Netlist) (s : State) (word : ℕ) (values : List �
   pub regs : (regs : List ℕ) →
       regs_by (slice_index values) program.latches regs
       ≡ next_regs (value_of netlist s word) netlist.storages regs
-  pub cells : (cells : List ℕ) →
-      cells_by (slice_index values) program.port cells
-      ≡ next_cells (value_of netlist s word) netlist.storages cells
+  pub cells : (space : Space) (olds : List ℕ) →
+      cells_by (slice_index values) (port_at program space) olds
+      ≡ next_cells (value_of netlist s word) space netlist.storages olds
   pub written : (size : ℕ) →
       cell_by (slice_index values) program.port size
-      ≡ cell_net (value_of netlist s word) netlist.storages size
+      ≡ cell_net (value_of netlist s word) (array_in InMemory netlist.storages) size
 
 -- a program that does in any room what the netlist does in each state under each word
 pub record IsProgram (netlist : Netlist) (program : Program) : Type 0 where

@@ -3,7 +3,8 @@ use Rattle.std.specs.Prelude.{ℕ, ◌≡◌, ◌≤◌, List}
 use Rattle.std.specs.List.{AllByRecursion}
 use Rattle.net_model.specs.declared.hardware.Netlist.{Netlist}
 use Rattle.net_model.specs.declared.states.State.{State}
-use Rattle.net_model.specs.Nets.{memory_size, memory_width}
+use Rattle.net_model.specs.declared.hardware.Space.{Space}
+use Rattle.net_model.specs.Nets.{memory_width, size_in}
 use Rattle.net_model.specs.Widths.{IsState, IsTyped, WordFits}
 use Rattle.cycle_sim.specs.declared.program.Program.{Program}
 use Rattle.cycle_sim.specs.Inner.Ports.{HasPortWidth, memory_port_width}
@@ -13,7 +14,7 @@ use Rattle.cycle_sim.specs.Inner.Programs.{IsProgram, IsRoom}
 -- where the constants stand
 pub record IsRunning (netlist : Netlist) (words : List ℕ) (s : State) (program : Program) (values : List ℕ) : Type 0 where
   pub typed : IsTyped netlist
-  pub few : memory_size netlist.storages ≤ 65536
+  pub few : (space : Space) → size_in space netlist.storages ≤ 65536
   pub words_fit : AllByRecursion (WordFits netlist) words
   pub state : IsState netlist s
   pub decoded : IsProgram netlist program

@@ -12,7 +12,7 @@ root_swaps _ = 0
 
 -- how many there are in an expression
 abbrev pub swaps_of : Term → ℕ
-swaps_of (read a w) = swaps_of a
+swaps_of (read space a w) = swaps_of a
 swaps_of (un o a) = swaps_of a
 swaps_of (bin o a b) = root_swaps (bin o a b) + (swaps_of a + swaps_of b)
 swaps_of (slice a hi lo) = swaps_of a
@@ -28,7 +28,7 @@ addr_swaps (Some a) = swaps_of a
 
 -- a choice without the bits of those in a level
 abbrev pub left_of : ℕ → ℕ → Term → ℕ
-left_of level choice (read a w) = at_level level choice (left_of (level - 1) choice a)
+left_of level choice (read space a w) = at_level level choice (left_of (level - 1) choice a)
 left_of level choice (un o a) = at_level level choice (left_of (level - 1) choice a)
 left_of level choice (bin o a b) =
     at_level level (if can_swap o then choice / 2 else choice) (left_of (level - 1) (left_of (level - 1) choice a) b)
@@ -42,7 +42,7 @@ left_of level choice t = choice
 
 -- an expression with those of a level swapped
 abbrev pub swap_level : ℕ → ℕ → Term → Term
-swap_level level choice (read a w) = at_level level (read a w) (read (swap_level (level - 1) choice a) w)
+swap_level level choice (read space a w) = at_level level (read space a w) (read space (swap_level (level - 1) choice a) w)
 swap_level level choice (un o a) = at_level level (un o a) (un o (swap_level (level - 1) choice a))
 swap_level level choice (bin o a b) =
     at_level level (ordered (can_swap o && bit_at choice 0 == 1) o a b)

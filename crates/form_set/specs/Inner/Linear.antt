@@ -19,7 +19,7 @@ abbrev pub is_linear : ℕ → Term → Bool
 is_linear free (word w) = true
 is_linear free (reg r w) = true
 is_linear free (const w v) = true
-is_linear free (read a w) = is_linear free a
+is_linear free (read space a w) = is_linear free a
 is_linear free (un o a) = is_linear free a
 is_linear free (bin o a b) = are_apart free a b && (is_linear free a && is_linear free b)
 is_linear free (slice a hi lo) = is_linear free a

@@ -40,7 +40,7 @@ pub record ArePatternIds (netlist : Netlist) (book : Diagrams) (pool : List Node
   pub few : book.bits ≤ 64
   pub clean : (word : ℕ) → IsClean netlist word → word < 2 ^ book.bits
   pub memory : memory_id netlist.storages < length netlist.storages
-  pub storages : length netlist.storages ≤ 14
+  pub storages : length netlist.storages ≤ 15
 
 -- a word of a set
 pub record InSet (book : Diagrams) (set word : ℕ) : Type 0 where

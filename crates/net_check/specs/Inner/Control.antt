@@ -2,7 +2,7 @@
 use Rattle.std.specs.Prelude.{ℕ, ◌≡◌, Bool}
 use Rattle.net_model.specs.declared.hardware.Netlist.{Netlist}
 use Rattle.net_model.specs.Symbolic.{is_static}
-use Rattle.net_model.specs.CheckedRules.{is_control, is_plain, HasStaticEnables, HasPlainControl, HasNarrowSelectors}
+use Rattle.net_model.specs.CheckedRules.{is_control, is_plain, HasStaticEnables, HasPlainControl, HasNarrowSelectors, HasStaticFileAddrs}
 use Rattle.net_model.specs.Control.{is_selector}
 use Rattle.net_model.specs.Flags.{flag_at}
 use Rattle.net_check.specs.declared.control.Flags.{Flags}
@@ -25,3 +25,8 @@ pub record KeepsControl (netlist : Netlist) : Type 0 where
   pub enables : HasStaticEnables netlist
   pub control : HasPlainControl netlist
   pub selectors : HasNarrowSelectors netlist
+
+-- N7 to N9 and N14
+pub record KeepsStatics (netlist : Netlist) : Type 0 where
+  pub places : KeepsControl netlist
+  pub addresses : HasStaticFileAddrs netlist

@@ -1,18 +1,23 @@
--- The memory of a netlist that has one.
+-- The memory of a netlist that has one, and the measures of cells.
 use Rattle.std.specs.Prelude.{◌≡◌, List, [], ◌∷◌, Option, Some, None}
 use Rattle.net_model.specs.declared.hardware.Storage.{Storage}
-use Rattle.net_model.specs.declared.hardware.Storage.TheVariants.{Register, Memory}
+use Rattle.net_model.specs.declared.hardware.Storage.TheVariants.{Register, Memory, File}
+use Rattle.net_model.specs.declared.hardware.Cells.{Cells}
 use Rattle.net_model.specs.Nets.{memory_size, memory_width}
 use Rattle.net_model.specs.CheckedRules.{memory_count, memory_addr_width}
 use Rattle.net_check.specs.declared.role.Shape.{Shape}
+
+-- the measures of a memory or a file
+abbrev pub shape_of : Cells → Shape
+shape_of cells = record { width = cells.width; size = cells.size; addr_width = cells.addr_width }
 
 -- the lone memory of these storages and of what was met before
 abbrev pub lone_from : Option Shape → List Storage → Option Shape
 lone_from met [] = met
 lone_from met (Register name width input when ∷ storages) = lone_from met storages
-lone_from None (Memory name width size addr_width value addr when ∷ storages) =
-    lone_from (Some (record { width = width; size = size; addr_width = addr_width })) storages
-lone_from (Some shape) (Memory name width size addr_width value addr when ∷ storages) = None
+lone_from met (File cells ∷ storages) = lone_from met storages
+lone_from None (Memory cells ∷ storages) = lone_from (Some (shape_of cells)) storages
+lone_from (Some shape) (Memory cells ∷ storages) = None
 
 -- the measures of the first memory
 pub record IsShape (storages : List Storage) (shape : Shape) : Type 0 where

@@ -11,7 +11,7 @@ abbrev pub term_registers : Term → ℕ
 term_registers (word w) = 0
 term_registers (reg r w) = one_register r
 term_registers (const w v) = 0
-term_registers (read a w) = term_registers a
+term_registers (read space a w) = term_registers a
 term_registers (un o a) = term_registers a
 term_registers (bin o a b) = bit_or (term_registers a) (term_registers b)
 term_registers (slice a hi lo) = term_registers a

@@ -5,7 +5,7 @@ use Rattle.net_model.specs.declared.units.Unit.{Unit as Item}
 use Rattle.grammar.specs.declared.words.Ident.{Ident}
 use Rattle.net_model.specs.Written.{Entry, entry_of}
 use Rattle.net_elab.specs.declared.site.Spot.{Spot}
-use Rattle.net_elab.specs.declared.site.Cells.{Cells}
+use Rattle.net_elab.specs.declared.site.Readable.{Readable}
 use Rattle.net_model.specs.TextNames.{in_module}
 use Rattle.net_model.specs.TextWidths.{memory_of, MemoryWidths, ports_of}
 use Rattle.net_model.specs.Elaborable.{IsElaborable, PortFed}
@@ -34,8 +34,8 @@ pub record IsSpot (width : Option ℕ) (net : ℕ) (spot : Spot) : Type 0 where
   pub width_is : width ≡ Some spot.width
   pub net_is : spot.net ≡ net
 
--- a memory whose cells have a width, by its number
-pub record IsCells (width : Option ℕ) (number : ℕ) (cells : Cells) : Type 0 where
+-- a memory or a file whose cells have a width, by its number
+pub record IsCells (width : Option ℕ) (number : ℕ) (cells : Readable) : Type 0 where
   pub width_is : width ≡ Some cells.width
   pub number_is : cells.memory ≡ number
 

@@ -1,12 +1,12 @@
 -- What the parts of the parser say of tokens.
-use Rattle.std.specs.Prelude.{◌≡◌, ℕ, Bool, true, false, List, ◌∷◌, Some}
+use Rattle.std.specs.Prelude.{◌≡◌, ℕ, Bool, true, false, List, ◌∷◌, Option, None, Some, IsTrue, is_some}
 use Rattle.grammar.specs.Reading.{head}
 use Rattle.net_model.specs.declared.words.ItemWord.{ItemWord}
 use Rattle.net_model.specs.declared.words.Operator.{Operator}
-use Rattle.net_model.specs.Grammar.{Lexed, Word}
+use Rattle.net_model.specs.Editions.{Lexed, Word, added_by}
 use Rattle.grammar.specs.declared.words.Word.TheVariants.{Name, Number, Symbol as Shows, Key as Keyed}
 use Rattle.net_model.specs.declared.words.Key.TheVariants.{Item, Operator as Operates}
-use Rattle.net_model.specs.declared.words.Symbol.TheVariants.{Dot, Colon, Comma, LeftBracket, When, Else}
+use Rattle.net_model.specs.declared.words.Symbol.TheVariants.{Dot, Colon, Comma, LeftBracket, When, Else, Version}
 
 -- ---- what may go on behind a text
 
@@ -126,3 +126,15 @@ pub record OpensItem (word : ItemWord) (ts rest : List Lexed) : Type 0 where
 
 pub record HasNoItem (ts : List Lexed) : Type 0 where
   pub never_so : (t : Lexed) → head ts ≡ Some t → (word : ItemWord) → t.word ≡ Keyed (Item word) → ⊥
+
+-- behind an edition that may be there
+abbrev pub version_word : Word → Bool
+version_word (Shows Version) = true
+version_word _ = false
+
+abbrev pub after_head : Lexed → Bool
+after_head t = version_word t.word
+
+abbrev pub IsHeadNumber : Option ℕ → Type 0
+IsHeadNumber None = Unit {0}
+IsHeadNumber (Some edition) = IsTrue (is_some (added_by edition))

@@ -1,7 +1,7 @@
 -- The words of tests and jumps.
 use Rattle.std.specs.Prelude.{ℕ, ◌+◌, ◌^◌, ◌<◌, ◌≡◌, ◌⊎◌, Bool, true, false, if◌then◌else◌, bit_and, bit_or, List, length, Some, slice_get}
 use Rattle.net_model.specs.declared.hardware.Netlist.{Netlist}
-use Rattle.net_model.specs.Terms.{Term, reg, bin, select, term_width, write, next_of, swapped_next_of}
+use Rattle.net_model.specs.Terms.{Term, reg, bin, select, term_width, write, EitherNext}
 use Rattle.rec_bits.specs.declared.operator.Op2.TheVariants.{Add}
 use Rattle.net_model.specs.Nets.{counter_of, counter_width}
 use Rattle.net_model.specs.Patterns.{Pattern}
@@ -34,9 +34,7 @@ one_side b x y = if b then x else y
 
 -- the program counter plus 1
 abbrev pub IsNextTerm : Netlist → Term → Type 0
-IsNextTerm netlist e =
-    (e ≡ next_of (counter_of netlist.codes) (counter_width netlist))
-    ⊎ (e ≡ swapped_next_of (counter_of netlist.codes) (counter_width netlist))
+IsNextTerm netlist e = EitherNext (counter_of netlist.codes) (counter_width netlist) (λ next. e ≡ next)
 
 -- what a branch form goes to: an address that the word shows, or one that lies so far behind as the
 -- word shows

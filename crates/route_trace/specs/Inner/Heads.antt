@@ -16,7 +16,7 @@ slice_parts _ = None
 -- the expression once the last operand is there
 abbrev pub head_term : Head → (ℕ → Term) → Term → Term
 head_term Same t last = last
-head_term (Read w) t last = read last w
+head_term (Read space w) t last = read space last w
 head_term (Un o) t last = un o last
 head_term (Slice h l) t last = sliced last h l
 head_term (Zext w) t last = zext last w
@@ -27,7 +27,7 @@ head_term (Select c a) t last = select (t c) (t a) last
 
 abbrev pub head_parts : Head → List ℕ
 head_parts Same = []
-head_parts (Read w) = []
+head_parts (Read space w) = []
 head_parts (Un o) = []
 head_parts (Slice h l) = []
 head_parts (Zext w) = []
@@ -39,7 +39,7 @@ head_parts (Select c a) = c ∷ a ∷ []
 -- an operand of this width is what is asked for
 abbrev pub LastFits : Head → (ℕ → Term) → ℕ → Type 0
 LastFits Same t width = Unit {0}
-LastFits (Read w) t width = (1 ≤ w) × (w ≤ 64)
+LastFits (Read space w) t width = (1 ≤ w) × (w ≤ 64)
 LastFits (Un o) t width = Unit {0}
 LastFits (Slice h l) t width = (l ≤ h) × (h < width)
 LastFits (Zext w) t width = (width < w) × (w ≤ 64)

@@ -16,7 +16,7 @@ use Rattle.self_test.specs.declared.select.Ids.{Ids}
 -- a register or a read, in whose place a cell stands
 abbrev pub is_operand : Term → Bool
 is_operand (reg r w) = true
-is_operand (read a w) = true
+is_operand (read space a w) = true
 is_operand _ = false
 
 -- the nodes of a tree from a node on, by those below it
@@ -28,7 +28,7 @@ abbrev pub inner : ℕ → Term → ℕ
 inner w (word v) = 0
 inner w (reg r v) = 0
 inner w (const v n) = 0
-inner w (read a v) = 0
+inner w (read space a v) = 0
 inner w (un o a) = node w a (inner w a)
 inner w (bin o a b) = node w a (inner w a) + node w b (inner w b)
 inner w (slice a hi lo) = if is_field (slice a hi lo) then 0 else node w a (inner w a)

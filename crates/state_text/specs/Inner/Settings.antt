@@ -3,10 +3,12 @@ use Rattle.std.specs.Prelude.{ℕ, ◌^◌, ◌≢◌, ◌<◌, ◌==◌, nat_lt
 use Rattle.std.specs.Str.{bytes_eq}
 use Rattle.net_model.specs.declared.hardware.Netlist.{Netlist}
 use Rattle.net_model.specs.declared.hardware.Storage.{Storage}
-use Rattle.net_model.specs.declared.hardware.Storage.TheVariants.{Register, Memory}
+use Rattle.net_model.specs.declared.hardware.Storage.TheVariants.{Register, Memory, File}
+use Rattle.net_model.specs.declared.hardware.Cells.{Cells}
+use Rattle.net_model.specs.declared.hardware.Space.{Space}
+use Rattle.net_model.specs.declared.hardware.Space.TheVariants.{Memory as InMemory, File as InFile}
 use Rattle.net_model.specs.declared.states.State.{State}
-use Rattle.net_model.specs.Nets.{counter_of, memory_id, memory_size, memory_width, storage_bits, IsRegister}
-use Rattle.net_model.specs.CheckedRules.{storage_name}
+use Rattle.net_model.specs.Nets.{counter_of, place_in, size_in, width_in, held, storage_bits, storage_name, IsRegister}
 use Rattle.net_model.specs.MemoryText.{with_register, with_cell}
 use Rattle.text_lines.specs.Fields.{parts_at, number_of, line_end, ◌>>=◌}
 use Rattle.state_text.specs.declared.setting.Setting.{Setting}
@@ -27,26 +29,31 @@ named_at storages name = position (λ storage. bytes_eq (storage_name storage) n
 unfoldable pub entry_of : ℕ → ℕ → List ℕ → Option Setting
 entry_of storage width text = number_below width text >>= λ value. Some (Entry storage value)
 
--- behind the memory's name and a space: ADDRESS VALUE
-unfoldable pub cell_of : ℕ → ℕ → List ℕ → Option Setting
-cell_of size width text =
+-- behind a memory's or a file's name and a space: ADDRESS VALUE
+unfoldable pub cell_of : Space → ℕ → ℕ → List ℕ → Option Setting
+cell_of space size width text =
     parts_at 32 text >>= λ parts. number_of parts.0 >>= λ address.
     number_below width parts.1 >>= λ value.
-    if nat_lt address size then Some (Cell address value) else None
+    if nat_lt address size then Some (Cell space address value) else None
+
+-- what stands behind the name of a storage with cells
+unfoldable pub array_at : List Storage → ℕ → Space → Cells → List ℕ → Option Setting
+array_at storages id space cells text =
+    if id == place_in space storages then cell_of space cells.size cells.width text else None
 
 -- what stands behind the name of this storage; nothing sets the program counter
-unfoldable pub setting_at : ℕ → ℕ → ℕ → Option Storage → List ℕ → Option Setting
-setting_at counter memory id None text = None
-setting_at counter memory id (Some (Register name width input when)) text =
-    if id == counter then None else entry_of id width text
-setting_at counter memory id (Some (Memory name width size addr_width value addr when)) text =
-    if id == memory then cell_of size width text else None
+unfoldable pub setting_at : Netlist → ℕ → Option Storage → List ℕ → Option Setting
+setting_at netlist id None text = None
+setting_at netlist id (Some (Register name width input when)) text =
+    if id == counter_of netlist.codes then None else entry_of id width text
+setting_at netlist id (Some (Memory cells)) text = array_at netlist.storages id InMemory cells text
+setting_at netlist id (Some (File cells)) text = array_at netlist.storages id InFile cells text
 
 -- what stands behind a name
 unfoldable pub setting_for : Netlist → List ℕ → List ℕ → Option Setting
 setting_for netlist name text =
     named_at netlist.storages name >>= λ id.
-    setting_at (counter_of netlist.codes) (memory_id netlist.storages) id (slice_get netlist.storages id) text
+    setting_at netlist id (slice_get netlist.storages id) text
 
 -- what a line sets, if it is of the form
 unfoldable pub setting_of : Netlist → List ℕ → Option Setting
@@ -54,7 +61,7 @@ setting_of netlist line = parts_at 32 line >>= λ parts. setting_for netlist par
 
 abbrev pub with_setting : State → Setting → State
 with_setting s (Entry storage value) = with_register s storage value
-with_setting s (Cell address value) = with_cell s address value
+with_setting s (Cell space address value) = with_cell s space address value
 
 -- what a line sets fits: a register that isn't the program counter, or a cell, with a value of its
 -- width
@@ -62,10 +69,10 @@ abbrev pub SettingFits : Netlist → Setting → Type 0
 SettingFits netlist (Entry id value) =
     IsRegister (slice_get netlist.storages id) × (id ≢ counter_of netlist.codes)
     × (value < 2 ^ storage_bits (slice_get netlist.storages id))
-SettingFits netlist (Cell address value) =
-    (address < memory_size netlist.storages) × (value < 2 ^ memory_width netlist.storages)
+SettingFits netlist (Cell space address value) =
+    (address < size_in space netlist.storages) × (value < 2 ^ width_in space netlist.storages)
 
 -- there is such an entry or cell
 abbrev pub IsWithin : State → Setting → Type 0
 IsWithin s (Entry id value) = id < length s.regs
-IsWithin s (Cell address value) = address < length s.cells
+IsWithin s (Cell space address value) = address < length (held s space)

@@ -6,7 +6,8 @@ use Rattle.ctl_bdd.specs.declared.ControlBits.{ControlBits}
 use Rattle.ctl_bdd.specs.Controls.{bits_in}
 use Rattle.net_model.specs.declared.hardware.Netlist.{Netlist}
 use Rattle.net_model.specs.declared.hardware.Storage.{Storage}
-use Rattle.net_model.specs.declared.hardware.Storage.TheVariants.{Register, Memory}
+use Rattle.net_model.specs.declared.hardware.Cells.{Cells}
+use Rattle.net_model.specs.declared.hardware.Storage.TheVariants.{Register, Memory, File}
 use Rattle.net_model.specs.Symbolic.{no_state}
 use Rattle.net_model.specs.Terms.{Move, keep, write, write_at}
 use Rattle.net_model.specs.Clock.{is_enabled}
@@ -50,8 +51,8 @@ IsWhenKnown netlist book bits when = HasSet bits when × IsOnSet netlist book (w
 abbrev pub IsStorageKnown : Netlist → Diagrams → List (ℕ × List ℕ) → Option Storage → Type 0
 IsStorageKnown netlist book bits None = Unit {0}
 IsStorageKnown netlist book bits (Some (Register name width input when)) = IsWhenKnown netlist book bits when
-IsStorageKnown netlist book bits (Some (Memory name width size addr_width value addr when)) =
-    IsWhenKnown netlist book bits when
+IsStorageKnown netlist book bits (Some (Memory cells)) = IsWhenKnown netlist book bits cells.when
+IsStorageKnown netlist book bits (Some (File cells)) = IsWhenKnown netlist book bits cells.when
 
 -- what transfers are collected from
 pub record IsSource (netlist : Netlist) (book : Diagrams) (pool : List Node)
@@ -60,3 +61,13 @@ pub record IsSource (netlist : Netlist) (book : Diagrams) (pool : List Node)
   pub within : controls.legal < length book.nodes
   pub legal : (word : ℕ) → word < 2 ^ book.bits → (has_word book controls.legal word ≡ true) ↔ IsClean netlist word
   pub storages : (id : ℕ) → IsStorageKnown netlist book controls.bits (slice_get netlist.storages id)
+
+-- a storage with these cells, of either space
+pub data IsArray (cells : Cells) : Storage → Type 0 where
+  memory : IsArray cells (Memory cells)
+  file : IsArray cells (File cells)
+
+pub record IsArrayAt (netlist : Netlist) (id : ℕ) (cells : Cells) : Type 0 where
+  pub storage : Storage
+  pub is : IsArray cells storage
+  pub at : slice_get netlist.storages id ≡ Some storage

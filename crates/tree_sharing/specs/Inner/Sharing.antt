@@ -1,6 +1,7 @@
 -- Roots of trees among numbered ones, and what is known of the numbers on the way.
 use Rattle.std.specs.Prelude.{ℕ, ◌+◌, ◌<◌, ◌≤◌, ◌≡◌, List, [], Option, Some, None, slice_get}
 use Rattle.std.specs.Borrow.{Bor}
+use Rattle.net_model.specs.declared.hardware.Space.TheVariants.{Memory as InMemory}
 use Rattle.net_model.specs.Terms.{Term, const, read, un, bin, slice, zext, sext, size_of}
 use Rattle.form_model.specs.Trees.{tree_term}
 use Rattle.form_model.specs.declared.trees.Tree.{Tree}
@@ -15,7 +16,7 @@ use Rattle.tree_sharing.specs.declared.sharing.Sharing.{Sharing}
 -- the root of a tree: its operator, with the least number of each operand
 abbrev pub IsRootOf : List Term → Root → Term → Type 0
 IsRootOf nodes root (const w v) = root ≡ Lit w v
-IsRootOf nodes root (read x w) = (a : ℕ) × IsFirst nodes x a × (root ≡ Read a w)
+IsRootOf nodes root (read InMemory x w) = (a : ℕ) × IsFirst nodes x a × (root ≡ Read a w)
 IsRootOf nodes root (un op x) = (a : ℕ) × IsFirst nodes x a × (root ≡ Un op a)
 IsRootOf nodes root (bin op x y) =
     (a : ℕ) × (b : ℕ) × IsFirst nodes x a × IsFirst nodes y b × (root ≡ Bin op a b)
@@ -101,7 +102,7 @@ Shared old new at t first =
 -- ---- operands
 
 abbrev pub first_of : Term → Option Term
-first_of (read a w) = Some a
+first_of (read InMemory a w) = Some a
 first_of (un op a) = Some a
 first_of (bin op a b) = Some a
 first_of (slice a hi lo) = Some a

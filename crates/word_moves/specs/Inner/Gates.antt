@@ -2,7 +2,8 @@
 use Rattle.std.specs.Prelude.{ℕ, ◌≡◌, ◌<◌, ◌==◌, List, Option, Some, None, length, slice_index, Bool, false}
 use Rattle.net_model.specs.declared.hardware.Netlist.{Netlist}
 use Rattle.net_model.specs.declared.hardware.Storage.{Storage}
-use Rattle.net_model.specs.declared.hardware.Storage.TheVariants.{Register, Memory}
+use Rattle.net_model.specs.declared.hardware.Storage.TheVariants.{Register, Memory, File}
+use Rattle.net_model.specs.declared.hardware.Cells.{Cells}
 use Rattle.net_model.specs.Terms.{Term, term_width}
 use Rattle.net_model.specs.Nets.{width_at}
 use Rattle.sym_expr.specs.declared.pool.Node.{Node}
@@ -21,11 +22,15 @@ IsWide nodes ids width n = (slice_index ids n < length nodes) × (term_width (ne
 abbrev pub IsKnown : Netlist → List Node → List ℕ → ℕ → Type 0
 IsKnown netlist nodes ids n = IsWide nodes ids (width_at netlist n) n
 
+abbrev pub ArrayKnown : List Node → List ℕ → Cells → Type 0
+ArrayKnown nodes ids cells =
+    (slice_index ids cells.addr < length nodes) × (slice_index ids cells.value < length nodes)
+
 -- the nets that feed the storage have ids
 abbrev pub StorageKnown : List Node → List ℕ → Storage → Type 0
 StorageKnown nodes ids (Register name width input when) = slice_index ids input < length nodes
-StorageKnown nodes ids (Memory name width size addr_width value addr when) =
-    (slice_index ids addr < length nodes) × (slice_index ids value < length nodes)
+StorageKnown nodes ids (Memory cells) = ArrayKnown nodes ids cells
+StorageKnown nodes ids (File cells) = ArrayKnown nodes ids cells
 
 -- the operand and the ends of a slice
 abbrev pub slice_parts : Node → Option (ℕ × ℕ × ℕ)

@@ -1,6 +1,6 @@
 use Rattle.std.proofs.Common.{◌≡◌, drop}
-use Rattle.cycle_sim.specs.Inner.Ports.{port_of}
+use Rattle.net_model.specs.Nets.{array_in}
 use Rattle.cycle_sim.proofs.edge.find_port.Given as goal
 
 abbrev pub invariant-loop-storage : goal.invariant-loop-storage
-invariant-loop-storage l = port_of l.storages ≡ port_of (drop l.storage-index l.storages)
+invariant-loop-storage l = array_in l.space l.storages ≡ array_in l.space (drop l.storage-index l.storages)

@@ -7,7 +7,7 @@ use Rattle.net_asm.proofs.assembling.least_word.Goals as goal
 
 pub overflow_cast-storages : goal.overflow_cast-storages
 overflow_cast-storages c =
-    let few : length c.args.checked.now.netlist.storages ≤ 14 = few_storages c.args.checked.now.netlist c.args.checked.now.order c.requires.rules in
+    let few : length c.args.checked.now.netlist.storages ≤ 15 = few_storages c.args.checked.now.netlist c.args.checked.now.order c.requires.rules in
     let e : c.len-storages.result ≡ length c.args.checked.now.netlist.storages = rw c.netlist.ensures.value at c.len-storages.ensures in
     omega (arith, few, e)
 

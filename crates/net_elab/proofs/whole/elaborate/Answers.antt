@@ -9,8 +9,8 @@ emit_items-requires c = subst IsElaborable (sym (ap (map entry_of) (c.in_ok-text
 
 pub returns-clause-exact : goal.returns-clause-exact
 returns-clause-exact c =
-    answer_same (map entry_of c.args.units.now.items) (map entry_of c.in_ok-text.text) (ap (map entry_of) (c.in_ok-text.ensures ∙ c.new.ensures)) _ c.emit_items.ensures
+    answer_same c.args.units.now.edition (map entry_of c.args.units.now.items) (map entry_of c.in_ok-text.text) (ap (map entry_of) (c.in_ok-text.ensures ∙ c.new.ensures)) _ c.emit_items.ensures
 
 pub returns-clause-formed : goal.returns-clause-formed
 returns-clause-formed c =
-    answer_formed (map entry_of c.args.units.now.items) (map entry_of c.in_ok-text.text) c.requires.keeps (ap (map entry_of) (c.in_ok-text.ensures ∙ c.new.ensures)) _ c.emit_items.ensures
+    answer_formed c.args.units.now.edition (map entry_of c.args.units.now.items) (map entry_of c.in_ok-text.text) c.requires.keeps (ap (map entry_of) (c.in_ok-text.ensures ∙ c.new.ensures)) _ c.emit_items.ensures

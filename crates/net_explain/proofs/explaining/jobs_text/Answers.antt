@@ -11,6 +11,7 @@ use Rattle.net_explain.proofs.explaining.jobs_text.Goals as goal
 
 pub told_jobs-requires-clause-checked : goal.told_jobs-requires-clause-checked
 told_jobs-requires-clause-checked c = record {
+  first = c.requires.first;
   netlist = c.requires.rules;
   program = c.requires.program;
   words = sym c.requires.width;

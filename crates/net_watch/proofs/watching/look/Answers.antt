@@ -1,10 +1,19 @@
-use Rattle.std.proofs.Common.{◌≡◌, Some, sym, ap, ◌∙◌}
+use Rattle.std.proofs.Common.{◌≡◌, ◌^◌, ◌≤◌, Some, sym, ap, ◌∙◌, arith}
+use Rattle.std.proofs.Math.Nat.{pow-le-pow_right}
+use Rattle.net_model.specs.declared.hardware.Space.TheVariants.{Memory as InMemory}
+use Rattle.net_model.specs.Nets.{memory_width}
 use Rattle.code_model.specs.Machine.{label_in, store_in}
 use Rattle.code_model.specs.Places.{label_at}
 use Rattle.net_watch.proofs.Putting.{puts_failed, puts_ok}
 use Rattle.net_watch.proofs.Seeing.{line_is, told_is}
 use Rattle.net_watch.proofs.Starting.{store_is}
 use Rattle.net_watch.proofs.watching.look.Goals as goal
+
+-- a cell's width is at most 64 bits
+pub write-requires-clause-values : goal.write-requires-clause-values
+write-requires-clause-values g c = λ cell.
+    let wide : 2 ^ memory_width c.args.sim.now.netlist.storages ≤ 2 ^ 64 = pow-le-pow_right {n = 2} (omega arith) {i = memory_width c.args.sim.now.netlist.storages} {j = 64} c.requires.scene.narrow in
+    omega (arith, c.requires.state.fits.cells InMemory cell, wide)
 
 pub returns-in_err-write-in-Some-clause-puts : goal.returns-in_err-write-in-Some-clause-puts
 returns-in_err-write-in-Some-clause-puts g c =

@@ -10,7 +10,7 @@ use Rattle.route_trace.proofs.Stopping.{many_in}
 use Rattle.route_trace.proofs.whole.net_routes.Goals as goal
 
 pub routes_under-requires-clause-fits : goal.routes_under-requires-clause-fits
-routes_under-requires-clause-fits c = fit_wide (Read c.args.net.now.width) c.args.pool.now _ (c.requires.fits.0, c.requires.fits.1) _ (c.requires.widths.widths _)
+routes_under-requires-clause-fits c = fit_wide (Read c.space-space.result c.args.net.now.width) c.args.pool.now _ (c.requires.fits.0, c.requires.fits.1) _ (c.requires.widths.widths _)
 
 pub routes_under-requires-in-Wire-clause-fits : goal.routes_under-requires-in-Wire-clause-fits
 routes_under-requires-in-Wire-clause-fits c = fit_wide Same c.args.pool.now _ tt _ (c.requires.widths.widths _)

@@ -22,6 +22,8 @@ emit-requires c = c.requires.chosen.covers
 pub pack_block-requires-clause-words : goal.pack_block-requires-clause-words
 pack_block-requires-clause-words c =
     let netlist = machine_netlist c.args.machine.now in
+    let order = c.args.machine.now.checked.now.order in
+    let keeps = c.netlist-netlist.ensures.kept in
     let patterns = machine_patterns c.args.machine.now in
     let forms = c.args.forms.now in
     let stock = stock_with forms.list.items c.args.temps in
@@ -31,7 +33,7 @@ pack_block-requires-clause-words c =
     let is : c.as_slice.result.now ≡ job_steps stock job choice =
     c.as_slice.ensures ∙ emitted.steps ∙ ap (λ x. cover_steps stock job.destination x choice.plan) (sym (ap tree_or_none emitted.used)) in
     subst (λ (steps : List Step). AllHaveWords (operation_of patterns) (fits_over netlist (operation_of patterns)) (singles steps) (regs_of 0)) (sym is)
-    (job_have netlist c.args.machine.now.checked.now.order c.netlist-netlist.ensures.kept patterns c.requires.patterns (rules_of forms.list.items) forms.reach c.requires.forms c.args.temps job choice c.requires.job c.requires.chosen)
+    (job_have netlist order keeps c.requires.bare patterns c.requires.patterns (rules_of forms.list.items) forms.reach c.requires.forms c.args.temps job choice c.requires.job c.requires.chosen)
 
 pub returns-clause-words : goal.returns-clause-words
 returns-clause-words c =

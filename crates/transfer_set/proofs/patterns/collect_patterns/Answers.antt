@@ -10,7 +10,7 @@ use Rattle.transfer_set.proofs.patterns.collect_patterns.Goals as goal
 
 pub overflow_cast-storages : goal.overflow_cast-storages
 overflow_cast-storages c =
-    let few : length c.args.checked.now.netlist.storages ≤ 14 = few_storages c.args.checked.now.netlist c.args.checked.now.order c.netlist.ensures.kept in
+    let few : length c.args.checked.now.netlist.storages ≤ 15 = few_storages c.args.checked.now.netlist c.args.checked.now.order c.netlist.ensures.kept in
     let e : c.len-storages.result ≡ length c.args.checked.now.netlist.storages = rw c.netlist.ensures.value at c.len-storages.ensures in
     omega (arith, few, e)
 
@@ -52,7 +52,7 @@ returns-clause-ready c =
     c.in_ok-entries.ensures.moves c.in_ok-entries.ensures.every
     c.in_ok-rows.rows.items (rw c.as_slice-3.ensures at c.in_ok-rows.ensures.same) c.in_ok-rows.ensures.shows c.in_ok-rows.ensures.ordered
     c.in_ok-keeps.keeps left c.of.result c.of.ensures.storage c.of.ensures.width
-    c.in_ok-step.step c.in_ok-step.ensures.within (rw c.as_slice-2.ensures at c.in_ok-step.ensures.words) c.memory.result c.memory.ensures in
+    c.in_ok-step.step c.in_ok-step.ensures.within (rw c.as_slice-2.ensures at c.in_ok-step.ensures.words) c.memory.result c.memory.ensures c.file_of.result c.file_of.ensures in
     record { patterns = patterns; bits = (returns-clause-grows c).bits ∙ c.requires.word }
 
 pub returns-in_err-entries-clause-ready : goal.returns-in_err-entries-clause-ready

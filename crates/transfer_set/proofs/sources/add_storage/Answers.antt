@@ -4,7 +4,8 @@ use Rattle.std.proofs.lemmas.Result.{on_ok_weaker}
 use Rattle.net_model.specs.declared.hardware.Storage.{Storage}
 use Rattle.net_model.specs.Widths.{StorageFits}
 use Rattle.transfer_set.specs.Inner.Entries.{moves_under}
-use Rattle.transfer_set.proofs.Feeding.{all_at, memory_gives, memory_known, memory_whole, register_gives, register_known, register_whole}
+use Rattle.transfer_set.specs.Inner.Sources.{memory, file}
+use Rattle.transfer_set.proofs.Feeding.{all_at, register_gives, register_known, register_whole}
 use Rattle.transfer_set.proofs.sources.add_storage.Goals as goal
 
 -- the storage that is read is the one of its number
@@ -49,47 +50,10 @@ returns-in-Register-clause-whole c = on_ok_weaker c.add_register.result (λ stay
     c.args.id _ _ _ _ at (all_at (StorageFits c.args.checked.now.netlist) c.args.checked.now.netlist.storages c.args.id _ at c.netlist.ensures.sound.typed.storages))))
     c.add_register.ensures.whole
 
-pub when_set-on-requires-in-Memory : goal.when_set-on-requires-in-Memory
-when_set-on-requires-in-Memory c =
-    let at = stored c.args.checked.now.netlist.storages c.args.id _ _ c.requires.id (rw (c.as_slice-storages.ensures, c.netlist.ensures.value) at c.index-storages-id.is) c.in-Memory.is in
-    (memory_known c.args.checked.now.netlist c.args.book.now c.args.pool.now c.args.controls.now c.args.routes.now.of c.requires.source c.len-ids.ensures.one_each
-    c.args.id _ _ _ _ _ _ _ at (all_at (StorageFits c.args.checked.now.netlist) c.args.checked.now.netlist.storages c.args.id _ at c.netlist.ensures.sound.typed.storages)).0
+pub add_array-requires-clause-at : goal.add_array-requires-clause-at
+add_array-requires-clause-at c =
+    record { storage = _; is = memory; at = stored c.args.checked.now.netlist.storages c.args.id _ _ c.requires.id (rw (c.as_slice-storages.ensures, c.netlist.ensures.value) at c.index-storages-id.is) c.in-Memory.is }
 
-pub add_memory-requires-clause-on : goal.add_memory-requires-clause-on
-add_memory-requires-clause-on c =
-    let at = stored c.args.checked.now.netlist.storages c.args.id _ _ c.requires.id (rw (c.as_slice-storages.ensures, c.netlist.ensures.value) at c.index-storages-id.is) c.in-Memory.is in
-    rw c.when_set-on-in-Memory.ensures (memory_known c.args.checked.now.netlist c.args.book.now c.args.pool.now c.args.controls.now c.args.routes.now.of c.requires.source c.len-ids.ensures.one_each
-    c.args.id _ _ _ _ _ _ _ at (all_at (StorageFits c.args.checked.now.netlist) c.args.checked.now.netlist.storages c.args.id _ at c.netlist.ensures.sound.typed.storages)).1.within
-
-pub add_memory-requires-clause-addrs : goal.add_memory-requires-clause-addrs
-add_memory-requires-clause-addrs c =
-    rw c.routes_of-addrs.ensures (c.requires.source.routes.tables _).right.sets
-
-pub add_memory-requires-clause-values : goal.add_memory-requires-clause-values
-add_memory-requires-clause-values c =
-    rw c.routes_of-values.ensures (c.requires.source.routes.tables _).right.sets
-
-pub returns-in-Memory-clause-moves : goal.returns-in-Memory-clause-moves
-returns-in-Memory-clause-moves c = on_ok_weaker c.add_memory.result (λ gives n word fits.
-    let at = stored c.args.checked.now.netlist.storages c.args.id _ _ c.requires.id (rw (c.as_slice-storages.ensures, c.netlist.ensures.value) at c.index-storages-id.is) c.in-Memory.is in
-    rw (c.when_set-on-in-Memory.ensures, c.routes_of-addrs.ensures, c.routes_of-values.ensures) at gives c.args.pool.now n word
-    ∙ ap (λ l. moves_under c.args.book.now c.args.pool.now c.args.out.now n word ++ l)
-    (memory_gives c.args.checked.now.netlist c.args.book.now c.args.pool.now c.args.controls.now c.args.routes.now.of c.requires.source c.len-ids.ensures.one_each
-    c.args.id _ _ _ _ _ _ _ at (all_at (StorageFits c.args.checked.now.netlist) c.args.checked.now.netlist.storages c.args.id _ at c.netlist.ensures.sound.typed.storages) n word fits))
-    c.add_memory.ensures.moves
-
-pub returns-in-Memory-clause-whole : goal.returns-in-Memory-clause-whole
-returns-in-Memory-clause-whole c = on_ok_weaker c.add_memory.result (λ stays w.
-    let at = stored c.args.checked.now.netlist.storages c.args.id _ _ c.requires.id (rw (c.as_slice-storages.ensures, c.netlist.ensures.value) at c.index-storages-id.is) c.in-Memory.is in
-    stays c.args.checked.now.netlist c.args.pool.now w
-    (rw (c.when_set-on-in-Memory.ensures, c.routes_of-addrs.ensures, c.routes_of-values.ensures)
-    (memory_whole c.args.checked.now.netlist c.args.book.now c.args.pool.now c.args.controls.now c.args.routes.now.of c.requires.source c.len-ids.ensures.one_each
-    c.args.id _ _ _ _ _ _ _ at (all_at (StorageFits c.args.checked.now.netlist) c.args.checked.now.netlist.storages c.args.id _ at c.netlist.ensures.sound.typed.storages))))
-    c.add_memory.ensures.whole
-
-pub returns-in-Memory-clause-known : goal.returns-in-Memory-clause-known
-returns-in-Memory-clause-known c = on_ok_weaker c.add_memory.result (λ known h.
-    known (length c.args.pool.now) h
-    (rw c.routes_of-addrs.ensures (c.requires.source.routes.tables _).exprs)
-    (rw c.routes_of-values.ensures (c.requires.source.routes.tables _).exprs))
-    c.add_memory.ensures.known
+pub add_array-requires-in-File-clause-at : goal.add_array-requires-in-File-clause-at
+add_array-requires-in-File-clause-at c =
+    record { storage = _; is = file; at = stored c.args.checked.now.netlist.storages c.args.id _ _ c.requires.id (rw (c.as_slice-storages.ensures, c.netlist.ensures.value) at c.index-storages-id.is) c.in-File.is }

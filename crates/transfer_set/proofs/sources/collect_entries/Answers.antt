@@ -12,7 +12,7 @@ use Rattle.transfer_set.proofs.sources.collect_entries.Goals as goal
 
 pub overflow_cast-count : goal.overflow_cast-count
 overflow_cast-count c =
-    let few : length c.args.checked.now.netlist.storages ≤ 14 = few_storages c.args.checked.now.netlist c.args.checked.now.order c.netlist.ensures.kept in
+    let few : length c.args.checked.now.netlist.storages ≤ 15 = few_storages c.args.checked.now.netlist c.args.checked.now.order c.netlist.ensures.kept in
     let e : c.len-count.result ≡ length c.args.checked.now.netlist.storages = rw c.netlist.ensures.value at c.len-count.ensures in
     omega (arith, few, e)
 

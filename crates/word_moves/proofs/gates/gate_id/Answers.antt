@@ -31,14 +31,14 @@ id_there-requires-in-Bus-clause-known c =
 pub returns-then-is_set-clause-term : goal.returns-then-is_set-clause-term
 returns-then-is_set-clause-term c =
     subst (λ (e : Term). IfOk c.id_there.result (λ id. term_at c.id_there.new.pool id ≡ e))
-    (case_static (net_terms c.args.pool.now c.args.ids.now) (slice_index c.args.values.now) (flag_at c.args.statics.now) _ _ c.in-Case.sel _ _ _ _ c.in-Case.is
+    (case_static (net_terms c.args.pool.now c.args.ids.now) (slice_index c.args.values.now) (flag_at c.args.statics.now) c.args.netlist.now _ _ c.in-Case.sel _ _ _ _ c.in-Case.is
     (sym c.is_set.ensures ∙ c.if-is_set.true) c.value_at-then-is_set.ensures (c.target_of-net.ensures ∙ ap (λ rows. case_target c.value_at-then-is_set.result rows c.in-Case.rest) c.as_slice-rows.ensures))
     c.id_there.ensures.term
 
 pub returns-else-is_set-clause-term : goal.returns-else-is_set-clause-term
 returns-else-is_set-clause-term c =
     subst (λ (e : Term). IfOk c.select_id.result (λ id. term_at c.select_id.new.pool id ≡ e))
-    (case_open (net_terms c.args.pool.now c.args.ids.now) (slice_index c.args.values.now) (flag_at c.args.statics.now) _ _ c.in-Case.sel _ _ _ _ c.in-Case.is
+    (case_open (net_terms c.args.pool.now c.args.ids.now) (slice_index c.args.values.now) (flag_at c.args.statics.now) c.args.netlist.now _ _ c.in-Case.sel _ _ _ _ c.in-Case.is
     (sym c.is_set.ensures ∙ c.if-is_set.false)
     (c.target_of-one.ensures ∙ ap (λ rows. case_target 1 rows c.in-Case.rest) c.as_slice-rows.ensures)
     (c.target_of-zero.ensures ∙ ap (λ rows. case_target 0 rows c.in-Case.rest) c.as_slice-rows.ensures))
@@ -47,6 +47,6 @@ returns-else-is_set-clause-term c =
 pub returns-in-Bus-clause-term : goal.returns-in-Bus-clause-term
 returns-in-Bus-clause-term c =
     subst (λ (e : Term). IfOk c.id_there-in-Bus.result (λ id. term_at c.id_there-in-Bus.new.pool id ≡ e))
-    (bus_is (net_terms c.args.pool.now c.args.ids.now) (slice_index c.args.values.now) (flag_at c.args.statics.now) _ _ _ _ c.in-Bus.is
+    (bus_is (net_terms c.args.pool.now c.args.ids.now) (slice_index c.args.values.now) (flag_at c.args.statics.now) c.args.netlist.now _ _ _ _ c.in-Bus.is
     (c.driver_of-net.ensures ∙ ap (driver_target (slice_index c.args.values.now)) c.as_slice.ensures))
     c.id_there-in-Bus.ensures.term

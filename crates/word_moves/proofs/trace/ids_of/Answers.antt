@@ -27,7 +27,7 @@ loop-id-preserved c =
     let o : IsOrder c.args.checked.now.netlist c.as_slice-order.result.now = rw (c.as_slice-order.ensures, c.order.ensures.value) c.order.ensures.kept.ordered in
     let is : c.index-nets-at.result ≡ get_or c.args.checked.now.netlist.nets (slice_index c.as_slice-order.result.now c.loop-id.id-index) c.index-nets-at.result = rw (c.as_slice-nets.ensures, c.netlist-netlist.ensures.value) at c.index-nets-at.is in
     let long : length c.loop-id.ids ≡ length c.args.checked.now.netlist.nets = c.loop-id.invariant.long in
-    let term : term_at c.gate_id.new.pool c.in_ok-found.found ≡ gate_term (net_terms c.loop-id.pool c.loop-id.ids) (slice_index c.args.values.now) (flag_at c.args.statics.now) c.index-nets-at.result.width c.index-nets-at.result.gate = rw c.as_slice-current.ensures at c.in_ok-found.ensures.term in
+    let term : term_at c.gate_id.new.pool c.in_ok-found.found ≡ gate_term (net_terms c.loop-id.pool c.loop-id.ids) (slice_index c.args.values.now) (flag_at c.args.statics.now) c.args.checked.now.netlist c.index-nets-at.result.width c.index-nets-at.result.gate = rw (c.as_slice-current.ensures, c.netlist-netlist.ensures.value) at c.in_ok-found.ensures.term in
     record {
       grows = grows_trans _ _ _ c.loop-id.invariant.grows c.in_ok-found.ensures.grows;
       long = rw c.set.ensures (simp length-set long);

@@ -1,4 +1,5 @@
 use Rattle.std.proofs.Common.{◌≡◌, slice_index, length, ◌∙◌, Some, None, refl, arith}
+use Rattle.net_model.specs.declared.hardware.Space.TheVariants.{Memory as InMemory, File as InFile}
 use Rattle.net_model.specs.Value.{value_of}
 use Rattle.net_model.specs.Clock.{next_regs, next_cells, word_at}
 use Rattle.cycle_sim.specs.Clocks.{written_cell}
@@ -16,7 +17,10 @@ pub run-requires-clause-ready : goal.run-requires-clause-ready
 run-requires-clause-ready c = rw c.self.invariant.room.long c.self.invariant.decoded.ready
 
 pub clock_cells-self-inside-requires : goal.clock_cells-self-inside-requires
-clock_cells-self-inside-requires c = omega (arith, c.self.invariant.few, c.self.invariant.state.cells)
+clock_cells-self-inside-requires c = omega (arith, c.self.invariant.few InMemory, c.self.invariant.state.cells InMemory)
+
+pub clock_cells-written-requires : goal.clock_cells-written-requires
+clock_cells-written-requires c = omega (arith, c.self.invariant.few InFile, c.self.invariant.state.cells InFile)
 
 pub invariant_of-self : goal.invariant_of-self
 invariant_of-self c =
@@ -38,8 +42,10 @@ invariant_of-self-in-None c =
     let left : c.clock_registers.new.regs ≡ regs_by (slice_index c.run.new.values.items) c.self.inside.program.latches c.self.inside.state.regs = rw (c.as_slice-values.ensures.value, c.as_slice-storages.ensures) at c.clock_registers.ensures in
     let regs : c.clock_registers.new.regs ≡ next_regs (value_of c.self.inside.checked.now.netlist c.self.inside.state (word_at c.self.inside.checked.now.netlist c.self.inside.words c.self.inside.state)) c.self.inside.checked.now.netlist.storages c.self.inside.state.regs = left ∙ f.regs _ in
     let right : c.clock_cells-self-inside.new.cells ≡ cells_by (slice_index c.run.new.values.items) c.self.inside.program.port c.self.inside.state.cells = rw c.as_slice-values.ensures.value at c.clock_cells-self-inside.ensures.cells in
-    let cells : c.clock_cells-self-inside.new.cells ≡ next_cells (value_of c.self.inside.checked.now.netlist c.self.inside.state (word_at c.self.inside.checked.now.netlist c.self.inside.words c.self.inside.state)) c.self.inside.checked.now.netlist.storages c.self.inside.state.cells = right ∙ f.cells _ in
-    still_running _ _ _ _ _ c.self.invariant _ f.room _ (next_fits c.self.inside.checked.now.netlist c.self.inside.words c.self.inside.state _ _ regs cells c.self.invariant.typed c.self.invariant.words_fit c.self.invariant.state)
+    let cells : c.clock_cells-self-inside.new.cells ≡ next_cells (value_of c.self.inside.checked.now.netlist c.self.inside.state (word_at c.self.inside.checked.now.netlist c.self.inside.words c.self.inside.state)) InMemory c.self.inside.checked.now.netlist.storages c.self.inside.state.cells = right ∙ f.cells InMemory _ in
+    let last : c.clock_cells-written.new.cells ≡ cells_by (slice_index c.run.new.values.items) c.self.inside.program.file_port c.self.inside.state.file = rw c.as_slice-values.ensures.value at c.clock_cells-written.ensures.cells in
+    let file : c.clock_cells-written.new.cells ≡ next_cells (value_of c.self.inside.checked.now.netlist c.self.inside.state (word_at c.self.inside.checked.now.netlist c.self.inside.words c.self.inside.state)) InFile c.self.inside.checked.now.netlist.storages c.self.inside.state.file = last ∙ f.cells InFile _ in
+    still_running _ _ _ _ _ c.self.invariant _ f.room _ (next_fits c.self.inside.checked.now.netlist c.self.inside.words c.self.inside.state _ _ _ regs cells file c.self.invariant.typed c.self.invariant.words_fit c.self.invariant.state)
 
 pub returns-in-None-clause-clocks : goal.returns-in-None-clause-clocks
 returns-in-None-clause-clocks c =
@@ -48,11 +54,13 @@ returns-in-None-clause-clocks c =
     let left : c.clock_registers.new.regs ≡ regs_by (slice_index c.run.new.values.items) c.self.inside.program.latches c.self.inside.state.regs = rw (c.as_slice-values.ensures.value, c.as_slice-storages.ensures) at c.clock_registers.ensures in
     let regs : c.clock_registers.new.regs ≡ next_regs (value_of c.self.inside.checked.now.netlist c.self.inside.state (word_at c.self.inside.checked.now.netlist c.self.inside.words c.self.inside.state)) c.self.inside.checked.now.netlist.storages c.self.inside.state.regs = left ∙ f.regs _ in
     let right : c.clock_cells-self-inside.new.cells ≡ cells_by (slice_index c.run.new.values.items) c.self.inside.program.port c.self.inside.state.cells = rw c.as_slice-values.ensures.value at c.clock_cells-self-inside.ensures.cells in
-    let cells : c.clock_cells-self-inside.new.cells ≡ next_cells (value_of c.self.inside.checked.now.netlist c.self.inside.state (word_at c.self.inside.checked.now.netlist c.self.inside.words c.self.inside.state)) c.self.inside.checked.now.netlist.storages c.self.inside.state.cells = right ∙ f.cells _ in
+    let cells : c.clock_cells-self-inside.new.cells ≡ next_cells (value_of c.self.inside.checked.now.netlist c.self.inside.state (word_at c.self.inside.checked.now.netlist c.self.inside.words c.self.inside.state)) InMemory c.self.inside.checked.now.netlist.storages c.self.inside.state.cells = right ∙ f.cells InMemory _ in
+    let last : c.clock_cells-written.new.cells ≡ cells_by (slice_index c.run.new.values.items) c.self.inside.program.file_port c.self.inside.state.file = rw c.as_slice-values.ensures.value at c.clock_cells-written.ensures.cells in
+    let file : c.clock_cells-written.new.cells ≡ next_cells (value_of c.self.inside.checked.now.netlist c.self.inside.state (word_at c.self.inside.checked.now.netlist c.self.inside.words c.self.inside.state)) InFile c.self.inside.checked.now.netlist.storages c.self.inside.state.file = last ∙ f.cells InFile _ in
     let found : None ≡ clash_by (slice_index c.run.new.values.items) c.self.inside.program.buses = rw (c.as_slice-values.ensures.value, c.as_slice-buses.ensures) at c.in-None.ensures in
     let cell : c.clock_cells-self-inside.result ≡ cell_by (slice_index c.run.new.values.items) c.self.inside.program.port (length c.self.inside.state.cells) = rw c.as_slice-values.ensures.value at c.clock_cells-self-inside.ensures.written in
     let written : c.clock_cells-self-inside.result ≡ written_cell c.self.inside.checked.now.netlist c.self.inside.words c.self.inside.state = cell ∙ f.written _ in
-    rw (← c.self.view_is) (clocks_next c.self.inside.checked.now.netlist c.self.inside.words c.self.inside.state _ _ (found ∙ f.clash) regs cells, written)
+    rw (← c.self.view_is) (clocks_next c.self.inside.checked.now.netlist c.self.inside.words c.self.inside.state _ _ _ (found ∙ f.clash) regs cells file, written)
 
 pub returns-in-None-clause-state : goal.returns-in-None-clause-state
 returns-in-None-clause-state c =
@@ -61,5 +69,7 @@ returns-in-None-clause-state c =
     let left : c.clock_registers.new.regs ≡ regs_by (slice_index c.run.new.values.items) c.self.inside.program.latches c.self.inside.state.regs = rw (c.as_slice-values.ensures.value, c.as_slice-storages.ensures) at c.clock_registers.ensures in
     let regs : c.clock_registers.new.regs ≡ next_regs (value_of c.self.inside.checked.now.netlist c.self.inside.state (word_at c.self.inside.checked.now.netlist c.self.inside.words c.self.inside.state)) c.self.inside.checked.now.netlist.storages c.self.inside.state.regs = left ∙ f.regs _ in
     let right : c.clock_cells-self-inside.new.cells ≡ cells_by (slice_index c.run.new.values.items) c.self.inside.program.port c.self.inside.state.cells = rw c.as_slice-values.ensures.value at c.clock_cells-self-inside.ensures.cells in
-    let cells : c.clock_cells-self-inside.new.cells ≡ next_cells (value_of c.self.inside.checked.now.netlist c.self.inside.state (word_at c.self.inside.checked.now.netlist c.self.inside.words c.self.inside.state)) c.self.inside.checked.now.netlist.storages c.self.inside.state.cells = right ∙ f.cells _ in
-    next_fits c.self.inside.checked.now.netlist c.self.inside.words c.self.inside.state _ _ regs cells c.self.invariant.typed c.self.invariant.words_fit c.self.invariant.state
+    let cells : c.clock_cells-self-inside.new.cells ≡ next_cells (value_of c.self.inside.checked.now.netlist c.self.inside.state (word_at c.self.inside.checked.now.netlist c.self.inside.words c.self.inside.state)) InMemory c.self.inside.checked.now.netlist.storages c.self.inside.state.cells = right ∙ f.cells InMemory _ in
+    let last : c.clock_cells-written.new.cells ≡ cells_by (slice_index c.run.new.values.items) c.self.inside.program.file_port c.self.inside.state.file = rw c.as_slice-values.ensures.value at c.clock_cells-written.ensures.cells in
+    let file : c.clock_cells-written.new.cells ≡ next_cells (value_of c.self.inside.checked.now.netlist c.self.inside.state (word_at c.self.inside.checked.now.netlist c.self.inside.words c.self.inside.state)) InFile c.self.inside.checked.now.netlist.storages c.self.inside.state.file = last ∙ f.cells InFile _ in
+    next_fits c.self.inside.checked.now.netlist c.self.inside.words c.self.inside.state _ _ _ regs cells file c.self.invariant.typed c.self.invariant.words_fit c.self.invariant.state

@@ -1,5 +1,5 @@
-use Rattle.std.proofs.Common.{◌≡◌, arith}
-use Rattle.net_model.proofs.Memories.{few_cells}
+use Rattle.std.proofs.Common.{◌≡◌}
+use Rattle.net_model.proofs.Memories.{few_sizes}
 use Rattle.cycle_sim.specs.Inner.Decoding.{constants_of}
 use Rattle.cycle_sim.proofs.Programs.{constants_room}
 use Rattle.cycle_sim.proofs.sim.Sim.new.Goals as goal
@@ -9,7 +9,7 @@ invariant_of-result c =
     let room : c.in_ok-values.values.items ≡ constants_of c.args.checked.now.netlist.nets = rw (c.as_slice.ensures, c.netlist-netlist.ensures.value) at c.in_ok-values.ensures in
     record {
       typed = c.netlist-netlist.ensures.sound.typed;
-      few = omega (arith, few_cells _ _ c.args.start c.netlist-netlist.ensures.kept c.requires.start, c.requires.start.cells);
+      few = few_sizes _ _ c.netlist-netlist.ensures.kept;
       words_fit = c.requires.words;
       state = c.requires.start;
       decoded = c.in_ok-program.ensures.program;
