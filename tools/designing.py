@@ -72,6 +72,11 @@ def example(name, *changes):
     return text
 
 
+def cells(size):
+    """The register file with fewer cells."""
+    return example('rrf', ('size 4 addr 2', f'size {size} addr 2'))
+
+
 def immediate(value):
     return example('adsp', ('net imm : 16 = I[15:0];', f'net imm : 16 = {value};'))
 
@@ -109,6 +114,9 @@ def cases():
     yield example('grow'), ROW.replace('INDEX', 'i + i + i + i + j'), 37
     yield example('grow'), ROW.replace('INDEX', '(i << 2) + j'), 'error source S4 Index 71'
     yield from [(two_registers('S'), TOTAL, 'error no cover 2'), (two_registers('I[12]'), TOTAL, 18)]
+    biquad = (FOLDER / 'biquad.src').read_text()
+    yield from [(example('rrf'), dot, (21, 128)), (example('rrf'), biquad, (43, 290))]
+    yield from [(cells(2), dot, (21, 128)), (cells(2), biquad, (49, 338)), (cells(1), dot, 'error no cover 2'), (cells(1), biquad, 'error no cover 3')]
     yield UNDRIVEN, 'var a; a = 0;', 2
     for value, *words in (('zext(I[7:0], 16)', 25, 45, 59, 47), ('I[15:0]', 27, 49, 62, 51),
                           ('case mod { 1: zext(I[7:0], 16); else: I[15:0]; }', 27, 49, 62, 51),

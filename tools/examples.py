@@ -30,7 +30,7 @@ from listing import listed
 
 FOLDER = pathlib.Path(__file__).resolve().parent.parent / 'examples'
 LONGEST = 1_000_000
-PROCESSORS = ['a16', 'f16', 'xy', 'dsp', 'r16', 'c10w', 'adsp', 'rr4']
+PROCESSORS = ['a16', 'f16', 'xy', 'dsp', 'r16', 'c10w', 'adsp', 'rr4', 'rrf']
 
 
 def signed(word):
@@ -102,7 +102,7 @@ def wht(v):
 # Each program, what it has to leave, and the first tree that the forms of a processor don't cover, for the processors that can't run it.
 PROGRAMS = {
     'dot': (dot, {'a16': 3, 'f16': 3, 'r16': 3, 'adsp': 3}),
-    'dotl': (dot, {'a16': 3, 'f16': 3, 'xy': 3, 'dsp': 3, 'r16': 3, 'rr4': 3}),
+    'dotl': (dot, {'a16': 3, 'f16': 3, 'xy': 3, 'dsp': 3, 'r16': 3, 'rr4': 3, 'rrf': 3}),
     'fir': (fir, {'a16': 5, 'dsp': 5, 'r16': 5}),
     'fir16': (fir16, {'a16': 5, 'dsp': 5, 'r16': 5}),
     'biquad': (biquad, {'a16': 4, 'f16': 4, 'dsp': 4, 'r16': 4}),

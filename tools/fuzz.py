@@ -14,9 +14,9 @@ import subprocess
 import sys
 import tempfile
 
-STATUSES = {0, 2, 3, 5, 6, 7, 8, 9, 10, 11, 12, 13, 14, 16, 17}
+STATUSES = {0, 2, 3, 5, 6, 7, 8, 9, 10, 11, 12, 13, 16, 17}
 TOKENS = re.compile(r'//[^\n]*\n|\s+|\w+|.', re.S)
-RTN = '''code register memory net bus module part size at in out when addr write case else read slice zext sext cat add sub mul
+RTN = '''version file code register memory net bus module part size at in out when addr write case else read slice zext sext cat add sub mul
 and or xor not neg shl shr sar eq ltu lts : ; , = . # ( ) { } [ ] 0 1 2 7 8 16 64 65 4096 65536 18446744073709551615
 18446744073709551616 0x 0xff I PC ACC M x y'''.split()
 SRC = '''var if else while for to zext sext low slt sle sgt sge { } ( ) [ ] ; , = + - * & | ^ ~ << >> >>> == != < <= > >= 0 1 31 32 255 65535

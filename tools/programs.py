@@ -1,12 +1,12 @@
 #!/usr/bin/env python3
 """Compiles random programs for random small processors, runs them with `record go`, and holds every checkpoint against an interpreter of its own.
 
-Usage: programs.py BINARY [COUNT] [SEED]
+Usage: programs.py BINARY [--files] [COUNT] [SEED]
 
 Each of COUNT runs (200 where none are given) makes a netlist and a program, and starts from random cells and registers. The lines of `go` have to
 show the stores that the interpreter below has before each test and at the end, each test always under one label, and each within one image length
 of clocks of the last. Then `record run` clocks the image to one of these lines, and has to show the same store at that mark. A run that is refused,
-for want of a cover for example, is counted and not compared.
+for want of a cover for example, is counted and not compared. With --files each netlist has a register file.
 """
 import collections
 import pathlib
@@ -92,6 +92,47 @@ def random_netlist(pick):
     stored = 'R0' if pick.random() < 0.7 else pick.choice(registers)
     lines.append(f'memory M : 16 size 256 addr 8 write {stored} at f when {fields.take(1)};')
     head = [f'code I : {fields.bits} size 256 at PC;', 'net f : 8 = I[7:0];', 'net next : 8 = add(PC, 1#8);']
+    return '\n'.join(head + lines) + '\n', operators, registers
+
+
+def random_file_netlist(pick):
+    """The same with a register file, which takes the place of most registers."""
+    fields = Fields()
+    fields.take(8)
+    operation = fields.take(4)
+    width = pick.choice([0, 1, 1, 2, 2, 3])
+    size, width = (1, 1) if width == 0 else (pick.randint((1 << width - 1) + 1, 1 << width), width)
+    names = [fields.take(width) for _ in range(pick.randint(2, 3))]
+    target = names[0] if len(names) == 2 or pick.random() < 0.4 else names[-1]
+    first, second = f'read(F, {names[0]})', f'read(F, {names[1]})'
+    registers = [f'R{k}' for k in range(pick.randint(0, 2))]
+    operators = ['+', '-'] + pick.sample('*&|^', pick.randint(0, 2))
+    others = [second] * 3 + ['read(M, f)'] + registers
+    if pick.random() < 0.2:
+        others.append(f'read(F, add({names[0]}, 1#{width}))')
+    rows = ['read(M, f)', 'zext(f, 16)'] + [f'{GATES[o]}({first}, {pick.choice(others)})' for o in operators]
+    rows += [f'sub({pick.choice(others)}, {first})'] if pick.random() < 0.3 else []
+    rows += pick.sample(registers, min(len(registers), 1))
+    codes = pick.sample(range(1, 16), 15)
+
+    def enabled(rows):
+        mine = [codes.pop() for _ in rows]
+        enable = ', '.join(str(code) for code in sorted(mine))
+        return (f"case {operation} {{ {' '.join(f'{code}: {row};' for code, row in zip(mine, rows))} else: 0#16; }}",
+                f'case {operation} {{ {enable}: 1#1; else: 0#1; }}')
+
+    value, when = enabled(rows)
+    lines = [f'file F : 16 size {size} addr {width} write {value} at {target} when {when};']
+    for register in registers:
+        value, when = enabled(pick.sample(['read(M, f)', 'zext(f, 16)', first, f'add({register}, {second})', f'sub({first}, {register})'], 2))
+        lines.append(f'register {register} : 16 in {value} when {when};')
+    turns = [f'eq({first}, 0#16)'] + [f'{order}({first}, {second})' for order in ('ltu', 'lts') if pick.random() < 0.7]
+    jump = fields.take(3)
+    rows = ' '.join(f'{k}: case {turn} {{ {random_ways(pick)} }};' for k, turn in enumerate(turns, 2))
+    lines.append(f'register PC : 8 in case {jump} {{ 1: f; {rows} else: next; }};')
+    stored = pick.choice([first, second] + registers)
+    lines.append(f'memory M : 16 size 256 addr 8 write {stored} at f when {fields.take(1)};')
+    head = ['version 2;', f'code I : {fields.bits} size 256 at PC;', 'net f : 8 = I[7:0];', 'net next : 8 = add(PC, 1#8);']
     return '\n'.join(head + lines) + '\n', operators, registers
 
 
@@ -295,10 +336,10 @@ def differs(lines, program, cells, length):
     return None
 
 
-def one(binary, folder, seed):
+def one(binary, folder, seed, with_file):
     """What became of one run: what is wrong, or None, and how it is counted."""
     pick = random.Random(seed)
-    netlist, operators, registers = random_netlist(pick)
+    netlist, operators, registers = (random_file_netlist if with_file else random_netlist)(pick)
     maker = Maker(pick, operators)
     program = maker.program()
     source = 'var a, b, c, i, j, x[4];\n' + '\n'.join(statement_text(s) for s in program) + '\n'
@@ -336,13 +377,13 @@ def one(binary, folder, seed):
 
 
 def main():
-    binary = str(pathlib.Path(sys.argv[1]).resolve())
-    count = int(sys.argv[2]) if len(sys.argv) > 2 else 200
-    first = int(sys.argv[3]) if len(sys.argv) > 3 else 0
+    binary, *words = sys.argv[1:]
+    binary, with_file = str(pathlib.Path(binary).resolve()), words[:1] == ['--files']
+    count, first = [*map(int, words[with_file:]), *[200, 0][len(words) - with_file:]]
     counts = collections.Counter()
     with tempfile.TemporaryDirectory() as folder:
         for seed in range(first, first + count):
-            found, kind = one(binary, pathlib.Path(folder), seed)
+            found, kind = one(binary, pathlib.Path(folder), seed, with_file)
             counts[kind] += 1
             if found:
                 print(f'seed {seed}: {found}')

@@ -31,7 +31,7 @@ abbrev condition : Term
 condition = bin Equal (reg 1 16) (const 16 0)
 
 abbrev jump_rule : Rule
-jump_rule = record { pattern = 2; goal = jumps 256; addr = None; value = field; fields = 255; clobbers = 3 }
+jump_rule = record { pattern = 2; goal = jumps 256; addr = None; value = field; fields = 255; clobbers = 3; tied = None }
 
 abbrev branch_rule : BranchTarget → Rule
 branch_rule target = record {
@@ -41,6 +41,7 @@ branch_rule target = record {
   value = condition;
   fields = 255;
   clobbers = 3;
+  tied = None;
 }
 
 -- the words of a flow whose branches go so: one for the test, five for the block

@@ -15,6 +15,6 @@ effect-singles m [] s = refl
 effect-singles m (x ∷ xs) s = effect-singles m xs (apply_operation (m x) s s)
 
 pub means_steps : (netlist : Netlist) (order : List ℕ) → KeepsRules netlist order → {A : Type 0} (m : A → Operation) (after : Regs) (xs : List A) (gs : List (List A)) → IsSame m (singles xs) gs → MeansSteps netlist m after xs gs
-means_steps netlist order keeps m after xs gs e = λ plain code words s f h p b.
+means_steps netlist order keeps m after xs gs e = λ code words s f h p b.
     subst (λ t. RunsTo netlist code s (length words) after t) (sym (e.effect s) ∙ effect-singles m xs s)
-    (runs_to netlist order keeps plain code m after words gs s f h p b)
+    (runs_to netlist order keeps code m after words gs s f h p b)

@@ -1,6 +1,7 @@
--- A step that doesn't read the memory reads nothing that a store writes.
+-- A step that reads neither the memory nor the file reads nothing that a store writes.
 use Rattle.std.proofs.Common.{◌≡◌, ℕ, ◌||◌, Bool, true, false, if◌then◌else◌, refl, sym}
 use Rattle.std.proofs.lemmas.Bool.{true≢false, or_from, or_parts}
+use Rattle.net_model.specs.declared.hardware.Space.{Space}
 use Rattle.net_model.specs.Terms.{Term, word, reg, const, read, un, bin, slice, cat, zext, sext, select, Move, keep, write, write_at}
 use Rattle.net_model.specs.Symbolic.{no_state}
 use Rattle.net_model.specs.Meaning.{mean}
@@ -40,15 +41,15 @@ move_unread (write_at a t) i p h e =
     let q : (has_read a ≡ false) × (has_read t ≡ false) = or_parts (has_read a) (has_read t) e in
     or_from (term_reads i a p) (term_reads i t p) (term_unread a i p h q.0) (term_unread t i p h q.1)
 
-stored_cell : (storage setting : ℕ) (move : Move) → is_store move ≡ true → IsCell (move_location storage setting move)
-stored_cell storage setting keep e = absurd (true≢false (sym e))
-stored_cell storage setting (write t) e = absurd (true≢false (sym e))
-stored_cell storage setting (write_at a t) e = λ r. by (is_shape a) r
+stored_cell : (storage : ℕ) (space : Space) (setting : ℕ) (move : Move) → is_store move ≡ true → IsCell (move_location storage space setting move)
+stored_cell storage space setting keep e = absurd (true≢false (sym e))
+stored_cell storage space setting (write t) e = absurd (true≢false (sym e))
+stored_cell storage space setting (write_at a t) e = λ r. by (is_shape a) r
   where
-    by : (b : Bool) (r : ℕ) → names_register (if b then cell_at (mean a no_state setting) else some_cell) r ≡ false
+    by : (b : Bool) (r : ℕ) → names_register (if b then cell_at space (mean a no_state setting) else some_cell space) r ≡ false
     by true r = refl
     by false r = refl
 
--- what doesn't read the memory doesn't read what a store writes
+-- what reads neither doesn't read what a store writes
 pub unseen : (d q : Operation) → is_store q.move ≡ true → move_has_read d.move ≡ false → reads d (location_of q) ≡ false
-unseen d q e h = move_unread d.move d.setting (location_of q) (stored_cell q.storage q.setting q.move e) h
+unseen d q e h = move_unread d.move d.setting (location_of q) (stored_cell q.storage q.space q.setting q.move e) h

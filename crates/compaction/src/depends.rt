@@ -9,10 +9,10 @@ use crate::machine::{Machine, reads_memory};
 use form_model::Step;
 use rec_bits::NoMemory;
 use std::alloc::Global;
-use word_fit::stores_memory;
+use word_fit::stores_cells;
 
-// Whether the first step may read what the second one writes. Only where the one reads the memory
-// and the other writes it are their addresses looked at.
+// Whether the first step may read what the second one writes. Only where the one reads the memory or
+// the file and the other writes one are their addresses looked at.
 fn touches(
     alloc: Global,
     machine: &Machine<'_>,
@@ -23,7 +23,7 @@ fn touches(
     ensures { IfOk result (λ read. read
         ≡ reads (operation_in machine.now reader) (location_of (operation_in machine.now writer))) }
 {
-    if stores_memory(machine.patterns, writer) && !reads_memory(machine, reader) {
+    if stores_cells(machine.patterns, writer) && !reads_memory(machine, reader) {
         return Ok(false);
     }
     live_sets::touches(
@@ -124,19 +124,26 @@ pub(crate) fn is_read_by_either(
 
 /// Whether a step of the group has the step's destination.
 pub(crate) fn shares_destination(machine: &Machine<'_>, step: Step, group: &[Step]) -> bool
+    requires { HasTables machine.now }
     ensures { result ≡ shares_destination (operation_in machine.now) (operation_in machine.now step) group.now }
 {
     match group {
         [] => false,
         [other, rest @ ..] => {
-            live_sets::shares(machine.patterns, step, *other)
-                || shares_destination(machine, step, rest)
+            live_sets::shares(
+                machine.checked,
+                machine.patterns,
+                machine.pool,
+                step,
+                *other,
+            ) || shares_destination(machine, step, rest)
         }
     }
 }
 
 // Whether a step of one of two groups has the step's destination.
 fn shares_either(machine: &Machine<'_>, step: Step, first: &[Step], second: &[Step]) -> bool
+    requires { HasTables machine.now }
     ensures { result
         ≡ shares_destination (operation_in machine.now) (operation_in machine.now step) (first.now ++ second.now) }
 {
@@ -145,6 +152,7 @@ fn shares_either(machine: &Machine<'_>, step: Step, first: &[Step], second: &[St
 
 /// Whether the destinations of two groups all differ.
 pub(crate) fn all_differ(machine: &Machine<'_>, first: &[Step], second: &[Step]) -> bool
+    requires { HasTables machine.now }
     ensures { result ≡ all_differ (operation_in machine.now) (first.now ++ second.now) }
 {
     match first {
@@ -157,6 +165,7 @@ pub(crate) fn all_differ(machine: &Machine<'_>, first: &[Step], second: &[Step])
 
 // Whether the destinations of a group all differ.
 fn differ(machine: &Machine<'_>, group: &[Step]) -> bool
+    requires { HasTables machine.now }
     ensures { result ≡ all_differ (operation_in machine.now) group.now }
 {
     match group {

@@ -15,7 +15,7 @@
 //!
 //! Files:
 //!
-//! - `machine`: a netlist with its patterns, and which expressions read the memory.
+//! - `machine`: a netlist with its patterns, and which expressions read the memory or the file.
 //! - `copies`: groups made of others.
 //! - `depends`: what steps of groups read and write of one another.
 //! - `change`: what is done with two neighbours: merge, move a step, or leave them; a word is

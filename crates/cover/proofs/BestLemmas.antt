@@ -12,9 +12,10 @@ use Rattle.form_model.specs.Trees.{tree_term}
 use Rattle.form_model.specs.declared.trees.Tree.{Tree}
 use Rattle.form_model.specs.Plans.{Plan, use_form, cost, plan_of}
 use Rattle.form_model.specs.Covers.{Stock, Choice, IsChosen, HasNoCover, parts_cost, written, IsBefore}
+use Rattle.cover.specs.declared.limits.Limits.{Limits}
 use Rattle.cover.specs.declared.covers.JobCover.{JobCover}
 use Rattle.cover.specs.declared.covers.TreeCover.{TreeCover}
-use Rattle.cover.specs.Inner.Asks.{Ask, IsSparing}
+use Rattle.cover.specs.Inner.Asks.{free, Ask, IsSparing}
 use Rattle.cover.specs.Inner.Least.{IsLeast}
 use Rattle.cover.specs.Jobs.{trees_of}
 use Rattle.cover.specs.Inner.Choice.{IsFirst}
@@ -22,8 +23,8 @@ use Rattle.cover.specs.Best.{choice_of}
 use Rattle.cover.specs.Inner.Best.{root_ask, IsTreeCover, better_of, Beats, IsBestOne, IsBest}
 use Rattle.cover.proofs.OrderlyLemmas.{to_orderly, from_orderly, and_zero}
 
-pub first_cost : (stock : Stock) (avoid : ℕ) (ask : Ask) (n : ℕ) (p : Plan) → IsLeast stock avoid ask (Some n) → IsFirst stock avoid ask p → n ≡ cost p
-first_cost stock avoid ask n p least first =
+pub first_cost : (stock : Stock) (limits : Limits) (ask : Ask) (n : ℕ) (p : Plan) → IsLeast stock limits ask (Some n) → IsFirst stock limits ask p → n ≡ cost p
+first_cost stock limits ask n p least first =
     let (p0, sparing0, e0) = least.reached in
     let h = least.least p first.sparing in
     elim (first.first p0 sparing0) [ inl lt ↦ absurd (omega (arith, lt, h, e0)) | inr eq ↦ (let e = eq.0 in omega (arith, e, e0)) ]
@@ -45,14 +46,14 @@ at_least a b (inl lt) = omega (arith, lt)
 at_least a b (inr eq) = let e = eq.0 in omega (arith, e)
 
 module _ (stock : Stock) (destination : Destination) (trees : List Term) (j : ℕ) (t : Term) (get : slice_get trees j ≡ Some t) where
-  same_tree : (i : ℕ) (u : Term) (q : Plan) → i ≡ j → slice_get trees i ≡ Some u → IsSparing stock 0 (root_ask destination u) q → IsSparing stock 0 (root_ask destination t) q
+  same_tree : (i : ℕ) (u : Term) (q : Plan) → i ≡ j → slice_get trees i ≡ Some u → IsSparing stock (free stock) (root_ask destination u) q → IsSparing stock (free stock) (root_ask destination t) q
   same_tree i u q e get' sparing =
       let g : slice_get trees j ≡ Some u = subst (λ k. slice_get trees k ≡ Some u) e get' in
       let same : u ≡ t = cc in
-      subst (λ x. IsSparing stock 0 (root_ask destination x) q) same sparing
+      subst (λ x. IsSparing stock (free stock) (root_ask destination x) q) same sparing
 
   -- the new cover is the first of its tree, and cheaper than all before
-  new_best : (x : TreeCover) → IsTreeCover stock (root_ask destination t) (Some x) → ((i : ℕ) (u : Term) (q : Plan) → i < j → slice_get trees i ≡ Some u → IsSparing stock 0 (root_ask destination u) q → x.cost < cost q) → IsBestOne stock destination trees (j + 1) (record { which = j; cover = x.cover; cost = x.cost })
+  new_best : (x : TreeCover) → IsTreeCover stock (root_ask destination t) (Some x) → ((i : ℕ) (u : Term) (q : Plan) → i < j → slice_get trees i ≡ Some u → IsSparing stock (free stock) (root_ask destination u) q → x.cost < cost q) → IsBestOne stock destination trees (j + 1) (record { which = j; cover = x.cover; cost = x.cost })
   new_best x (first, is) less = record {
     tree = t;
     used = get;
@@ -66,7 +67,7 @@ module _ (stock : Stock) (destination : Destination) (trees : List Term) (j : �
   }
 
   -- the old cover stays
-  old_best : (c : JobCover) → IsBestOne stock destination trees j c → ((q : Plan) → IsSparing stock 0 (root_ask destination t) q → c.cost ≤ cost q) → IsBestOne stock destination trees (j + 1) c
+  old_best : (c : JobCover) → IsBestOne stock destination trees j c → ((q : Plan) → IsSparing stock (free stock) (root_ask destination t) q → c.cost ≤ cost q) → IsBestOne stock destination trees (j + 1) c
   old_best c b most = record {
     tree = b.tree;
     used = b.used;
@@ -83,7 +84,7 @@ module _ (stock : Stock) (destination : Destination) (trees : List Term) (j : �
     ];
   }
 
-  tree_cover_least : (x : TreeCover) → IsTreeCover stock (root_ask destination t) (Some x) → (q : Plan) → IsSparing stock 0 (root_ask destination t) q → x.cost ≤ cost q
+  tree_cover_least : (x : TreeCover) → IsTreeCover stock (root_ask destination t) (Some x) → (q : Plan) → IsSparing stock (free stock) (root_ask destination t) q → x.cost ≤ cost q
   tree_cover_least x (first, is) q sparing = elim (first.first q sparing) [ inl lt ↦ omega (arith, lt, is) | inr eq ↦ (let e = eq.0 in omega (arith, e, is)) ]
 
   pub best_more : (best : Option JobCover) (tree_cover : Option TreeCover) → IsBest stock destination trees j best → IsTreeCover stock (root_ask destination t) tree_cover → IsBest stock destination trees (j + 1) (better_of best j tree_cover)
@@ -104,15 +105,17 @@ tree_get trees j t h = slice_get-map tree_term trees j ∙ ap (option_map tree_t
 
 pub best_chosen : (stock : Stock) (destination : Destination) (trees : List Term) (n : ℕ) (c : JobCover) → length trees ≡ n → IsBest stock destination trees n (Some c) → IsChosen stock destination trees (choice_of c)
 best_chosen stock destination trees n c len b = record {
-  covers = record { tree = b.tree; used = b.used; orderly = (to_orderly stock (plan_of c.cover) (root_ask destination b.tree) 0 b.sparing).0 };
+  covers =
+      let (orderly, kept) = to_orderly stock (plan_of c.cover) (root_ask destination b.tree) (free stock) b.sparing in
+      record { tree = b.tree; used = b.used; orderly = orderly; enough = kept.1 };
   first = λ other covers. b.beats other.which covers.tree other.plan (let w = slice_get_within trees other.which covers.tree covers.used in omega (arith, w, len)) covers.used
-      (from_orderly stock other.plan (root_ask destination covers.tree) 0 covers.orderly (and_zero (written stock.rules other.plan)));
+      (from_orderly stock other.plan (root_ask destination covers.tree) (free stock) covers.orderly (and_zero (written stock.rules other.plan), covers.enough));
 }
 
 pub best_none : (stock : Stock) (destination : Destination) (trees : List Term) (n : ℕ) → length trees ≡ n → IsBest stock destination trees n None → HasNoCover stock destination trees
 best_none stock destination trees n len b = record {
   none = λ other covers. b other.which covers.tree other.plan (let w = slice_get_within trees other.which covers.tree covers.used in omega (arith, w, len)) covers.used
-      (from_orderly stock other.plan (root_ask destination covers.tree) 0 covers.orderly (and_zero (written stock.rules other.plan)));
+      (from_orderly stock other.plan (root_ask destination covers.tree) (free stock) covers.orderly (and_zero (written stock.rules other.plan), covers.enough));
 }
 
 pub listed_at : {X : Type 0} (xs : List X) (i : ℕ) → i < length xs → (x : X) × (slice_get xs i ≡ Some x)

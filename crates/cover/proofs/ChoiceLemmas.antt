@@ -7,7 +7,8 @@ use Rattle.net_model.specs.Terms.{Term}
 use Rattle.form_model.specs.Matches.{Found}
 use Rattle.form_model.specs.Plans.{Plan, use_form, Operands, no_operands, operand_then, Cuts, no_cuts, cut_then, cost, operands_cost, cuts_cost}
 use Rattle.form_model.specs.Covers.{Stock, Operand, operands_of, cuts_of, IsBefore, CutsBefore, SamePlaces}
-use Rattle.cover.specs.Inner.Asks.{Ask, operand_ask, cut_ask, with_reg, takes, IsSparing, AreSparing, AreStored}
+use Rattle.cover.specs.declared.limits.Limits.{Limits}
+use Rattle.cover.specs.Inner.Asks.{free, Ask, operand_ask, cut_ask, after, takes, IsSparing, AreSparing, AreStored}
 use Rattle.cover.specs.Inner.Least.{IsLeast, IsLeastForm, IsLeastOrder, IsLeastCut}
 use Rattle.cover.specs.Inner.Choice.{Fits, NeverBegins, Starts, StartsCut, IsFirst, OrderBefore, IsFirstOrder, IsFirstCuts}
 use Rattle.cover.proofs.LeastLemmas.{some_of, some_form}
@@ -26,25 +27,25 @@ pub same_some : {o : Option ℕ} {m n : ℕ} → o ≡ Some m → o ≡ Some n �
 same_some e f = cc
 
 -- the least cost of the covers by a form whose parts are known
-pub fits_least : (stock : Stock) (avoid : ℕ) (ask : Ask) (k : ℕ) (inputs : List Operand) (stored : List Term) (a b : ℕ) → Fits stock avoid ask k inputs stored a b → IsLeastForm stock avoid ask k (Some (1 + a + b))
-fits_least stock avoid ask k inputs stored a b f =
-    some_form stock avoid ask k f.rule f.found (Some a) (Some b) f.listed f.spared f.takes_it
-    (subst (λ l. IsLeastOrder stock avoid l (Some a)) f.operands_are f.order) (subst (λ l. IsLeastCut stock l (Some b)) f.cuts_are f.cut)
+pub fits_least : (stock : Stock) (limits : Limits) (ask : Ask) (k : ℕ) (inputs : List Operand) (stored : List Term) (a b : ℕ) → Fits stock limits ask k inputs stored a b → IsLeastForm stock limits ask k (Some (1 + a + b))
+fits_least stock limits ask k inputs stored a b f =
+    some_form stock limits ask k f.rule f.found (Some a) (Some b) f.listed f.spared f.takes_it
+    (subst (λ l. IsLeastOrder stock limits l (Some a)) f.operands_are f.order) (subst (λ l. IsLeastCut stock l (Some b)) f.cuts_are f.cut)
 
 -- a form whose least cost differs from the least cost of all begins no cover of that cost
-pub never_by : (stock : Stock) (avoid : ℕ) (ask : Ask) (n k : ℕ) (o : Option ℕ) → IsLeast stock avoid ask (Some n) → IsLeastForm stock avoid ask k o → ((m : ℕ) → o ≡ Some m → m ≢ n) → NeverBegins stock avoid ask n k
-never_by stock avoid ask n k None least is differ = λ ps cs sparing e. is.least ps cs sparing
-never_by stock avoid ask n k (Some m) least is differ = λ ps cs sparing e.
+pub never_by : (stock : Stock) (limits : Limits) (ask : Ask) (n k : ℕ) (o : Option ℕ) → IsLeast stock limits ask (Some n) → IsLeastForm stock limits ask k o → ((m : ℕ) → o ≡ Some m → m ≢ n) → NeverBegins stock limits ask n k
+never_by stock limits ask n k None least is differ = λ ps cs sparing e. is.least ps cs sparing
+never_by stock limits ask n k (Some m) least is differ = λ ps cs sparing e.
     let le = is.least ps cs sparing in
     let (ps0, cs0, sparing0, e0) = is.reached in
     let ge = least.least (use_form k ps0 cs0) sparing0 in
     differ m refl (omega (arith, le, ge, e, e0))
 
-module _ (stock : Stock) (avoid : ℕ) (ask : Ask) (n : ℕ) (least : IsLeast stock avoid ask (Some n)) where
-  pub cover_exists : ((j : ℕ) → j < length stock.rules → NeverBegins stock avoid ask n j) → ⊥
+module _ (stock : Stock) (limits : Limits) (ask : Ask) (n : ℕ) (least : IsLeast stock limits ask (Some n)) where
+  pub cover_exists : ((j : ℕ) → j < length stock.rules → NeverBegins stock limits ask n j) → ⊥
   cover_exists none = go least.reached.0 least.reached.1 least.reached.2
     where
-      go : (p : Plan) → IsSparing stock avoid ask p → cost p ≡ n → ⊥
+      go : (p : Plan) → IsSparing stock limits ask p → cost p ≡ n → ⊥
       go (use_form j ps cs) (rule, get, spared, found, is, orders, stored) e = none j (slice_get_within stock.rules j rule get) ps cs (rule, get, spared, found, is, orders, stored) e
 
   -- parts of one form's covers, compared
@@ -54,9 +55,9 @@ module _ (stock : Stock) (avoid : ℕ) (ask : Ask) (n : ℕ) (least : IsLeast st
   join k l ps qs cs ds at (inr (inl s)) c = inr (inr (at, inl s))
   join k l ps qs cs ds at (inr (inr (same, b))) c = inr (inr (at, inr (same, inl b)))
 
-  pub first_by_form : (k : ℕ) (inputs : List Operand) (stored : List Term) (a b : ℕ) (ps : Operands) (cs : Cuts) → ((j : ℕ) → j < k → NeverBegins stock avoid ask n j) → Fits stock avoid ask k inputs stored a b → 1 + a + b ≡ n → IsFirstOrder stock avoid inputs ps → IsFirstCuts stock stored cs → IsFirst stock avoid ask (use_form k ps cs)
+  pub first_by_form : (k : ℕ) (inputs : List Operand) (stored : List Term) (a b : ℕ) (ps : Operands) (cs : Cuts) → ((j : ℕ) → j < k → NeverBegins stock limits ask n j) → Fits stock limits ask k inputs stored a b → 1 + a + b ≡ n → IsFirstOrder stock limits inputs ps → IsFirstCuts stock stored cs → IsFirst stock limits ask (use_form k ps cs)
   first_by_form k inputs stored a b ps cs earlier fits sum order cuts = record {
-    sparing = (fits.rule, fits.listed, fits.spared, fits.found, fits.takes_it, subst (λ l. AreSparing stock avoid l ps) fits.operands_are order.sparing, subst (λ l. AreStored stock l cs) fits.cuts_are cuts.covered);
+    sparing = (fits.rule, fits.listed, fits.spared, fits.found, fits.takes_it, subst (λ l. AreSparing stock limits l ps) fits.operands_are order.sparing, subst (λ l. AreStored stock l cs) fits.cuts_are cuts.covered);
     first = go;
   }
     where
@@ -72,7 +73,7 @@ module _ (stock : Stock) (avoid : ℕ) (ask : Ask) (n : ℕ) (least : IsLeast st
           let h = fits.cut.least cs cuts.covered in
           elim (cuts.first cs0 stored0) [ inl lt ↦ omega (arith, lt, h, e0) | inr eq ↦ (let e = eq.0 in omega (arith, e, e0)) ]
 
-      at_same : (l : ℕ) (qs : Operands) (ds : Cuts) → k ≡ l → AreSparing stock avoid inputs qs → AreStored stock stored ds → (cost (use_form k ps cs) < cost (use_form l qs ds)) ⊎ ((cost (use_form k ps cs) ≡ cost (use_form l qs ds)) × ((use_form k ps cs ≡ use_form l qs ds) ⊎ IsBefore (use_form k ps cs) (use_form l qs ds)))
+      at_same : (l : ℕ) (qs : Operands) (ds : Cuts) → k ≡ l → AreSparing stock limits inputs qs → AreStored stock stored ds → (cost (use_form k ps cs) < cost (use_form l qs ds)) ⊎ ((cost (use_form k ps cs) ≡ cost (use_form l qs ds)) × ((use_form k ps cs ≡ use_form l qs ds) ⊎ IsBefore (use_form k ps cs) (use_form l qs ds)))
       at_same l qs ds same orders stored' =
           let la = fits.order.least qs orders in
           let lb = fits.cut.least ds stored' in
@@ -86,7 +87,7 @@ module _ (stock : Stock) (avoid : ℕ) (ask : Ask) (n : ℕ) (least : IsLeast st
             ]
           ]
 
-      go : (q : Plan) → IsSparing stock avoid ask q → (cost (use_form k ps cs) < cost q) ⊎ ((cost (use_form k ps cs) ≡ cost q) × ((use_form k ps cs ≡ q) ⊎ IsBefore (use_form k ps cs) q))
+      go : (q : Plan) → IsSparing stock limits ask q → (cost (use_form k ps cs) < cost q) ⊎ ((cost (use_form k ps cs) ≡ cost q) × ((use_form k ps cs ≡ q) ⊎ IsBefore (use_form k ps cs) q))
       go (use_form l qs ds) (rule, get, spared, found, is, orders, stored') =
           let all = least.least (use_form l qs ds) (rule, get, spared, found, is, orders, stored') in
           let ea = cost_a in
@@ -99,7 +100,7 @@ module _ (stock : Stock) (avoid : ℕ) (ask : Ask) (n : ℕ) (least : IsLeast st
                   let is' : takes stock fits.rule ask ≡ Some found = subst (λ r. takes stock r ask ≡ Some found) e is in
                   let e' : found ≡ fits.found = (let x = fits.takes_it in cc) in
                   at_same l qs ds same
-                  (subst (λ x. AreSparing stock avoid x qs) (sym fits.operands_are) (subst (λ (f : Found). AreSparing stock avoid (operands_of f.sites) qs) e' orders))
+                  (subst (λ x. AreSparing stock limits x qs) (sym fits.operands_are) (subst (λ (f : Found). AreSparing stock limits (operands_of f.sites) qs) e' orders))
                   (subst (λ x. AreStored stock x ds) (sym fits.cuts_are) (subst (λ (f : Found). AreStored stock (cuts_of f.sites) ds) e' stored')))
               | inr other ↦ elim (cases_eq (1 + operands_cost ps + cuts_cost cs) (1 + operands_cost qs + cuts_cost ds)) [
                 | inl equal ↦ inr (equal, inr (inl (omega arith)))
@@ -108,28 +109,28 @@ module _ (stock : Stock) (avoid : ℕ) (ask : Ask) (n : ℕ) (least : IsLeast st
             ]
           ]
 
-module _ (stock : Stock) (avoid : ℕ) (ops : List Operand) (n : ℕ) (least : IsLeastOrder stock avoid ops (Some n)) where
-  pub first_of_sum : (i : ℕ) (o : Operand) (a b r : Option ℕ) → slice_get ops i ≡ Some o → IsLeast stock avoid (operand_ask o) a → IsLeastOrder stock (with_reg avoid o.id) (remove ops i) b → IfSome r (λ m. (a ≡ Some m) × (m ≤ n) × (b ≡ Some (n - m))) → IfNone r ((j k : ℕ) → a ≡ Some j → b ≡ Some k → j + k ≢ n) → Starts stock avoid ops n i r
+module _ (stock : Stock) (limits : Limits) (ops : List Operand) (n : ℕ) (least : IsLeastOrder stock limits ops (Some n)) where
+  pub first_of_sum : (i : ℕ) (o : Operand) (a b r : Option ℕ) → slice_get ops i ≡ Some o → IsLeast stock limits (operand_ask o) a → IsLeastOrder stock (after limits o.home) (remove ops i) b → IfSome r (λ m. (a ≡ Some m) × (m ≤ n) × (b ≡ Some (n - m))) → IfNone r ((j k : ℕ) → a ≡ Some j → b ≡ Some k → j + k ≢ n) → Starts stock limits ops n i r
   first_of_sum i o a b (Some m) get la lb (ea, le, eb) no_sum =
-      let la' : IsLeast stock avoid (operand_ask o) (Some m) = subst (IsLeast stock avoid (operand_ask o)) ea la in
-      let lb' : IsLeastOrder stock (with_reg avoid o.id) (remove ops i) (Some (n - m)) = subst (IsLeastOrder stock (with_reg avoid o.id) (remove ops i)) eb lb in
+      let la' : IsLeast stock limits (operand_ask o) (Some m) = subst (IsLeast stock limits (operand_ask o)) ea la in
+      let lb' : IsLeastOrder stock (after limits o.home) (remove ops i) (Some (n - m)) = subst (IsLeastOrder stock (after limits o.home) (remove ops i)) eb lb in
       let (p, sparing, e) = la'.reached in
       (o, get, (let h = cost_pos p in omega (arith, h, e)), le, la', lb')
   first_of_sum i o a b None get la lb some differ = λ p ps (o', get', sparing, orders) e.
       let same : o' ≡ o = cc in
-      let (j, ej, lj) = some_of a (cost p) (la.least p (subst (λ x. IsSparing stock avoid (operand_ask x) p) same sparing)) in
-      let (k, ek, lk) = some_of b (operands_cost ps) (lb.least ps (subst (λ (x : Operand). AreSparing stock (with_reg avoid x.id) (remove ops i) ps) same orders)) in
-      let la' : IsLeast stock avoid (operand_ask o) (Some j) = subst (IsLeast stock avoid (operand_ask o)) ej la in
-      let lb' : IsLeastOrder stock (with_reg avoid o.id) (remove ops i) (Some k) = subst (IsLeastOrder stock (with_reg avoid o.id) (remove ops i)) ek lb in
+      let (j, ej, lj) = some_of a (cost p) (la.least p (subst (λ x. IsSparing stock limits (operand_ask x) p) same sparing)) in
+      let (k, ek, lk) = some_of b (operands_cost ps) (lb.least ps (subst (λ (x : Operand). AreSparing stock (after limits x.home) (remove ops i) ps) same orders)) in
+      let la' : IsLeast stock limits (operand_ask o) (Some j) = subst (IsLeast stock limits (operand_ask o)) ej la in
+      let lb' : IsLeastOrder stock (after limits o.home) (remove ops i) (Some k) = subst (IsLeastOrder stock (after limits o.home) (remove ops i)) ek lb in
       let (p0, sparing0, e0) = la'.reached in
       let (ps0, orders0, f0) = lb'.reached in
       let all = least.least (operand_then i p0 ps0) (o, get, sparing0, orders0) in
       differ j k ej ek (omega (arith, all, e0, f0, lj, lk, e))
 
-  pub order_exists : 0 < length ops → ((j : ℕ) (p : Plan) (ps : Operands) → j < length ops → AreSparing stock avoid ops (operand_then j p ps) → cost p + operands_cost ps ≢ n) → ⊥
+  pub order_exists : 0 < length ops → ((j : ℕ) (p : Plan) (ps : Operands) → j < length ops → AreSparing stock limits ops (operand_then j p ps) → cost p + operands_cost ps ≢ n) → ⊥
   order_exists some none = go least.reached.0 least.reached.1 least.reached.2
     where
-      go : (ps : Operands) → AreSparing stock avoid ops ps → operands_cost ps ≡ n → ⊥
+      go : (ps : Operands) → AreSparing stock limits ops ps → operands_cost ps ≡ n → ⊥
       go no_operands empty e = let h = ap length empty in absurd (omega (arith, h, some))
       go (operand_then j p ps) (o, get, sparing, orders) e = none j p ps (slice_get_within ops j o get) (o, get, sparing, orders) e
 
@@ -141,7 +142,7 @@ module _ (stock : Stock) (avoid : ℕ) (ops : List Operand) (n : ℕ) (least : I
   combine i j p q ps qs at (inl e) (inr (inr (same, before))) = inr (inr ((at, same), inr (e, before)))
   combine i j p q ps qs at (inr b) (inr (inr (same, before))) = inr (inr ((at, same), inl b))
 
-  pub first_by_operand : (i m : ℕ) (o : Operand) (p : Plan) (ps : Operands) → ((j : ℕ) (q : Plan) (qs : Operands) → j < i → AreSparing stock avoid ops (operand_then j q qs) → cost q + operands_cost qs ≢ n) → slice_get ops i ≡ Some o → m ≤ n → IsLeast stock avoid (operand_ask o) (Some m) → IsLeastOrder stock (with_reg avoid o.id) (remove ops i) (Some (n - m)) → IsFirst stock avoid (operand_ask o) p → IsFirstOrder stock (with_reg avoid o.id) (remove ops i) ps → IsFirstOrder stock avoid ops (operand_then i p ps)
+  pub first_by_operand : (i m : ℕ) (o : Operand) (p : Plan) (ps : Operands) → ((j : ℕ) (q : Plan) (qs : Operands) → j < i → AreSparing stock limits ops (operand_then j q qs) → cost q + operands_cost qs ≢ n) → slice_get ops i ≡ Some o → m ≤ n → IsLeast stock limits (operand_ask o) (Some m) → IsLeastOrder stock (after limits o.home) (remove ops i) (Some (n - m)) → IsFirst stock limits (operand_ask o) p → IsFirstOrder stock (after limits o.home) (remove ops i) ps → IsFirstOrder stock limits ops (operand_then i p ps)
   first_by_operand i m o p ps earlier get le la lb fp fps = record { sparing = (o, get, fp.sparing, fps.sparing); first = go }
     where
       cost_p : cost p ≡ m
@@ -156,12 +157,12 @@ module _ (stock : Stock) (avoid : ℕ) (ops : List Operand) (n : ℕ) (least : I
           let h = lb.least ps fps.sparing in
           elim (fps.first ps0 orders0) [ inl lt ↦ omega (arith, lt, h, e0) | inr eq ↦ (let e = eq.0 in omega (arith, e, e0)) ]
 
-      at_same : (j : ℕ) (q : Plan) (qs : Operands) (o' : Operand) → i ≡ j → slice_get ops j ≡ Some o' → IsSparing stock avoid (operand_ask o') q → AreSparing stock (with_reg avoid o'.id) (remove ops j) qs → (cost p + operands_cost ps < cost q + operands_cost qs) ⊎ ((cost p + operands_cost ps ≡ cost q + operands_cost qs) × ((operand_then i p ps ≡ operand_then j q qs) ⊎ OrderBefore (operand_then i p ps) (operand_then j q qs)))
+      at_same : (j : ℕ) (q : Plan) (qs : Operands) (o' : Operand) → i ≡ j → slice_get ops j ≡ Some o' → IsSparing stock limits (operand_ask o') q → AreSparing stock (after limits o'.home) (remove ops j) qs → (cost p + operands_cost ps < cost q + operands_cost qs) ⊎ ((cost p + operands_cost ps ≡ cost q + operands_cost qs) × ((operand_then i p ps ≡ operand_then j q qs) ⊎ OrderBefore (operand_then i p ps) (operand_then j q qs)))
       at_same j q qs o' same get' sparing orders =
           let e : o' ≡ o = (let g : slice_get ops i ≡ Some o' = subst (λ x. slice_get ops x ≡ Some o') (sym same) get' in cc) in
-          let sparing' : IsSparing stock avoid (operand_ask o) q = subst (λ x. IsSparing stock avoid (operand_ask x) q) e sparing in
-          let orders' : AreSparing stock (with_reg avoid o.id) (remove ops i) qs =
-          subst (λ (x : Operand). AreSparing stock (with_reg avoid x.id) (remove ops i) qs) e (subst (λ x. AreSparing stock (with_reg avoid o'.id) (remove ops x) qs) (sym same) orders) in
+          let sparing' : IsSparing stock limits (operand_ask o) q = subst (λ x. IsSparing stock limits (operand_ask x) q) e sparing in
+          let orders' : AreSparing stock (after limits o.home) (remove ops i) qs =
+          subst (λ (x : Operand). AreSparing stock (after limits x.home) (remove ops i) qs) e (subst (λ x. AreSparing stock (after limits o'.home) (remove ops x) qs) (sym same) orders) in
           let hp = la.least q sparing' in
           let hps = lb.least qs orders' in
           let here = cost_p in
@@ -174,7 +175,7 @@ module _ (stock : Stock) (avoid : ℕ) (ops : List Operand) (n : ℕ) (least : I
             ]
           ]
 
-      go : (qs : Operands) → AreSparing stock avoid ops qs → (cost p + operands_cost ps < operands_cost qs) ⊎ ((cost p + operands_cost ps ≡ operands_cost qs) × ((operand_then i p ps ≡ qs) ⊎ OrderBefore (operand_then i p ps) qs))
+      go : (qs : Operands) → AreSparing stock limits ops qs → (cost p + operands_cost ps < operands_cost qs) ⊎ ((cost p + operands_cost ps ≡ operands_cost qs) × ((operand_then i p ps ≡ qs) ⊎ OrderBefore (operand_then i p ps) qs))
       go no_operands empty = absurd (let h = slice_get_within ops i o get in let l = ap length empty in omega (arith, h, l))
       go (operand_then j q qs) (o', get', sparing, orders) =
           let all = least.least (operand_then j q qs) (o', get', sparing, orders) in
@@ -191,22 +192,22 @@ module _ (stock : Stock) (avoid : ℕ) (ops : List Operand) (n : ℕ) (least : I
             ]
           ]
 
-pub forms_later : (stock : Stock) (avoid : ℕ) (ask : Ask) (n k : ℕ) → ((j : ℕ) → j < k → NeverBegins stock avoid ask n j) → NeverBegins stock avoid ask n k → (j : ℕ) → j < k + 1 → NeverBegins stock avoid ask n j
-forms_later stock avoid ask n k earlier here j lt = elim (cases_eq j k) [
-  | inl same ↦ subst (NeverBegins stock avoid ask n) (sym same) here
+pub forms_later : (stock : Stock) (limits : Limits) (ask : Ask) (n k : ℕ) → ((j : ℕ) → j < k → NeverBegins stock limits ask n j) → NeverBegins stock limits ask n k → (j : ℕ) → j < k + 1 → NeverBegins stock limits ask n j
+forms_later stock limits ask n k earlier here j lt = elim (cases_eq j k) [
+  | inl same ↦ subst (NeverBegins stock limits ask n) (sym same) here
   | inr other ↦ earlier j (omega arith)
 ]
 
-pub operands_later : (stock : Stock) (avoid : ℕ) (ops : List Operand) (n i : ℕ) → ((j : ℕ) (p : Plan) (ps : Operands) → j < i → AreSparing stock avoid ops (operand_then j p ps) → cost p + operands_cost ps ≢ n) → Starts stock avoid ops n i None → (j : ℕ) (p : Plan) (ps : Operands) → j < i + 1 → AreSparing stock avoid ops (operand_then j p ps) → cost p + operands_cost ps ≢ n
-operands_later stock avoid ops n i earlier here j p ps lt orders = elim (cases_eq j i) [
-  | inl same ↦ here p ps (subst (λ x. AreSparing stock avoid ops (operand_then x p ps)) same orders)
+pub operands_later : (stock : Stock) (limits : Limits) (ops : List Operand) (n i : ℕ) → ((j : ℕ) (p : Plan) (ps : Operands) → j < i → AreSparing stock limits ops (operand_then j p ps) → cost p + operands_cost ps ≢ n) → Starts stock limits ops n i None → (j : ℕ) (p : Plan) (ps : Operands) → j < i + 1 → AreSparing stock limits ops (operand_then j p ps) → cost p + operands_cost ps ≢ n
+operands_later stock limits ops n i earlier here j p ps lt orders = elim (cases_eq j i) [
+  | inl same ↦ here p ps (subst (λ x. AreSparing stock limits ops (operand_then x p ps)) same orders)
   | inr other ↦ earlier j p ps (omega arith) orders
 ]
 
-pub empty_first : (stock : Stock) (avoid : ℕ) (ops : List Operand) → ops ≡ [] → IsFirstOrder stock avoid ops no_operands
-empty_first stock avoid ops e = record { sparing = e; first = go }
+pub empty_first : (stock : Stock) (limits : Limits) (ops : List Operand) → ops ≡ [] → IsFirstOrder stock limits ops no_operands
+empty_first stock limits ops e = record { sparing = e; first = go }
   where
-    go : (qs : Operands) → AreSparing stock avoid ops qs → (0 < operands_cost qs) ⊎ ((0 ≡ operands_cost qs) × ((no_operands ≡ qs) ⊎ OrderBefore no_operands qs))
+    go : (qs : Operands) → AreSparing stock limits ops qs → (0 < operands_cost qs) ⊎ ((0 ≡ operands_cost qs) × ((no_operands ≡ qs) ⊎ OrderBefore no_operands qs))
     go no_operands empty = inr (refl, inl refl)
     go (operand_then j q qs) (o, get, sparing, orders) = absurd (let h = slice_get_within ops j o get in let l = ap length e in omega (arith, h, l))
 
@@ -220,7 +221,7 @@ empty_cuts stock ts e = record { covered = e; first = go }
     go (cut_then q ds) (t, us, f, sparing, stored) = absurd (cc)
 
 -- the first cut's least cost is a part of the least cost of all
-pub starts_cut : (stock : Stock) (t : Term) (ts : List Term) (n : ℕ) (a : Option ℕ) → IsLeastCut stock (t ∷ ts) (Some n) → IsLeast stock 0 (cut_ask t) a → (m : ℕ) × (a ≡ Some m) × StartsCut stock (t ∷ ts) n m
+pub starts_cut : (stock : Stock) (t : Term) (ts : List Term) (n : ℕ) (a : Option ℕ) → IsLeastCut stock (t ∷ ts) (Some n) → IsLeast stock (free stock) (cut_ask t) a → (m : ℕ) × (a ≡ Some m) × StartsCut stock (t ∷ ts) n m
 starts_cut stock t ts n a least la = go least.reached.0 least.reached.1 least.reached.2
   where
     go : (cs : Cuts) → AreStored stock (t ∷ ts) cs → cuts_cost cs ≡ n → (m : ℕ) × (a ≡ Some m) × StartsCut stock (t ∷ ts) n m
@@ -228,10 +229,10 @@ starts_cut stock t ts n a least la = go least.reached.0 least.reached.1 least.re
     go (cut_then p cs) (u, us, e, sparing, stored) f =
         let same : u ≡ t = cc in
         let same' : us ≡ ts = cc in
-        let sparing' : IsSparing stock 0 (cut_ask t) p = subst (λ x. IsSparing stock 0 (cut_ask x) p) same sparing in
+        let sparing' : IsSparing stock (free stock) (cut_ask t) p = subst (λ x. IsSparing stock (free stock) (cut_ask x) p) same sparing in
         let stored' : AreStored stock ts cs = subst (λ x. AreStored stock x cs) same' stored in
         let (m, em, le) = some_of a (cost p) (la.least p sparing') in
-        let la' : IsLeast stock 0 (cut_ask t) (Some m) = subst (IsLeast stock 0 (cut_ask t)) em la in
+        let la' : IsLeast stock (free stock) (cut_ask t) (Some m) = subst (IsLeast stock (free stock) (cut_ask t)) em la in
         let (p0, sparing0, e0) = la'.reached in
         let all = least.least (cut_then p0 cs) (t, ts, refl, sparing0, stored') in (
           m,
@@ -247,7 +248,7 @@ starts_cut stock t ts n a least la = go least.reached.0 least.reached.1 least.re
           ),
         )
 
-pub first_by_cut : (stock : Stock) (t : Term) (ts : List Term) (n m : ℕ) (p : Plan) (cs : Cuts) → StartsCut stock (t ∷ ts) n m → IsFirst stock 0 (cut_ask t) p → IsFirstCuts stock ts cs → IsFirstCuts stock (t ∷ ts) (cut_then p cs)
+pub first_by_cut : (stock : Stock) (t : Term) (ts : List Term) (n m : ℕ) (p : Plan) (cs : Cuts) → StartsCut stock (t ∷ ts) n m → IsFirst stock (free stock) (cut_ask t) p → IsFirstCuts stock ts cs → IsFirstCuts stock (t ∷ ts) (cut_then p cs)
 first_by_cut stock t ts n m p cs (some, le, la, lb) fp fcs = record { covered = (t, ts, refl, fp.sparing, fcs.covered); first = go }
   where
     cost_p : cost p ≡ m
@@ -272,7 +273,7 @@ first_by_cut stock t ts n m p cs (some, le, la, lb) fp fcs = record { covered = 
     go (cut_then q ds) (u, us, e, sparing, stored) =
         let same : u ≡ t = cc in
         let same' : us ≡ ts = cc in
-        let sparing' : IsSparing stock 0 (cut_ask t) q = subst (λ x. IsSparing stock 0 (cut_ask x) q) same sparing in
+        let sparing' : IsSparing stock (free stock) (cut_ask t) q = subst (λ x. IsSparing stock (free stock) (cut_ask x) q) same sparing in
         let stored' : AreStored stock ts ds = subst (λ x. AreStored stock x ds) same' stored in
         let hp = la.least q sparing' in
         let hcs = lb.least ds stored' in

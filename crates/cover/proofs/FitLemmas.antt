@@ -1,21 +1,22 @@
 -- What is known of a form that begins a cover of what is asked.
 use Rattle.std.proofs.Common.{◌≡◌, ◌≢◌, ℕ, ◌+◌, List, Option, Some, None, refl, sym, ap, ◌∙◌, subst, inl, inr}
-use Rattle.std.specs.Prelude.{slice_get, bit_and, IfSome}
+use Rattle.std.specs.Prelude.{slice_get, IfSome}
 use Rattle.std.specs.Option.{option_map}
 use Rattle.net_model.specs.Terms.{Term}
 use Rattle.form_model.specs.Rules.{Rule, rule_of}
 use Rattle.form_model.specs.Matches.{Found, taken}
-use Rattle.form_model.specs.Covers.{Stock, operands_of, cuts_of}
+use Rattle.form_model.specs.Covers.{Stock, operands_of, cuts_of, kind_cells}
 use Rattle.form_model.specs.declared.forms.Form.{Form}
 use Rattle.form_model.specs.Trees.{tree_term}
 use Rattle.tree_grammar.specs.declared.parts.Match.{Match}
 use Rattle.tree_grammar.specs.Parts.{destination_at, found_of, sites_of, AreAt, Stands}
+use Rattle.cover.specs.declared.limits.Limits.{Limits}
 use Rattle.cover.specs.declared.instance.Instance.{Instance}
 use Rattle.cover.specs.declared.fits.Want.{Want}
 use Rattle.cover.specs.declared.fits.Fit.{Fit}
 use Rattle.cover.specs.declared.opened.OpenOperand.{OpenOperand}
 use Rattle.cover.specs.declared.opened.OpenCut.{OpenCut}
-use Rattle.cover.specs.Inner.Asks.{Ask, takes}
+use Rattle.cover.specs.Inner.Asks.{KeepsTo, Ask, takes}
 use Rattle.cover.specs.Inner.Least.{IsLeast, IsLeastForm, IsLeastOrder, IsLeastCut, summed}
 use Rattle.cover.specs.Inner.Jobs.{instance_stock, nodes_of, open_operands, open_cuts}
 use Rattle.cover.specs.Inner.Choice.{ask_of, StandsWant, IsFit, Fits, FitOf, FitsParts, NeverBegins, fit_cost}
@@ -41,14 +42,14 @@ summed_none : (x : Option ℕ) → summed x None ≡ None
 summed_none None = refl
 summed_none (Some n) = refl
 
-fit_ok : (stock : Stock) (avoid : ℕ) (ask : Ask) (k : ℕ) (rule : Rule) (found : Found) (is : List OpenOperand) (ss : List OpenCut) (a b : Option ℕ) (o : Option Fit) → slice_get stock.rules k ≡ Some rule → bit_and rule.clobbers avoid ≡ 0 → takes stock rule ask ≡ Some found → open_operands is ≡ operands_of found.sites → open_cuts ss ≡ cuts_of found.sites → IsLeastOrder stock avoid (open_operands is) a → IsLeastCut stock (open_cuts ss) b → FitOf is ss a b o → IsFit stock avoid ask k o
-fit_ok stock avoid ask k rule found is ss a b None get spared t ei es la lb (inl e) =
-    subst (IsLeastForm stock avoid ask k) (ap (λ x. summed (summed (Some 1) x) b) e)
-    (some_form stock avoid ask k rule found a b get spared t (subst (λ l. IsLeastOrder stock avoid l a) ei la) (subst (λ l. IsLeastCut stock l b) es lb))
-fit_ok stock avoid ask k rule found is ss a b None get spared t ei es la lb (inr e) =
-    subst (IsLeastForm stock avoid ask k) (ap (λ x. summed (summed (Some 1) a) x) e ∙ summed_none (summed (Some 1) a))
-    (some_form stock avoid ask k rule found a b get spared t (subst (λ l. IsLeastOrder stock avoid l a) ei la) (subst (λ l. IsLeastCut stock l b) es lb))
-fit_ok stock avoid ask k rule found is ss a b (Some f) get spared t ei es la lb (fi, fs, fa, fb) = record {
+fit_ok : (stock : Stock) (limits : Limits) (ask : Ask) (k : ℕ) (rule : Rule) (found : Found) (is : List OpenOperand) (ss : List OpenCut) (a b : Option ℕ) (o : Option Fit) → slice_get stock.rules k ≡ Some rule → KeepsTo limits rule.clobbers (kind_cells rule.goal) → takes stock rule ask ≡ Some found → open_operands is ≡ operands_of found.sites → open_cuts ss ≡ cuts_of found.sites → IsLeastOrder stock limits (open_operands is) a → IsLeastCut stock (open_cuts ss) b → FitOf is ss a b o → IsFit stock limits ask k o
+fit_ok stock limits ask k rule found is ss a b None get spared t ei es la lb (inl e) =
+    subst (IsLeastForm stock limits ask k) (ap (λ x. summed (summed (Some 1) x) b) e)
+    (some_form stock limits ask k rule found a b get spared t (subst (λ l. IsLeastOrder stock limits l a) ei la) (subst (λ l. IsLeastCut stock l b) es lb))
+fit_ok stock limits ask k rule found is ss a b None get spared t ei es la lb (inr e) =
+    subst (IsLeastForm stock limits ask k) (ap (λ x. summed (summed (Some 1) a) x) e ∙ summed_none (summed (Some 1) a))
+    (some_form stock limits ask k rule found a b get spared t (subst (λ l. IsLeastOrder stock limits l a) ei la) (subst (λ l. IsLeastCut stock l b) es lb))
+fit_ok stock limits ask k rule found is ss a b (Some f) get spared t ei es la lb (fi, fs, fa, fb) = record {
   rule = rule;
   found = found;
   listed = get;
@@ -56,12 +57,12 @@ fit_ok stock avoid ask k rule found is ss a b (Some f) get spared t ei es la lb 
   takes_it = t;
   operands_are = ap open_operands fi ∙ ei;
   cuts_are = ap open_cuts fs ∙ es;
-  order = subst (λ l. IsLeastOrder stock avoid (open_operands l) (Some f.operands_cost)) (sym fi) (subst (IsLeastOrder stock avoid (open_operands is)) fa la);
+  order = subst (λ l. IsLeastOrder stock limits (open_operands l) (Some f.operands_cost)) (sym fi) (subst (IsLeastOrder stock limits (open_operands is)) fa la);
   cut = subst (λ l. IsLeastCut stock (open_cuts l) (Some f.cuts_cost)) (sym fs) (subst (IsLeastCut stock (open_cuts ss)) fb lb);
 }
 
-pub parts_fit : (stock : Stock) (avoid : ℕ) (ask : Ask) (k : ℕ) (rule : Rule) (found : Found) (o : Option Fit) → slice_get stock.rules k ≡ Some rule → bit_and rule.clobbers avoid ≡ 0 → takes stock rule ask ≡ Some found → FitsParts stock avoid (operands_of found.sites) (cuts_of found.sites) o → IsFit stock avoid ask k o
-parts_fit stock avoid ask k rule found o get spared t (is, ss, a, b, ei, es, la, lb, fit) = fit_ok stock avoid ask k rule found is ss a b o get spared t ei es la lb fit
+pub parts_fit : (stock : Stock) (limits : Limits) (ask : Ask) (k : ℕ) (rule : Rule) (found : Found) (o : Option Fit) → slice_get stock.rules k ≡ Some rule → KeepsTo limits rule.clobbers (kind_cells rule.goal) → takes stock rule ask ≡ Some found → FitsParts stock limits (operands_of found.sites) (cuts_of found.sites) o → IsFit stock limits ask k o
+parts_fit stock limits ask k rule found o get spared t (is, ss, a, b, ei, es, la, lb, fit) = fit_ok stock limits ask k rule found is ss a b o get spared t ei es la lb fit
 
 pub fit_inputs : (P : List OpenOperand → Type 0) (is : List OpenOperand) (ss : List OpenCut) (a b : Option ℕ) (o : Option Fit) → FitOf is ss a b o → P is → IfSome o (λ f. P f.operands.items)
 fit_inputs P is ss a b None h p = tt
@@ -71,15 +72,15 @@ pub fit_stored : (P : List OpenCut → Type 0) (is : List OpenOperand) (ss : Lis
 fit_stored P is ss a b None h p = tt
 fit_stored P is ss a b (Some f) (fi, fs, fa, fb) p = subst P (sym fs) p
 
-pub never_none : (stock : Stock) (avoid : ℕ) (ask : Ask) (n k : ℕ) (o : Option Fit) → IsLeast stock avoid ask (Some n) → IsFit stock avoid ask k o → o ≡ None → NeverBegins stock avoid ask n k
-never_none stock avoid ask n k o least is e = never_by stock avoid ask n k None least (subst (IsFit stock avoid ask k) e is) (λ m f. absurd (cc))
+pub never_none : (stock : Stock) (limits : Limits) (ask : Ask) (n k : ℕ) (o : Option Fit) → IsLeast stock limits ask (Some n) → IsFit stock limits ask k o → o ≡ None → NeverBegins stock limits ask n k
+never_none stock limits ask n k o least is e = never_by stock limits ask n k None least (subst (IsFit stock limits ask k) e is) (λ m f. absurd (cc))
 
-pub never_some : (stock : Stock) (avoid : ℕ) (ask : Ask) (n k c : ℕ) (o : Option Fit) (f : Fit) → IsLeast stock avoid ask (Some n) → IsFit stock avoid ask k o → o ≡ Some f → c ≡ 1 + f.operands_cost + f.cuts_cost → c ≢ n → NeverBegins stock avoid ask n k
-never_some stock avoid ask n k c o f least is e sum differ =
-    let fits : Fits stock avoid ask k (open_operands f.operands.items) (open_cuts f.cuts.items) f.operands_cost f.cuts_cost = subst (IsFit stock avoid ask k) e is in
-    never_by stock avoid ask n k (Some (1 + f.operands_cost + f.cuts_cost)) least (fits_least stock avoid ask k (open_operands f.operands.items) (open_cuts f.cuts.items) f.operands_cost f.cuts_cost fits)
+pub never_some : (stock : Stock) (limits : Limits) (ask : Ask) (n k c : ℕ) (o : Option Fit) (f : Fit) → IsLeast stock limits ask (Some n) → IsFit stock limits ask k o → o ≡ Some f → c ≡ 1 + f.operands_cost + f.cuts_cost → c ≢ n → NeverBegins stock limits ask n k
+never_some stock limits ask n k c o f least is e sum differ =
+    let fits : Fits stock limits ask k (open_operands f.operands.items) (open_cuts f.cuts.items) f.operands_cost f.cuts_cost = subst (IsFit stock limits ask k) e is in
+    never_by stock limits ask n k (Some (1 + f.operands_cost + f.cuts_cost)) least (fits_least stock limits ask k (open_operands f.operands.items) (open_cuts f.cuts.items) f.operands_cost f.cuts_cost fits)
     (λ m g same. differ (let h : 1 + f.operands_cost + f.cuts_cost ≡ m = cc in sum ∙ h ∙ same))
 
-pub fit_form : (stock : Stock) (avoid : ℕ) (ask : Ask) (k : ℕ) (o : Option Fit) → IsFit stock avoid ask k o → IsLeastForm stock avoid ask k (option_map fit_cost o)
-fit_form stock avoid ask k None h = h
-fit_form stock avoid ask k (Some f) h = fits_least stock avoid ask k (open_operands f.operands.items) (open_cuts f.cuts.items) f.operands_cost f.cuts_cost h
+pub fit_form : (stock : Stock) (limits : Limits) (ask : Ask) (k : ℕ) (o : Option Fit) → IsFit stock limits ask k o → IsLeastForm stock limits ask k (option_map fit_cost o)
+fit_form stock limits ask k None h = h
+fit_form stock limits ask k (Some f) h = fits_least stock limits ask k (open_operands f.operands.items) (open_cuts f.cuts.items) f.operands_cost f.cuts_cost h

@@ -1,20 +1,25 @@
 -- Lists of operands and cuts as the code holds them.
 use Rattle.std.proofs.Common.{◌≡◌, ℕ, zero, suc, ◌+◌, ◌-◌, ◌≤◌, List, [], ◌∷◌, length, take, drop, Option, Some, arith, refl, ap, ◌∙◌, subst, Bool, true, false}
-use Rattle.std.specs.Prelude.{slice_get, remove, if◌then◌else◌, ◌==◌}
+use Rattle.std.specs.Prelude.{slice_get, remove, if◌then◌else◌}
 use Rattle.std.specs.Option.{option_map}
 use Rattle.std.proofs.lemmas.List.{take_all}
 use Rattle.std.proofs.lemmas.Option.{slice_get-map}
 use Rattle.net_model.specs.Terms.{Term, size_of}
 use Rattle.form_model.specs.Trees.{tree_term}
+use Rattle.form_model.specs.Rules.{Destination}
+use Rattle.form_model.specs.Matches.{Home, in_register, in_file}
 use Rattle.form_model.specs.Covers.{Stock, Operand}
-use Rattle.cover.specs.declared.slots.Slot.TheVariants.{Register, Temporary}
+use Rattle.cover.specs.declared.limits.Limits.{Limits}
+use Rattle.cover.specs.declared.slots.Slot.TheVariants.{Temporary}
 use Rattle.cover.specs.declared.opened.OpenOperand.{OpenOperand}
 use Rattle.cover.specs.declared.opened.OpenCut.{OpenCut}
-use Rattle.cover.specs.Inner.Asks.{operand_ask, operands_size, rank}
+use Rattle.cover.specs.Inner.Asks.{is_free, operand_ask, operands_size, rank}
 use Rattle.cover.specs.Inner.Least.{IsLeast}
-use Rattle.cover.specs.Inner.Slots.{IsSlot}
+use Rattle.cover.specs.Inner.Slots.{IsLowHome, IsSlot, home_slot}
 use Rattle.cover.specs.Inner.Rows.{row_ask}
 use Rattle.cover.specs.Inner.Jobs.{open_operand, open_operands, open_cuts, OperandsAt, CutsAt}
+use Rattle.cover.proofs.OfferLemmas.{slot_home}
+use Rattle.cover.proofs.SizeLemmas.{eq_self}
 
 pub inputs_at : (is : List OpenOperand) (i : ℕ) (x : OpenOperand) → slice_get is i ≡ Some x → slice_get (open_operands is) i ≡ Some (open_operand x)
 inputs_at is i x h = slice_get-map open_operand is i ∙ ap (option_map open_operand) h
@@ -69,9 +74,28 @@ tail_is (x ∷ ts) = take_all (length (x ∷ ts) - 1) ts (omega arith)
 pub cut_slot : IsSlot false Temporary
 cut_slot = refl
 
-pub rank_le : (n : ℕ) → rank n ≤ 1
-rank_le n = go (n == 0)
+-- an entry of a row for an operand's home
+pub home_entry : (whole : Bool) (home : Home) → IsLowHome home → IsSlot whole (home_slot home)
+home_entry whole (in_register id) h = h
+home_entry whole (in_file shape) h = tt
+
+-- what is asked for it is what is asked for an operand
+pub home_ask : (t : Term) (w : Bool) (x : Operand) → t ≡ x.tree → w ≡ x.whole → row_ask t w (home_slot x.home) ≡ operand_ask x
+home_ask t w x et ew =
+    ap (λ u. row_ask u w (home_slot x.home)) et ∙ ap (λ v. row_ask x.tree v (home_slot x.home)) ew
+    ∙ ap (λ (p : Destination). record { destination = p; tree = x.tree; whole = x.whole }) (slot_home x.home)
+
+pub home_least : (stock : Stock) (limits : Limits) (x : Operand) (o : Option ℕ) → IsLeast stock limits (row_ask x.tree x.whole (home_slot x.home)) o → IsLeast stock limits (operand_ask x) o
+home_least stock limits x o is =
+    subst (λ p. IsLeast stock limits (record { destination = p; tree = x.tree; whole = x.whole }) o) (slot_home x.home) is
+
+pub rank_le : (file : ℕ) (limits : Limits) → rank file limits ≤ 1
+rank_le file limits = go (is_free file limits)
   where
     go : (b : Bool) → (if b then 0 else 1) ≤ 1
     go true = omega arith
     go false = omega arith
+
+-- where all is free
+pub rank_free : (file : ℕ) → rank file (record { avoid = 0; allowed = file }) ≡ 0
+rank_free file = ap (λ b. if b then 0 else 1) (eq_self file)

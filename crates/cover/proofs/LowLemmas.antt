@@ -1,13 +1,13 @@
 -- The registers of the operands that a form's match leaves open occur in the form.
-use Rattle.std.proofs.Common.{◌≡◌, ℕ, ◌<◌, List, [], ◌∷◌, ◌++◌, Option, Some, None, Bool, true, false, refl, sym, ap, subst, inl, inr}
+use Rattle.std.proofs.Common.{◌≡◌, ℕ, List, [], ◌∷◌, ◌++◌, Option, Some, None, Bool, true, false, refl, sym, ap, subst, inl, inr, arith}
 use Rattle.std.specs.Prelude.{if◌then◌else◌, ◌==◌, ◌||◌, ◌&&◌, not}
 use Rattle.net_model.specs.Occurs.{occurs}
 use Rattle.net_model.specs.declared.hardware.Space.TheVariants.{Memory as InMemory, File as InFile}
 use Rattle.net_model.specs.Terms.{Term, word, reg, const, read, un, bin, slice, cat, zext, sext, select, term_width}
 use Rattle.form_model.specs.Trees.{is_number, is_cell}
 use Rattle.form_model.specs.Shapes.{is_shape, shows_below}
-use Rattle.form_model.specs.Rules.{Rule, Kind, into_reg, into_memory, jumps, branches, Destination, into, cell, stored, temporary, tested}
-use Rattle.form_model.specs.Matches.{Site, operand, cut, Found, both, open_if, shape_match, literal_match, cell_match, read_match, slice_match, zext_match, sext_match, matched, address_match, goal_match, taken}
+use Rattle.form_model.specs.Rules.{Rule, Kind, into_reg, into_memory, into_file, branches, Destination, into, filed, cell, stored, temporary, tested}
+use Rattle.form_model.specs.Matches.{Site, in_register, in_file, operand, cut, Found, both, open_if, shape_match, literal_match, cell_match, bin_match, read_match, slice_match, zext_match, sext_match, matched, address_match, goal_match, taken}
 use Rattle.form_model.specs.Registers.{IsLow, IsLowTerm}
 use Rattle.cover.specs.Inner.Matched.{AreLowSites}
 use Rattle.cover.proofs.SizeLemmas.{picked, eq_self, settled_sites, open_sites, shape_sites, literal_sites, both_parts, read_parts, un_parts, bin_parts, slice_parts, zext_parts, sext_parts, either}
@@ -17,7 +17,7 @@ none_low sites e = subst AreLowSites (sym e) tt
 
 low-append : (xs ys : List Site) → AreLowSites xs → AreLowSites ys → AreLowSites (xs ++ ys)
 low-append [] ys h k = k
-low-append (operand id tree whole ∷ xs) ys h k = (h.0, low-append xs ys h.1 k)
+low-append (operand home tree whole ∷ xs) ys h k = (h.0, low-append xs ys h.1 k)
 low-append (cut shape tree ∷ xs) ys h k = low-append xs ys h k
 
 both_low : (a b : Option Found) (found : Found) → both a b ≡ Some found → ((f : Found) → a ≡ Some f → AreLowSites f.sites) → ((g : Found) → b ≡ Some g → AreLowSites g.sites) → AreLowSites found.sites
@@ -43,8 +43,9 @@ matched_low : (temps : ℕ) (e t : Term) (whole : Bool) (found : Found) → matc
 matched_low temps (word w) t whole found h low = none_low found.sites (shape_sites (word w) t found h)
 matched_low temps (const w v) t whole found h low = none_low found.sites (shape_sites (const w v) t found h)
 matched_low temps (reg r w) t whole found h low =
-    subst AreLowSites (sym (open_sites (w == term_width t) (operand r t whole) found h).1) (low r (eq_self r), tt)
-matched_low temps (read InFile a w) t whole found h low = absurd (cc)
+    subst AreLowSites (sym (open_sites (w == term_width t) (operand (in_register r) t whole) found h).1) (low r (eq_self r), tt)
+matched_low temps (read InFile a w) t whole found h low =
+    subst AreLowSites (sym (open_sites (w == term_width t) (operand (in_file a) t whole) found h).1) (omega arith, tt)
 matched_low temps (read InMemory a w) t whole found h low =
     elim (either (is_shape a) (cell_match temps a w t whole) (read_match (matched temps a) w t) found h) [
       | inl c ↦ cell_low temps a w t whole found c
@@ -52,10 +53,13 @@ matched_low temps (read InMemory a w) t whole found h low =
     ]
 matched_low temps (un o a) t whole found h low = let (p, b, e, m) = un_parts (matched temps a) o t found h in matched_low temps a b false found m low
 matched_low temps (bin o a b) t whole found h low =
-    let (p, c, d, e, m) = bin_parts (matched temps a) (matched temps b) o t found h in
-    both_low (matched temps a c false) (matched temps b d false) found m
-    (λ f is. matched_low temps a c false f is (λ q k. low q (left_of (occurs q a) (occurs q b) k)))
-    (λ g is. matched_low temps b d false g is (λ q k. low q (right_of (occurs q a) (occurs q b) k)))
+    elim (either (is_shape (bin o a b)) (shape_match (bin o a b) t) (bin_match (matched temps a) (matched temps b) o t) found h) [
+      | inl s ↦ none_low found.sites (shape_sites (bin o a b) t found s)
+      | inr r ↦ (let (p, c, d, e, m) = bin_parts (matched temps a) (matched temps b) o t found r in
+          both_low (matched temps a c false) (matched temps b d false) found m
+          (λ f is. matched_low temps a c false f is (λ q k. low q (left_of (occurs q a) (occurs q b) k)))
+          (λ g is. matched_low temps b d false g is (λ q k. low q (right_of (occurs q a) (occurs q b) k))))
+    ]
 matched_low temps (slice a hi lo) t whole found h low =
     elim (either (is_shape (slice a hi lo)) (shape_match (slice a hi lo) t) (slice_match (matched temps a) (term_width a) hi lo t) found h) [
       | inl c ↦ none_low found.sites (shape_sites (slice a hi lo) t found c)
@@ -80,10 +84,12 @@ address_low temps (Some a) (cell address) found h low = none_low found.sites (se
 address_low temps (Some a) (stored address) found h low = matched_low temps a address false found h (low a refl)
 address_low temps (Some a) temporary found h low = none_low found.sites (settled_sites (Some 0) found (picked (is_shape a && shows_below a temps) _ found h).1)
 address_low temps (Some a) (into id) found h low = absurd (cc)
+address_low temps (Some a) filed found h low = absurd (cc)
 address_low temps (Some a) tested found h low = absurd (cc)
 
 goal_low : (temps : ℕ) (rule : Rule) (goal : Kind) (destination : Destination) (t : Term) (whole : Bool) (found : Found) → goal_match temps rule goal destination t whole ≡ Some found → IsLow rule → AreLowSites found.sites
 goal_low temps rule (into_reg r) (into id) t whole found h low = matched_low temps rule.value t whole found (picked (r == id) _ found h).1 low.2
+goal_low temps rule into_file filed t whole found h low = matched_low temps rule.value t whole found h low.2
 goal_low temps rule into_memory (cell address) t whole found h low =
     both_low (address_match temps rule.addr (cell address)) (matched temps rule.value t true) found h
     (λ f is. address_low temps rule.addr (cell address) f is low.1) (λ g is. matched_low temps rule.value t true g is low.2)

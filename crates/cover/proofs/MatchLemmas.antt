@@ -1,6 +1,6 @@
 -- The forms that match a tree, and what their matches give.
 use Rattle.std.proofs.Common.{◌≡◌, ◌≢◌, ℕ, zero, suc, ◌+◌, ◌<◌, List, [], ◌∷◌, length, Option, Some, None, Bool, true, false, refl, sym, ap, ◌∙◌, subst, arith, inl, inr}
-use Rattle.std.specs.Prelude.{slice_get, bit_and, IfSome, if◌then◌else◌, ◌==◌, ◌&&◌}
+use Rattle.std.specs.Prelude.{slice_get, IfSome, if◌then◌else◌, ◌==◌, ◌&&◌}
 use Rattle.std.specs.Option.{option_map}
 use Rattle.std.proofs.lemmas.Bool.{cases_eq, cases_lt}
 use Rattle.std.proofs.lemmas.List.{length-map}
@@ -8,25 +8,26 @@ use Rattle.std.proofs.lemmas.Option.{slice_get_within}
 use Rattle.net_model.specs.Terms.{Term, size_of}
 use Rattle.form_model.specs.Trees.{tree_term}
 use Rattle.form_model.specs.Rules.{Rule, rule_of, kind_of, Destination}
-use Rattle.form_model.specs.Matches.{Site, operand, cut, Found, matched, taken}
+use Rattle.form_model.specs.Matches.{in_register, in_file, Site, operand, cut, Found, matched, taken}
 use Rattle.form_model.specs.Plans.{use_form, Operands, Cuts, operands_cost, cuts_cost}
-use Rattle.form_model.specs.Covers.{operands_of, cuts_of}
+use Rattle.form_model.specs.Covers.{operands_of, cuts_of, kind_cells}
 use Rattle.form_model.specs.declared.forms.Form.{Form}
 use Rattle.tree_grammar.specs.declared.parts.Match.{Match}
 use Rattle.tree_grammar.specs.declared.parts.Part.{Part}
 use Rattle.tree_grammar.specs.declared.parts.Part.TheVariants
 use Rattle.tree_grammar.specs.Numbers.{HoldsSubtrees}
-use Rattle.tree_grammar.specs.Parts.{destination_at, found_of, sites_of, AreAt}
+use Rattle.tree_grammar.specs.Parts.{destination_at, home_at, found_of, sites_of, AreAt}
+use Rattle.cover.specs.declared.limits.Limits.{Limits}
 use Rattle.cover.specs.declared.slots.Slot.{Slot}
-use Rattle.cover.specs.declared.slots.Slot.TheVariants.{Register, Temporary}
+use Rattle.cover.specs.declared.slots.Slot.TheVariants.{Register, File, Temporary}
 use Rattle.cover.specs.declared.instance.Instance.{Instance}
 use Rattle.cover.specs.declared.rows.Offer.{Offer}
 use Rattle.cover.specs.declared.rows.Offer.TheVariants.{Nothing, Chains}
 use Rattle.cover.specs.declared.choice.PartCosts.{PartCosts}
 use Rattle.cover.specs.declared.matches.FormMatch.{FormMatch}
-use Rattle.cover.specs.Inner.Asks.{takes, rest, start_under, operands_size, terms_size, rank, IsSparing, AreSparing, AreStored}
+use Rattle.cover.specs.Inner.Asks.{KeepsTo, is_free, takes, rest, start_under, operands_size, terms_size, rank, IsSparing, AreSparing, AreStored}
 use Rattle.cover.specs.Inner.Least.{AtMost, IsLeast, IsLeastOrder, IsLeastCut, IsFloor, IsCostBelow, summed}
-use Rattle.cover.specs.Inner.Slots.{IsEntry, IsSlot, entry_destination, goal_slot}
+use Rattle.cover.specs.Inner.Slots.{IsEntry, IsSlot, entry_destination, goal_slot, home_slot}
 use Rattle.cover.specs.Inner.Rows.{Row, entry, row_ask, IsOffer, offer_is}
 use Rattle.cover.specs.Inner.Jobs.{instance_stock, nodes_of, open_operands, open_cuts}
 use Rattle.cover.specs.Inner.Matched.{rest_at, IsOpened, Takes, IsFormMatch, MatchesForm, with_match, AreFirstMatches}
@@ -43,44 +44,51 @@ use Rattle.cover.proofs.ChoiceLemmas.{never_by, cover_exists}
 
 -- ---- the entry from which a match goes on
 
-pub start_rest : (size : ℕ) (free : Bool) (sites : List Site) → rest size free sites ≡ start_under (rest size true sites) free
-start_rest size free [] = refl
-start_rest size free (operand id tree whole ∷ []) = go (size_of tree == size)
+pub start_rest : (size : ℕ) (all : Bool) (sites : List Site) → rest size all sites ≡ start_under (rest size true sites) all
+start_rest size all [] = refl
+start_rest size all (operand (in_register id) tree whole ∷ []) = go (size_of tree == size)
   where
-    go : (b : Bool) → (if b then Some (Register id) else None) ≡ start_under (if b then Some (Register id) else None) free
+    go : (b : Bool) → (if b then Some (Register id) else None) ≡ start_under (if b then Some (Register id) else None) all
     go true = refl
     go false = refl
-start_rest size free (operand id tree whole ∷ s ∷ sites) = refl
-start_rest size free (cut shape tree ∷ []) = go free (size_of tree == size)
+start_rest size all (operand (in_file shape) tree whole ∷ []) = go (size_of tree == size)
+  where
+    go : (b : Bool) → (if b then Some File else None) ≡ start_under (if b then Some File else None) all
+    go true = refl
+    go false = refl
+start_rest size all (operand home tree whole ∷ s ∷ sites) = refl
+start_rest size all (cut shape tree ∷ []) = go all (size_of tree == size)
   where
     go : (f b : Bool) → (if f && b then Some Temporary else None) ≡ start_under (if b then Some Temporary else None) f
     go true true = refl
     go true false = refl
     go false true = refl
     go false false = refl
-start_rest size free (cut shape tree ∷ s ∷ sites) = refl
+start_rest size all (cut shape tree ∷ s ∷ sites) = refl
 
-start_some : (s : Option Slot) (free : Bool) (q : Slot) → start_under s free ≡ Some q → s ≡ Some q
-start_some None free q h = absurd (cc)
-start_some (Some (Register r)) free q h = h
-start_some (Some Temporary) free q h = (picked free (Some Temporary) q h).1
+start_some : (s : Option Slot) (all : Bool) (q : Slot) → start_under s all ≡ Some q → s ≡ Some q
+start_some None all q h = absurd (cc)
+start_some (Some (Register r)) all q h = h
+start_some (Some File) all q h = h
+start_some (Some Temporary) all q h = (picked all (Some Temporary) q h).1
 
 -- ---- one form
 
 -- what goes on from the tree of this number goes on from the whole tree
 rest_number : (number : ℕ) (t : Term) (parts : List Part) → ((nodes : List Term) → HoldsSubtrees nodes number t → AreAt nodes parts) → rest_at number parts ≡ rest (size_of t) true (sites_of parts)
 rest_number number t [] h = refl
-rest_number number t (TheVariants.Operand id tree whole at ∷ []) h = ap (λ b. if b then Some (Register id) else None) (whole_number number at t (tree_term tree.now) (λ nodes holds. (h nodes holds).0))
+rest_number number t (TheVariants.Operand home tree whole at ∷ []) h = ap (λ b. if b then Some (home_slot (home_at home)) else None) (whole_number number at t (tree_term tree.now) (λ nodes holds. (h nodes holds).0))
 rest_number number t (TheVariants.Cut shape tree at ∷ []) h = ap (λ b. if b then Some Temporary else None) (whole_number number at t (tree_term tree.now) (λ nodes holds. (h nodes holds).0))
-rest_number number t (TheVariants.Operand id tree whole at ∷ p ∷ parts) h = refl
+rest_number number t (TheVariants.Operand home tree whole at ∷ p ∷ parts) h = refl
 rest_number number t (TheVariants.Cut shape tree at ∷ p ∷ parts) h = refl
 
-pub form_match : (instance : Instance) (form : Form) (k : ℕ) (goal : Slot) (t : Term) (whole : Bool) (number : ℕ) (m : Match) (parts : List Part) (x : FormMatch) → slice_get (nodes_of instance) number ≡ Some t → Start instance form k goal t whole m → ((nodes : List Term) → HoldsSubtrees nodes number t → AreAt nodes m.parts.items) → parts ≡ m.parts.items → IsOpened parts number k goal form.clobbers x → IsFormMatch instance t whole x
-form_match instance form k goal t whole number m parts x get s at e o = record {
+pub form_match : (instance : Instance) (form : Form) (k : ℕ) (goal : Slot) (t : Term) (whole : Bool) (number : ℕ) (m : Match) (parts : List Part) (x : FormMatch) → slice_get (nodes_of instance) number ≡ Some t → Start instance form k goal t whole m → ((nodes : List Term) → HoldsSubtrees nodes number t → AreAt nodes m.parts.items) → parts ≡ m.parts.items → (written : ℕ) → written ≡ kind_cells (kind_of form.goal) → IsOpened parts number k goal form.clobbers written x → IsFormMatch instance t whole x
+form_match instance form k goal t whole number m parts x get s at e written cells o = record {
   rule = rule_of form;
   found = found_of m;
   listed = subst (λ j. slice_get (instance_stock instance).rules j ≡ Some (rule_of form)) (sym o.form) s.listed;
   clobbers = sym o.clobbers;
+  cells = sym (o.cells ∙ cells);
   goes = s.goes ∙ ap Some (sym o.goal);
   slot = subst (IsSlot whole) (sym o.goal) s.slot;
   takes_it = subst (λ j. takes (instance_stock instance) (rule_of form) (row_ask t whole j) ≡ Some (found_of m)) (sym o.goal) s.takes_it;
@@ -178,36 +186,39 @@ at_place P list i m get p l get' = let same : m ≡ l = cc in subst P same p
 
 -- ---- what a match gives
 
-module _ (instance : Instance) (avoid : ℕ) (t : Term) (whole : Bool) (m : FormMatch) (f : IsFormMatch instance t whole m) where
-  spared_is : bit_and m.clobbers avoid ≡ 0 → bit_and f.rule.clobbers avoid ≡ 0
-  spared_is e = subst (λ c. bit_and c avoid ≡ 0) (sym f.clobbers) e
+module _ (instance : Instance) (limits : Limits) (t : Term) (whole : Bool) (m : FormMatch) (f : IsFormMatch instance t whole m) where
+  spared_is : KeepsTo limits m.clobbers m.cells → KeepsTo limits f.rule.clobbers (kind_cells f.rule.goal)
+  spared_is e = subst (λ c. KeepsTo limits c (kind_cells f.rule.goal)) (sym f.clobbers) (subst (λ n. KeepsTo limits m.clobbers n) (sym f.cells) e)
 
-  rest_is : (o : Option Slot) → o ≡ start_under m.start (avoid == 0) → rest (size_of t) (avoid == 0) f.found.sites ≡ o
+  kept_is : KeepsTo limits f.rule.clobbers (kind_cells f.rule.goal) → KeepsTo limits m.clobbers m.cells
+  kept_is e = subst (λ n. KeepsTo limits m.clobbers n) f.cells (subst (λ c. KeepsTo limits c (kind_cells f.rule.goal)) f.clobbers e)
+
+  rest_is : (o : Option Slot) → o ≡ start_under m.start (is_free instance.file limits) → rest (size_of t) (is_free instance.file limits) f.found.sites ≡ o
   rest_is o is =
-      start_rest (size_of t) (avoid == 0) f.found.sites ∙ ap (λ s. start_under s (avoid == 0)) (sym f.start) ∙ sym is
+      start_rest (size_of t) (is_free instance.file limits) f.found.sites ∙ ap (λ s. start_under s (is_free instance.file limits)) (sym f.start) ∙ sym is
 
-  pub offer_clobbers : (row : Row) → bit_and m.clobbers avoid ≢ 0 → IsOffer (instance_stock instance) avoid t whole row m.form Nothing
-  offer_clobbers row never = offer_no_spare (instance_stock instance) avoid t whole row m.form f.rule f.listed (λ e. never (subst (λ c. bit_and c avoid ≡ 0) f.clobbers e))
+  pub offer_clobbers : (row : Row) → (KeepsTo limits m.clobbers m.cells → ⊥) → IsOffer (instance_stock instance) limits t whole row m.form Nothing
+  offer_clobbers row never = offer_no_spare (instance_stock instance) limits t whole row m.form f.rule f.listed (λ e. never (kept_is e))
 
-  pub offer_start : (row : Row) (o : Option Slot) (q : Slot) → bit_and m.clobbers avoid ≡ 0 → o ≡ start_under m.start (avoid == 0) → o ≡ Some q → IsOffer (instance_stock instance) avoid t whole row m.form (Chains (record { start = q; goal = m.goal }))
+  pub offer_start : (row : Row) (o : Option Slot) (q : Slot) → KeepsTo limits m.clobbers m.cells → o ≡ start_under m.start (is_free instance.file limits) → o ≡ Some q → IsOffer (instance_stock instance) limits t whole row m.form (Chains (record { start = q; goal = m.goal }))
   offer_start row o q spared is some =
-      let there : m.start ≡ Some q = start_some m.start (avoid == 0) q (sym is ∙ some) in
+      let there : m.start ≡ Some q = start_some m.start (is_free instance.file limits) q (sym is ∙ some) in
       let r : IsEntry q = subst (λ s. IfSome s IsEntry) there f.register in
-      offer_chain (instance_stock instance) avoid t whole row m.form f.rule m.goal q f.found f.listed (spared_is spared) f.goes f.slot f.takes_it (rest_is o is ∙ some) r
+      offer_chain (instance_stock instance) limits t whole row m.form f.rule m.goal q f.found f.listed (spared_is spared) f.goes f.slot f.takes_it (rest_is o is ∙ some) r
 
-  pub match_sizes : (o : Option Slot) → o ≡ start_under m.start (avoid == 0) → o ≡ None → (operands_size (open_operands m.operands.items) < size_of t) × (terms_size (open_cuts m.cuts.items) < size_of t + rank avoid)
+  pub match_sizes : (o : Option Slot) → o ≡ start_under m.start (is_free instance.file limits) → o ≡ None → (operands_size (open_operands m.operands.items) < size_of t) × (terms_size (open_cuts m.cuts.items) < size_of t + rank instance.file limits)
   match_sizes o is none =
       let small = (row_small (instance_stock instance) f.rule t whole m.goal f.found f.slot f.takes_it).1 in
-      let z = rest_small whole t avoid f.found.sites small (rest_is o is ∙ none) in
-      (subst (λ l. operands_size l < size_of t) (sym f.operands) z.0, subst (λ l. terms_size l < size_of t + rank avoid) (sym f.cuts) z.1)
+      let z = rest_small whole t instance.file limits f.found.sites small (rest_is o is ∙ none) in
+      (subst (λ l. operands_size l < size_of t) (sym f.operands) z.0, subst (λ l. terms_size l < size_of t + rank instance.file limits) (sym f.cuts) z.1)
 
-  offer_costs : (row : Row) (a b d : Option ℕ) (offer : Offer) → bit_and m.clobbers avoid ≡ 0 → IsLeastOrder (instance_stock instance) avoid (open_operands m.operands.items) a → IsLeastCut (instance_stock instance) (open_cuts m.cuts.items) b → d ≡ summed (summed (Some 1) a) b → offer ≡ offer_is m.goal d → IsOffer (instance_stock instance) avoid t whole row m.form offer
+  offer_costs : (row : Row) (a b d : Option ℕ) (offer : Offer) → KeepsTo limits m.clobbers m.cells → IsLeastOrder (instance_stock instance) limits (open_operands m.operands.items) a → IsLeastCut (instance_stock instance) (open_cuts m.cuts.items) b → d ≡ summed (summed (Some 1) a) b → offer ≡ offer_is m.goal d → IsOffer (instance_stock instance) limits t whole row m.form offer
   offer_costs row a b d offer spared la lb e el =
-      let form_least = some_form (instance_stock instance) avoid (row_ask t whole m.goal) m.form f.rule f.found a b f.listed (spared_is spared) f.takes_it (subst (λ l. IsLeastOrder (instance_stock instance) avoid l a) f.operands la) (subst (λ l. IsLeastCut (instance_stock instance) l b) f.cuts lb) in
-      subst (IsOffer (instance_stock instance) avoid t whole row m.form) (sym (el ∙ ap (offer_is m.goal) e)) (offer_form (instance_stock instance) avoid t whole row m.form f.rule m.goal (summed (summed (Some 1) a) b) f.listed f.goes f.slot form_least)
+      let form_least = some_form (instance_stock instance) limits (row_ask t whole m.goal) m.form f.rule f.found a b f.listed (spared_is spared) f.takes_it (subst (λ l. IsLeastOrder (instance_stock instance) limits l a) f.operands la) (subst (λ l. IsLeastCut (instance_stock instance) l b) f.cuts lb) in
+      subst (IsOffer (instance_stock instance) limits t whole row m.form) (sym (el ∙ ap (offer_is m.goal) e)) (offer_form (instance_stock instance) limits t whole row m.form f.rule m.goal (summed (summed (Some 1) a) b) f.listed f.goes f.slot form_least)
 
   -- the parts of a cover that begins with the match's form
-  parts_at : (ps : Operands) (cs : Cuts) (r : Slot) → IsSlot whole r → IsSparing (instance_stock instance) avoid (row_ask t whole r) (use_form m.form ps cs) → (m.goal ≡ r) × AreSparing (instance_stock instance) avoid (open_operands m.operands.items) ps × AreStored (instance_stock instance) (open_cuts m.cuts.items) cs
+  parts_at : (ps : Operands) (cs : Cuts) (r : Slot) → IsSlot whole r → IsSparing (instance_stock instance) limits (row_ask t whole r) (use_form m.form ps cs) → (m.goal ≡ r) × AreSparing (instance_stock instance) limits (open_operands m.operands.items) ps × AreStored (instance_stock instance) (open_cuts m.cuts.items) cs
   parts_at ps cs r slot (rule, get, spared, found, is, orders, stored) =
       let l = f.listed in
       let same : rule ≡ f.rule = cc in
@@ -217,29 +228,29 @@ module _ (instance : Instance) (avoid : ℕ) (t : Term) (whole : Bool) (m : Form
       let is' : takes (instance_stock instance) f.rule (row_ask t whole m.goal) ≡ Some found = subst (λ j. takes (instance_stock instance) f.rule (row_ask t whole j) ≡ Some found) (sym at) (subst (λ x. takes (instance_stock instance) x (row_ask t whole r) ≡ Some found) same is) in
       let k = f.takes_it in
       let equal : found ≡ f.found = cc in
-      (at, subst (λ l. AreSparing (instance_stock instance) avoid l ps) (ap (λ (x : Found). operands_of x.sites) equal ∙ sym f.operands) orders, subst (λ l. AreStored (instance_stock instance) l cs) (ap (λ (x : Found). cuts_of x.sites) equal ∙ sym f.cuts) stored)
+      (at, subst (λ l. AreSparing (instance_stock instance) limits l ps) (ap (λ (x : Found). operands_of x.sites) equal ∙ sym f.operands) orders, subst (λ l. AreStored (instance_stock instance) l cs) (ap (λ (x : Found). cuts_of x.sites) equal ∙ sym f.cuts) stored)
 
   -- no cover that begins with the match's form costs less than its parts' floor
-  floor_below : (a b : Option ℕ) (ps : Operands) (cs : Cuts) (r : Slot) → IsFloor (instance_stock instance) avoid (open_operands m.operands.items) a → IsLeastCut (instance_stock instance) (open_cuts m.cuts.items) b → IsSlot whole r → IsSparing (instance_stock instance) avoid (row_ask t whole r) (use_form m.form ps cs) → (m.goal ≡ r) × AtMost (summed (summed (Some 1) a) b) (1 + operands_cost ps + cuts_cost cs)
+  floor_below : (a b : Option ℕ) (ps : Operands) (cs : Cuts) (r : Slot) → IsFloor (instance_stock instance) limits (open_operands m.operands.items) a → IsLeastCut (instance_stock instance) (open_cuts m.cuts.items) b → IsSlot whole r → IsSparing (instance_stock instance) limits (row_ask t whole r) (use_form m.form ps cs) → (m.goal ≡ r) × AtMost (summed (summed (Some 1) a) b) (1 + operands_cost ps + cuts_cost cs)
   floor_below a b ps cs r floor lb slot sparing =
       let p = parts_at ps cs r slot sparing in
       (p.0, both_at_most (summed (Some 1) a) b (1 + operands_cost ps) (cuts_cost cs) (both_at_most (Some 1) a 1 (operands_cost ps) (omega arith) (floor ps p.1)) (lb.least cs p.2))
 
-  offer_dear : (row : Row) (a b d : Option ℕ) → IsFloor (instance_stock instance) avoid (open_operands m.operands.items) a → IsLeastCut (instance_stock instance) (open_cuts m.cuts.items) b → d ≡ summed (summed (Some 1) a) b → ((n : ℕ) → AtMost d n → AtMost (entry row m.goal) n) → IsOffer (instance_stock instance) avoid t whole row m.form Nothing
+  offer_dear : (row : Row) (a b d : Option ℕ) → IsFloor (instance_stock instance) limits (open_operands m.operands.items) a → IsLeastCut (instance_stock instance) (open_cuts m.cuts.items) b → d ≡ summed (summed (Some 1) a) b → ((n : ℕ) → AtMost d n → AtMost (entry row m.goal) n) → IsOffer (instance_stock instance) limits t whole row m.form Nothing
   offer_dear row a b d floor lb e dear = λ ps cs r slot sparing.
       let h = floor_below a b ps cs r floor lb slot sparing in
       subst (λ j. AtMost (entry row j) (1 + operands_cost ps + cuts_cost cs)) h.0 (dear (1 + operands_cost ps + cuts_cost cs) (subst (λ o. AtMost o (1 + operands_cost ps + cuts_cost cs)) (sym e) h.1))
 
-  pub offer_below : (row : Row) (known o : Option ℕ) (offer : Offer) → bit_and m.clobbers avoid ≡ 0 → known ≡ entry row m.goal → IsCostBelow (instance_stock instance) avoid (open_operands m.operands.items) (open_cuts m.cuts.items) known o → offer ≡ offer_is m.goal o → IsOffer (instance_stock instance) avoid t whole row m.form offer
+  pub offer_below : (row : Row) (known o : Option ℕ) (offer : Offer) → KeepsTo limits m.clobbers m.cells → known ≡ entry row m.goal → IsCostBelow (instance_stock instance) limits (open_operands m.operands.items) (open_cuts m.cuts.items) known o → offer ≡ offer_is m.goal o → IsOffer (instance_stock instance) limits t whole row m.form offer
   offer_below row known o offer spared e (inl x) is = offer_costs row x.operands x.cuts o offer spared x.order x.cut x.sum is
   offer_below row known o offer spared e (inr (none, x)) is =
-      subst (IsOffer (instance_stock instance) avoid t whole row m.form) (sym (is ∙ ap (offer_is m.goal) none))
+      subst (IsOffer (instance_stock instance) limits t whole row m.form) (sym (is ∙ ap (offer_is m.goal) none))
       (offer_dear row x.operands x.cuts (summed (summed (Some 1) x.operands) x.cuts) x.floor x.cut refl (λ n h. subst (λ k. AtMost k n) e (x.dear n h)))
 
   -- ---- covers of one cost
 
-  module _ (slot : Slot) (n : ℕ) (is_slot : IsSlot whole slot) (least : IsLeast (instance_stock instance) avoid (row_ask t whole slot) (Some n)) where
-    pub other_goal : m.goal ≢ slot → NeverBegins (instance_stock instance) avoid (row_ask t whole slot) n m.form
+  module _ (slot : Slot) (n : ℕ) (is_slot : IsSlot whole slot) (least : IsLeast (instance_stock instance) limits (row_ask t whole slot) (Some n)) where
+    pub other_goal : m.goal ≢ slot → NeverBegins (instance_stock instance) limits (row_ask t whole slot) n m.form
     other_goal differ ps cs (rule, get, spared, found, is, orders, stored) e =
         let l = f.listed in
         let same : rule ≡ f.rule = cc in
@@ -247,14 +258,14 @@ module _ (instance : Instance) (avoid : ℕ) (t : Term) (whole : Bool) (m : Form
         let h = f.goes in
         differ (cc)
 
-    pub other_clobbers : bit_and m.clobbers avoid ≢ 0 → NeverBegins (instance_stock instance) avoid (row_ask t whole slot) n m.form
+    pub other_clobbers : (KeepsTo limits m.clobbers m.cells → ⊥) → NeverBegins (instance_stock instance) limits (row_ask t whole slot) n m.form
     other_clobbers never ps cs (rule, get, spared, found, is, orders, stored) e =
         let l = f.listed in
         let same : rule ≡ f.rule = cc in
-        never (subst (λ c. bit_and c avoid ≡ 0) (ap (λ (r : Rule). r.clobbers) same ∙ f.clobbers) spared)
+        never (kept_is (subst (λ (r : Rule). KeepsTo limits r.clobbers (kind_cells r.goal)) same spared))
 
     -- a cover by a form whose floor is above n doesn't cost n
-    never_above : (a b d : Option ℕ) → IsFloor (instance_stock instance) avoid (open_operands m.operands.items) a → IsLeastCut (instance_stock instance) (open_cuts m.cuts.items) b → d ≡ summed (summed (Some 1) a) b → (AtMost d n → ⊥) → NeverBegins (instance_stock instance) avoid (row_ask t whole slot) n m.form
+    never_above : (a b d : Option ℕ) → IsFloor (instance_stock instance) limits (open_operands m.operands.items) a → IsLeastCut (instance_stock instance) (open_cuts m.cuts.items) b → d ≡ summed (summed (Some 1) a) b → (AtMost d n → ⊥) → NeverBegins (instance_stock instance) limits (row_ask t whole slot) n m.form
     never_above a b d floor lb e above ps cs sparing at =
         let h = floor_below a b ps cs slot floor lb is_slot sparing in
         above (subst (λ o. AtMost o n) (sym e) (subst (AtMost (summed (summed (Some 1) a) b)) at h.1))
@@ -264,11 +275,11 @@ module _ (instance : Instance) (avoid : ℕ) (t : Term) (whole : Bool) (m : Form
     two_of (Some j) None x h = absurd (cc)
     two_of (Some j) (Some k) x h = let e : 1 + j + k ≡ x = cc in (j, k, refl, refl, sym e)
 
-    costs_begin : (a b : Option ℕ) (o : Option PartCosts) → m.goal ≡ slot → bit_and m.clobbers avoid ≡ 0 → IsLeastOrder (instance_stock instance) avoid (open_operands m.operands.items) a → IsLeastCut (instance_stock instance) (open_cuts m.cuts.items) b → CostsOf n a b o → BeginsOne (instance_stock instance) avoid (row_ask t whole slot) n m o
+    costs_begin : (a b : Option ℕ) (o : Option PartCosts) → m.goal ≡ slot → KeepsTo limits m.clobbers m.cells → IsLeastOrder (instance_stock instance) limits (open_operands m.operands.items) a → IsLeastCut (instance_stock instance) (open_cuts m.cuts.items) b → CostsOf n a b o → BeginsOne (instance_stock instance) limits (row_ask t whole slot) n m o
     costs_begin a b None at spared la lb differ =
         let takes' : takes (instance_stock instance) f.rule (row_ask t whole slot) ≡ Some f.found = subst (λ j. takes (instance_stock instance) f.rule (row_ask t whole j) ≡ Some f.found) at f.takes_it in
-        never_by (instance_stock instance) avoid (row_ask t whole slot) n m.form (summed (summed (Some 1) a) b) least
-        (some_form (instance_stock instance) avoid (row_ask t whole slot) m.form f.rule f.found a b f.listed (spared_is spared) takes' (subst (λ l. IsLeastOrder (instance_stock instance) avoid l a) f.operands la) (subst (λ l. IsLeastCut (instance_stock instance) l b) f.cuts lb))
+        never_by (instance_stock instance) limits (row_ask t whole slot) n m.form (summed (summed (Some 1) a) b) least
+        (some_form (instance_stock instance) limits (row_ask t whole slot) m.form f.rule f.found a b f.listed (spared_is spared) takes' (subst (λ l. IsLeastOrder (instance_stock instance) limits l a) f.operands la) (subst (λ l. IsLeastCut (instance_stock instance) l b) f.cuts lb))
         (λ x e same. (let p = two_of a b x e in differ p.0 p.1 p.2 p.3 (sym p.4 ∙ same)))
     costs_begin a b (Some c) at spared la lb (ea, eb, sum) = (
       record {
@@ -279,39 +290,39 @@ module _ (instance : Instance) (avoid : ℕ) (t : Term) (whole : Bool) (m : Form
         takes_it = subst (λ j. takes (instance_stock instance) f.rule (row_ask t whole j) ≡ Some f.found) at f.takes_it;
         operands_are = f.operands;
         cuts_are = f.cuts;
-        order = subst (IsLeastOrder (instance_stock instance) avoid (open_operands m.operands.items)) ea la;
+        order = subst (IsLeastOrder (instance_stock instance) limits (open_operands m.operands.items)) ea la;
         cut = subst (IsLeastCut (instance_stock instance) (open_cuts m.cuts.items)) eb lb;
       },
       sum,
     )
 
-    pub begins_within : (o : Option PartCosts) → m.goal ≡ slot → bit_and m.clobbers avoid ≡ 0 → CostsWithin (instance_stock instance) avoid (open_operands m.operands.items) (open_cuts m.cuts.items) n o → BeginsOne (instance_stock instance) avoid (row_ask t whole slot) n m o
+    pub begins_within : (o : Option PartCosts) → m.goal ≡ slot → KeepsTo limits m.clobbers m.cells → CostsWithin (instance_stock instance) limits (open_operands m.operands.items) (open_cuts m.cuts.items) n o → BeginsOne (instance_stock instance) limits (row_ask t whole slot) n m o
     begins_within o at spared (inl x) = costs_begin x.operands x.cuts o at spared x.order x.cut x.costs
     begins_within o at spared (inr (none, x)) =
-        subst (BeginsOne (instance_stock instance) avoid (row_ask t whole slot) n m) (sym none)
+        subst (BeginsOne (instance_stock instance) limits (row_ask t whole slot) n m) (sym none)
         (never_above x.operands x.cuts (summed (summed (Some 1) x.operands) x.cuts) x.floor x.cut refl x.above)
 
 -- ---- the first match that begins a cover of one cost
 
-module _ (instance : Instance) (avoid : ℕ) (t : Term) (whole : Bool) (slot : Slot) (n : ℕ) (list : List FormMatch) (is_slot : IsSlot whole slot) (h : AreFirstMatches instance t whole (length instance.forms.now) list) where
-  pub never_before : (i : ℕ) (m : FormMatch) → slice_get list i ≡ Some m → ((l : ℕ) (g : FormMatch) → l < i → slice_get list l ≡ Some g → NeverBegins (instance_stock instance) avoid (row_ask t whole slot) n g.form) → (j : ℕ) → j < m.form → NeverBegins (instance_stock instance) avoid (row_ask t whole slot) n j
+module _ (instance : Instance) (limits : Limits) (t : Term) (whole : Bool) (slot : Slot) (n : ℕ) (list : List FormMatch) (is_slot : IsSlot whole slot) (h : AreFirstMatches instance t whole (length instance.forms.now) list) where
+  pub never_before : (i : ℕ) (m : FormMatch) → slice_get list i ≡ Some m → ((l : ℕ) (g : FormMatch) → l < i → slice_get list l ≡ Some g → NeverBegins (instance_stock instance) limits (row_ask t whole slot) n g.form) → (j : ℕ) → j < m.form → NeverBegins (instance_stock instance) limits (row_ask t whole slot) n j
   never_before i m here never j lt ps cs (rule, get, spared, found, is, orders, stored) e =
       let (l, g, got, same) = matches_all instance t whole list h j (record { entry = slot; slot = is_slot; rule = rule; found = found; listed = get; takes_it = is }) in
       elim (cases_lt l i) [
-        | inl less ↦ never l g less got ps cs (subst (λ x. IsSparing (instance_stock instance) avoid (row_ask t whole slot) (use_form x ps cs)) (sym same) (rule, get, spared, found, is, orders, stored)) e
+        | inl less ↦ never l g less got ps cs (subst (λ x. IsSparing (instance_stock instance) limits (row_ask t whole slot) (use_form x ps cs)) (sym same) (rule, get, spared, found, is, orders, stored)) e
         | inr ge ↦ elim (cases_eq i l) [
           | inl at ↦ (let got' : slice_get list i ≡ Some g = subst (λ x. slice_get list x ≡ Some g) (sym at) got in let equal : g ≡ m = cc in let x = ap (λ (y : FormMatch). y.form) equal in absurd (omega (arith, x, same, lt)))
           | inr other ↦ (let x = h.ordered i l m g (omega arith) here got in absurd (omega (arith, x, same, lt)))
         ]
       ]
 
-  pub some_match : IsLeast (instance_stock instance) avoid (row_ask t whole slot) (Some n) → ((l : ℕ) (g : FormMatch) → l < length list → slice_get list l ≡ Some g → NeverBegins (instance_stock instance) avoid (row_ask t whole slot) n g.form) → ⊥
-  some_match least never = cover_exists (instance_stock instance) avoid (row_ask t whole slot) n least go
+  pub some_match : IsLeast (instance_stock instance) limits (row_ask t whole slot) (Some n) → ((l : ℕ) (g : FormMatch) → l < length list → slice_get list l ≡ Some g → NeverBegins (instance_stock instance) limits (row_ask t whole slot) n g.form) → ⊥
+  some_match least never = cover_exists (instance_stock instance) limits (row_ask t whole slot) n least go
     where
-      go : (j : ℕ) → j < length (instance_stock instance).rules → NeverBegins (instance_stock instance) avoid (row_ask t whole slot) n j
+      go : (j : ℕ) → j < length (instance_stock instance).rules → NeverBegins (instance_stock instance) limits (row_ask t whole slot) n j
       go j lt ps cs (rule, get, spared, found, is, orders, stored) e =
           let (l, g, got, same) = matches_all instance t whole list h j (record { entry = slot; slot = is_slot; rule = rule; found = found; listed = get; takes_it = is }) in
-          never l g (slice_get_within list l g got) got ps cs (subst (λ x. IsSparing (instance_stock instance) avoid (row_ask t whole slot) (use_form x ps cs)) (sym same) (rule, get, spared, found, is, orders, stored)) e
+          never l g (slice_get_within list l g got) got ps cs (subst (λ x. IsSparing (instance_stock instance) limits (row_ask t whole slot) (use_form x ps cs)) (sym same) (rule, get, spared, found, is, orders, stored)) e
 
 -- what holds of the matches before i, and of that at i, holds of those before i + 1
 pub matches_later : (P : ℕ → Type 0) (list : List FormMatch) (i : ℕ) → ((l : ℕ) (g : FormMatch) → l < i → slice_get list l ≡ Some g → P g.form) → ((g : FormMatch) → slice_get list i ≡ Some g → P g.form) → (l : ℕ) (g : FormMatch) → l < i + 1 → slice_get list l ≡ Some g → P g.form

@@ -10,7 +10,7 @@ use Rattle.tree_grammar.specs.Parts.{Stands}
 use Rattle.tree_grammar.proofs.NumberLemmas.{size_length, holds_here}
 use Rattle.tree_sharing.proofs.NodeLemmas.{get_split, get_right, whole_tree, from_start}
 use Rattle.cover.specs.declared.slots.Slot.{Slot}
-use Rattle.cover.specs.declared.slots.Slot.TheVariants.{Register, Temporary}
+use Rattle.cover.specs.declared.slots.Slot.TheVariants.{Register, File, Temporary}
 use Rattle.cover.specs.declared.opened.OpenOperand.{OpenOperand}
 use Rattle.form_model.specs.Trees.{tree_term}
 use Rattle.cover.specs.Inner.Slots.{entry_destination}
@@ -19,6 +19,7 @@ use Rattle.cover.proofs.SizeLemmas.{size_pos}
 
 pub slot_stands : (nodes : List Term) (n : ℕ) (s : Slot) (t : Term) → HoldsSubtrees nodes n t → Stands nodes n (entry_destination s) t
 slot_stands nodes n (Register r) t h = record { address = tt; value = h }
+slot_stands nodes n File t h = record { address = tt; value = h }
 slot_stands nodes n Temporary t h = record { address = tt; value = h }
 
 -- ---- the number of the whole tree

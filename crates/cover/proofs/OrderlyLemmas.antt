@@ -1,11 +1,14 @@
--- A cover that spares a set is an orderly cover whose written set is apart from it.
-use Rattle.std.proofs.Common.{◌≡◌, ℕ, ◌^◌, List, sym, ap, ◌∙◌, arith}
-use Rattle.std.specs.Prelude.{bit_and, bit_or, remove}
+-- A cover that keeps to limits is an orderly cover whose written set is apart from what is to be
+-- avoided, and which needs no more cells of the file than are allowed.
+use Rattle.std.proofs.Common.{◌≡◌, ℕ, ◌+◌, ◌≤◌, max, List, sym, ap, subst, ◌∙◌, arith}
+use Rattle.std.specs.Prelude.{bit_and, bit_or, remove, slice_get}
 use Rattle.std.proofs.lemmas.Nat.{and_le_l, and_le_r, and_comm, or_comm, and_or_self, and_or_apart, and_assoc}
 use Rattle.net_model.specs.Terms.{Term}
 use Rattle.form_model.specs.Plans.{Plan, use_form, Operands, no_operands, operand_then, Cuts, no_cuts, cut_then}
-use Rattle.form_model.specs.Covers.{Stock, Operand, form_clobbers, written, all_written, IsOrderly, AreOrderly, AreCut}
-use Rattle.cover.specs.Inner.Asks.{Ask, operand_ask, cut_ask, with_reg, IsSparing, AreSparing, AreStored}
+use Rattle.form_model.specs.Covers.{Stock, Operand, home_set, form_cells, left_cells, need, operands_need, form_clobbers, written, all_written, IsOrderly, AreOrderly, AreCut}
+use Rattle.form_model.proofs.NeedLaws.{cells_left, left_need}
+use Rattle.cover.specs.declared.limits.Limits.{Limits}
+use Rattle.cover.specs.Inner.Asks.{Ask, operand_ask, cut_ask, free, after, IsSparing, AreSparing, AreStored}
 
 zero_and : (a : ℕ) → bit_and 0 a ≡ 0
 zero_and a = let h = and_le_l 0 a in omega (arith, h)
@@ -30,51 +33,86 @@ apart_right a b s h = apart_left b a s (ap (λ x. bit_and x s) (or_comm b a) ∙
 pub apart_both : (a b s : ℕ) → bit_and a s ≡ 0 → bit_and b s ≡ 0 → bit_and (bit_or a b) s ≡ 0
 apart_both a b s ha hb = and_or_apart s a b hb ∙ ha
 
+max_within : (a b n : ℕ) → a ≤ n → b ≤ n → max a b ≤ n
+max_within a b n h k = omega (arith, h, k)
+
+within_left : (a b n : ℕ) → max a b ≤ n → a ≤ n
+within_left a b n h = omega (arith, h)
+
+within_right : (a b n : ℕ) → max a b ≤ n → b ≤ n
+within_right a b n h = omega (arith, h)
+
+-- a cover that keeps to limits: it writes nothing that is to be avoided, and needs no more cells of
+-- the file than are allowed
+abbrev pub Kept : Stock → Limits → Plan → Type 0
+Kept stock limits p = (bit_and (written stock.rules p) limits.avoid ≡ 0) × (need stock.rules p ≤ limits.allowed)
+
+abbrev pub AllKept : Stock → Limits → Operands → Type 0
+AllKept stock limits ps =
+    (bit_and (all_written stock.rules ps) limits.avoid ≡ 0) × (operands_need stock.rules ps ≤ limits.allowed)
+
 mutual
-  pub to_orderly : (stock : Stock) (p : Plan) (ask : Ask) (avoid : ℕ) → IsSparing stock avoid ask p → IsOrderly stock ask.destination ask.tree ask.whole p × (bit_and (written stock.rules p) avoid ≡ 0)
-  to_orderly stock (use_form k ps cs) ask avoid (rule, listed, spared, found, m, orders, stored) =
-      let (orderly, apart) = to_all stock ps _ avoid orders in (
+  pub to_orderly : (stock : Stock) (p : Plan) (ask : Ask) (limits : Limits) → IsSparing stock limits ask p → IsOrderly stock ask.destination ask.tree ask.whole p × Kept stock limits p
+  to_orderly stock (use_form k ps cs) ask limits (rule, listed, spared, found, m, orders, stored) =
+      let (orderly, kept) = to_all stock ps _ limits orders in (
         (rule, listed, found, m, orderly, to_cut stock cs _ stored),
-        apart_both _ _ avoid (ap (λ o. bit_and (form_clobbers o) avoid) listed ∙ spared) apart,
+        (
+          apart_both _ _ limits.avoid (ap (λ o. bit_and (form_clobbers o) limits.avoid) listed ∙ spared.0) kept.0,
+          max_within _ _ _ (subst (λ o. form_cells o ≤ limits.allowed) (sym listed) spared.1) kept.1,
+        ),
       )
 
-  to_all : (stock : Stock) (ps : Operands) (ops : List Operand) (avoid : ℕ) → AreSparing stock avoid ops ps → AreOrderly stock ops ps × (bit_and (all_written stock.rules ps) avoid ≡ 0)
-  to_all stock no_operands ops avoid e = (e, zero_and avoid)
-  to_all stock (operand_then i p ps) ops avoid (o, get, sparing, orders) =
-      let (orderly, apart) = to_orderly stock p (operand_ask o) avoid sparing in
-      let (rest, apart') = to_all stock ps (remove ops i) (with_reg avoid o.id) orders in
-      let a : bit_and (bit_or avoid (2 ^ o.id)) (all_written stock.rules ps) ≡ 0 = and_comm _ _ ∙ apart' in (
-        (o, get, orderly, and_comm _ _ ∙ apart_right avoid (2 ^ o.id) _ a, rest),
-        apart_both _ _ avoid apart (and_comm _ _ ∙ apart_left avoid (2 ^ o.id) _ a),
+  to_all : (stock : Stock) (ps : Operands) (ops : List Operand) (limits : Limits) → AreSparing stock limits ops ps → AreOrderly stock ops ps × AllKept stock limits ps
+  to_all stock no_operands ops limits e = (e, (zero_and limits.avoid, omega arith))
+  to_all stock (operand_then i p ps) ops limits (o, get, sparing, orders) =
+      let (orderly, kept) = to_orderly stock p (operand_ask o) limits sparing in
+      let (rest, later) = to_all stock ps (remove ops i) (after limits o.home) orders in
+      let few = kept.1 in
+      let few' = later.1 in
+      let a : bit_and (bit_or limits.avoid (home_set o.home)) (all_written stock.rules ps) ≡ 0 = and_comm _ _ ∙ later.0 in
+      let left = cells_left stock p o.home o.tree o.whole orderly in
+      let mine = left_need stock p in (
+        (o, get, orderly, and_comm _ _ ∙ apart_right limits.avoid (home_set o.home) _ a, rest),
+        (
+          apart_both _ _ limits.avoid kept.0 (and_comm _ _ ∙ apart_left limits.avoid (home_set o.home) _ a),
+          max_within _ _ _ few (omega (arith, few, few', left, mine)),
+        ),
       )
 
   to_cut : (stock : Stock) (cs : Cuts) (ts : List Term) → AreStored stock ts cs → AreCut stock ts cs
   to_cut stock no_cuts ts e = e
-  to_cut stock (cut_then p cs) ts (t, us, e, sparing, stored) = (t, us, e, (to_orderly stock p (cut_ask t) 0 sparing).0, to_cut stock cs us stored)
+  to_cut stock (cut_then p cs) ts (t, us, e, sparing, stored) =
+      let (orderly, kept) = to_orderly stock p (cut_ask t) (free stock) sparing in
+      (t, us, e, orderly, kept.1, to_cut stock cs us stored)
 
 mutual
-  pub from_orderly : (stock : Stock) (p : Plan) (ask : Ask) (avoid : ℕ) → IsOrderly stock ask.destination ask.tree ask.whole p → bit_and (written stock.rules p) avoid ≡ 0 → IsSparing stock avoid ask p
-  from_orderly stock (use_form k ps cs) ask avoid (rule, listed, found, m, orderly, stored) apart = (
+  pub from_orderly : (stock : Stock) (p : Plan) (ask : Ask) (limits : Limits) → IsOrderly stock ask.destination ask.tree ask.whole p → Kept stock limits p → IsSparing stock limits ask p
+  from_orderly stock (use_form k ps cs) ask limits (rule, listed, found, m, orderly, stored) (apart, few) = (
     rule,
     listed,
-    ap (λ o. bit_and (form_clobbers o) avoid) (sym listed) ∙ apart_left _ _ avoid apart,
+    (
+      ap (λ o. bit_and (form_clobbers o) limits.avoid) (sym listed) ∙ apart_left _ _ limits.avoid apart,
+      subst (λ o. form_cells o ≤ limits.allowed) listed (within_left (form_cells (slice_get stock.rules k)) (operands_need stock.rules ps) _ few),
+    ),
     found,
     m,
-    from_all stock ps _ avoid orderly (apart_right _ _ avoid apart),
+    from_all stock ps _ limits orderly (apart_right _ _ limits.avoid apart, within_right (form_cells (slice_get stock.rules k)) (operands_need stock.rules ps) _ few),
     from_cut stock cs _ stored,
   )
 
-  from_all : (stock : Stock) (ps : Operands) (ops : List Operand) (avoid : ℕ) → AreOrderly stock ops ps → bit_and (all_written stock.rules ps) avoid ≡ 0 → AreSparing stock avoid ops ps
-  from_all stock no_operands ops avoid e apart = e
-  from_all stock (operand_then i p ps) ops avoid (o, get, orderly, free, rest) apart =
-      let mine = apart_right (written stock.rules p) (all_written stock.rules ps) avoid apart in
-      let both = apart_both avoid (2 ^ o.id) (all_written stock.rules ps) (and_comm _ _ ∙ mine) (and_comm _ _ ∙ free) in (
+  from_all : (stock : Stock) (ps : Operands) (ops : List Operand) (limits : Limits) → AreOrderly stock ops ps → AllKept stock limits ps → AreSparing stock limits ops ps
+  from_all stock no_operands ops limits e kept = e
+  from_all stock (operand_then i p ps) ops limits (o, get, orderly, spared, rest) (apart, few) =
+      let mine = apart_right (written stock.rules p) (all_written stock.rules ps) limits.avoid apart in
+      let both = apart_both limits.avoid (home_set o.home) (all_written stock.rules ps) (and_comm _ _ ∙ mine) (and_comm _ _ ∙ spared) in
+      let left = cells_left stock p o.home o.tree o.whole orderly in
+      let fits = within_right (need stock.rules p) (left_cells stock.rules p + operands_need stock.rules ps) limits.allowed few in (
         o,
         get,
-        from_orderly stock p (operand_ask o) avoid orderly (apart_left (written stock.rules p) (all_written stock.rules ps) avoid apart),
-        from_all stock ps (remove ops i) (with_reg avoid o.id) rest (and_comm _ _ ∙ both),
+        from_orderly stock p (operand_ask o) limits orderly (apart_left (written stock.rules p) (all_written stock.rules ps) limits.avoid apart, within_left (need stock.rules p) (left_cells stock.rules p + operands_need stock.rules ps) limits.allowed few),
+        from_all stock ps (remove ops i) (after limits o.home) rest (and_comm _ _ ∙ both, omega (arith, fits, left)),
       )
 
   from_cut : (stock : Stock) (cs : Cuts) (ts : List Term) → AreCut stock ts cs → AreStored stock ts cs
   from_cut stock no_cuts ts e = e
-  from_cut stock (cut_then p cs) ts (t, us, e, orderly, stored) = (t, us, e, from_orderly stock p (cut_ask t) 0 orderly (and_zero (written stock.rules p)), from_cut stock cs us stored)
+  from_cut stock (cut_then p cs) ts (t, us, e, orderly, few, stored) = (t, us, e, from_orderly stock p (cut_ask t) (free stock) orderly (and_zero (written stock.rules p), few), from_cut stock cs us stored)

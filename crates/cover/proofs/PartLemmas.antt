@@ -24,7 +24,7 @@ take_get xs i x h = (let e : i + 1 ≡ suc i = omega arith in ap (λ n. take n x
 
 operands-append : (xs ys : List Site) → operands_of (xs ++ ys) ≡ operands_of xs ++ operands_of ys
 operands-append [] ys = refl
-operands-append (operand id tree whole ∷ xs) ys = ap (λ l. record { id = id; tree = tree; whole = whole } ∷ l) (operands-append xs ys)
+operands-append (operand id tree whole ∷ xs) ys = ap (λ l. record { home = id; tree = tree; whole = whole } ∷ l) (operands-append xs ys)
 operands-append (cut shape tree ∷ xs) ys = operands-append xs ys
 
 cuts-append : (xs ys : List Site) → cuts_of (xs ++ ys) ≡ cuts_of xs ++ cuts_of ys

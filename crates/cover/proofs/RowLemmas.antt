@@ -6,6 +6,7 @@ use Rattle.std.proofs.lemmas.Bool.{cases_eq}
 use Rattle.std.proofs.lemmas.List.Sums.{sum_by-set}
 use Rattle.net_model.specs.Terms.{Term}
 use Rattle.form_model.specs.Covers.{Stock}
+use Rattle.cover.specs.declared.limits.Limits.{Limits}
 use Rattle.cover.specs.declared.slots.Slot.{Slot}
 use Rattle.cover.specs.declared.rows.ChainRule.{ChainRule}
 use Rattle.cover.specs.Inner.Least.{AtMost, Reached}
@@ -31,7 +32,7 @@ lighter : (o : Option ℕ) (m : ℕ) → m < 2 ^ 64 → IsBelow m o → m < weig
 lighter None m h b = h
 lighter (Some k) m h b = b
 
-moved_weight : (m : ChainRule) (old new : Row) → length old ≡ 17 → IsEntry m.goal → Chained m true old new → weight_of new < weight_of old
+moved_weight : (m : ChainRule) (old new : Row) → length old ≡ 18 → IsEntry m.goal → Chained m true old new → weight_of new < weight_of old
 moved_weight m old new len fits (c, at, small, below, e) =
     let p = place_within m.goal fits in
     let within : place m.goal < length old = omega (arith, len, p) in
@@ -40,7 +41,7 @@ moved_weight m old new len fits (c, at, small, below, e) =
     let w : weight_of new ≡ weight_of (slice_set old (place m.goal) (Some (c + 1))) = ap weight_of e in
     omega (arith, s, l, w)
 
-moved_lower : (m : ChainRule) (old new : Row) → length old ≡ 17 → IsEntry m.goal → Chained m true old new → Lower old new
+moved_lower : (m : ChainRule) (old new : Row) → length old ≡ 18 → IsEntry m.goal → Chained m true old new → Lower old new
 moved_lower m old new len fits (c, at, small, below, e) q n h =
     let p = place_within m.goal fits in
     let within : place m.goal < length old = omega (arith, len, p) in
@@ -51,19 +52,19 @@ moved_lower m old new len fits (c, at, small, below, e) q n h =
       | inr other ↦ subst (λ o. AtMost o n) (sym (entry_other old m.goal q (Some (c + 1)) other)) h
     ])
 
-move_reached : (stock : Stock) (avoid : ℕ) (tree : Term) (whole : Bool) (m : ChainRule) (c : ℕ) → IsLift stock avoid tree whole m → Reached stock avoid (row_ask tree whole m.start) (Some c) → Reached stock avoid (row_ask tree whole m.goal) (Some (c + 1))
-move_reached stock avoid tree whole m c is (p, sparing, e) = let (q, sparing', e') = is.lift p sparing in (q, sparing', omega (arith, e, e'))
+move_reached : (stock : Stock) (limits : Limits) (tree : Term) (whole : Bool) (m : ChainRule) (c : ℕ) → IsLift stock limits tree whole m → Reached stock limits (row_ask tree whole m.start) (Some c) → Reached stock limits (row_ask tree whole m.goal) (Some (c + 1))
+move_reached stock limits tree whole m c is (p, sparing, e) = let (q, sparing', e') = is.lift p sparing in (q, sparing', omega (arith, e, e'))
 
-moved_sound : (chains : List ChainRule) (i : ℕ) (m : ChainRule) (old new : Row) → slice_get chains i ≡ Some m → length old ≡ 17 → IsEntry m.goal → Chained m true old new → Keeps chains old new
-moved_sound chains i m old new get len fits (c, at, small, below, e) stock avoid tree whole lifts sound q slot =
+moved_sound : (chains : List ChainRule) (i : ℕ) (m : ChainRule) (old new : Row) → slice_get chains i ≡ Some m → length old ≡ 18 → IsEntry m.goal → Chained m true old new → Keeps chains old new
+moved_sound chains i m old new get len fits (c, at, small, below, e) stock limits tree whole lifts sound q slot =
     let p = place_within m.goal fits in
     let within : place m.goal < length old = omega (arith, len, p) in
-    subst (λ row. Reached stock avoid (row_ask tree whole q) (entry row q)) (sym e)
+    subst (λ row. Reached stock limits (row_ask tree whole q) (entry row q)) (sym e)
     (elim (cases_eq (place q) (place m.goal)) [
-      | inl same ↦ subst (λ j. Reached stock avoid (row_ask tree whole j) (entry (slice_set old (place m.goal) (Some (c + 1))) j)) (sym (place_once q m.goal (slot_entry whole q slot) fits same))
-          (subst (λ o. Reached stock avoid (row_ask tree whole m.goal) o) (sym (entry_same old m.goal (Some (c + 1)) within))
-          (move_reached stock avoid tree whole m c (lifts i m get) (subst (λ o. Reached stock avoid (row_ask tree whole m.start) o) at (sound m.start (lifts i m get).start))))
-      | inr other ↦ subst (λ o. Reached stock avoid (row_ask tree whole q) o) (sym (entry_other old m.goal q (Some (c + 1)) other)) (sound q slot)
+      | inl same ↦ subst (λ j. Reached stock limits (row_ask tree whole j) (entry (slice_set old (place m.goal) (Some (c + 1))) j)) (sym (place_once q m.goal (slot_entry whole q slot) fits same))
+          (subst (λ o. Reached stock limits (row_ask tree whole m.goal) o) (sym (entry_same old m.goal (Some (c + 1)) within))
+          (move_reached stock limits tree whole m c (lifts i m get) (subst (λ o. Reached stock limits (row_ask tree whole m.start) o) at (sound m.start (lifts i m get).start))))
+      | inr other ↦ subst (λ o. Reached stock limits (row_ask tree whole q) o) (sym (entry_other old m.goal q (Some (c + 1)) other)) (sound q slot)
     ])
 
 no_heavier : (chains : List ChainRule) (n : ℕ) (changed : Bool) (old mid : Row) → Changed chains n changed old mid → weight_of mid ≤ weight_of old
@@ -71,11 +72,11 @@ no_heavier chains n true old mid h = omega arith
 no_heavier chains n false old mid h = let e = ap weight_of h.0 in omega (arith, e)
 
 pub swept_none : (chains : List ChainRule) (row : Row) → Swept chains 0 false row row
-swept_none chains row = record { sound = λ stock avoid tree whole lifts h. h; lower = λ r n h. h; change = (refl, λ i m c lt. absurd (omega arith)) }
+swept_none chains row = record { sound = λ stock limits tree whole lifts h. h; lower = λ r n h. h; change = (refl, λ i m c lt. absurd (omega arith)) }
 
-pub swept_moved : (chains : List ChainRule) (n : ℕ) (changed : Bool) (old mid new : Row) (m : ChainRule) → Swept chains n changed old mid → slice_get chains n ≡ Some m → length mid ≡ 17 → IsEntry m.goal → Chained m true mid new → Swept chains (n + 1) true old new
+pub swept_moved : (chains : List ChainRule) (n : ℕ) (changed : Bool) (old mid new : Row) (m : ChainRule) → Swept chains n changed old mid → slice_get chains n ≡ Some m → length mid ≡ 18 → IsEntry m.goal → Chained m true mid new → Swept chains (n + 1) true old new
 swept_moved chains n changed old mid new m s get len fits moved = record {
-  sound = λ stock avoid tree whole lifts h. moved_sound chains n m mid new get len fits moved stock avoid tree whole lifts (s.sound stock avoid tree whole lifts h);
+  sound = λ stock limits tree whole lifts h. moved_sound chains n m mid new get len fits moved stock limits tree whole lifts (s.sound stock limits tree whole lifts h);
   lower = λ r k h. moved_lower m mid new len fits moved r k (s.lower r k h);
   change = (let a = moved_weight m mid new len fits moved in let b = no_heavier chains n changed old mid s.change in omega (arith, a, b));
 }
@@ -102,13 +103,13 @@ swept_kept chains n changed old mid new m s get (same, kept) =
 -- a row to which no chain rule is left
 pub closed_after : (chains : List ChainRule) (old mid new : Row) → Keeps chains old mid → Lower old mid → Swept chains (length chains) false mid new → IsClosed chains old new
 closed_after chains old mid new sound lower s = record {
-  sound = λ stock avoid tree whole lifts h. s.sound stock avoid tree whole lifts (sound stock avoid tree whole lifts h);
+  sound = λ stock limits tree whole lifts h. s.sound stock limits tree whole lifts (sound stock limits tree whole lifts h);
   lower = λ r n h. s.lower r n (lower r n h);
   still = s.change.1;
 }
 
 -- an entry that was made where it is less
-pub entered : (old new : Row) (d : Slot) (n : ℕ) (b : Bool) → length old ≡ 17 → IsEntry d → new ≡ (if b then slice_set old (place d) (Some n) else old) → OnTrue b (IsBelow n (entry old d)) → OnFalse b (AtMost (entry old d) n) → Entered old new d n
+pub entered : (old new : Row) (d : Slot) (n : ℕ) (b : Bool) → length old ≡ 18 → IsEntry d → new ≡ (if b then slice_set old (place d) (Some n) else old) → OnTrue b (IsBelow n (entry old d)) → OnFalse b (AtMost (entry old d) n) → Entered old new d n
 entered old new d n true len lt e below kept = subst (λ row. Entered old row d n) (sym e) (record {
   lower = λ q k h. elim (cases_eq (place q) (place d)) [
     | inl same ↦ subst (λ o. AtMost o k) (sym (entry_there old d q (Some n) within same)) (at_most_below (entry old d) n k below (subst (λ j. AtMost (get_or old j None) k) same h))

@@ -8,13 +8,14 @@ use Rattle.rec_bits.specs.declared.operator.Op1.{Op1}
 use Rattle.rec_bits.specs.declared.operator.Op2.{Op2}
 use Rattle.form_model.specs.Trees.{is_number, is_cell}
 use Rattle.form_model.specs.Shapes.{is_shape, shows_below}
-use Rattle.form_model.specs.Rules.{Rule, Kind, into_reg, into_memory, jumps, branches, into, temporary}
-use Rattle.form_model.specs.Matches.{same_op1, same_op2, Site, operand, cut, Found, settled, open_if, both, shape_match, literal_match, cell_match, read_match, un_match, bin_match, slice_match, zext_match, sext_match, matched, address_match, goal_match}
+use Rattle.form_model.specs.Rules.{Rule, Kind, into_reg, into_memory, into_file, jumps, branches, into, filed, temporary}
+use Rattle.form_model.specs.Matches.{same_op1, same_op2, Home, in_register, in_file, Site, operand, cut, Found, settled, open_if, both, shape_match, literal_match, cell_match, read_match, un_match, bin_match, slice_match, zext_match, sext_match, matched, address_match, goal_match}
 use Rattle.form_model.specs.Covers.{operands_of, cuts_of}
+use Rattle.cover.specs.declared.limits.Limits.{Limits}
 use Rattle.cover.specs.declared.slots.Slot.{Slot}
 use Rattle.cover.specs.declared.slots.Slot.TheVariants.{Register, Temporary}
-use Rattle.cover.specs.Inner.Asks.{operands_size, terms_size, rank, rest}
-use Rattle.cover.specs.Inner.Slots.{goal_slot}
+use Rattle.cover.specs.Inner.Asks.{operands_size, terms_size, is_free, rank, rest}
+use Rattle.cover.specs.Inner.Slots.{goal_slot, home_slot}
 
 pub picked : {A : Type 0} (b : Bool) (x : Option A) (y : A) → (if b then x else None) ≡ Some y → (b ≡ true) × (x ≡ Some y)
 picked true x y h = (refl, h)
@@ -57,7 +58,7 @@ total-append (cut shape tree ∷ xs) ys = let h = total-append xs ys in omega (a
 
 -- the tree itself as an operand, or as a cut, or less than the tree
 abbrev pub Small : Bool → Term → List Site → Type 0
-Small whole t sites = ((r : ℕ) × (sites ≡ operand r t whole ∷ [])) ⊎ (((shape : Term) × (sites ≡ cut shape t ∷ []) × (whole ≡ false)) ⊎ (total sites < size_of t))
+Small whole t sites = ((h : Home) × (sites ≡ operand h t whole ∷ [])) ⊎ (((shape : Term) × (sites ≡ cut shape t ∷ []) × (whole ≡ false)) ⊎ (total sites < size_of t))
 
 small_le : (whole : Bool) (t : Term) (sites : List Site) → Small whole t sites → total sites ≤ size_of t
 small_le whole t sites (inl h) = let e = ap total h.1 in omega (arith, e)
@@ -133,8 +134,8 @@ either false x y found h = inr h
 pub matched_small : (temps : ℕ) (e t : Term) (whole : Bool) (found : Found) → matched temps e t whole ≡ Some found → Small whole t found.sites
 matched_small temps (word w) t whole found h = none_left whole t found.sites (shape_sites (word w) t found h)
 matched_small temps (const w v) t whole found h = none_left whole t found.sites (shape_sites (const w v) t found h)
-matched_small temps (reg r w) t whole found h = inl (r, (open_sites (w == term_width t) (operand r t whole) found h).1)
-matched_small temps (read InFile a w) t whole found h = absurd (cc)
+matched_small temps (reg r w) t whole found h = inl (in_register r, (open_sites (w == term_width t) (operand (in_register r) t whole) found h).1)
+matched_small temps (read InFile a w) t whole found h = inl (in_file a, (open_sites (w == term_width t) (operand (in_file a) t whole) found h).1)
 matched_small temps (read InMemory a w) t whole found h =
     elim (either (is_shape a) (cell_match temps a w t whole) (read_match (matched temps a) w t) found h) [
       | inl c ↦ cell_small temps a w t whole found c
@@ -145,11 +146,14 @@ matched_small temps (un o a) t whole found h =
     let (p, b, e, m) = un_parts (matched temps a) o t found h in
     inner whole false t b found.sites (let n = ap size_of e in omega (arith, n)) (matched_small temps a b false found m)
 matched_small temps (bin o a b) t whole found h =
-    let (p, c, d, e, m) = bin_parts (matched temps a) (matched temps b) o t found h in
-    let (f, g, ef, eg, is) = both_parts (matched temps a c false) (matched temps b d false) found m in
-    let lf = small_le false c f.sites (matched_small temps a c false f ef) in
-    let lg = small_le false d g.sites (matched_small temps b d false g eg) in
-    inr (inr (let n = ap size_of e in let k = ap total is in let s = total-append f.sites g.sites in omega (arith, n, k, s, lf, lg)))
+    elim (either (is_shape (bin o a b)) (shape_match (bin o a b) t) (bin_match (matched temps a) (matched temps b) o t) found h) [
+      | inl c ↦ none_left whole t found.sites (shape_sites (bin o a b) t found c)
+      | inr r ↦ (let (p, c, d, e, m) = bin_parts (matched temps a) (matched temps b) o t found r in
+          let (f, g, ef, eg, is) = both_parts (matched temps a c false) (matched temps b d false) found m in
+          let lf = small_le false c f.sites (matched_small temps a c false f ef) in
+          let lg = small_le false d g.sites (matched_small temps b d false g eg) in
+          inr (inr (let n = ap size_of e in let k = ap total is in let s = total-append f.sites g.sites in omega (arith, n, k, s, lf, lg))))
+    ]
 matched_small temps (slice a hi lo) t whole found h =
     elim (either (is_shape (slice a hi lo)) (shape_match (slice a hi lo) t) (slice_match (matched temps a) (term_width a) hi lo t) found h) [
       | inl c ↦ none_left whole t found.sites (shape_sites (slice a hi lo) t found c)
@@ -176,8 +180,17 @@ pub into_small : (temps : ℕ) (rule : Rule) (goal : Kind) (r : ℕ) (t : Term) 
 into_small temps rule (into_reg d) r t whole found h =
     let (same, m) = picked (d == r) _ found h in (ap (λ i. Some (Register i)) (eq_is d r same), matched_small temps rule.value t whole found m)
 into_small temps rule into_memory r t whole found h = absurd (cc)
+into_small temps rule into_file r t whole found h = absurd (cc)
 into_small temps rule (jumps reach) r t whole found h = absurd (cc)
 into_small temps rule (branches when_one to) r t whole found h = absurd (cc)
+
+-- a form into the file
+pub filed_small : (temps : ℕ) (rule : Rule) (goal : Kind) (t : Term) (whole : Bool) (found : Found) → goal_match temps rule goal filed t whole ≡ Some found → (goal ≡ into_file) × Small whole t found.sites
+filed_small temps rule (into_reg d) t whole found h = absurd (cc)
+filed_small temps rule into_memory t whole found h = absurd (cc)
+filed_small temps rule into_file t whole found h = (refl, matched_small temps rule.value t whole found h)
+filed_small temps rule (jumps reach) t whole found h = absurd (cc)
+filed_small temps rule (branches when_one to) t whole found h = absurd (cc)
 
 address_sites : (temps : ℕ) (addr : Option Term) (found : Found) → address_match temps addr temporary ≡ Some found → found.sites ≡ []
 address_sites temps None found h = absurd (cc)
@@ -186,6 +199,7 @@ address_sites temps (Some a) found h = settled_sites (Some 0) found (picked (is_
 -- a form into a temporary cell
 pub temp_small : (temps : ℕ) (rule : Rule) (goal : Kind) (t : Term) (whole : Bool) (found : Found) → goal_match temps rule goal temporary t whole ≡ Some found → (goal ≡ into_memory) × Small false t found.sites
 temp_small temps rule (into_reg d) t whole found h = absurd (cc)
+temp_small temps rule into_file t whole found h = absurd (cc)
 temp_small temps rule into_memory t whole found h =
     let (f, g, ef, eg, is) = both_parts (address_match temps rule.addr temporary) (matched temps rule.value t false) found h in
     let e : found.sites ≡ g.sites = is ∙ ap (λ l. l ++ g.sites) (address_sites temps rule.addr f ef) in
@@ -206,21 +220,21 @@ and_false : (a b : Bool) → b ≡ true → (a && b) ≡ false → a ≡ false
 and_false true b e f = absurd (cc)
 and_false false b e f = refl
 
-pub rest_small : (whole : Bool) (t : Term) (avoid : ℕ) (sites : List Site) → Small whole t sites → rest (size_of t) (avoid == 0) sites ≡ None → (operands_size (operands_of sites) < size_of t) × (terms_size (cuts_of sites) < size_of t + rank avoid)
-rest_small whole t avoid sites (inl (r, e)) none =
-    absurd (true_false (size_of t == size_of t) (eq_self (size_of t)) (some_none _ (Register r) (ap (rest (size_of t) (avoid == 0)) (sym e) ∙ none)))
-rest_small whole t avoid sites (inr (inl (shape, e, w))) none =
-    let f : (avoid == 0) ≡ false = and_false (avoid == 0) (size_of t == size_of t) (eq_self (size_of t)) (some_none ((avoid == 0) && (size_of t == size_of t)) Temporary (ap (rest (size_of t) (avoid == 0)) (sym e) ∙ none)) in
-    let k : rank avoid ≡ 1 = ap (λ b. if b then 0 else 1) f in
+pub rest_small : (whole : Bool) (t : Term) (file : ℕ) (limits : Limits) (sites : List Site) → Small whole t sites → rest (size_of t) (is_free file limits) sites ≡ None → (operands_size (operands_of sites) < size_of t) × (terms_size (cuts_of sites) < size_of t + rank file limits)
+rest_small whole t file limits sites (inl (r, e)) none =
+    absurd (true_false (size_of t == size_of t) (eq_self (size_of t)) (some_none _ (home_slot r) (ap (rest (size_of t) (is_free file limits)) (sym e) ∙ none)))
+rest_small whole t file limits sites (inr (inl (shape, e, w))) none =
+    let f : (is_free file limits) ≡ false = and_false (is_free file limits) (size_of t == size_of t) (eq_self (size_of t)) (some_none ((is_free file limits) && (size_of t == size_of t)) Temporary (ap (rest (size_of t) (is_free file limits)) (sym e) ∙ none)) in
+    let k : rank file limits ≡ 1 = ap (λ b. if b then 0 else 1) f in
     let a = ap (λ s. operands_size (operands_of s)) e in
     let b = ap (λ s. terms_size (cuts_of s)) e in
     let p = size_pos t in
     (omega (arith, a, p), omega (arith, b, k))
-rest_small whole t avoid sites (inr (inr lt)) none = let p = total_parts sites in (omega (arith, p, lt), omega (arith, p, lt))
+rest_small whole t file limits sites (inr (inr lt)) none = let p = total_parts sites in (omega (arith, p, lt), omega (arith, p, lt))
 
 taken_whole : (size : ℕ) (free : Bool) (sites : List Site) (q : Slot) → rest size free sites ≡ Some q → total sites ≡ size
 taken_whole size free [] q h = absurd (cc)
-taken_whole size free (operand id tree whole ∷ []) q h = let e = eq_is (size_of tree) size (picked (size_of tree == size) (Some (Register id)) q h).0 in omega (arith, e)
+taken_whole size free (operand home tree whole ∷ []) q h = let e = eq_is (size_of tree) size (picked (size_of tree == size) (Some (home_slot home)) q h).0 in omega (arith, e)
 taken_whole size free (operand id tree whole ∷ s ∷ sites) q h = absurd (cc)
 taken_whole size free (cut shape tree ∷ []) q h = let e = eq_is (size_of tree) size (and_right free _ (picked (free && (size_of tree == size)) (Some Temporary) q h).0) in omega (arith, e)
   where
@@ -229,10 +243,10 @@ taken_whole size free (cut shape tree ∷ []) q h = let e = eq_is (size_of tree)
     and_right false b e = absurd (cc)
 taken_whole size free (cut shape tree ∷ s ∷ sites) q h = absurd (cc)
 
-pub rest_some : (whole : Bool) (t : Term) (free : Bool) (sites : List Site) (q : Slot) → Small whole t sites → rest (size_of t) free sites ≡ Some q → ((id : ℕ) × (sites ≡ operand id t whole ∷ []) × (q ≡ Register id)) ⊎ ((shape : Term) × (sites ≡ cut shape t ∷ []) × (whole ≡ false) × (free ≡ true) × (q ≡ Temporary))
+pub rest_some : (whole : Bool) (t : Term) (free : Bool) (sites : List Site) (q : Slot) → Small whole t sites → rest (size_of t) free sites ≡ Some q → ((h : Home) × (sites ≡ operand h t whole ∷ []) × (q ≡ home_slot h)) ⊎ ((shape : Term) × (sites ≡ cut shape t ∷ []) × (whole ≡ false) × (free ≡ true) × (q ≡ Temporary))
 rest_some whole t free sites q (inl (r, e)) h =
-    let k = (picked (size_of t == size_of t) (Some (Register r)) q (ap (rest (size_of t) free) (sym e) ∙ h)).1 in
-    let same : q ≡ Register r = cc in inl (r, e, same)
+    let k = (picked (size_of t == size_of t) (Some (home_slot r)) q (ap (rest (size_of t) free) (sym e) ∙ h)).1 in
+    let same : q ≡ home_slot r = cc in inl (r, e, same)
 rest_some whole t free sites q (inr (inl (shape, e, w))) h =
     let k = picked (free && (size_of t == size_of t)) (Some Temporary) q (ap (rest (size_of t) free) (sym e) ∙ h) in
     let l = k.1 in

@@ -18,12 +18,13 @@ use crate::costs::form_cost;
 use crate::fits::{Fit, Want, cost_of, fit_at};
 use crate::instance::Instance;
 use crate::least::{cuts_cost, floor_of, least, operand_cost, orders, orders_after};
+use crate::limits::{Limits, after_home, keeps_to};
 use crate::matches::Matches;
 use crate::opened::{OpenCut, OpenOperand};
-use crate::parts::{put_reg, without};
-use crate::slots::Slot;
+use crate::parts::without;
+use crate::slots::{Slot, slot_of};
 use crate::table::{CostTable, matches_at};
-use form_model::{Cover, CoverCuts, CoverOperands, RegSet, Tree};
+use form_model::{Cover, CoverCuts, CoverOperands, Tree};
 use rec_bits::NoMemory;
 use std::alloc::Global;
 use tree_grammar::plus;
@@ -41,20 +42,20 @@ fn begins<'a>(
     instance: &Instance<'a>,
     table: &mut CostTable<'a>,
     want: &Want<'a>,
-    avoid: RegSet,
+    limits: Limits,
     n: u64,
     k: usize,
 ) -> Result<Option<Fit<'a>>, NoMemory>
     requires form { k < length instance.now.forms.now }
-    requires least { IsLeast (instance_stock instance.now) avoid (ask_of want.now) (Some n) }
+    requires least { IsLeast (instance_stock instance.now) limits (ask_of want.now) (Some n) }
     requires stands { StandsWant instance.now want.now }
     requires right { AreRight instance.now table.old }
-    ensures begins { IfOk result (λ o. Begins (instance_stock instance.now) avoid (ask_of want.now) n k o) }
+    ensures begins { IfOk result (λ o. Begins (instance_stock instance.now) limits (ask_of want.now) n k o) }
     ensures at { IfOk result (λ o. IfSome o (λ f. OperandsAt (nodes_of instance.now) f.operands.items)) }
     ensures cuts_at { IfOk result (λ o. IfSome o (λ f. CutsAt (nodes_of instance.now) f.cuts.items)) }
     ensures right { OnOk result (AreRight instance.now table.new) }
 {
-    let Some(fit) = fit_at(alloc, instance, table, want, avoid, k)? else {
+    let Some(fit) = fit_at(alloc, instance, table, want, limits, k)? else {
         return Ok(None);
     };
     if cost_of(&fit)? == n {
@@ -80,19 +81,19 @@ fn starts<'a>(
     instance: &Instance<'a>,
     table: &mut CostTable<'a>,
     ops: &[OpenOperand<'a>],
-    avoid: RegSet,
+    limits: Limits,
     n: u64,
     i: usize,
 ) -> Result<Option<u64>, NoMemory>
     requires place { i < length ops.now }
-    requires least { IsLeastOrder (instance_stock instance.now) avoid (open_operands ops.now) (Some n) }
+    requires least { IsLeastOrder (instance_stock instance.now) limits (open_operands ops.now) (Some n) }
     requires at { OperandsAt (nodes_of instance.now) ops.now }
     requires right { AreRight instance.now table.old }
-    ensures starts { IfOk result (λ o. Starts (instance_stock instance.now) avoid (open_operands ops.now) n i o) }
+    ensures starts { IfOk result (λ o. Starts (instance_stock instance.now) limits (open_operands ops.now) n i o) }
     ensures right { OnOk result (AreRight instance.now table.new) }
 {
-    let m = operand_cost(alloc, instance, table, ops[i], avoid)?;
-    let others = orders_after(alloc, instance, table, ops, avoid, i)?;
+    let m = operand_cost(alloc, instance, table, ops[i], limits)?;
+    let others = orders_after(alloc, instance, table, ops, limits, i)?;
     Ok(if_sum(n, m, others))
 }
 
@@ -112,6 +113,10 @@ fn first_cut<'a>(
     ensures right { OnOk result (AreRight instance.now table.new) }
 {
     let first = cuts[0];
+    let free = Limits {
+        avoid: 0,
+        allowed: instance.file,
+    };
     let Some(m) = least(
         alloc,
         instance,
@@ -120,7 +125,7 @@ fn first_cut<'a>(
         first.at,
         false,
         Slot::Temporary,
-        0,
+        free,
     )?
     else {
         unreachable!()
@@ -134,17 +139,17 @@ pub(crate) fn choose<'a>(
     instance: &Instance<'a>,
     table: &mut CostTable<'a>,
     want: &Want<'a>,
-    avoid: RegSet,
+    limits: Limits,
     n: u64,
 ) -> Result<Cover, NoMemory>
-    requires least { IsLeast (instance_stock instance.now) avoid (ask_of want.now) (Some n) }
+    requires least { IsLeast (instance_stock instance.now) limits (ask_of want.now) (Some n) }
     requires stands { StandsWant instance.now want.now }
     requires right { AreRight instance.now table.old }
-    ensures first { IfOk result (λ c. IsFirst (instance_stock instance.now) avoid (ask_of want.now) (plan_of c)) }
+    ensures first { IfOk result (λ c. IsFirst (instance_stock instance.now) limits (ask_of want.now) (plan_of c)) }
     ensures right { OnOk result (AreRight instance.now table.new) }
 {
     for k in 0..instance.forms.len() {
-        if let Some(fit) = begins(alloc, instance, table, want, avoid, n, k)? {
+        if let Some(fit) = begins(alloc, instance, table, want, limits, n, k)? {
             let costs = PartCosts {
                 operands: fit.operands_cost,
                 cuts: fit.cuts_cost,
@@ -156,7 +161,7 @@ pub(crate) fn choose<'a>(
                 k,
                 &fit.operands,
                 &fit.cuts,
-                avoid,
+                limits,
                 costs,
             );
         }
@@ -195,23 +200,23 @@ fn begins_at<'a>(
     table: &mut CostTable<'a>,
     matches: &Matches<'a>,
     slot: Slot,
-    avoid: RegSet,
+    limits: Limits,
     n: u64,
     i: usize,
 ) -> Result<Option<PartCosts>, NoMemory>
     requires place { i < length matches.now.list.items }
     requires slot { IsSlot matches.now.whole slot }
-    requires least { IsLeast (instance_stock instance.now) avoid (matches_ask matches.now slot) (Some n) }
+    requires least { IsLeast (instance_stock instance.now) limits (matches_ask matches.now slot) (Some n) }
     requires matches { AreMatches instance.now matches.now }
     requires right { AreRight instance.now table.old }
-    ensures begins { IfOk result (λ o. BeginsAt (instance_stock instance.now) avoid matches.now slot n i o) }
+    ensures begins { IfOk result (λ o. BeginsAt (instance_stock instance.now) limits matches.now slot n i o) }
     ensures right { OnOk result (AreRight instance.now table.new) }
 {
     let found = &matches.list[i];
     if found.goal != slot {
         return Ok(None);
     }
-    if found.clobbers & avoid != 0 {
+    if !keeps_to(limits, found.clobbers, found.cells) {
         return Ok(None);
     }
     costs_within(
@@ -220,7 +225,7 @@ fn begins_at<'a>(
         table,
         &found.operands,
         &found.cuts,
-        avoid,
+        limits,
         n,
     )
 }
@@ -232,22 +237,22 @@ fn costs_within<'a>(
     table: &mut CostTable<'a>,
     operands: &[OpenOperand<'a>],
     cuts: &[OpenCut<'a>],
-    avoid: RegSet,
+    limits: Limits,
     n: u64,
 ) -> Result<Option<PartCosts>, NoMemory>
     requires at { OperandsAt (nodes_of instance.now) operands.now }
     requires cuts_at { CutsAt (nodes_of instance.now) cuts.now }
     requires right { AreRight instance.now table.old }
     ensures costs { IfOk result (λ o.
-        CostsWithin (instance_stock instance.now) avoid (open_operands operands.now) (open_cuts cuts.now) n o) }
+        CostsWithin (instance_stock instance.now) limits (open_operands operands.now) (open_cuts cuts.now) n o) }
     ensures right { OnOk result (AreRight instance.now table.new) }
 {
     let b = cuts_cost(alloc, instance, table, cuts)?;
-    let floor = floor_of(alloc, instance, table, operands, avoid)?;
+    let floor = floor_of(alloc, instance, table, operands, limits)?;
     if is_above(form_cost(floor, b)?, n) {
         return Ok(None);
     }
-    let a = orders(alloc, instance, table, operands, avoid, floor)?;
+    let a = orders(alloc, instance, table, operands, limits, floor)?;
     costs_of(n, a, b)
 }
 
@@ -261,19 +266,19 @@ fn choose_entry<'a>(
     number: u64,
     whole: bool,
     slot: Slot,
-    avoid: RegSet,
+    limits: Limits,
     n: u64,
 ) -> Result<Cover, NoMemory>
     requires slot { IsSlot whole slot }
-    requires least { IsLeast (instance_stock instance.now) avoid (row_ask (tree_term tree.now) whole slot) (Some n) }
+    requires least { IsLeast (instance_stock instance.now) limits (row_ask (tree_term tree.now) whole slot) (Some n) }
     requires number { slice_get (nodes_of instance.now) number ≡ Some (tree_term tree.now) }
     requires right { AreRight instance.now table.old }
     ensures first { IfOk result (λ c.
-        IsFirst (instance_stock instance.now) avoid (row_ask (tree_term tree.now) whole slot) (plan_of c)) }
+        IsFirst (instance_stock instance.now) limits (row_ask (tree_term tree.now) whole slot) (plan_of c)) }
     ensures right { OnOk result (AreRight instance.now table.new) }
 {
     let matches = matches_at(alloc, instance, table, tree, number, whole)?;
-    choose_among(alloc, instance, table, &matches, slot, avoid, n)
+    choose_among(alloc, instance, table, &matches, slot, limits, n)
 }
 
 // The same among the covers that begin with one of the matches of the tree.
@@ -284,19 +289,19 @@ fn choose_among<'a>(
     table: &mut CostTable<'a>,
     matches: &Matches<'a>,
     slot: Slot,
-    avoid: RegSet,
+    limits: Limits,
     n: u64,
 ) -> Result<Cover, NoMemory>
     requires slot { IsSlot matches.now.whole slot }
-    requires least { IsLeast (instance_stock instance.now) avoid (matches_ask matches.now slot) (Some n) }
+    requires least { IsLeast (instance_stock instance.now) limits (matches_ask matches.now slot) (Some n) }
     requires matches { AreMatches instance.now matches.now }
     requires right { AreRight instance.now table.old }
     ensures first { IfOk result (λ c.
-        IsFirst (instance_stock instance.now) avoid (matches_ask matches.now slot) (plan_of c)) }
+        IsFirst (instance_stock instance.now) limits (matches_ask matches.now slot) (plan_of c)) }
     ensures right { OnOk result (AreRight instance.now table.new) }
 {
     for i in 0..matches.list.len() {
-        if let Some(costs) = begins_at(alloc, instance, table, matches, slot, avoid, n, i)? {
+        if let Some(costs) = begins_at(alloc, instance, table, matches, slot, limits, n, i)? {
             let found = &matches.list[i];
             return choose_parts(
                 alloc,
@@ -305,7 +310,7 @@ fn choose_among<'a>(
                 found.form,
                 &found.operands,
                 &found.cuts,
-                avoid,
+                limits,
                 costs,
             );
         }
@@ -323,19 +328,19 @@ fn choose_parts<'a>(
     form: usize,
     operands: &[OpenOperand<'a>],
     cuts: &[OpenCut<'a>],
-    avoid: RegSet,
+    limits: Limits,
     costs: PartCosts,
 ) -> Result<Cover, NoMemory>
-    requires order { IsLeastOrder (instance_stock instance.now) avoid (open_operands operands.now) (Some costs.operands) }
+    requires order { IsLeastOrder (instance_stock instance.now) limits (open_operands operands.now) (Some costs.operands) }
     requires cut { IsLeastCut (instance_stock instance.now) (open_cuts cuts.now) (Some costs.cuts) }
     requires at { OperandsAt (nodes_of instance.now) operands.now }
     requires cuts_at { CutsAt (nodes_of instance.now) cuts.now }
     requires right { AreRight instance.now table.old }
     ensures first { IfOk result (λ c.
-        AreFirstParts (instance_stock instance.now) avoid (open_operands operands.now) (open_cuts cuts.now) form c) }
+        AreFirstParts (instance_stock instance.now) limits (open_operands operands.now) (open_cuts cuts.now) form c) }
     ensures right { OnOk result (AreRight instance.now table.new) }
 {
-    let operands = choose_order(alloc, instance, table, operands, avoid, costs.operands)?;
+    let operands = choose_order(alloc, instance, table, operands, limits, costs.operands)?;
     let cuts = choose_cuts(alloc, instance, table, cuts, costs.cuts)?;
     Ok(Cover {
         form,
@@ -378,22 +383,22 @@ fn choose_order<'a>(
     instance: &Instance<'a>,
     table: &mut CostTable<'a>,
     ops: &[OpenOperand<'a>],
-    avoid: RegSet,
+    limits: Limits,
     n: u64,
 ) -> Result<CoverOperands, NoMemory>
-    requires least { IsLeastOrder (instance_stock instance.now) avoid (open_operands ops.now) (Some n) }
+    requires least { IsLeastOrder (instance_stock instance.now) limits (open_operands ops.now) (Some n) }
     requires at { OperandsAt (nodes_of instance.now) ops.now }
     requires right { AreRight instance.now table.old }
     ensures first { IfOk result (λ c.
-        IsFirstOrder (instance_stock instance.now) avoid (open_operands ops.now) (operands_plan c)) }
+        IsFirstOrder (instance_stock instance.now) limits (open_operands ops.now) (operands_plan c)) }
     ensures right { OnOk result (AreRight instance.now table.new) }
 {
     if ops.is_empty() {
         return Ok(CoverOperands::Empty);
     }
     for i in 0..ops.len() {
-        if let Some(m) = starts(alloc, instance, table, ops, avoid, n, i)? {
-            return order_from(alloc, instance, table, ops, avoid, n, i, m);
+        if let Some(m) = starts(alloc, instance, table, ops, limits, n, i)? {
+            return order_from(alloc, instance, table, ops, limits, n, i, m);
         }
     }
     unreachable!()
@@ -406,21 +411,22 @@ fn order_from<'a>(
     instance: &Instance<'a>,
     table: &mut CostTable<'a>,
     ops: &[OpenOperand<'a>],
-    avoid: RegSet,
+    limits: Limits,
     n: u64,
     i: usize,
     m: u64,
 ) -> Result<CoverOperands, NoMemory>
     requires place { i < length ops.now }
-    requires starts { Starts (instance_stock instance.now) avoid (open_operands ops.now) n i (Some m) }
+    requires starts { Starts (instance_stock instance.now) limits (open_operands ops.now) n i (Some m) }
     requires at { OperandsAt (nodes_of instance.now) ops.now }
     requires right { AreRight instance.now table.old }
     ensures first { IfOk result (λ c.
-        IsFirstFrom (instance_stock instance.now) avoid (open_operands ops.now) i (operands_plan c)) }
+        IsFirstFrom (instance_stock instance.now) limits (open_operands ops.now) i (operands_plan c)) }
     ensures right { OnOk result (AreRight instance.now table.new) }
 {
     let first = ops[i];
-    let later = put_reg(avoid, first.id);
+    let slot = slot_of(first.home);
+    let later = after_home(limits, first.home);
     let here = choose_entry(
         alloc,
         instance,
@@ -428,8 +434,8 @@ fn order_from<'a>(
         first.tree,
         first.at,
         first.whole,
-        Slot::Register(first.id),
-        avoid,
+        slot,
+        limits,
         m,
     )?;
     let others = order_without(alloc, instance, table, ops, later, n - m, i)?;
@@ -443,20 +449,20 @@ fn order_without<'a>(
     instance: &Instance<'a>,
     table: &mut CostTable<'a>,
     ops: &[OpenOperand<'a>],
-    avoid: RegSet,
+    limits: Limits,
     n: u64,
     i: usize,
 ) -> Result<CoverOperands, NoMemory>
     requires place { i < length ops.now }
-    requires least { IsLeastOrder (instance_stock instance.now) avoid (remove (open_operands ops.now) i) (Some n) }
+    requires least { IsLeastOrder (instance_stock instance.now) limits (remove (open_operands ops.now) i) (Some n) }
     requires at { OperandsAt (nodes_of instance.now) ops.now }
     requires right { AreRight instance.now table.old }
     ensures first { IfOk result (λ c.
-        IsFirstOrder (instance_stock instance.now) avoid (remove (open_operands ops.now) i) (operands_plan c)) }
+        IsFirstOrder (instance_stock instance.now) limits (remove (open_operands ops.now) i) (operands_plan c)) }
     ensures right { OnOk result (AreRight instance.now table.new) }
 {
     let rest = without(alloc, ops, i)?;
-    choose_order(alloc, instance, table, &rest, avoid, n)
+    choose_order(alloc, instance, table, &rest, limits, n)
 }
 
 // The first covers of the least cost `n` of the cuts.
@@ -479,6 +485,10 @@ fn choose_cuts<'a>(
     }
     let m = first_cut(alloc, instance, table, cuts, n)?;
     let first = cuts[0];
+    let free = Limits {
+        avoid: 0,
+        allowed: instance.file,
+    };
     let here = choose_entry(
         alloc,
         instance,
@@ -487,7 +497,7 @@ fn choose_cuts<'a>(
         first.at,
         false,
         Slot::Temporary,
-        0,
+        free,
         m,
     )?;
     let later = choose_cuts(alloc, instance, table, &cuts[1..], n - m)?;

@@ -4,6 +4,7 @@ ghost use Rattle.std.specs.Prelude.{◌≡◌, ◌<◌, IfOk, OnOk, IfSome, leng
 ghost use Rattle.std.specs.Option.{option_map};
 ghost use Rattle.form_model.specs.Covers.{operands_of, cuts_of};
 ghost use Rattle.tree_grammar.specs.Parts.{sites_of, AreAt};
+ghost use Rattle.cover.specs.Inner.Asks.{free};
 ghost use Rattle.cover.specs.Inner.Least.{IsLeast, IsLeastForm};
 ghost use Rattle.cover.specs.Inner.Choice.{ask_of, StandsWant, IsFit, FitOf, FitsParts, fit_cost};
 ghost use Rattle.cover.specs.Inner.Jobs.{instance_stock, nodes_of, OperandsAt, CutsAt};
@@ -13,10 +14,11 @@ ghost use Rattle.cover.specs.Inner.Tables.{AreRight};
 use crate::costs::lesser_of;
 use crate::instance::Instance;
 use crate::least::{cuts_cost, orders};
+use crate::limits::{Limits, cells_of, keeps_to};
 use crate::opened::{OpenCut, OpenOperand};
 use crate::parts::{cuts_in, operands_in};
 use crate::table::CostTable;
-use form_model::{RegSet, Tree};
+use form_model::Tree;
 use rec_bits::NoMemory;
 use std::alloc::Global;
 use tree_grammar::{Destination, Part, match_at, plus};
@@ -45,19 +47,19 @@ pub(crate) fn fit_at<'a>(
     instance: &Instance<'a>,
     table: &mut CostTable<'a>,
     want: &Want<'a>,
-    avoid: RegSet,
+    limits: Limits,
     k: usize,
 ) -> Result<Option<Fit<'a>>, NoMemory>
     requires form { k < length instance.now.forms.now }
     requires stands { StandsWant instance.now want.now }
     requires right { AreRight instance.now table.old }
-    ensures fit { IfOk result (λ o. IsFit (instance_stock instance.now) avoid (ask_of want.now) k o) }
+    ensures fit { IfOk result (λ o. IsFit (instance_stock instance.now) limits (ask_of want.now) k o) }
     ensures at { IfOk result (λ o. IfSome o (λ f. OperandsAt (nodes_of instance.now) f.operands.items)) }
     ensures cuts_at { IfOk result (λ o. IfSome o (λ f. CutsAt (nodes_of instance.now) f.cuts.items)) }
     ensures right { OnOk result (AreRight instance.now table.new) }
 {
     let form = &instance.forms[k];
-    if form.clobbers & avoid != 0 {
+    if !keeps_to(limits, form.clobbers, cells_of(&form.goal)) {
         return Ok(None);
     }
     let Some(found) = match_at(
@@ -72,7 +74,7 @@ pub(crate) fn fit_at<'a>(
     else {
         return Ok(None);
     };
-    fit_parts(alloc, instance, table, &found.parts, avoid)
+    fit_parts(alloc, instance, table, &found.parts, limits)
 }
 
 // The parts with their least costs, where they have covers.
@@ -81,20 +83,20 @@ fn fit_parts<'a>(
     instance: &Instance<'a>,
     table: &mut CostTable<'a>,
     parts: &[Part<'a>],
-    avoid: RegSet,
+    limits: Limits,
 ) -> Result<Option<Fit<'a>>, NoMemory>
     requires low { AreLowSites (sites_of parts.now) }
     requires at { AreAt (nodes_of instance.now) parts.now }
     requires right { AreRight instance.now table.old }
     ensures fit { IfOk result (λ o.
-        FitsParts (instance_stock instance.now) avoid (operands_of (sites_of parts.now)) (cuts_of (sites_of parts.now)) o) }
+        FitsParts (instance_stock instance.now) limits (operands_of (sites_of parts.now)) (cuts_of (sites_of parts.now)) o) }
     ensures at { IfOk result (λ o. IfSome o (λ f. OperandsAt (nodes_of instance.now) f.operands.items)) }
     ensures cuts_at { IfOk result (λ o. IfSome o (λ f. CutsAt (nodes_of instance.now) f.cuts.items)) }
     ensures right { OnOk result (AreRight instance.now table.new) }
 {
     let operands = operands_in(alloc, parts)?;
     let cuts = cuts_in(alloc, parts)?;
-    let a = orders(alloc, instance, table, &operands, avoid, Some(0))?;
+    let a = orders(alloc, instance, table, &operands, limits, Some(0))?;
     let b = cuts_cost(alloc, instance, table, &cuts)?;
     Ok(fit_of(operands, cuts, a, b))
 }
@@ -146,10 +148,14 @@ pub(crate) fn form_least<'a>(
     requires form { k < length instance.now.forms.now }
     requires stands { StandsWant instance.now want.now }
     requires right { AreRight instance.now table.old }
-    ensures least { IfOk result (λ o. IsLeastForm (instance_stock instance.now) 0 (ask_of want.now) k o) }
+    ensures least { IfOk result (λ o. IsLeastForm (instance_stock instance.now) (free (instance_stock instance.now)) (ask_of want.now) k o) }
     ensures right { OnOk result (AreRight instance.now table.new) }
 {
-    let fit = fit_at(alloc, instance, table, want, 0, k)?;
+    let free = Limits {
+        avoid: 0,
+        allowed: instance.file,
+    };
+    let fit = fit_at(alloc, instance, table, want, free, k)?;
     cost_if(&fit)
 }
 
@@ -162,7 +168,7 @@ pub(crate) fn least_of<'a>(
 ) -> Result<Option<u64>, NoMemory>
     requires stands { StandsWant instance.now want.now }
     requires right { AreRight instance.now table.old }
-    ensures least { IfOk result (λ o. IsLeast (instance_stock instance.now) 0 (ask_of want.now) o) }
+    ensures least { IfOk result (λ o. IsLeast (instance_stock instance.now) (free (instance_stock instance.now)) (ask_of want.now) o) }
     ensures right { OnOk result (AreRight instance.now table.new) }
 {
     let mut best = None;

@@ -18,6 +18,7 @@ use crate::choice::choose;
 use crate::covers::{CoverFault, JobCover, TreeCover};
 use crate::fits::{Want, least_of};
 use crate::instance::Instance;
+use crate::limits::Limits;
 use crate::table::{CostTable, new_table};
 use form_model::{Aim, Form, Forms, Job};
 use rec_bits::NoMemory;
@@ -52,7 +53,11 @@ fn cover_by<'a>(
     let Some(n) = least_of(alloc, instance, table, &want)? else {
         return Ok(None);
     };
-    let cover = choose(alloc, instance, table, &want, 0, n)?;
+    let free = Limits {
+        avoid: 0,
+        allowed: instance.file,
+    };
+    let cover = choose(alloc, instance, table, &want, free, n)?;
     Ok(Some(TreeCover { cover, cost: n }))
 }
 
@@ -81,14 +86,15 @@ fn best_of(
     forms: &[Form],
     job: &Job,
     temps: u32,
+    file: u32,
 ) -> Result<Option<JobCover>, NoMemory>
     requires { AreLow (rules_of forms.now) }
-    ensures { IfOk result (λ o. IsBest (stock_with forms.now temps) (destination_of job.now.aim)
+    ensures { IfOk result (λ o. IsBest (stock_with forms.now temps file) (destination_of job.now.aim)
         (trees_of job.now.trees.items) (length job.now.trees.items) o) }
 {
     let mut best = None;
     for j in 0..job.trees.len() {
-        let tree_cover = cover_tree_at(alloc, forms, job, temps, j)?;
+        let tree_cover = cover_tree_at(alloc, forms, job, temps, file, j)?;
         best = better(best, j, tree_cover);
     }
     Ok(best)
@@ -100,16 +106,18 @@ fn cover_tree_at(
     forms: &[Form],
     job: &Job,
     temps: u32,
+    file: u32,
     j: usize,
 ) -> Result<Option<TreeCover>, NoMemory>
     requires low { AreLow (rules_of forms.now) }
     requires place { j < length job.now.trees.items }
     ensures { IfOk result (λ o. (t : Term) → slice_get (trees_of job.now.trees.items) j ≡ Some t →
-        IsTreeCover (stock_with forms.now temps) (root_ask (destination_of job.now.aim) t) o) }
+        IsTreeCover (stock_with forms.now temps file) (root_ask (destination_of job.now.aim) t) o) }
 {
     let instance = Instance {
         forms,
         temps,
+        file,
         destination: Destination::of(&job.aim),
         tree: &job.trees[j],
     };
@@ -140,13 +148,13 @@ fn without_branch(aim: &Aim, c: JobCover) -> JobCover
 /// operands, then by their covers in that order, and then by the cuts' covers. Want of memory
 /// stands also for a cost, a tree or a setting of a form past 64 bits.
 pub fn cover(alloc: Global, forms: &Forms, job: &Job, temps: u32) -> Result<JobCover, CoverFault>
-    ensures chosen { IfOk result (λ c. IsChosen (stock_with forms.now.list.items temps)
+    ensures chosen { IfOk result (λ c. IsChosen (stock_with forms.now.list.items temps forms.now.file)
         (destination_of job.now.aim) (trees_of job.now.trees.items) (choice_of c)) }
     ensures cost { IfOk result (λ c. c.cost ≡ job_cost (destination_of job.now.aim) (plan_of c.cover)) }
     ensures none { result ≡ Err CoverFault.NoCover →
-        HasNoCover (stock_with forms.now.list.items temps) (destination_of job.now.aim) (trees_of job.now.trees.items) }
+        HasNoCover (stock_with forms.now.list.items temps forms.now.file) (destination_of job.now.aim) (trees_of job.now.trees.items) }
 {
-    match best_of(alloc, &forms.list, job, temps) {
+    match best_of(alloc, &forms.list, job, temps, forms.file) {
         Ok(Some(c)) => Ok(without_branch(&job.aim, c)),
         Ok(None) => Err(CoverFault::NoCover),
         Err(_) => Err(CoverFault::Memory),

@@ -13,13 +13,14 @@ ghost use Rattle.cover.specs.Inner.Tables.{AreRight};
 
 use crate::costs::{form_cost, is_as_dear, lesser_of, sum_of};
 use crate::instance::Instance;
+use crate::limits::{Limits, after_home, keeps_to};
 use crate::matches::{Matches, start_of};
 use crate::opened::{OpenCut, OpenOperand};
-use crate::parts::{put_reg, without};
+use crate::parts::without;
 use crate::rows::{ChainRule, Offer, close, known_cost, note, offer_of};
-use crate::slots::Slot;
+use crate::slots::{Slot, slot_of};
 use crate::table::{CostTable, KeptRow, keep, kept, matches_at};
-use form_model::{RegSet, Tree};
+use form_model::Tree;
 use rec_bits::NoMemory;
 use smallvec::SmallVec;
 use std::alloc::Global;
@@ -36,20 +37,20 @@ pub(crate) fn least<'a>(
     number: u64,
     whole: bool,
     slot: Slot,
-    avoid: RegSet,
+    limits: Limits,
 ) -> Result<Option<u64>, NoMemory>
     requires slot { IsSlot whole slot }
     requires number { slice_get (nodes_of instance.now) number ≡ Some (tree_term tree.now) }
     requires right { AreRight instance.now table.old }
     ensures least { IfOk result (λ o.
-        IsLeast (instance_stock instance.now) avoid (row_ask (tree_term tree.now) whole slot) o) }
+        IsLeast (instance_stock instance.now) limits (row_ask (tree_term tree.now) whole slot) o) }
     ensures right { OnOk result (AreRight instance.now table.new) }
 {
     let first = first_equal(&table.firsts, number);
-    if let Some(cost) = kept(instance, table, first, whole, avoid, slot) {
+    if let Some(cost) = kept(instance, table, first, whole, limits, slot) {
         return Ok(cost);
     }
-    let costs = least_row(alloc, instance, table, tree, first, whole, avoid)?;
+    let costs = least_row(alloc, instance, table, tree, first, whole, limits)?;
     let cost = costs[slot.index()];
     keep(
         instance,
@@ -57,7 +58,7 @@ pub(crate) fn least<'a>(
         first,
         KeptRow {
             whole,
-            avoid,
+            limits,
             costs,
         },
     )?;
@@ -71,14 +72,15 @@ pub(crate) fn operand_cost<'a>(
     instance: &Instance<'a>,
     table: &mut CostTable<'a>,
     operand: OpenOperand<'a>,
-    avoid: RegSet,
+    limits: Limits,
 ) -> Result<Option<u64>, NoMemory>
     requires number { slice_get (nodes_of instance.now) operand.at ≡ Some (tree_term operand.tree.now) }
     requires right { AreRight instance.now table.old }
     ensures least { IfOk result (λ o.
-        IsLeast (instance_stock instance.now) avoid (operand_ask (open_operand operand.entry)) o) }
+        IsLeast (instance_stock instance.now) limits (operand_ask (open_operand operand.entry)) o) }
     ensures right { OnOk result (AreRight instance.now table.new) }
 {
+    let slot = slot_of(operand.home);
     least(
         alloc,
         instance,
@@ -86,8 +88,8 @@ pub(crate) fn operand_cost<'a>(
         operand.tree,
         operand.at,
         operand.whole,
-        Slot::Register(operand.id),
-        avoid,
+        slot,
+        limits,
     )
 }
 
@@ -100,16 +102,16 @@ fn least_row<'a>(
     tree: &'a Tree,
     number: u64,
     whole: bool,
-    avoid: RegSet,
+    limits: Limits,
 ) -> Result<Vec<Option<u64>>, NoMemory>
     requires number { slice_get (nodes_of instance.now) number ≡ Some (tree_term tree.now) }
     requires right { AreRight instance.now table.old }
-    ensures len { IfOk result (λ row. vec_len row ≡ 17) }
-    ensures least { IfOk result (λ row. IsLeastRow (instance_stock instance.now) avoid (tree_term tree.now) whole row.items) }
+    ensures len { IfOk result (λ row. vec_len row ≡ 18) }
+    ensures least { IfOk result (λ row. IsLeastRow (instance_stock instance.now) limits (tree_term tree.now) whole row.items) }
     ensures right { OnOk result (AreRight instance.now table.new) }
 {
     let matches = matches_at(alloc, instance, table, tree, number, whole)?;
-    row_of(alloc, instance, table, &matches, avoid)
+    row_of(alloc, instance, table, &matches, limits)
 }
 
 // The row of the tree of the matches: what each of them gives, closed under the chain rules.
@@ -119,17 +121,17 @@ fn row_of<'a>(
     instance: &Instance<'a>,
     table: &mut CostTable<'a>,
     matches: &Matches<'a>,
-    avoid: RegSet,
+    limits: Limits,
 ) -> Result<Vec<Option<u64>>, NoMemory>
     requires matches { AreMatches instance.now matches.now }
     requires right { AreRight instance.now table.old }
-    ensures len { IfOk result (λ row. vec_len row ≡ 17) }
+    ensures len { IfOk result (λ row. vec_len row ≡ 18) }
     ensures least { IfOk result (λ row.
-        IsLeastRow (instance_stock instance.now) avoid (tree_term matches.now.tree.now) matches.now.whole row.items) }
+        IsLeastRow (instance_stock instance.now) limits (tree_term matches.now.tree.now) matches.now.whole row.items) }
     ensures right { OnOk result (AreRight instance.now table.new) }
 {
-    let mut row = vec![in alloc; None; 17]?;
-    fill(alloc, instance, table, matches, avoid, &mut row)?;
+    let mut row = vec![in alloc; None; 18]?;
+    fill(alloc, instance, table, matches, limits, &mut row)?;
     Ok(row)
 }
 
@@ -140,21 +142,21 @@ fn fill<'a>(
     instance: &Instance<'a>,
     table: &mut CostTable<'a>,
     matches: &Matches<'a>,
-    avoid: RegSet,
+    limits: Limits,
     row: &mut Vec<Option<u64>>,
 ) -> Result<(), NoMemory>
     requires matches { AreMatches instance.now matches.now }
     requires right { AreRight instance.now table.old }
-    requires len { vec_len row.old ≡ 17 }
+    requires len { vec_len row.old ≡ 18 }
     requires blank { IsBlank row.old.items }
-    ensures len { vec_len row.new ≡ 17 }
+    ensures len { vec_len row.new ≡ 18 }
     ensures least { OnOk result
-        (IsLeastRow (instance_stock instance.now) avoid (tree_term matches.now.tree.now) matches.now.whole row.new.items) }
+        (IsLeastRow (instance_stock instance.now) limits (tree_term matches.now.tree.now) matches.now.whole row.new.items) }
     ensures right { OnOk result (AreRight instance.now table.new) }
 {
     let mut chains = SmallVec::new(alloc);
     for i in 0..matches.list.len() {
-        let offer = offer_at(alloc, instance, table, matches, avoid, row, i)?;
+        let offer = offer_at(alloc, instance, table, matches, limits, row, i)?;
         note(offer, &mut chains, row)?;
     }
     close(&chains, row)?;
@@ -169,21 +171,21 @@ fn offer_at<'a>(
     instance: &Instance<'a>,
     table: &mut CostTable<'a>,
     matches: &Matches<'a>,
-    avoid: RegSet,
+    limits: Limits,
     row: &[Option<u64>],
     i: usize,
 ) -> Result<Offer, NoMemory>
     requires place { i < length matches.now.list.items }
     requires matches { AreMatches instance.now matches.now }
     requires right { AreRight instance.now table.old }
-    ensures offer { IfOk result (λ l. IsOfferAt (instance_stock instance.now) avoid matches.now row.now i l) }
+    ensures offer { IfOk result (λ l. IsOfferAt (instance_stock instance.now) limits matches.now row.now i l) }
     ensures right { OnOk result (AreRight instance.now table.new) }
 {
     let found = &matches.list[i];
-    if found.clobbers & avoid != 0 {
+    if !keeps_to(limits, found.clobbers, found.cells) {
         return Ok(Offer::Nothing);
     }
-    if let Some(start) = start_of(found, avoid) {
+    if let Some(start) = start_of(found, instance.file, limits) {
         return Ok(Offer::Chains(ChainRule {
             start,
             goal: found.goal,
@@ -196,7 +198,7 @@ fn offer_at<'a>(
         table,
         &found.operands,
         &found.cuts,
-        avoid,
+        limits,
         known,
     )?;
     Ok(offer_of(found.goal, cost))
@@ -211,22 +213,22 @@ fn cost_below<'a>(
     table: &mut CostTable<'a>,
     operands: &[OpenOperand<'a>],
     cuts: &[OpenCut<'a>],
-    avoid: RegSet,
+    limits: Limits,
     known: Option<u64>,
 ) -> Result<Option<u64>, NoMemory>
     requires at { OperandsAt (nodes_of instance.now) operands.now }
     requires cuts_at { CutsAt (nodes_of instance.now) cuts.now }
     requires right { AreRight instance.now table.old }
     ensures least { IfOk result (λ o.
-        IsCostBelow (instance_stock instance.now) avoid (open_operands operands.now) (open_cuts cuts.now) known o) }
+        IsCostBelow (instance_stock instance.now) limits (open_operands operands.now) (open_cuts cuts.now) known o) }
     ensures right { OnOk result (AreRight instance.now table.new) }
 {
     let b = cuts_cost(alloc, instance, table, cuts)?;
-    let floor = floor_of(alloc, instance, table, operands, avoid)?;
+    let floor = floor_of(alloc, instance, table, operands, limits)?;
     if is_as_dear(form_cost(floor, b)?, known) {
         return Ok(None);
     }
-    let a = orders(alloc, instance, table, operands, avoid, floor)?;
+    let a = orders(alloc, instance, table, operands, limits, floor)?;
     form_cost(a, b)
 }
 
@@ -238,18 +240,18 @@ pub(crate) fn floor_of<'a>(
     instance: &Instance<'a>,
     table: &mut CostTable<'a>,
     ops: &[OpenOperand<'a>],
-    avoid: RegSet,
+    limits: Limits,
 ) -> Result<Option<u64>, NoMemory>
     requires at { OperandsAt (nodes_of instance.now) ops.now }
     requires right { AreRight instance.now table.old }
-    ensures floor { IfOk result (λ o. IsFloor (instance_stock instance.now) avoid (open_operands ops.now) o) }
+    ensures floor { IfOk result (λ o. IsFloor (instance_stock instance.now) limits (open_operands ops.now) o) }
     ensures right { OnOk result (AreRight instance.now table.new) }
 {
     if ops.is_empty() {
         return Ok(Some(0));
     }
-    let m = operand_cost(alloc, instance, table, ops[0], avoid)?;
-    let n = floor_of(alloc, instance, table, &ops[1..], avoid)?;
+    let m = operand_cost(alloc, instance, table, ops[0], limits)?;
+    let n = floor_of(alloc, instance, table, &ops[1..], limits)?;
     sum_of(m, n)
 }
 
@@ -261,13 +263,13 @@ pub(crate) fn orders<'a>(
     instance: &Instance<'a>,
     table: &mut CostTable<'a>,
     ops: &[OpenOperand<'a>],
-    avoid: RegSet,
+    limits: Limits,
     floor: Option<u64>,
 ) -> Result<Option<u64>, NoMemory>
     requires at { OperandsAt (nodes_of instance.now) ops.now }
-    requires floor { IsFloor (instance_stock instance.now) avoid (open_operands ops.now) floor }
+    requires floor { IsFloor (instance_stock instance.now) limits (open_operands ops.now) floor }
     requires right { AreRight instance.now table.old }
-    ensures least { IfOk result (λ o. IsLeastOrder (instance_stock instance.now) avoid (open_operands ops.now) o) }
+    ensures least { IfOk result (λ o. IsLeastOrder (instance_stock instance.now) limits (open_operands ops.now) o) }
     ensures right { OnOk result (AreRight instance.now table.new) }
 {
     if ops.is_empty() {
@@ -275,7 +277,7 @@ pub(crate) fn orders<'a>(
     }
     let mut best = None;
     for i in 0..ops.len() {
-        let from = orders_from(alloc, instance, table, ops, avoid, i)?;
+        let from = orders_from(alloc, instance, table, ops, limits, i)?;
         best = lesser_of(best, from);
         if is_as_dear(floor, best) {
             return Ok(best);
@@ -292,22 +294,22 @@ fn orders_from<'a>(
     instance: &Instance<'a>,
     table: &mut CostTable<'a>,
     ops: &[OpenOperand<'a>],
-    avoid: RegSet,
+    limits: Limits,
     i: usize,
 ) -> Result<Option<u64>, NoMemory>
     requires place { i < length ops.now }
     requires at { OperandsAt (nodes_of instance.now) ops.now }
     requires right { AreRight instance.now table.old }
-    ensures least { IfOk result (λ o. IsLeastFrom (instance_stock instance.now) avoid (open_operands ops.now) i o) }
+    ensures least { IfOk result (λ o. IsLeastFrom (instance_stock instance.now) limits (open_operands ops.now) i o) }
     ensures right { OnOk result (AreRight instance.now table.new) }
 {
-    let Some(m) = operand_cost(alloc, instance, table, ops[i], avoid)? else {
+    let Some(m) = operand_cost(alloc, instance, table, ops[i], limits)? else {
         return Ok(None);
     };
     if ops.len() == 1 {
         return Ok(Some(m));
     }
-    let n = orders_after(alloc, instance, table, ops, avoid, i)?;
+    let n = orders_after(alloc, instance, table, ops, limits, i)?;
     sum_of(Some(m), n)
 }
 
@@ -318,17 +320,17 @@ pub(crate) fn orders_after<'a>(
     instance: &Instance<'a>,
     table: &mut CostTable<'a>,
     ops: &[OpenOperand<'a>],
-    avoid: RegSet,
+    limits: Limits,
     i: usize,
 ) -> Result<Option<u64>, NoMemory>
     requires place { i < length ops.now }
     requires at { OperandsAt (nodes_of instance.now) ops.now }
     requires right { AreRight instance.now table.old }
-    ensures least { IfOk result (λ o. IsLeastAfter (instance_stock instance.now) avoid (open_operands ops.now) i o) }
+    ensures least { IfOk result (λ o. IsLeastAfter (instance_stock instance.now) limits (open_operands ops.now) i o) }
     ensures right { OnOk result (AreRight instance.now table.new) }
 {
     let first = ops[i];
-    let later = put_reg(avoid, first.id);
+    let later = after_home(limits, first.home);
     if ops.len() == 2 {
         return operand_cost(alloc, instance, table, ops[1 - i], later);
     }
@@ -353,6 +355,10 @@ pub(crate) fn cuts_cost<'a>(
         return Ok(Some(0));
     }
     let first = cuts[0];
+    let free = Limits {
+        avoid: 0,
+        allowed: instance.file,
+    };
     let m = least(
         alloc,
         instance,
@@ -361,7 +367,7 @@ pub(crate) fn cuts_cost<'a>(
         first.at,
         false,
         Slot::Temporary,
-        0,
+        free,
     )?;
     let n = cuts_cost(alloc, instance, table, &cuts[1..])?;
     sum_of(m, n)

@@ -6,18 +6,20 @@
 //! `law_of_choices`: there is at most one such cover, and none where `HasNoCover` holds. So there
 //! is always one right answer. `least_cost` gives the least cost of a tree's covers, and None where
 //! it has none (`IsLeastCost`); `made_parts` tells of each subtree whether it can come into some
-//! register or a temporary cell (`AreMade`).
+//! register, the file or a temporary cell (`AreMade`).
 //!
 //! Invariant: `AreRight` in `specs/Inner/Tables`. A subtree is looked up by the least number of an
 //! equal one (`tree_sharing`), so that equal subtrees have their rows in common. Each row that the
-//! table keeps under the number of a subtree is right, for whether the subtree is whole and for the
-//! registers to avoid: for each register and for a temporary cell it has the least cost of the
-//! covers that write none of these. Each list of matches has all forms that match its subtree, in
-//! their order. A row is kept only once it is closed under the forms that go on from another entry
-//! of the same row, *chain rules*. `choice` reads off a cover by asking for each part whether it is
-//! one of the least cost that is left. Each register has an entry and a bit in a set: those that
+//! table keeps under the number of a subtree is right, for whether the subtree is whole and for
+//! *limits*, the registers to avoid and the cells of the file that are allowed: for each register,
+//! for the file and for a temporary cell it has the least cost of the covers that write none of
+//! these registers and need no more cells. An operand behind one whose home is in the file is
+//! allowed one cell less, and a cut the whole file. Each list of matches has all forms that match
+//! its subtree, in their order. A row is kept only once it is closed under the forms that go on from
+//! another entry of the same row, *chain rules*. `choice` reads off a cover by asking for each part
+//! whether it is one of the least cost that is left. Each register has an entry and a bit in a set: those that
 //! forms go to and name are below 16 (`Forms`), and so are those of the operands that matches leave
-//! open.
+//! open. Without a file no cell is allowed in any limits, and the table is one of registers alone.
 //!
 //! Files:
 //!
@@ -25,11 +27,12 @@
 //! - `instance`: what is to be covered, and by what.
 //! - `costs`: sums and comparisons of costs.
 //! - `opened`: the operands and the cuts that a match leaves open, with the numbers of their trees.
-//! - `parts`: these among a match's parts, and sets of registers.
-//! - `slots`: an entry of a row, for a register or for a temporary cell, and its place there.
+//! - `parts`: these among a match's parts.
+//! - `limits`: what a cover has to keep to.
+//! - `slots`: an entry of a row, for a register, the file or a temporary cell, and its place there.
 //! - `rows`: a row of least costs, and its closure under chain rules.
 //! - `matches`: the forms that match a subtree, with what their matches leave open, once for all
-//!   sets of registers to avoid.
+//!   limits.
 //! - `takes`: which forms needn't be matched with a tree, since an operator of theirs isn't the
 //!   tree's at its place.
 //! - `table`: the rows and the lists of matches that were found, each in a list under the number of
@@ -58,6 +61,7 @@ mod instance;
 mod jobs;
 mod laws;
 mod least;
+mod limits;
 mod made;
 mod matches;
 mod opened;

@@ -38,8 +38,8 @@ fn cost_in(alloc: Global, instance: &Instance, whole: bool) -> Result<Option<u64
 
 /// The least cost of the orderly covers of a tree that goes to a destination, where so many
 /// temporary cells are used: the number of a cover's forms. None exactly where it has no orderly
-/// cover. `whole` is asked for a register alone: it says that the tree is the root of its job or
-/// the number that is a read's address. Want of memory stands for what it does in `cover`.
+/// cover. `whole` is asked for a register or the file alone: it says that the tree is the root of its
+/// job or the number that is a read's address. Want of memory stands for what it does in `cover`.
 pub fn least_cost(
     alloc: Global,
     forms: &Forms,
@@ -48,26 +48,28 @@ pub fn least_cost(
     whole: bool,
     temps: u32,
 ) -> Result<Option<u64>, NoMemory>
-    ensures { IfOk result (λ o. IsLeastCost (stock_with forms.now.list.items temps)
+    ensures { IfOk result (λ o. IsLeastCost (stock_with forms.now.list.items temps forms.now.file)
         (destination_at destination.entry) (tree_term tree.now) whole o) }
 {
     let instance = Instance {
         forms: &forms.list,
         temps,
+        file: forms.file,
         destination,
         tree,
     };
     cost_in(alloc, &instance, whole)
 }
 
-/// Where the form puts a part of a job's tree: into its register or a temporary cell. None for a
-/// jump or a branch.
+/// Where the form puts a part of a job's tree: into its register, the file or a temporary cell. None
+/// for a jump or a branch.
 pub fn part_destination(form: &Form) -> Option<Destination<'static>>
     ensures { option_map destination_at result ≡ part_goal (kind_of form.now.goal) }
 {
     match &form.goal {
         Goal::Reg(id) => Some(Destination::Register(*id)),
         Goal::Memory => Some(Destination::Temp),
+        Goal::File => Some(Destination::File),
         _ => None,
     }
 }
@@ -152,7 +154,7 @@ fn made_in(alloc: Global, instance: &Instance) -> Result<Vec<bool>, NoMemory>
 
 /// For the number of each subtree, of a store's address and then of the tree, whether it is made
 /// where so many temporary cells are used: whether it has an orderly cover, as a part, into some
-/// register or a temporary cell. Want of memory stands for what it does in `cover`.
+/// register, the file or a temporary cell. Want of memory stands for what it does in `cover`.
 pub fn made_parts(
     alloc: Global,
     forms: &Forms,
@@ -160,12 +162,13 @@ pub fn made_parts(
     tree: &Tree,
     temps: u32,
 ) -> Result<Vec<bool>, NoMemory>
-    ensures { IfOk result (λ made. AreMade (stock_with forms.now.list.items temps)
+    ensures { IfOk result (λ made. AreMade (stock_with forms.now.list.items temps forms.now.file)
         (job_nodes (destination_at destination.entry) (tree_term tree.now)) made.items) }
 {
     let instance = Instance {
         forms: &forms.list,
         temps,
+        file: forms.file,
         destination,
         tree,
     };

@@ -1,13 +1,14 @@
-//! The forms that match a subtree, which are found once for all sets of registers to avoid.
+//! The forms that match a subtree, which are found once for all limits.
 
 ghost use Rattle.std.specs.Prelude.{◌≡◌, ◌<◌, ◌==◌, Some, IfOk, OnOk, length, slice_get};
 ghost use Rattle.form_model.specs.Trees.{tree_term};
 ghost use Rattle.tree_grammar.specs.Parts.{sites_of};
-ghost use Rattle.cover.specs.Inner.Asks.{start_under};
+ghost use Rattle.cover.specs.Inner.Asks.{is_free, start_under};
 ghost use Rattle.cover.specs.Inner.Jobs.{nodes_of};
 ghost use Rattle.cover.specs.Inner.Matched.{AddsMatch, AreLowSites, AreMatches, IsOpened, MatchesForm};
 
 use crate::instance::Instance;
+use crate::limits::{Limits, cells_of, is_all_free};
 use crate::opened::{OpenCut, OpenOperand};
 use crate::parts::{cuts_in, operands_in, rest_of};
 use crate::rows::{destination_of_entry, goal_of};
@@ -26,8 +27,10 @@ pub struct FormMatch<'a> {
     /// The entry to which it goes.
     pub goal: Slot,
     pub clobbers: RegSet,
-    /// The entry from which it goes on where nothing is to be avoided, if the one part of the match
-    /// is the whole tree.
+    /// The cells of the file in which it leaves its value.
+    pub cells: u32,
+    /// The entry from which it goes on where nothing is to be avoided and the whole file may be
+    /// used, if the one part of the match is the whole tree.
     pub start: Option<Slot>,
     pub operands: Vec<OpenOperand<'a>>,
     pub cuts: Vec<OpenCut<'a>>,
@@ -41,13 +44,14 @@ pub struct Matches<'a> {
     pub list: Vec<FormMatch<'a>>,
 }
 
-// The entry from which a match goes on with these registers to avoid, if its one part is the whole
-// tree. A cut goes on from the entry of a temporary cell only where there is nothing to avoid.
-pub(crate) fn start_of(found: &FormMatch, avoid: RegSet) -> Option<Slot>
-    ensures { result ≡ start_under found.now.start (avoid == 0) }
+// The entry from which a match goes on under these limits, if its one part is the whole tree. A cut
+// goes on from the entry of a temporary cell only where nothing is to be avoided and the whole file
+// may be used.
+pub(crate) fn start_of(found: &FormMatch, file: u32, limits: Limits) -> Option<Slot>
+    ensures { result ≡ start_under found.now.start (is_free file limits) }
 {
     match found.start? {
-        Slot::Temporary if avoid != 0 => None,
+        Slot::Temporary if !is_all_free(file, limits) => None,
         start => Some(start),
     }
 }
@@ -84,7 +88,8 @@ fn match_form<'a>(
     else {
         return Ok(None);
     };
-    let opened = open_match(alloc, &found.parts, number, k, goal, form.clobbers)?;
+    let cells = cells_of(&form.goal);
+    let opened = open_match(alloc, &found.parts, number, k, goal, form.clobbers, cells)?;
     Ok(Some(opened))
 }
 
@@ -96,9 +101,10 @@ fn open_match<'a>(
     form: usize,
     goal: Slot,
     clobbers: RegSet,
+    cells: u32,
 ) -> Result<FormMatch<'a>, NoMemory>
     requires low { AreLowSites (sites_of parts.now) }
-    ensures { IfOk result (λ m. IsOpened parts.now number form goal clobbers m) }
+    ensures { IfOk result (λ m. IsOpened parts.now number form goal clobbers cells m) }
 {
     let start = rest_of(parts, number);
     let operands = operands_in(alloc, parts)?;
@@ -107,6 +113,7 @@ fn open_match<'a>(
         form,
         goal,
         clobbers,
+        cells,
         start,
         operands,
         cuts,

@@ -1,18 +1,21 @@
 //! What a match leaves open, with the numbers of its trees.
 
-ghost use Rattle.std.specs.Prelude.{◌<◌};
+ghost use Rattle.tree_grammar.specs.Parts.{home_at};
+ghost use Rattle.cover.specs.Inner.Slots.{IsLowHome};
 
 use form_model::Tree;
+use tree_grammar::Home;
 
 /// An operand that a match leaves open, with the number of its tree among the job's subtrees.
 #[derive(Clone, Copy)]
 pub struct OpenOperand<'a> {
-    /// The register that it goes to.
-    pub id: u8,
+    /// Where it waits for the form that takes it.
+    pub home: Home<'a>,
     pub tree: &'a Tree,
     pub whole: bool,
     pub at: u64,
-    ghost low: { id < 16 },
+    /// A set of registers has a bit for its home, if that is a register.
+    ghost low: { IsLowHome (home_at home) },
 }
 
 /// A cut that a match leaves open, with the number of its tree among the job's subtrees.

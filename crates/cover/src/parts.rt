@@ -1,28 +1,18 @@
-//! Operands and cuts among a match's parts, where it goes on from, and sets of registers.
+//! Operands and cuts among a match's parts, and where it goes on from.
 
 ghost use Rattle.std.specs.Prelude.{◌≡◌, [], ◌∷◌, ◌<◌, IfOk, OnOk, IfSome, length, remove, List};
 ghost use Rattle.net_model.specs.Terms.{Term};
 ghost use Rattle.form_model.specs.Covers.{operands_of, cuts_of};
 ghost use Rattle.tree_grammar.specs.Parts.{part_of, sites_of, AreAt};
-ghost use Rattle.cover.specs.Inner.Asks.{with_reg};
 ghost use Rattle.cover.specs.Inner.Jobs.{open_operands, open_cuts, OperandsAt, CutsAt, HasOperand, HasCut};
 ghost use Rattle.cover.specs.Inner.Matched.{rest_at, AreLowSites};
 ghost use Rattle.cover.specs.Inner.Slots.{IsEntry};
 
 use crate::opened::{OpenCut, OpenOperand};
-use crate::slots::Slot;
-use form_model::RegSet;
+use crate::slots::{Slot, slot_of};
 use rec_bits::NoMemory;
 use std::alloc::Global;
 use tree_grammar::Part;
-
-// The set with one more register.
-pub(crate) fn put_reg(avoid: RegSet, id: u8) -> RegSet
-    requires { id < 16 }
-    ensures { result ≡ with_reg avoid id }
-{
-    avoid | (1 << id)
-}
 
 // The operands among the parts, from left to right.
 pub(crate) fn operands_in<'a>(
@@ -46,13 +36,13 @@ fn put_operand<'a>(out: &mut Vec<OpenOperand<'a>>, part: Part<'a>) -> Result<(),
 {
     match part {
         Part::Operand {
-            id,
+            home,
             tree,
             whole,
             at,
         } => {
             out.push(OpenOperand {
-                id: id as u8,
+                home,
                 tree,
                 whole,
                 at,
@@ -102,7 +92,7 @@ pub(crate) fn without<'a>(
     Ok(rest)
 }
 
-// The entry of the same tree's row from which a match goes on where there is nothing to avoid, if
+// The entry of the same tree's row from which a match goes on where all is free, if
 // its one part is the whole tree, which alone has the tree's number.
 pub(crate) fn rest_of(parts: &[Part], number: u64) -> Option<Slot>
     requires low { AreLowSites (sites_of parts.now) }
@@ -121,11 +111,11 @@ fn rest_of_one(part: Part, number: u64) -> Option<Slot>
     ensures register { IfSome result IsEntry }
 {
     match part {
-        Part::Operand { id, at, .. } => {
+        Part::Operand { home, at, .. } => {
             if at != number {
                 return None;
             }
-            Some(Slot::Register(id as u8))
+            Some(slot_of(home))
         }
         Part::Cut { at, .. } => {
             if at != number {

@@ -1,5 +1,5 @@
-//! Rows of least costs of one tree: an entry for each register, and behind them one for a temporary
-//! cell.
+//! Rows of least costs of one tree: an entry for each register, and behind them one for the file and
+//! one for a temporary cell.
 
 ghost use Rattle.std.specs.Prelude.{◌≡◌, ◌<◌, Some, IfOk, OnOk, IfSome, vec_len, length, slice_set, if◌then◌else◌};
 ghost use Rattle.std.specs.Bool.{OnTrue, OnFalse};
@@ -43,6 +43,7 @@ pub(crate) fn destination_of_entry(slot: Slot) -> Destination<'static>
 {
     match slot {
         Slot::Register(r) => Destination::Register(u32::from(r)),
+        Slot::File => Destination::File,
         Slot::Temporary => Destination::Temp,
     }
 }
@@ -55,6 +56,7 @@ pub(crate) fn goal_of(form: &Form, whole: bool) -> Option<Slot>
 {
     match &form.goal {
         Goal::Reg(id) => Some(Slot::Register(*id as u8)),
+        Goal::File => Some(Slot::File),
         Goal::Memory => if whole { None } else { Some(Slot::Temporary) },
         _ => None,
     }
@@ -72,9 +74,9 @@ pub(crate) fn known_cost(row: &[Option<u64>], slot: Slot) -> Option<u64>
 
 // Enters a cost where it is less than the one that is known, and says whether it is.
 fn enter(row: &mut Vec<Option<u64>>, slot: Slot, n: u64) -> bool
-    requires len { vec_len row.old ≡ 17 }
+    requires len { vec_len row.old ≡ 18 }
     requires within { IsEntry slot }
-    ensures len { vec_len row.new ≡ 17 }
+    ensures len { vec_len row.new ≡ 18 }
     ensures value { row.new.items ≡ (if result then slice_set row.old.items (place slot) (Some n) else row.old.items) }
     ensures changed { OnTrue result (IsBelow n (entry row.old.items slot)) }
     ensures kept { OnFalse result (AtMost (entry row.old.items slot) n) }
@@ -90,9 +92,9 @@ fn enter(row: &mut Vec<Option<u64>>, slot: Slot, n: u64) -> bool
 
 // The same, where it doesn't matter whether the entry has become less.
 fn enter_cost(row: &mut Vec<Option<u64>>, slot: Slot, n: u64)
-    requires len { vec_len row.old ≡ 17 }
+    requires len { vec_len row.old ≡ 18 }
     requires within { IsEntry slot }
-    ensures len { vec_len row.new ≡ 17 }
+    ensures len { vec_len row.new ≡ 18 }
     ensures entered { Entered row.old.items row.new.items slot n }
 {
     enter(row, slot, n);
@@ -101,10 +103,10 @@ fn enter_cost(row: &mut Vec<Option<u64>>, slot: Slot, n: u64)
 // Lowers the entry to which a chain rule leads, where the one from which it starts allows it, and
 // says whether it has.
 fn try_chain(m: ChainRule, row: &mut Vec<Option<u64>>) -> Result<bool, NoMemory>
-    requires len { vec_len row.old ≡ 17 }
+    requires len { vec_len row.old ≡ 18 }
     requires start { IsEntry m.start }
     requires goal { IsEntry m.goal }
-    ensures len { vec_len row.new ≡ 17 }
+    ensures len { vec_len row.new ≡ 18 }
     ensures chained { IfOk result (λ changed. Chained m changed row.old.items row.new.items) }
 {
     let Some(c) = row[m.start.index()] else {
@@ -116,9 +118,9 @@ fn try_chain(m: ChainRule, row: &mut Vec<Option<u64>>) -> Result<bool, NoMemory>
 
 // Tries each chain rule once, and says whether an entry has become less.
 fn sweep(chains: &[ChainRule], row: &mut Vec<Option<u64>>) -> Result<bool, NoMemory>
-    requires len { vec_len row.old ≡ 17 }
+    requires len { vec_len row.old ≡ 18 }
     requires within { AreWithin chains.now }
-    ensures len { vec_len row.new ≡ 17 }
+    ensures len { vec_len row.new ≡ 18 }
     ensures swept { IfOk result (λ changed. Swept chains.now (length chains.now) changed row.old.items row.new.items) }
 {
     let mut changed = false;
@@ -132,9 +134,9 @@ fn sweep(chains: &[ChainRule], row: &mut Vec<Option<u64>>) -> Result<bool, NoMem
 
 // Tries the chain rules until none makes an entry less.
 pub(crate) fn close(chains: &[ChainRule], row: &mut Vec<Option<u64>>) -> Result<(), NoMemory>
-    requires len { vec_len row.old ≡ 17 }
+    requires len { vec_len row.old ≡ 18 }
     requires within { AreWithin chains.now }
-    ensures len { vec_len row.new ≡ 17 }
+    ensures len { vec_len row.new ≡ 18 }
     ensures closed { OnOk result (IsClosed chains.now row.old.items row.new.items) }
 {
     while sweep(chains, row)? {}
@@ -147,9 +149,9 @@ pub(crate) fn note(
     chains: &mut SmallVec<ChainRule, 32>,
     row: &mut Vec<Option<u64>>,
 ) -> Result<(), NoMemory>
-    requires len { vec_len row.old ≡ 17 }
+    requires len { vec_len row.old ≡ 18 }
     requires within { IsWithin offer }
-    ensures len { vec_len row.new ≡ 17 }
+    ensures len { vec_len row.new ≡ 18 }
     ensures noted { OnOk result (Noted offer chains.old.items chains.new.items row.old.items row.new.items) }
 {
     match offer {

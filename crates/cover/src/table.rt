@@ -2,6 +2,7 @@
 
 ghost use Rattle.std.specs.Prelude.{◌≡◌, ◌<◌, Some, IfOk, OnOk, IfSome, slice_get};
 ghost use Rattle.net_model.specs.Terms.{Term};
+ghost use Rattle.std.specs.Bool.{OnTrue};
 ghost use Rattle.cover.specs.Inner.Least.{IsLeast};
 ghost use Rattle.cover.specs.Inner.Slots.{IsEntry, IsSlot};
 ghost use Rattle.cover.specs.Inner.Rows.{row_ask};
@@ -11,19 +12,20 @@ ghost use Rattle.cover.specs.Inner.Matched.{AreMatches};
 ghost use Rattle.cover.specs.Inner.Tables.{AreEmpty, AreRight, HasMatches, IsAmong, IsKept};
 
 use crate::instance::Instance;
+use crate::limits::Limits;
 use crate::matches::{Matches, matches_of};
 use crate::slots::Slot;
-use form_model::{RegSet, Tree};
+use form_model::Tree;
 use rec_bits::NoMemory;
 use std::alloc::Global;
 use std::rc::Rc;
 use tree_sharing::{first_equal, first_numbers};
 
-/// The row of least costs of a tree, whole or not, for a set of registers to avoid.
+/// The row of least costs of a tree, whole or not, under these limits.
 #[derive(Drop)]
 pub struct KeptRow {
     pub whole: bool,
-    pub avoid: RegSet,
+    pub limits: Limits,
     pub costs: Vec<Option<u64>>,
 }
 
@@ -37,6 +39,13 @@ pub struct CostTable<'a> {
     pub matches: Vec<Vec<Rc<Matches<'a>>>>,
     /// For each number the rows of its subtree.
     pub rows: Vec<Vec<KeptRow>>,
+}
+
+// Whether two limits are one.
+fn is_same(a: Limits, b: Limits) -> bool
+    ensures { OnTrue result (a ≡ b) }
+{
+    a.avoid == b.avoid && a.allowed == b.allowed
 }
 
 // As many empty lists.
@@ -66,12 +75,12 @@ pub(crate) fn new_table<'a>(
     })
 }
 
-// The row that is kept of the tree, whole or not, with these registers to avoid.
-fn row_in(rows: &[KeptRow], whole: bool, avoid: RegSet) -> Option<&KeptRow>
-    ensures { IfSome result (λ row. IsAmong rows.now row.now × (row.now.whole ≡ whole) × (row.now.avoid ≡ avoid)) }
+// The row that is kept of the tree, whole or not, under these limits.
+fn row_in(rows: &[KeptRow], whole: bool, limits: Limits) -> Option<&KeptRow>
+    ensures { IfSome result (λ row. IsAmong rows.now row.now × (row.now.whole ≡ whole) × (row.now.limits ≡ limits)) }
 {
     for row in rows {
-        if row.avoid == avoid && row.whole == whole {
+        if is_same(row.limits, limits) && row.whole == whole {
             return Some(row);
         }
     }
@@ -85,16 +94,16 @@ pub(crate) fn kept(
     table: &CostTable,
     number: u64,
     whole: bool,
-    avoid: RegSet,
+    limits: Limits,
     slot: Slot,
 ) -> Option<Option<u64>>
     requires right { AreRight instance.now table.now }
     requires slot { IsEntry slot }
     ensures { IfSome result (λ o. (t : Term) → slice_get (nodes_of instance.now) number ≡ Some t → IsSlot whole slot →
-        IsLeast (instance_stock instance.now) avoid (row_ask t whole slot) o) }
+        IsLeast (instance_stock instance.now) limits (row_ask t whole slot) o) }
 {
     let rows = table.rows.get(number as usize)?;
-    let row = row_in(rows, whole, avoid)?;
+    let row = row_in(rows, whole, limits)?;
     let cost = row.costs[slot.index()];
     Some(cost)
 }

@@ -2,8 +2,8 @@
 
 ghost use Rattle.std.specs.Prelude.{◌≡◌, ℕ, Bool, Option, None};
 ghost use Rattle.std.specs.Bool.{OnFalse};
-ghost use Rattle.net_model.specs.Terms.{Term, bin, term_of, un};
-ghost use Rattle.form_model.specs.Matches.{Found, matched, read_match, sext_match, shape_match, slice_match, zext_match};
+ghost use Rattle.net_model.specs.Terms.{Term, term_of, un};
+ghost use Rattle.form_model.specs.Matches.{Found, bin_match, matched, read_match, sext_match, shape_match, slice_match, zext_match};
 ghost use Rattle.form_model.specs.Trees.{tree_term};
 
 use form_model::Tree;
@@ -68,13 +68,19 @@ pub(crate) fn may_take(value: &Expr, tree: &Tree) -> bool
         Expr::Word(_) => may_be_shown(tree),
         Expr::Const { .. } => may_be_shown(tree),
         Expr::Reg(_, _) => true,
+        Expr::Cell(_, _) => true,
         Expr::Read(a, _) => is_field_shape(a) || is_read(tree),
         Expr::Un(op, a) => may_take_one(*op, a, tree),
-        Expr::Bin(op, a, b) => may_take_two(*op, a, b, tree),
+        Expr::Bin(op, a, b) => {
+            if is_number_tree(tree) {
+                is_field_shape(value)
+            } else {
+                may_take_two(*op, a, b, tree)
+            }
+        }
         Expr::Slice(_, _, _) => may_be_shown(tree) || is_slice(tree),
         Expr::Zext(_, _) => may_be_shown(tree) || is_zext(tree),
         Expr::Sext(_, _) => may_be_shown(tree) || is_sext(tree),
-        Expr::Cell(_, _) => false,
         Expr::Cat(_, _) => false,
         Expr::Select(_, _, _) => false,
     }
@@ -95,8 +101,8 @@ fn may_take_one(op: Op1, a: &Expr, tree: &Tree) -> bool
 // The same of a value with an operator of two operands.
 #[cycle(taking)]
 fn may_take_two(op: Op2, a: &Expr, b: &Expr, tree: &Tree) -> bool
-    ensures { OnFalse result ((temps : ℕ) (whole : Bool) →
-        matched temps (bin op (term_of a.now) (term_of b.now)) (tree_term tree.now) whole ≡ None) }
+    ensures { OnFalse result ((temps : ℕ) →
+        bin_match (matched temps (term_of a.now)) (matched temps (term_of b.now)) op (tree_term tree.now) ≡ None) }
 {
     match tree {
         Tree::Bin(o, x, y) => *o == op && may_take(a, x) && may_take(b, y),

@@ -67,7 +67,7 @@ module _ (stock : Stock) (below : Option ℕ) (parts : List Part) where
 -- ---- parts and sites
 
 same_tree : (p : Part) → site_tree (part_of p) ≡ part_tree p
-same_tree (Operand id tree whole at) = refl
+same_tree (Operand home tree whole at) = refl
 same_tree (Cut shape tree at) = refl
 
 open_part : (parts : List Part) (i : ℕ) (p : Part) → slice_get parts i ≡ Some p → slice_get (map site_tree (sites_of parts)) i ≡ Some (part_tree p)
@@ -81,12 +81,12 @@ part_open (p ∷ ps) (suc i) t h = part_open ps i t h
 
 pub at_part : (nodes : List Term) (parts : List Part) (i : ℕ) (p : Part) → AreAt nodes parts → slice_get parts i ≡ Some p → slice_get nodes (part_at p) ≡ Some (part_tree p)
 at_part nodes [] i p h get = absurd (cc)
-at_part nodes (Operand id tree whole at ∷ ps) zero p h get = let e : Operand id tree whole at ≡ p = cc in subst (λ (q : Part). slice_get nodes (part_at q) ≡ Some (part_tree q)) e h.0
+at_part nodes (Operand home tree whole at ∷ ps) zero p h get = let e : Operand home tree whole at ≡ p = cc in subst (λ (q : Part). slice_get nodes (part_at q) ≡ Some (part_tree q)) e h.0
 at_part nodes (Cut shape tree at ∷ ps) zero p h get = let e : Cut shape tree at ≡ p = cc in subst (λ (q : Part). slice_get nodes (part_at q) ≡ Some (part_tree q)) e h.0
 at_part nodes (q ∷ ps) (suc i) p h get = at_part nodes ps i p h.1 get
 
 pub here_part : (nodes : List Term) (p : Part) → slice_get nodes (part_at p) ≡ Some (part_tree p) → IsPartAt nodes p
-here_part nodes (Operand id tree whole at) h = h
+here_part nodes (Operand home tree whole at) h = h
 here_part nodes (Cut shape tree at) h = h
 
 -- ---- numbers behind a part's
@@ -242,17 +242,17 @@ after_more at old new added before is more = subst (AreAfter at) (sym is) (λ i 
 
 -- ---- the forms that ask for something are among all of them
 
-form_bound : (forms : List Form) (temps k : ℕ) (d : Destination) (t u : Term) (whole : Bool) → FormAsks (stock_with forms temps) k d t whole u → k < length forms
-form_bound forms temps k d t u whole a =
+form_bound : (forms : List Form) (temps file k : ℕ) (d : Destination) (t u : Term) (whole : Bool) → FormAsks (stock_with forms temps file) k d t whole u → k < length forms
+form_bound forms temps file k d t u whole a =
     let w = slice_get_within (rules_of forms) k a.rule a.listed in
     let l = length-map forms rule_of in
     omega (arith, w, l)
 
-pub root_bound : (forms : List Form) (temps : ℕ) (d : Destination) (root : Term) (k : ℕ) (t : Term) → RootAsks (stock_with forms temps) d root k t → k < length forms
-root_bound forms temps d root k t a = form_bound forms temps k d root t true a
+pub root_bound : (forms : List Form) (temps file : ℕ) (d : Destination) (root : Term) (k : ℕ) (t : Term) → RootAsks (stock_with forms temps file) d root k t → k < length forms
+root_bound forms temps file d root k t a = form_bound forms temps file k d root t true a
 
-pub part_bound : (forms : List Form) (temps : ℕ) (part : Term) (k : ℕ) (t : Term) → PartAsks (stock_with forms temps) part k t → k < length forms
-part_bound forms temps part k t a = form_bound forms temps k a.destination part t false a.asks
+pub part_bound : (forms : List Form) (temps file : ℕ) (part : Term) (k : ℕ) (t : Term) → PartAsks (stock_with forms temps file) part k t → k < length forms
+part_bound forms temps file part k t a = form_bound forms temps file k a.destination part t false a.asks
 
 -- ---- the subtrees of a search
 

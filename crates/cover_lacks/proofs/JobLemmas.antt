@@ -34,10 +34,10 @@ module _ (stock : Stock) (d : Destination) (root : Term) where
   uncovered_by (Some n) is e = absurd (cc)
 
 -- what holds of the flags that were found holds with equal forms
-pub flags_lacking : {V E : Type 0} (items : V → List Bool) (r : Result V E) (fs gs : List Form) (temps : ℕ) (d : Destination) (root : Term) → fs ≡ gs → IfOk r (λ v. AreFlags (job_nodes d root) (IsLacking (stock_with fs temps) d root) (items v)) → IfOk r (λ v. IsSome (job_nodes d root) (items v)) → IsUncovered (stock_with gs temps) d root → IfOk r (λ v. IsLackingIn (stock_with gs temps) d root (items v))
-flags_lacking items (Ok v) fs gs temps d root e are some none =
-    uncovered (stock_with gs temps) d root (items v) none (subst (λ l. AreFlags (job_nodes d root) (IsLacking (stock_with l temps) d root) (items v)) e are) some
-flags_lacking items (Err x) fs gs temps d root e are some none = tt
+pub flags_lacking : {V E : Type 0} (items : V → List Bool) (r : Result V E) (fs gs : List Form) (temps file : ℕ) (d : Destination) (root : Term) → fs ≡ gs → IfOk r (λ v. AreFlags (job_nodes d root) (IsLacking (stock_with fs temps file) d root) (items v)) → IfOk r (λ v. IsSome (job_nodes d root) (items v)) → IsUncovered (stock_with gs temps file) d root → IfOk r (λ v. IsLackingIn (stock_with gs temps file) d root (items v))
+flags_lacking items (Ok v) fs gs temps file d root e are some none =
+    uncovered (stock_with gs temps file) d root (items v) none (subst (λ l. AreFlags (job_nodes d root) (IsLacking (stock_with l temps file) d root) (items v)) e are) some
+flags_lacking items (Err x) fs gs temps file d root e are some none = tt
 
 -- ---- flags of two lists
 

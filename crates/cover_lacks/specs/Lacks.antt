@@ -4,15 +4,15 @@ use Rattle.net_model.specs.Terms.{Term, size_of}
 use Rattle.form_model.specs.Rules.{Rule, Destination}
 use Rattle.form_model.specs.Matches.{Site, operand, cut, Found, taken}
 use Rattle.form_model.specs.Plans.{Plan}
-use Rattle.form_model.specs.Covers.{Stock, IsOrderly}
-use Rattle.cover.specs.Made.{HoldsParts, IsMade}
+use Rattle.form_model.specs.Covers.{Stock}
+use Rattle.cover.specs.Made.{HoldsParts, IsCover, IsMade}
 use Rattle.tree_sharing.specs.Sharing.{IsFirst, job_nodes}
 
 -- ---- what forms ask for
 
 -- the tree of an operand or of a cut
 abbrev pub site_tree : Site → Term
-site_tree (operand id tree whole) = tree
+site_tree (operand home tree whole) = tree
 site_tree (cut shape tree) = tree
 
 -- a form asks for a tree: it takes the one that goes to the destination, and its match leaves the
@@ -30,8 +30,8 @@ pub record FormAsks (stock : Stock) (form : ℕ) (destination : Destination) (tr
 abbrev pub RootAsks : Stock → Destination → Term → ℕ → Term → Type 0
 RootAsks stock destination root form asked = FormAsks stock form destination root true asked
 
--- of a part of a job's tree: for a register or a temporary cell. A form that moves the part itself
--- from one to another asks for nothing smaller, and doesn't count
+-- of a part of a job's tree: for a register, the file or a temporary cell. A form that moves the part
+-- itself from one to another asks for nothing smaller, and doesn't count
 pub record PartAsks (stock : Stock) (part : Term) (form : ℕ) (asked : Term) : Type 0 where
   pub destination : Destination
   pub holds : HoldsParts destination
@@ -65,7 +65,7 @@ IsLacking stock destination root tree =
 
 -- the tree has no cover for the destination
 abbrev pub IsUncovered : Stock → Destination → Term → Type 0
-IsUncovered stock destination root = (plan : Plan) → IsOrderly stock destination root true plan → ⊥
+IsUncovered stock destination root = (plan : Plan) → IsCover stock destination root true plan → ⊥
 
 -- what is lacking of one of the trees that have no cover
 pub record Lacks (stock : Stock) (destination : Destination) (roots : List Term) (tree : Term) : Type 0 where

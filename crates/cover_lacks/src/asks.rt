@@ -18,6 +18,7 @@ use tree_grammar::{Destination, Part, match_at, tree_size};
 pub struct Search<'a> {
     pub forms: &'a [Form],
     pub temps: u32,
+    pub file: u32,
     pub destination: Destination<'a>,
     pub tree: &'a Tree,
     /// The subtrees in the order of their numbers.

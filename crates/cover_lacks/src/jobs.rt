@@ -33,7 +33,7 @@ fn flags_of(
     nodes: &[&Tree],
 ) -> Result<Vec<bool>, NoMemory>
     requires { terms_at nodes.now ≡ job_nodes (destination_at destination) (tree_term tree.now) }
-    ensures { IfOk result (λ flags. IsLackingIn (stock_with forms.now.list.items temps)
+    ensures { IfOk result (λ flags. IsLackingIn (stock_with forms.now.list.items temps forms.now.file)
         (destination_at destination.entry) (tree_term tree.now) flags.items) }
 {
     if least_cost(alloc, forms, destination, tree, true, temps)?.is_some() {
@@ -43,6 +43,7 @@ fn flags_of(
     let search = Search {
         forms: &forms.list,
         temps,
+        file: forms.file,
         destination,
         tree,
         nodes,
@@ -61,7 +62,7 @@ fn add_root<'a>(
     nodes: &mut Vec<&'a Tree>,
     flags: &mut Vec<bool>,
 ) -> Result<(), NoMemory>
-    ensures { OnOk result (AddsRoot (stock_with forms.now.list.items temps) (destination_at destination.entry)
+    ensures { OnOk result (AddsRoot (stock_with forms.now.list.items temps forms.now.file) (destination_at destination.entry)
         (tree_term tree.now) nodes.old.items nodes.new.items flags.old.items flags.new.items) }
 {
     let subtrees = numbered(alloc, destination, tree)?;
@@ -84,7 +85,7 @@ fn add_roots<'a>(
     requires flags { flags.old.items ≡ [] }
     ensures nodes { OnOk result (terms_at nodes.new.items
         ≡ all_nodes (destination_of job.now.aim) (trees_of job.now.trees.items)) }
-    ensures added { OnOk result (AreAdded (stock_with forms.now.list.items temps) (destination_of job.now.aim)
+    ensures added { OnOk result (AreAdded (stock_with forms.now.list.items temps forms.now.file) (destination_of job.now.aim)
         (trees_of job.now.trees.items) (length job.now.trees.items) (terms_at nodes.new.items) flags.new.items) }
 {
     for j in 0..job.trees.len() {
@@ -114,11 +115,11 @@ pub fn lacking<'a>(
     job: &'a Job,
     temps: u32,
 ) -> Result<Vec<&'a Tree>, NoMemory>
-    ensures list { IfOk result (λ list. AreLacking (stock_with forms.now.list.items temps)
+    ensures list { IfOk result (λ list. AreLacking (stock_with forms.now.list.items temps forms.now.file)
         (destination_of job.now.aim) (trees_of job.now.trees.items) (terms_at list.items)) }
     ensures some { IfOk result (λ list. (which : ℕ) (root : Term) →
         slice_get (trees_of job.now.trees.items) which ≡ Some root →
-        IsUncovered (stock_with forms.now.list.items temps) (destination_of job.now.aim) root →
+        IsUncovered (stock_with forms.now.list.items temps forms.now.file) (destination_of job.now.aim) root →
         0 < vec_len list) }
 {
     let mut nodes = Vec::new(alloc);

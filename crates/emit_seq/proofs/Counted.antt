@@ -1,13 +1,13 @@
 -- A cover has as many steps as it costs.
-use Rattle.std.proofs.Common.{◌≡◌, ℕ, zero, suc, ◌+◌, Bool, true, false, List, [], ◌∷◌, length, drop, refl, sym, ◌∙◌, subst, arith, length-append}
+use Rattle.std.proofs.Common.{◌≡◌, ℕ, zero, suc, ◌+◌, Bool, true, false, List, [], ◌∷◌, length, drop, refl, sym, ap, ◌∙◌, subst, arith, length-append}
 use Rattle.std.specs.Prelude.{slice_get, remove, insert}
 use Rattle.net_model.specs.Terms.{Term}
 use Rattle.form_model.specs.declared.forms.Step.{Step}
-use Rattle.form_model.specs.Rules.{Rule, Destination, into, cell, stored, temporary, tested}
-use Rattle.form_model.specs.Matches.{Site, operand, cut}
+use Rattle.form_model.specs.Rules.{Rule, Destination, into, filed, cell, stored, temporary, tested}
+use Rattle.form_model.specs.Matches.{Home, in_register, in_file, Site, operand, cut}
 use Rattle.form_model.specs.Plans.{Plan, use_form, Operands, no_operands, operand_then, Cuts, no_cuts, cut_then, cost, operands_cost, cuts_cost}
-use Rattle.form_model.specs.Covers.{Stock, operands_of, cuts_of, IsOrderly, AreOrderly, AreCut, parts_cost, job_cost}
-use Rattle.form_model.specs.Steps.{OperandCells, CutCells, cut_count, operand_counts, cut_counts, plan_operand_cells, plan_cut_cells, operand_cells_or_none, rule_at, found_at, own_steps, operand_steps, woven, cut_steps, inside_operands, into_cells, plan_setting, form_step, cover_steps}
+use Rattle.form_model.specs.Covers.{Stock, operands_of, cuts_of, home_destination, IsOrderly, AreOrderly, AreCut, parts_cost, job_cost}
+use Rattle.form_model.specs.Steps.{OperandCells, CutCells, holding, cell_of, cut_count, operand_counts, cut_counts, plan_operand_cells, plan_cut_cells, operand_cells_or_none, rule_at, found_at, own_steps, operand_steps, woven, cut_steps, inside_operands, into_cells, plan_setting, form_step, cover_steps}
 use Rattle.emit_seq.specs.Leaves.{IsOfJob}
 use Rattle.emit_seq.specs.Inner.CellLists.{operands_in, trees_in}
 use Rattle.emit_seq.proofs.Walks.{cells_operands, cells_trees}
@@ -47,7 +47,7 @@ module _ (stock : Stock) where
       omega (
         arith,
         e,
-        long_insert (inside_operands stock ps (remove left i)) i (cut_steps stock p cells.first (into cells.operand.id) cells.operand.tree cells.operand.whole),
+        long_insert (inside_operands stock ps (remove left i)) i (cut_steps stock p cells.first (home_destination cells.operand.home) cells.operand.tree cells.operand.whole),
         long_insert (operand_counts ps) i (cut_count p),
       )
 
@@ -56,22 +56,27 @@ module _ (stock : Stock) where
   cells_long (cut_then p cs) cuts = let e = cells_long cs (drop 1 cuts) in omega (arith, e)
 
   record IsCounted (p : Plan) : Type 0 where
-    all : (n : ℕ) (destination : Destination) (tree : Term) (whole : Bool) → IsOrderly stock destination tree whole p
-        → length (cut_steps stock p n destination tree whole) + length (own_steps stock p n destination tree whole)
+    all : (n held : ℕ) (destination : Destination) (tree : Term) (whole : Bool) → IsOrderly stock destination tree whole p
+        → length (cut_steps stock p n destination tree whole) + length (own_steps stock p n held destination tree whole)
         ≡ parts_cost p + length (form_step (rule_at stock 0) destination 0)
 
   record AreCounted (ps : Operands) : Type 0 where
-    all : (left : List OperandCells) → AreOrderly stock (operands_in left) ps → total_steps (inside_operands stock ps left) + length (operand_steps stock ps left) ≡ operands_cost ps
+    all : (held : ℕ) (left : List OperandCells) → AreOrderly stock (operands_in left) ps → total_steps (inside_operands stock ps left) + length (operand_steps stock ps left held) ≡ operands_cost ps
 
   record AreCutCounted (cs : Cuts) : Type 0 where
     all : (cuts : List CutCells) → AreCut stock (trees_in cuts) cs → total_steps (into_cells stock cs cuts) ≡ cuts_cost cs
 
   form_long : (rule other : Rule) (destination : Destination) (i j : ℕ) → length (form_step rule destination i) ≡ length (form_step other destination j)
   form_long rule other (into id) i j = refl
+  form_long rule other filed i j = refl
   form_long rule other (cell a) i j = refl
   form_long rule other (stored a) i j = refl
   form_long rule other temporary i j = refl
   form_long rule other tested i j = refl
+
+  home_long : (rule : Rule) (home : Home) → length (form_step rule (home_destination home) 0) ≡ 1
+  home_long rule (in_register id) = refl
+  home_long rule (in_file shape) = refl
 
   whole_cost : (p : Plan) → cost p ≡ parts_cost p + 1
   whole_cost (use_form k ps cs) = omega arith
@@ -79,16 +84,18 @@ module _ (stock : Stock) where
   operand_counted : (i : ℕ) (p : Plan) (ps : Operands) → IsCounted p → AreCounted ps → AreCounted (operand_then i p ps)
   operand_counted i p ps h k = record { all = all' }
     where
-      all' : (left : List OperandCells) → AreOrderly stock (operands_in left) (operand_then i p ps)
-          → total_steps (inside_operands stock (operand_then i p ps) left) + length (operand_steps stock (operand_then i p ps) left) ≡ operands_cost (operand_then i p ps)
-      all' left o =
+      all' : (held : ℕ) (left : List OperandCells) → AreOrderly stock (operands_in left) (operand_then i p ps)
+          → total_steps (inside_operands stock (operand_then i p ps) left) + length (operand_steps stock (operand_then i p ps) left held) ≡ operands_cost (operand_then i p ps)
+      all' held left o =
+          let more : ℕ = holding held (cell_of stock p held) in
           let cells : OperandCells = operand_cells_or_none (slice_get left i) in
           let w : IsOpenedOperand stock left i cells p ps = opened_operand stock left i p ps o in
-          let inside : List Step = cut_steps stock p cells.first (into cells.operand.id) cells.operand.tree cells.operand.whole in
-          let own : List Step = own_steps stock p cells.first (into cells.operand.id) cells.operand.tree cells.operand.whole in
-          let a : length inside + length own ≡ parts_cost p + 1 = h.all cells.first (into cells.operand.id) cells.operand.tree cells.operand.whole w.orderly in
-          let b : total_steps (inside_operands stock ps (remove left i)) + length (operand_steps stock ps (remove left i)) ≡ operands_cost ps = k.all (remove left i) w.rest in
-          omega (arith, a, b, whole_cost p, total_insert (inside_operands stock ps (remove left i)) i inside, length-append own (operand_steps stock ps (remove left i)))
+          let inside : List Step = cut_steps stock p cells.first (home_destination cells.operand.home) cells.operand.tree cells.operand.whole in
+          let own : List Step = own_steps stock p cells.first held (home_destination cells.operand.home) cells.operand.tree cells.operand.whole in
+          let a : length inside + length own ≡ parts_cost p + 1 = h.all cells.first held (home_destination cells.operand.home) cells.operand.tree cells.operand.whole w.orderly
+          ∙ ap (λ z. parts_cost p + z) (home_long (rule_at stock 0) cells.operand.home) in
+          let b : total_steps (inside_operands stock ps (remove left i)) + length (operand_steps stock ps (remove left i) more) ≡ operands_cost ps = k.all more (remove left i) w.rest in
+          omega (arith, a, b, whole_cost p, total_insert (inside_operands stock ps (remove left i)) i inside, length-append own (operand_steps stock ps (remove left i) more))
 
   cut_counted : (p : Plan) (cs : Cuts) → IsCounted p → AreCutCounted cs → AreCutCounted (cut_then p cs)
   cut_counted p cs h k = record { all = all' }
@@ -99,38 +106,38 @@ module _ (stock : Stock) where
           let e : o.0 ≡ cells.tree = cc (o.2) in
           let e' : o.1 ≡ trees_in cuts = cc (o.2) in
           let inside : List Step = cut_steps stock p cells.first temporary cells.tree false in
-          let own : List Step = own_steps stock p cells.first temporary cells.tree false in
-          let a : length inside + length own ≡ parts_cost p + 1 = h.all cells.first temporary cells.tree false (subst (λ t. IsOrderly stock temporary t false p) e o.3) in
-          let b : total_steps (into_cells stock cs cuts) ≡ cuts_cost cs = k.all cuts (subst (λ ts. AreCut stock ts cs) e' o.4) in
+          let own : List Step = own_steps stock p cells.first 0 temporary cells.tree false in
+          let a : length inside + length own ≡ parts_cost p + 1 = h.all cells.first 0 temporary cells.tree false (subst (λ t. IsOrderly stock temporary t false p) e o.3) in
+          let b : total_steps (into_cells stock cs cuts) ≡ cuts_cost cs = k.all cuts (subst (λ ts. AreCut stock ts cs) e' o.5) in
           omega (arith, a, b, whole_cost p, length-append inside own)
 
   form_counted : (k : ℕ) (ps : Operands) (cs : Cuts) → AreCounted ps → AreCutCounted cs → IsCounted (use_form k ps cs)
   form_counted k ps cs h g = record { all = all' }
     where
-      all' : (n : ℕ) (destination : Destination) (tree : Term) (whole : Bool) → IsOrderly stock destination tree whole (use_form k ps cs)
-          → length (cut_steps stock (use_form k ps cs) n destination tree whole) + length (own_steps stock (use_form k ps cs) n destination tree whole)
+      all' : (n held : ℕ) (destination : Destination) (tree : Term) (whole : Bool) → IsOrderly stock destination tree whole (use_form k ps cs)
+          → length (cut_steps stock (use_form k ps cs) n destination tree whole) + length (own_steps stock (use_form k ps cs) n held destination tree whole)
           ≡ parts_cost (use_form k ps cs) + length (form_step (rule_at stock 0) destination 0)
-      all' n destination tree whole o =
+      all' n held destination tree whole o =
           let w : IsOpened stock k ps cs destination tree whole = opened_plan stock k ps cs destination tree whole o in
           let sites : List Site = (found_at stock k destination tree whole).sites in
           let left : List OperandCells = plan_operand_cells sites ps cs n in
           let cuts : List CutCells = plan_cut_cells sites ps cs n in
-          let a : total_steps (inside_operands stock ps left) + length (operand_steps stock ps left) ≡ operands_cost ps =
-          h.all left (subst (λ z. AreOrderly stock z ps) (sym (cells_operands sites (operand_counts ps) (cut_counts cs) n)) w.operands) in
+          let a : total_steps (inside_operands stock ps left) + length (operand_steps stock ps left held) ≡ operands_cost ps =
+          h.all held left (subst (λ z. AreOrderly stock z ps) (sym (cells_operands sites (operand_counts ps) (cut_counts cs) n)) w.operands) in
           let b : total_steps (into_cells stock cs cuts) ≡ cuts_cost cs =
           g.all cuts (subst (λ z. AreCut stock z cs) (sym (cells_trees sites (operand_counts ps) (cut_counts cs) n)) w.cuts) in
           let d : length (woven sites (inside_operands stock ps left) (into_cells stock cs cuts)) ≡ total_steps (inside_operands stock ps left) + total_steps (into_cells stock cs cuts) =
           woven_long sites (inside_operands stock ps left) (into_cells stock cs cuts)
           (inside_long ps left ∙ operands_long stock ps (operands_of sites) w.operands) (cells_long cs cuts ∙ cuts_long stock cs (cuts_of sites) w.cuts) in
-          let setting : ℕ = plan_setting stock (use_form k ps cs) n destination tree whole in
-          omega (arith, a, b, d, length-append (operand_steps stock ps left) (form_step (rule_at stock k) destination setting), form_long (rule_at stock k) (rule_at stock 0) destination setting 0)
+          let setting : ℕ = plan_setting stock (use_form k ps cs) n held destination tree whole in
+          omega (arith, a, b, d, length-append (operand_steps stock ps left held) (form_step (rule_at stock k) destination setting), form_long (rule_at stock k) (rule_at stock 0) destination setting 0)
 
   mutual
     counted : (p : Plan) → IsCounted p
     counted (use_form k ps cs) = form_counted k ps cs (counted_operands ps) (counted_cuts cs)
 
     counted_operands : (ps : Operands) → AreCounted ps
-    counted_operands no_operands = record { all = λ left o. refl }
+    counted_operands no_operands = record { all = λ held left o. refl }
     counted_operands (operand_then i p ps) = operand_counted i p ps (counted p) (counted_operands ps)
 
     counted_cuts : (cs : Cuts) → AreCutCounted cs
@@ -140,11 +147,12 @@ module _ (stock : Stock) where
   -- a job's cover has as many steps as it costs
   pub steps_cost : (destination : Destination) (tree : Term) (plan : Plan) → IsOfJob destination → IsOrderly stock destination tree true plan → length (cover_steps stock destination tree plan) ≡ job_cost destination plan
   steps_cost (cell a) tree plan j o =
-      length-append (cut_steps stock plan 0 (cell a) tree true) (own_steps stock plan 0 (cell a) tree true) ∙ (counted plan).all 0 (cell a) tree true o ∙ sym (whole_cost plan)
+      length-append (cut_steps stock plan 0 (cell a) tree true) (own_steps stock plan 0 0 (cell a) tree true) ∙ (counted plan).all 0 0 (cell a) tree true o ∙ sym (whole_cost plan)
   steps_cost (stored a) tree plan j o =
-      length-append (cut_steps stock plan 0 (stored a) tree true) (own_steps stock plan 0 (stored a) tree true) ∙ (counted plan).all 0 (stored a) tree true o ∙ sym (whole_cost plan)
+      length-append (cut_steps stock plan 0 (stored a) tree true) (own_steps stock plan 0 0 (stored a) tree true) ∙ (counted plan).all 0 0 (stored a) tree true o ∙ sym (whole_cost plan)
   steps_cost tested tree plan j o =
-      let e = (counted plan).all 0 tested tree true o in
-      omega (arith, e, length-append (cut_steps stock plan 0 tested tree true) (own_steps stock plan 0 tested tree true))
+      let e = (counted plan).all 0 0 tested tree true o in
+      omega (arith, e, length-append (cut_steps stock plan 0 tested tree true) (own_steps stock plan 0 0 tested tree true))
   steps_cost (into id) tree plan j o = absurd j
+  steps_cost filed tree plan j o = absurd j
   steps_cost temporary tree plan j o = absurd j

@@ -10,7 +10,7 @@ use Rattle.emit_seq.specs.declared.cells.CutCells.{CutCells}
 use Rattle.emit_seq.specs.declared.cells.OperandCells.{OperandCells}
 use Rattle.emit_seq.specs.Views.{cells_of_cuts, cells_of_operand, cells_of_operands}
 use Rattle.emit_seq.specs.Emits.{IsTakenOut}
-use Rattle.emit_seq.proofs.Fields.{or_assoc}
+use Rattle.emit_seq.proofs.BitUnions.{or_assoc}
 use Rattle.emit_seq.proofs.Places.{drop_item}
 use Rattle.form_model.proofs.Zips.{map-remove}
 

@@ -1,14 +1,15 @@
 -- A chosen cover has no more cuts than its tree has nodes that can be cut: a cut inside a cover of
 -- the same cut would make a dearer cover.
-use Rattle.std.proofs.Common.{◌≡◌, ℕ, zero, suc, ◌+◌, ◌<◌, ◌≤◌, ◌^◌, ◌⊎◌, inl, inr, bit_and, bit_or, Bool, true, false, List, [], ◌∷◌, Some, refl, sym, ap, ◌∙◌, subst, arith}
+use Rattle.std.proofs.Common.{◌≡◌, ℕ, zero, suc, ◌+◌, ◌<◌, ◌≤◌, ◌⊎◌, inl, inr, bit_and, bit_or, Bool, true, false, List, [], ◌∷◌, Some, refl, sym, ap, ◌∙◌, subst, arith}
 use Rattle.std.specs.Prelude.{slice_get, remove}
 use Rattle.net_model.specs.Terms.{Term}
-use Rattle.form_model.specs.Rules.{Destination, into, temporary}
-use Rattle.form_model.specs.Matches.{Found}
+use Rattle.form_model.specs.Rules.{Destination, temporary}
+use Rattle.form_model.specs.Matches.{Home, in_register, in_file, Found}
 use Rattle.form_model.specs.Plans.{Plan, use_form, Operands, no_operands, operand_then, Cuts, no_cuts, cut_then, cost, operands_cost, cuts_cost}
-use Rattle.form_model.specs.Covers.{Stock, Operand, operands_of, cuts_of, form_clobbers, written, all_written, IsOrderly, AreOrderly, AreCut, Choice, Covers, ChoiceBefore, IsChosen}
+use Rattle.form_model.specs.Covers.{Stock, Operand, operands_of, cuts_of, form_clobbers, home_destination, home_set, need, operands_need, written, all_written, IsOrderly, AreOrderly, AreCut, Choice, Covers, ChoiceBefore, IsChosen}
 use Rattle.form_model.specs.Steps.{cut_count, operands_count, cuts_count}
 use Rattle.emit_seq.specs.Cells.{AllReadWords, cuttable_below, cuttable_nodes, cuttable_count}
+use Rattle.form_model.proofs.NeedLaws.{cells_left}
 use Rattle.emit_seq.proofs.Nodes.{operands_sum, cuts_sum, sites_sum, MatchKind, itself, stored_whole, parts, IsPlain, whole_at, goal_kind, goal_sum}
 
 module _ (bits : ℕ) (stock : Stock) (words : AllReadWords bits stock.rules) where
@@ -18,19 +19,19 @@ module _ (bits : ℕ) (stock : Stock) (words : AllReadWords bits stock.rules) wh
   abbrev cut_sum : List Term → ℕ
   cut_sum trees = cuts_sum stock.temps bits trees
 
-  -- no orderly cover that writes the same is cheaper
+  -- no orderly cover that writes the same and needs no more of the file is cheaper
   abbrev IsMin : Plan → Destination → Term → Bool → Type 0
-  IsMin p destination tree whole = (q : Plan) → IsOrderly stock destination tree whole q → written stock.rules q ≡ written stock.rules p → cost p ≤ cost q
+  IsMin p destination tree whole = (q : Plan) → IsOrderly stock destination tree whole q → written stock.rules q ≡ written stock.rules p → need stock.rules q ≤ need stock.rules p → cost p ≤ cost q
 
   abbrev AreMin : Operands → List Operand → Type 0
-  AreMin ps left = (qs : Operands) → AreOrderly stock left qs → all_written stock.rules qs ≡ all_written stock.rules ps → operands_cost ps ≤ operands_cost qs
+  AreMin ps left = (qs : Operands) → AreOrderly stock left qs → all_written stock.rules qs ≡ all_written stock.rules ps → operands_need stock.rules qs ≤ operands_need stock.rules ps → operands_cost ps ≤ operands_cost qs
 
   abbrev CutsMin : Cuts → List Term → Type 0
   CutsMin cs trees = (ds : Cuts) → AreCut stock trees ds → cuts_cost cs ≤ cuts_cost ds
 
   -- no cover of a tree into a temporary cell is cheaper
   abbrev IsLeastCut : ℕ → Term → Type 0
-  IsLeastCut n tree = (q : Plan) → IsOrderly stock temporary tree false q → n ≤ cost q
+  IsLeastCut n tree = (q : Plan) → IsOrderly stock temporary tree false q → need stock.rules q ≤ stock.file → n ≤ cost q
 
   record IsFew (p : Plan) : Type 0 where
     few : (destination : Destination) (tree : Term) (whole : Bool) → IsOrderly stock destination tree whole p → IsMin p destination tree whole → cut_count p ≤ cuttable_count bits destination tree whole
@@ -49,21 +50,33 @@ module _ (bits : ℕ) (stock : Stock) (words : AllReadWords bits stock.rules) wh
   sum_at (x ∷ left) zero o e = let q : x ≡ o = cc in ap (λ (z : Operand). cuttable_nodes bits z.tree z.whole + op_sum left) q
   sum_at (x ∷ left) (suc i) o e = let h = sum_at left i o e in omega (arith, h)
 
+  home_plain : (home : Home) → IsPlain stock.temps bits (home_destination home)
+  home_plain (in_register id) = tt
+  home_plain (in_file shape) = tt
+
+  home_nodes : (home : Home) (t : Term) (whole : Bool) → cuttable_count bits (home_destination home) t whole ≡ cuttable_nodes bits t whole
+  home_nodes (in_register id) t whole = refl
+  home_nodes (in_file shape) t whole = refl
+
   operand_few : (i : ℕ) (p : Plan) (ps : Operands) → IsFew p → AreFew ps → AreFew (operand_then i p ps)
   operand_few i p ps h k = record { few = few'; fewer = fewer' i }
     where
-      head_min : (j : ℕ) (left : List Operand) → (c : AreOrderly stock left (operand_then j p ps)) → AreMin (operand_then j p ps) left → IsMin p (into c.0.id) c.0.tree c.0.whole
-      head_min j left c m q d e =
-          let r : cost p + operands_cost ps ≤ cost q + operands_cost ps = m (operand_then j q ps) (c.0, c.1, d, c.3, c.4) (ap (λ z. bit_or z (all_written stock.rules ps)) e) in omega (arith, r)
+      head_min : (j : ℕ) (left : List Operand) → (c : AreOrderly stock left (operand_then j p ps)) → AreMin (operand_then j p ps) left → IsMin p (home_destination c.0.home) c.0.tree c.0.whole
+      head_min j left c m q d e b =
+          let a = cells_left stock q c.0.home c.0.tree c.0.whole d in
+          let a' = cells_left stock p c.0.home c.0.tree c.0.whole c.2 in
+          let r : cost p + operands_cost ps ≤ cost q + operands_cost ps =
+          m (operand_then j q ps) (c.0, c.1, d, c.3, c.4) (ap (λ z. bit_or z (all_written stock.rules ps)) e) (omega (arith, a, a', b)) in omega (arith, r)
 
       rest_min : (j : ℕ) (left : List Operand) → AreOrderly stock left (operand_then j p ps) → AreMin (operand_then j p ps) left → AreMin ps (remove left j)
-      rest_min j left c m qs d e =
+      rest_min j left c m qs d e b =
           let r : cost p + operands_cost ps ≤ cost p + operands_cost qs =
-          m (operand_then j p qs) (c.0, c.1, c.2, ap (λ z. bit_and z (2 ^ c.0.id)) e ∙ c.3, d) (ap (λ z. bit_or (written stock.rules p) z) e) in omega (arith, r)
+          m (operand_then j p qs) (c.0, c.1, c.2, ap (λ z. bit_and z (home_set c.0.home)) e ∙ c.3, d) (ap (λ z. bit_or (written stock.rules p) z) e) (omega (arith, b)) in omega (arith, r)
 
       few' : (left : List Operand) → AreOrderly stock left (operand_then i p ps) → AreMin (operand_then i p ps) left → operands_count (operand_then i p ps) ≤ op_sum left
       few' left c m =
-          let a : cut_count p ≤ cuttable_nodes bits c.0.tree c.0.whole = h.few (into c.0.id) c.0.tree c.0.whole c.2 (head_min i left c m) in
+          let a : cut_count p ≤ cuttable_nodes bits c.0.tree c.0.whole =
+          subst (λ n. cut_count p ≤ n) (home_nodes c.0.home c.0.tree c.0.whole) (h.few (home_destination c.0.home) c.0.tree c.0.whole c.2 (head_min i left c m)) in
           let b : operands_count ps ≤ op_sum (remove left i) = k.few (remove left i) c.4 (rest_min i left c m) in
           omega (arith, a, b, sum_at left i c.0 c.1)
 
@@ -71,8 +84,8 @@ module _ (bits : ℕ) (stock : Stock) (words : AllReadWords bits stock.rules) wh
           → operands_count (operand_then j p ps) ≤ cuttable_below bits o.tree
       fewer' zero o c m l =
           let e : o ≡ c.0 = cc (c.1) in
-          let least : IsLeastCut (cost p) c.0.tree = λ q d. let r : cost p + operands_cost ps ≤ cost q = l q (subst (λ (z : Operand). IsOrderly stock temporary z.tree false q) (sym e) d) in omega (arith, r) in
-          let a : cut_count p ≤ cuttable_below bits c.0.tree = h.fewer (into c.0.id) c.0.tree c.0.whole tt c.2 (head_min zero (o ∷ []) c m) least in
+          let least : IsLeastCut (cost p) c.0.tree = λ q d b. let r : cost p + operands_cost ps ≤ cost q = l q (subst (λ (z : Operand). IsOrderly stock temporary z.tree false q) (sym e) d) b in omega (arith, r) in
+          let a : cut_count p ≤ cuttable_below bits c.0.tree = h.fewer (home_destination c.0.home) c.0.tree c.0.whole (home_plain c.0.home) c.2 (head_min zero (o ∷ []) c m) least in
           let b : operands_count ps ≤ 0 = k.few [] c.4 (rest_min zero (o ∷ []) c m) in
           let q : cuttable_below bits o.tree ≡ cuttable_below bits c.0.tree = ap (λ (z : Operand). cuttable_below bits z.tree) e in
           omega (arith, a, b, q)
@@ -86,10 +99,10 @@ module _ (bits : ℕ) (stock : Stock) (words : AllReadWords bits stock.rules) wh
     where
       few' : (trees : List Term) → AreCut stock trees (cut_then p cs) → CutsMin (cut_then p cs) trees → cuts_count (cut_then p cs) ≤ cut_sum trees
       few' trees c m =
-          let least : IsLeastCut (cost p) c.0 = λ q d. let r : cost p + cuts_cost cs ≤ cost q + cuts_cost cs = m (cut_then q cs) (c.0, c.1, c.2, d, c.4) in omega (arith, r) in
-          let a : cut_count p ≤ cuttable_below bits c.0 = h.fewer temporary c.0 false tt c.3 (λ q d e. least q d) least in
-          let later : CutsMin cs c.1 = λ ds d. let r : cost p + cuts_cost cs ≤ cost p + cuts_cost ds = m (cut_then p ds) (c.0, c.1, c.2, c.3, d) in omega (arith, r) in
-          let b : cuts_count cs ≤ cut_sum c.1 = k.few c.1 c.4 later in
+          let least : IsLeastCut (cost p) c.0 = λ q d b. let r : cost p + cuts_cost cs ≤ cost q + cuts_cost cs = m (cut_then q cs) (c.0, c.1, c.2, d, b, c.5) in omega (arith, r) in
+          let a : cut_count p ≤ cuttable_below bits c.0 = h.fewer temporary c.0 false tt c.3 (λ q d e b. least q d (let n = c.4 in omega (arith, n, b))) least in
+          let later : CutsMin cs c.1 = λ ds d. let r : cost p + cuts_cost cs ≤ cost p + cuts_cost ds = m (cut_then p ds) (c.0, c.1, c.2, c.3, c.4, d) in omega (arith, r) in
+          let b : cuts_count cs ≤ cut_sum c.1 = k.few c.1 c.5 later in
           let q : cut_sum trees ≡ cuttable_below bits c.0 + 1 + cut_sum c.1 = ap cut_sum c.2 in
           omega (arith, a, b, q)
 
@@ -97,23 +110,23 @@ module _ (bits : ℕ) (stock : Stock) (words : AllReadWords bits stock.rules) wh
   no_cut_few = record { few = λ trees c m. omega arith }
 
   -- a cut of the tree itself has a cover that is cheaper than the form's
-  own_cut : (cs : Cuts) (t : Term) → AreCut stock (t ∷ []) cs → (q : Plan) × IsOrderly stock temporary t false q × (cost q ≤ cuts_cost cs)
+  own_cut : (cs : Cuts) (t : Term) → AreCut stock (t ∷ []) cs → (q : Plan) × IsOrderly stock temporary t false q × (need stock.rules q ≤ stock.file) × (cost q ≤ cuts_cost cs)
   own_cut no_cuts t c = absurd (cc)
   own_cut (cut_then p cs) t c =
       let e : c.0 ≡ t = cc (c.2) in
-      (p, subst (λ z. IsOrderly stock temporary z false p) e c.3, omega arith)
+      (p, subst (λ z. IsOrderly stock temporary z false p) e c.3, c.4, omega arith)
 
   form_few : (k : ℕ) (ps : Operands) (cs : Cuts) → AreFew ps → CutsFew cs → IsFew (use_form k ps cs)
   form_few k ps cs hp hc = record { few = few'; fewer = fewer' }
     where
       op_min : (destination : Destination) (tree : Term) (whole : Bool) → (c : IsOrderly stock destination tree whole (use_form k ps cs)) → IsMin (use_form k ps cs) destination tree whole → AreMin ps (operands_of c.2.sites)
-      op_min destination tree whole c m qs d e =
+      op_min destination tree whole c m qs d e b =
           let r : 1 + operands_cost ps + cuts_cost cs ≤ 1 + operands_cost qs + cuts_cost cs =
-          m (use_form k qs cs) (c.0, c.1, c.2, c.3, d, c.5) (ap (λ z. bit_or (form_clobbers (slice_get stock.rules k)) z) e) in omega (arith, r)
+          m (use_form k qs cs) (c.0, c.1, c.2, c.3, d, c.5) (ap (λ z. bit_or (form_clobbers (slice_get stock.rules k)) z) e) (omega (arith, b)) in omega (arith, r)
 
       cut_min : (destination : Destination) (tree : Term) (whole : Bool) → (c : IsOrderly stock destination tree whole (use_form k ps cs)) → IsMin (use_form k ps cs) destination tree whole → CutsMin cs (cuts_of c.2.sites)
       cut_min destination tree whole c m ds d =
-          let r : 1 + operands_cost ps + cuts_cost cs ≤ 1 + operands_cost ps + cuts_cost ds = m (use_form k ps ds) (c.0, c.1, c.2, c.3, c.4, d) refl in omega (arith, r)
+          let r : 1 + operands_cost ps + cuts_cost cs ≤ 1 + operands_cost ps + cuts_cost ds = m (use_form k ps ds) (c.0, c.1, c.2, c.3, c.4, d) refl (omega arith) in omega (arith, r)
 
       few' : (destination : Destination) (tree : Term) (whole : Bool) → IsOrderly stock destination tree whole (use_form k ps cs) → IsMin (use_form k ps cs) destination tree whole
           → cut_count (use_form k ps cs) ≤ cuttable_count bits destination tree whole
@@ -133,15 +146,15 @@ module _ (bits : ℕ) (stock : Stock) (words : AllReadWords bits stock.rules) wh
           by_kind w f (itself id e) o u om um l =
               let b : cuts_count cs ≤ cut_sum (cuts_of f.sites) = hc.few (cuts_of f.sites) u um in
               let z : cut_sum (cuts_of f.sites) ≡ 0 = ap (λ s. cut_sum (cuts_of s)) e in
-              let op : Operand = record { id = id; tree = tree; whole = w } in
+              let op : Operand = record { home = id; tree = tree; whole = w } in
               let eo : operands_of f.sites ≡ op ∷ [] = ap operands_of e in
               let a : operands_count ps ≤ cuttable_below bits tree =
               hp.fewer op (subst (λ s. AreOrderly stock s ps) eo o) (subst (λ s. AreMin ps s) eo om)
-              (λ q d. let r : 1 + operands_cost ps + cuts_cost cs ≤ cost q = l q d in omega (arith, r)) in
+              (λ q d v. let r : 1 + operands_cost ps + cuts_cost cs ≤ cost q = l q d v in omega (arith, r)) in
               omega (arith, a, b, z)
           by_kind w f (stored_whole shape e v) o u om um l =
-              let (q, d, r) = own_cut cs tree (subst (λ s. AreCut stock s cs) (ap cuts_of e) u) in
-              let n : 1 + operands_cost ps + cuts_cost cs ≤ cost q = l q d in
+              let (q, d, w', r) = own_cut cs tree (subst (λ s. AreCut stock s cs) (ap cuts_of e) u) in
+              let n : 1 + operands_cost ps + cuts_cost cs ≤ cost q = l q d w' in
               absurd (omega (arith, n, r))
           by_kind w f (parts s) o u om um l =
               let a : operands_count ps ≤ op_sum (operands_of f.sites) = hp.few (operands_of f.sites) o om in
@@ -165,9 +178,9 @@ module _ (bits : ℕ) (stock : Stock) (words : AllReadWords bits stock.rules) wh
   chosen_few destination trees choice c = (few_plan choice.plan).few destination c.covers.tree true c.covers.orderly least
     where
       least : IsMin choice.plan destination c.covers.tree true
-      least q d e =
+      least q d e b =
           let other : Choice = record { which = choice.which; plan = q } in
-          let cover : Covers stock destination trees other = record { tree = c.covers.tree; used = c.covers.used; orderly = d } in
+          let cover : Covers stock destination trees other = record { tree = c.covers.tree; used = c.covers.used; orderly = d; enough = (let n = c.covers.enough in omega (arith, n, b)) } in
           at_most (c.first other cover)
         where
           at_most : (cost choice.plan < cost q) ⊎ ((cost choice.plan ≡ cost q) × ((choice ≡ record { which = choice.which; plan = q }) ⊎ ChoiceBefore choice (record { which = choice.which; plan = q })))

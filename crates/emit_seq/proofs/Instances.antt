@@ -1,6 +1,6 @@
 -- The accumulator machine's forms are as the laws want them, so its covers leave their trees'
 -- values.
-use Rattle.std.proofs.Common.{◌≡◌, ◌∙◌, ◌%◌, ◌^◌, ◌||◌, Bool, false, ℕ, zero, suc, ◌≤◌, ◌<◌, ◌+◌, List, [], ◌∷◌, length, Some, true, refl, ap, subst, sym, slice_get, arith}
+use Rattle.std.proofs.Common.{◌≡◌, ◌∙◌, ◌%◌, ◌^◌, ◌||◌, Bool, false, ℕ, zero, suc, ◌≤◌, ◌<◌, ◌+◌, List, [], ◌∷◌, length, Some, None, true, refl, ap, subst, sym, slice_get, arith}
 use Rattle.net_model.specs.declared.hardware.Space.TheVariants.{Memory as InMemory}
 use Rattle.net_model.specs.declared.states.State.{State}
 use Rattle.std.specs.Int.{bit_at}
@@ -10,7 +10,8 @@ use Rattle.net_model.specs.Meaning.{mean}
 use Rattle.net_model.specs.Terms.{Term, reg, const, read, bin, zext, write, term_width}
 use Rattle.form_model.specs.Rules.{Rule, Kind, into_reg, cell}
 use Rattle.form_model.specs.Effects.{register, term_reads}
-use Rattle.emit_seq.specs.Formed.{uses, BitsApart, IsOnce, MeansAlike, IsIntoReg, IsFormed, AreFormed}
+use Rattle.form_model.specs.Bits.{uses}
+use Rattle.emit_seq.specs.Formed.{BitsApart, IsOnce, CellsShown, MeansAlike, IsIntoReg, IsFormed, AreFormed}
 use Rattle.emit_seq.specs.Leaves.{LeaveValue}
 use Rattle.emit_seq.specs.Spares.{clobbers_of, AreShared, ReadsCounter, AreSpare}
 use Rattle.emit_seq.specs.Worked.{field, acc_rules, acc_stock, acc_patterns, less_tree, less_plan, less_orderly}
@@ -29,9 +30,9 @@ itself t = record { means = λ s i. refl; reads = λ i r. refl }
 no_bit : (a b : Term) → ((k : ℕ) → uses a k ≡ false) → BitsApart a b
 no_bit a b f k h = absurd (true≢false (sym h ∙ f k))
 
-into : (rule : Rule) (r : ℕ) (value : Term) → slice_get acc_patterns rule.pattern ≡ Some (record { storage = r; move = write value }) → MeansAlike rule.value value → IsOnce rule.value
-    → bit_at rule.clobbers r ≡ 1 → r < 3 → IsIntoReg acc_patterns 3 rule r
-into rule r value e a o c b = record { value = value; is = e; alike = a; once = o; clobbered = c; below = b }
+into : (rule : Rule) (r : ℕ) (value : Term) → slice_get acc_patterns rule.pattern ≡ Some (record { storage = r; move = write value }) → MeansAlike rule.value value → IsOnce rule.value → CellsShown 0 rule.value
+    → bit_at rule.clobbers r ≡ 1 → r < 3 → IsIntoReg acc_patterns 3 0 rule r
+into rule r value e a o q c b = record { value = value; is = e; alike = a; once = o; shown = q; clobbered = c; below = b }
 
 or_comm : (a b : Bool) → (a || b) ≡ (b || a)
 or_comm true true = refl
@@ -48,39 +49,42 @@ sum_alike a b e = record {
     sums : (x y m n : ℕ) → m ≡ n → (x + y) % 2 ^ m ≡ (y + x) % 2 ^ n
     sums x y m n e = let c : x + y ≡ y + x = omega arith in rw (e, c) refl
 
-acc_each : Each (λ (rule : Rule). IsFormed acc_patterns 3 rule rule.goal) acc_rules
+acc_each : Each (λ (rule : Rule). IsFormed None acc_patterns 3 0 rule rule.goal) acc_rules
 acc_each = (
-  into _ 0 next refl (itself next) (tt, tt, no_bit pc one (λ k. refl), no_bit one pc (λ k. refl)) refl (omega arith),
+  into _ 0 next refl (itself next) (tt, tt, no_bit pc one (λ k. refl), no_bit one pc (λ k. refl)) (tt, tt) refl (omega arith),
   (
-    into _ 0 next refl (sum_alike one pc refl) (tt, tt, no_bit one pc (λ k. refl), no_bit pc one (λ k. refl)) refl (omega arith),
+    into _ 0 next refl (sum_alike one pc refl) (tt, tt, no_bit one pc (λ k. refl), no_bit pc one (λ k. refl)) (tt, tt) refl (omega arith),
     (
-      (tt, tt, no_bit acc zero_term (λ k. refl), no_bit zero_term acc (λ k. refl)),
+      ((tt, tt, no_bit acc zero_term (λ k. refl), no_bit zero_term acc (λ k. refl)), (tt, tt)),
       (
-        (tt, tt, no_bit zero_term acc (λ k. refl), no_bit acc zero_term (λ k. refl)),
+        ((tt, tt, no_bit zero_term acc (λ k. refl), no_bit acc zero_term (λ k. refl)), (tt, tt)),
         (
           tt,
           (
-            into _ 1 (bin Add acc mem) refl (itself (bin Add acc mem)) (tt, tt, no_bit acc mem (λ k. refl), (λ k h. refl)) refl (omega arith),
+            into _ 1 (bin Add acc mem) refl (itself (bin Add acc mem)) (tt, tt, no_bit acc mem (λ k. refl), (λ k h. refl)) (tt, tt) refl (omega arith),
             (
-              into _ 1 (bin Add acc mem) refl (sum_alike mem acc refl) (tt, tt, (λ k h. refl), no_bit acc mem (λ k. refl)) refl (omega arith),
+              into _ 1 (bin Add acc mem) refl (sum_alike mem acc refl) (tt, tt, (λ k h. refl), no_bit acc mem (λ k. refl)) (tt, tt) refl (omega arith),
               (
-                into _ 1 mem refl (itself mem) tt refl (omega arith),
+                into _ 1 mem refl (itself mem) tt tt refl (omega arith),
                 (
-                  into _ 1 (bin Sub acc mem) refl (itself (bin Sub acc mem)) (tt, tt, no_bit acc mem (λ k. refl), (λ k h. refl)) refl (omega arith),
+                  into _ 1 (bin Sub acc mem) refl (itself (bin Sub acc mem)) (tt, tt, no_bit acc mem (λ k. refl), (λ k h. refl)) (tt, tt) refl (omega arith),
                   (
-                    into _ 1 (zext field 16) refl (itself (zext field 16)) tt refl (omega arith),
+                    into _ 1 (zext field 16) refl (itself (zext field 16)) tt tt refl (omega arith),
                     (
                       record {
                         storage = 2;
                         addr = field;
                         value = acc;
                         is = refl;
+                        other = refl;
                         at = field;
                         has = refl;
                         alike_addr = itself field;
                         alike_value = itself acc;
                         once_addr = tt;
                         once_value = tt;
+                        shown_addr = tt;
+                        shown_value = tt;
                         apart = λ k h. refl;
                         apart_back = no_bit acc field (λ k. refl);
                       },
@@ -115,8 +119,8 @@ acc_each = (
     mem : Term
     mem = read InMemory field 16
 
-acc_formed : AreFormed acc_patterns 3 acc_rules
-acc_formed k rule e = each_at (λ (r : Rule). IsFormed acc_patterns 3 r r.goal) acc_rules k rule e acc_each
+acc_formed : AreFormed None acc_patterns 3 0 acc_rules
+acc_formed k rule e = each_at (λ (r : Rule). IsFormed None acc_patterns 3 0 r r.goal) acc_rules k rule e acc_each
 
 acc_own : Each (λ (rule : Rule). clobbers_of acc_rules rule.pattern ≡ rule.clobbers) acc_rules
 acc_own = (refl, (refl, (refl, (refl, (refl, (refl, (refl, (refl, (refl, (refl, (refl, tt)))))))))))
@@ -166,10 +170,10 @@ acc_counter k rule e = each_at Counts acc_rules k rule e acc_counts
 
 -- from every state of three registers and at least five cells x = (a + b) - (a - b) is done, and no
 -- variable but x changes
-pub acc_leaves : (s : State) → length s.regs ≡ 3 → 5 ≤ length s.cells → LeaveValue (acc_stock 2) acc_patterns (cell 4) less_tree less_plan s
+pub acc_leaves : (s : State) → length s.regs ≡ 3 → 5 ≤ length s.cells → LeaveValue (acc_stock 2) None acc_patterns (cell 4) less_tree less_plan s
 acc_leaves s r c =
-    leave_value (acc_stock 2) acc_patterns 3 acc_formed (cell 4) less_tree less_plan s tt less_orderly (omega arith)
-    (record { regs = r; reads = (((omega arith, tt), (omega arith, tt)), ((omega arith, tt), (omega arith, tt))); aim_reads = tt; aim = omega (arith, c); temps = omega (arith, c) })
+    leave_value (acc_stock 2) None acc_patterns 3 acc_formed (cell 4) less_tree less_plan s tt less_orderly (omega arith) (omega arith)
+    (record { regs = r; reads = (((omega arith, tt), (omega arith, tt)), ((omega arith, tt), (omega arith, tt))); aim_reads = tt; aim = omega (arith, c); temps = omega (arith, c); file = omega arith })
 
-pub acc_spares : AreSpare (acc_stock 2) acc_patterns 0 (cell 4) less_tree less_plan
-acc_spares = steps_spare (acc_stock 2) acc_patterns 3 0 acc_formed acc_shared acc_counter (cell 4) less_tree less_plan tt less_orderly
+pub acc_spares : AreSpare (acc_stock 2) None acc_patterns 0 (cell 4) less_tree less_plan
+acc_spares = steps_spare (acc_stock 2) None acc_patterns 3 0 acc_formed acc_shared acc_counter (cell 4) less_tree less_plan tt less_orderly

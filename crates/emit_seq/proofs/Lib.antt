@@ -1,7 +1,9 @@
-pub mod Fields
+pub mod BitUnions
 pub mod Matched
 pub mod Sites
+pub mod Tied
 pub mod Forms
+pub mod FreeCells
 pub mod Walks
 pub mod Opened
 pub mod Works

@@ -7,11 +7,11 @@ use Rattle.net_model.specs.declared.hardware.Space.TheVariants.{Memory as InMemo
 use Rattle.net_model.specs.Terms.{Term, word, reg, const, read, un, bin, slice, cat, zext, sext, select, term_width}
 use Rattle.form_model.specs.Trees.{is_number, is_cell}
 use Rattle.form_model.specs.Shapes.{is_shape, shape_setting, shows_below}
-use Rattle.form_model.specs.Rules.{Rule, Kind, into_reg, into_memory, branches, Destination, into, cell, stored, temporary, tested}
-use Rattle.form_model.specs.Matches.{Site, operand, cut, Found, settled, open_if, both, shape_match, literal_match, cell_match, read_match, un_match, bin_match, slice_match, zext_match, sext_match, matched, address_match, goal_match, same_op1, same_op2}
+use Rattle.form_model.specs.Rules.{Rule, Kind, into_reg, into_memory, into_file, branches, Destination, into, filed, cell, stored, temporary, tested}
+use Rattle.form_model.specs.Matches.{Home, in_register, in_file, Site, operand, cut, Found, settled, open_if, both, shape_match, literal_match, cell_match, read_match, un_match, bin_match, slice_match, zext_match, sext_match, matched, address_match, goal_match, same_op1, same_op2}
 use Rattle.form_model.specs.Covers.{Operand, operands_of, cuts_of}
 use Rattle.emit_seq.specs.Cells.{ReadsWords, AddressReadsWords, one_if, is_cuttable, cuttable_below, cuttable_nodes, cuttable_count}
-use Rattle.emit_seq.proofs.Fields.{picked}
+use Rattle.form_model.proofs.SettingLaws.{picked}
 use Rattle.emit_seq.proofs.Matched.{Joined, joined, Literal, literal, opened, settled_some}
 
 module _ (temps bits : ℕ) where
@@ -34,12 +34,12 @@ module _ (temps bits : ℕ) where
 
   -- a match takes the tree itself, as an operand or as a cut, or parts below its root
   pub data MatchKind : Term → Bool → Found → Type 0 where
-    itself : {t : Term} {whole : Bool} {f : Found} → (id : ℕ) → f.sites ≡ operand id t whole ∷ [] → MatchKind t whole f
+    itself : {t : Term} {whole : Bool} {f : Found} → (home : Home) → f.sites ≡ operand home t whole ∷ [] → MatchKind t whole f
     stored_whole : {t : Term} {whole : Bool} {f : Found} → (shape : Term) → f.sites ≡ cut shape t ∷ [] → (not whole && is_cuttable bits t) ≡ true → MatchKind t whole f
     parts : {t : Term} {whole : Bool} {f : Found} → sites_sum f.sites ≤ cuttable_below bits t → MatchKind t whole f
 
   pub kind_sum : (t : Term) (whole : Bool) (f : Found) → MatchKind t whole f → sites_sum f.sites ≤ cuttable_nodes bits t whole
-  kind_sum t whole f (itself id e) = let q : sites_sum f.sites ≡ sites_sum (operand id t whole ∷ []) = ap sites_sum e in omega (arith, q)
+  kind_sum t whole f (itself home e) = let q : sites_sum f.sites ≡ sites_sum (operand home t whole ∷ []) = ap sites_sum e in omega (arith, q)
   kind_sum t whole f (stored_whole shape e c) =
       let q : sites_sum f.sites ≡ sites_sum (cut shape t ∷ []) = ap sites_sum e in
       let n : one_if (not whole && is_cuttable bits t) ≡ 1 = ap one_if c in omega (arith, q, n)
@@ -57,8 +57,13 @@ module _ (temps bits : ℕ) where
 
   reg_kind : (id w : ℕ) → MatchKinds (reg id w)
   reg_kind id w t whole f h =
-      let p : ((w == term_width t) ≡ true) × (record { setting = 0; sites = operand id t whole ∷ [] } ≡ f) = opened _ _ _ h in
-      itself id (ap (λ (z : Found). z.sites) (sym p.1))
+      let p : ((w == term_width t) ≡ true) × (record { setting = 0; sites = operand (in_register id) t whole ∷ [] } ≡ f) = opened _ _ _ h in
+      itself (in_register id) (ap (λ (z : Found). z.sites) (sym p.1))
+
+  file_kind : (a : Term) (w : ℕ) → MatchKinds (read InFile a w)
+  file_kind a w t whole f h =
+      let p : ((w == term_width t) ≡ true) × (record { setting = 0; sites = operand (in_file a) t whole ∷ [] } ≡ f) = opened _ _ _ h in
+      itself (in_file a) (ap (λ (z : Found). z.sites) (sym p.1))
 
   un_kind : (a : Term) (op : Op1) → MatchKinds a → (t : Term) (whole : Bool) (f : Found) → un_match (matched temps a) op t ≡ Some f → MatchKind t whole f
   un_kind a op ih (un o b) whole f h =
@@ -126,14 +131,18 @@ module _ (temps bits : ℕ) where
   matched_kind (word w) o t whole f h = shape_kind (word w) t whole f h
   matched_kind (const w v) o t whole f h = shape_kind (const w v) t whole f h
   matched_kind (reg id w) o t whole f h = reg_kind id w t whole f h
+  matched_kind (read InFile a w) o t whole f h = file_kind a w t whole f h
   matched_kind (read InMemory a w) o t whole f h =
       elim (pick (is_shape a) (cell_match temps a w t whole) (read_match (matched temps a) w t) f h) as (λ _. MatchKind t whole f) [
         | inl l ↦ cell_kind a w t whole f o.0 l
         | inr l ↦ read_kind a w (matched_kind a o.1) t whole f l
       ]
-  matched_kind (read InFile a w) o t whole f h = absurd (cc)
   matched_kind (un op a) o t whole f h = un_kind a op (matched_kind a o) t whole f h
-  matched_kind (bin op a b) o t whole f h = bin_kind a b op (matched_kind a o.0) (matched_kind b o.1) t whole f h
+  matched_kind (bin op a b) o t whole f h =
+      elim (pick (is_shape (bin op a b)) (shape_match (bin op a b) t) (bin_match (matched temps a) (matched temps b) op t) f h) as (λ _. MatchKind t whole f) [
+        | inl l ↦ shape_kind (bin op a b) t whole f l
+        | inr l ↦ bin_kind a b op (matched_kind a o.0) (matched_kind b o.1) t whole f l
+      ]
   matched_kind (slice a hi lo) o t whole f h =
       elim (pick (is_shape (slice a hi lo)) (shape_match (slice a hi lo) t) (slice_match (matched temps a) (term_width a) hi lo t) f h) as (λ _. MatchKind t whole f) [
         | inl l ↦ shape_kind (slice a hi lo) t whole f l
@@ -157,6 +166,7 @@ module _ (temps bits : ℕ) where
   -- whether the tree counts as whole at a destination
   abbrev pub whole_at : Destination → Bool → Bool
   whole_at (into id) whole = whole
+  whole_at filed whole = whole
   whole_at (cell a) whole = true
   whole_at (stored a) whole = false
   whole_at temporary whole = false
@@ -178,6 +188,7 @@ module _ (temps bits : ℕ) where
       let q : record { setting = 0; sites = [] } ≡ x = cc in ap (λ (z : Found). z.sites) (sym q)
   address_none (Some addr) (stored a) x p h = absurd p
   address_none (Some addr) (into id) x p h = absurd (cc)
+  address_none (Some addr) filed x p h = absurd (cc)
   address_none (Some addr) tested x p h = absurd (cc)
 
   kind_moved : (t : Term) (whole : Bool) (f g : Found) → g.sites ≡ f.sites → MatchKind t whole f → MatchKind t whole g
@@ -197,6 +208,7 @@ module _ (temps bits : ℕ) where
   goal_kind rule (into_reg q) (into id) tree whole found o p h =
       let c : ((q == id) ≡ true) × (matched temps rule.value tree whole ≡ Some found) = picked (q == id) (matched temps rule.value tree whole) found h in
       matched_kind rule.value o tree whole found c.1
+  goal_kind rule into_file filed tree whole found o p h = matched_kind rule.value o tree whole found h
   goal_kind rule into_memory (cell a) tree whole found o p h = memory_kind rule (cell a) tree true found o p h
   goal_kind rule into_memory temporary tree whole found o p h = memory_kind rule temporary tree false found o p h
   goal_kind rule into_memory (stored a) tree whole found o p h = absurd p
@@ -220,6 +232,7 @@ module _ (temps bits : ℕ) where
   pub goal_sum : (rule : Rule) (goal : Kind) (destination : Destination) (tree : Term) (whole : Bool) (found : Found) → AddressReadsWords bits rule.addr → ReadsWords bits rule.value
       → goal_match temps rule goal destination tree whole ≡ Some found → sites_sum found.sites ≤ cuttable_count bits destination tree whole
   goal_sum rule (into_reg q) (into id) tree whole found u v h = kind_sum tree whole found (goal_kind rule (into_reg q) (into id) tree whole found v tt h)
+  goal_sum rule into_file filed tree whole found u v h = kind_sum tree whole found (goal_kind rule into_file filed tree whole found v tt h)
   goal_sum rule into_memory (cell a) tree whole found u v h = kind_sum tree true found (memory_kind rule (cell a) tree true found v tt h)
   goal_sum rule into_memory temporary tree whole found u v h = kind_sum tree false found (memory_kind rule temporary tree false found v tt h)
   goal_sum rule into_memory (stored a) tree whole found u v h = store_sum rule a tree rule.addr found u v h

@@ -1,5 +1,5 @@
 -- What an orderly cover says of its form and its operands, in the words of its steps.
-use Rattle.std.proofs.Common.{◌≡◌, ℕ, ◌+◌, ◌<◌, ◌==◌, ◌&&◌, bit_and, ◌^◌, Bool, true, false, List, [], length, Option, Some, None, refl, sym, ap, ◌∙◌, subst, arith}
+use Rattle.std.proofs.Common.{◌≡◌, ℕ, suc, ◌+◌, ◌<◌, ◌==◌, ◌&&◌, bit_and, ◌^◌, Bool, true, false, List, [], length, Option, Some, None, refl, sym, ap, ◌∙◌, subst, arith}
 use Rattle.std.specs.Prelude.{slice_get, remove}
 use Rattle.std.specs.Int.{bit_at}
 use Rattle.std.proofs.lemmas.Nat.Bits.{bit_at-zero, bit_at_and, bit_at_or, bit_at-pow_same, bit_at-lt}
@@ -7,15 +7,15 @@ use Rattle.std.proofs.lemmas.Bool.{eqb-true}
 use Rattle.net_model.specs.declared.states.State.{State}
 use Rattle.net_model.specs.Terms.{Term}
 use Rattle.net_model.specs.Patterns.{Pattern}
-use Rattle.form_model.specs.Rules.{Rule, Kind, into_reg, into_memory, branches, Destination, into, cell, stored, temporary, tested}
-use Rattle.form_model.specs.Matches.{Site, Found, settled, both, matched, address_match, goal_match, taken}
+use Rattle.form_model.specs.Rules.{Rule, Kind, into_reg, into_memory, into_file, branches, Destination, into, filed, cell, stored, temporary, tested}
+use Rattle.form_model.specs.Matches.{in_register, Site, Found, settled, both, matched, address_match, goal_match, taken}
 use Rattle.form_model.specs.Shapes.{is_shape, shape_setting, shows_below}
 use Rattle.form_model.specs.Plans.{Plan, use_form, Operands, no_operands, operand_then, Cuts, no_cuts, cut_then}
-use Rattle.form_model.specs.Covers.{Stock, Operand, operands_of, cuts_of, form_clobbers, written, all_written, IsOrderly, AreOrderly, AreCut}
-use Rattle.form_model.specs.Steps.{OperandCells, cut_count, operands_count, cuts_count, operand_counts, cut_counts, rule_or_none, found_or_none, operand_cells_or_none, rule_at, found_at}
+use Rattle.form_model.specs.Covers.{Stock, Operand, operands_of, cuts_of, form_clobbers, written, all_written, home_destination, home_set, IsOrderly, AreOrderly, AreCut}
+use Rattle.form_model.specs.Steps.{OperandCells, holding, cell_of, operand_homes, cut_count, operands_count, cuts_count, operand_counts, cut_counts, rule_or_none, found_or_none, operand_cells_or_none, rule_at, found_at}
 use Rattle.emit_seq.specs.Formed.{IsFormed}
 use Rattle.emit_seq.specs.Leaves.{ReadsFrom, DestinationReads}
-use Rattle.emit_seq.proofs.Fields.{picked}
+use Rattle.form_model.proofs.SettingLaws.{picked}
 use Rattle.emit_seq.proofs.Matched.{Joined, joined, settled_some}
 use Rattle.emit_seq.proofs.Sites.{SitesRead, read-append, matched_taken}
 use Rattle.form_model.proofs.Zips.{get_mapped, length_in, length_out, map-remove, total, total-insert}
@@ -43,8 +43,8 @@ opened_plan stock k ps cs destination tree whole c =
 
 pub record IsOpenedOperand (stock : Stock) (left : List OperandCells) (i : ℕ) (cells : OperandCells) (p : Plan) (ps : Operands) : Type 0 where
   pub at : slice_get left i ≡ Some cells
-  pub orderly : IsOrderly stock (into cells.operand.id) cells.operand.tree cells.operand.whole p
-  pub apart : bit_at (all_written stock.rules ps) cells.operand.id ≡ 0
+  pub orderly : IsOrderly stock (home_destination cells.operand.home) cells.operand.tree cells.operand.whole p
+  pub apart : (r : ℕ) → cells.operand.home ≡ in_register r → bit_at (all_written stock.rules ps) r ≡ 0
   pub rest : AreOrderly stock (operands_in (remove left i)) ps
 
 apart_bit : (n k : ℕ) → bit_and n (2 ^ k) ≡ 0 → bit_at n k ≡ 0
@@ -60,8 +60,8 @@ opened_operand stock left i p ps c =
     let eq : (operand_cells_or_none (slice_get left i)).operand ≡ c.0 = ap (λ (s : OperandCells). s.operand) es ∙ eo in
     record {
       at = e ∙ ap (λ (s : OperandCells). Some s) (sym es);
-      orderly = subst (λ (o : Operand). IsOrderly stock (into o.id) o.tree o.whole p) (sym eq) c.2;
-      apart = subst (λ (o : Operand). bit_at (all_written stock.rules ps) o.id ≡ 0) (sym eq) (apart_bit (all_written stock.rules ps) c.0.id c.3);
+      orderly = subst (λ (o : Operand). IsOrderly stock (home_destination o.home) o.tree o.whole p) (sym eq) c.2;
+      apart = λ r h. apart_bit (all_written stock.rules ps) r (ap (λ z. bit_and (all_written stock.rules ps) (home_set z)) (sym (ap (λ (o : Operand). o.home) (sym eq) ∙ h)) ∙ c.3);
       rest = subst (λ z. AreOrderly stock z ps) (sym (map-remove (λ (s : OperandCells). s.operand) left i)) c.4;
     }
 
@@ -73,9 +73,19 @@ operands_long stock (operand_then i p ps) left c =
     let h = operands_long stock ps (remove left i) c.4 in
     omega (arith, h, length_in (operand_counts ps) i (cut_count p), length_out left i c.0 c.1)
 
+-- as many homes as there are operands
+pub homes_places : (stock : Stock) (ps : Operands) (held : ℕ) → length (operand_homes stock ps held) ≡ length (operand_counts ps)
+homes_places stock no_operands held = refl
+homes_places stock (operand_then i p ps) held =
+    let h = homes_places stock ps (holding held (cell_of stock p held)) in
+    length_in (operand_homes stock ps (holding held (cell_of stock p held))) i _ ∙ ap (λ n. suc n) h ∙ sym (length_in (operand_counts ps) i (cut_count p))
+
+pub homes_long : (stock : Stock) (ps : Operands) (left : List Operand) (held : ℕ) → AreOrderly stock left ps → length (operand_homes stock ps held) ≡ length left
+homes_long stock ps left held c = homes_places stock ps held ∙ operands_long stock ps left c
+
 pub cuts_long : (stock : Stock) (cs : Cuts) (cuts : List Term) → AreCut stock cuts cs → length (cut_counts cs) ≡ length cuts
 cuts_long stock no_cuts cuts c = sym (ap length c)
-cuts_long stock (cut_then p cs) cuts c = let h = cuts_long stock cs c.1 c.4 in omega (arith, h, ap length c.2)
+cuts_long stock (cut_then p cs) cuts c = let h = cuts_long stock cs c.1 c.5 in omega (arith, h, ap length c.2)
 
 operands_total : (ps : Operands) → total (operand_counts ps) ≡ operands_count ps
 operands_total no_operands = refl
@@ -93,13 +103,13 @@ past_plan stock sites ps cs n o c =
 
 -- ---- a form that goes into a register is one of that register
 
-pub into_formed : (temps : ℕ) (patterns : List Pattern) (count : ℕ) (rule : Rule) (goal : Kind) (id : ℕ) (tree : Term) (whole : Bool) (found : Found)
-    → IsFormed patterns count rule goal → goal_match temps rule goal (into id) tree whole ≡ Some found → (id < count) × (bit_at rule.clobbers id ≡ 1)
-into_formed temps patterns count rule (into_reg q) id tree whole found f h =
+pub into_formed : (temps : ℕ) (file_storage : Option ℕ) (patterns : List Pattern) (count size : ℕ) (rule : Rule) (goal : Kind) (id : ℕ) (tree : Term) (whole : Bool) (found : Found)
+    → IsFormed file_storage patterns count size rule goal → goal_match temps rule goal (into id) tree whole ≡ Some found → (id < count) × (bit_at rule.clobbers id ≡ 1)
+into_formed temps file_storage patterns count size rule (into_reg q) id tree whole found f h =
     let c : ((q == id) ≡ true) × (matched temps rule.value tree whole ≡ Some found) = picked (q == id) (matched temps rule.value tree whole) found h in
     let e : q ≡ id = eqb-true q id c.0 in
     (subst (λ z. z < count) e f.below, subst (λ z. bit_at rule.clobbers z ≡ 1) e f.clobbered)
-into_formed temps patterns count rule goal id tree whole found f h = absurd (cc)
+into_formed temps file_storage patterns count size rule goal id tree whole found f h = absurd (cc)
 
 pub writes_own : (rules : List Rule) (k : ℕ) (rule : Rule) (ps : Operands) (cs : Cuts) (id : ℕ) → slice_get rules k ≡ Some rule → bit_at rule.clobbers id ≡ 1
     → bit_at (written rules (use_form k ps cs)) id ≡ 1
@@ -121,6 +131,7 @@ address_sites temps before (Some addr) temporary x h p =
     let q : record { setting = 0; sites = [] } ≡ x = cc in
     subst (λ (z : Found). SitesRead temps before z.sites) q tt
 address_sites temps before (Some addr) (into id) x h p = absurd (cc)
+address_sites temps before (Some addr) filed x h p = absurd (cc)
 address_sites temps before (Some addr) tested x h p = absurd (cc)
 
 memory_sites : (temps : ℕ) (before : State) (rule : Rule) (destination : Destination) (tree : Term) (whole : Bool) (found : Found)
@@ -137,6 +148,7 @@ pub goal_sites : (temps : ℕ) (before : State) (rule : Rule) (goal : Kind) (des
 goal_sites temps before rule (into_reg q) (into id) tree whole found h r p =
     let c : ((q == id) ≡ true) × (matched temps rule.value tree whole ≡ Some found) = picked (q == id) (matched temps rule.value tree whole) found h in
     (matched_taken temps before rule.value tree whole found c.1).sites r
+goal_sites temps before rule into_file filed tree whole found h r p = (matched_taken temps before rule.value tree whole found h).sites r
 goal_sites temps before rule into_memory (cell a) tree whole found h r p = memory_sites temps before rule (cell a) tree true found h r p
 goal_sites temps before rule into_memory (stored a) tree whole found h r p = memory_sites temps before rule (stored a) tree false found h r p
 goal_sites temps before rule into_memory temporary tree whole found h r p = memory_sites temps before rule temporary tree false found h r p

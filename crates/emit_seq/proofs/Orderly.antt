@@ -2,19 +2,20 @@
 use Rattle.std.proofs.Common.{◌≡◌, ℕ, suc, ◌<◌, Bool, false, List, ◌∷◌, length, Some, refl, sym, ap, ◌∙◌, subst, arith}
 use Rattle.std.specs.Prelude.{IsSome, slice_get, remove}
 use Rattle.std.proofs.lemmas.Option.{slice_get_within}
+use Rattle.std.proofs.lemmas.List.{length-map}
 use Rattle.net_model.specs.Terms.{Term}
 use Rattle.form_model.specs.declared.forms.Form.{Form}
-use Rattle.form_model.specs.Rules.{Rule, rule_of, rules_of, Destination, into, temporary}
+use Rattle.form_model.specs.Rules.{Rule, rule_of, rules_of, Destination, temporary}
 use Rattle.form_model.specs.Matches.{taken}
 use Rattle.form_model.specs.Plans.{Plan, use_form, Operands, no_operands, operand_then, Cuts, cut_then}
-use Rattle.form_model.specs.Covers.{Stock, Operand, IsOrderly, AreOrderly, AreCut}
+use Rattle.form_model.specs.Covers.{Stock, Operand, home_destination, IsOrderly, AreOrderly, AreCut}
 use Rattle.form_model.specs.Steps.{OperandCells, cut_count, operand_counts, cut_counts, inside_operands, found_at}
 use Rattle.form_model.proofs.Zips.{get_mapped, length_in, length_out, map-remove}
 use Rattle.emit_seq.specs.declared.cells.CutCells.{CutCells as CodeCutCells}
 use Rattle.emit_seq.specs.declared.cells.OperandCells.{OperandCells as CodeOperandCells}
 use Rattle.emit_seq.specs.declared.roots.Root.{Root}
 use Rattle.emit_seq.specs.Emits.{IsFormAtRoot, IsTakenOut}
-use Rattle.emit_seq.specs.Inner.CellLists.{ArePlaces, operands_in, trees_in}
+use Rattle.emit_seq.specs.Inner.CellLists.{AreListed, ArePlaces, IsListed, operands_in, trees_in}
 use Rattle.emit_seq.specs.Views.{cells_of_cut, cells_of_cuts, cells_of_operand, cells_of_operands}
 use Rattle.emit_seq.proofs.Opened.{opened_plan, operands_long}
 use Rattle.emit_seq.proofs.Walks.{cells_operands, cells_trees}
@@ -26,6 +27,23 @@ places_of stock (operand_then i p ps) left c =
     let long = operands_long stock ps (remove left i) c.4 in
     let out = length_out left i c.0 c.1 in
     (omega (arith, within, long, out), places_of stock ps (remove left i) c.4)
+
+mutual
+  pub plan_listed : (stock : Stock) (p : Plan) (destination : Destination) (tree : Term) (whole : Bool) → IsOrderly stock destination tree whole p → IsListed stock p
+  plan_listed stock (use_form k ps cs) destination tree whole c =
+      (slice_get_within stock.rules k c.0 c.1, operands_listed stock ps _ c.4)
+
+  pub operands_listed : (stock : Stock) (ps : Operands) (left : List Operand) → AreOrderly stock left ps → AreListed stock ps
+  operands_listed stock no_operands left c = tt
+  operands_listed stock (operand_then i p ps) left c =
+      let within = slice_get_within left i c.0 c.1 in
+      let long = operands_long stock ps (remove left i) c.4 in
+      let out = length_out left i c.0 c.1 in
+      (omega (arith, within, long, out), plan_listed stock p (home_destination c.0.home) c.0.tree c.0.whole c.2, operands_listed stock ps (remove left i) c.4)
+
+-- a form that is listed is one of the code's
+pub within_forms : (forms : List Form) (k : ℕ) → k < length (rules_of forms) → k < length forms
+within_forms forms k h = let e = length-map forms rule_of in omega (arith, h, e)
 
 -- ---- the form at the root
 
@@ -45,7 +63,7 @@ module _ (stock : Stock) (k : ℕ) (ps : Operands) (cs : Cuts) (destination : De
   pub operand_places : ArePlaces ps
   operand_places = places_of stock ps _ c.4
 
-  module _ (n : ℕ) (root : Root) (h : IsFormAtRoot stock k ps cs n destination tree whole root) where
+  module _ (n held : ℕ) (root : Root) (h : IsFormAtRoot stock k ps cs n held destination tree whole root) where
     pub root_operands : AreOrderly stock (operands_in (cells_of_operands root.operands.items)) ps
     root_operands =
         let sites = (found_at stock k destination tree whole).sites in
@@ -69,13 +87,13 @@ place_within stock left i p ps c =
 
 module _ (stock : Stock) (left : List OperandCells) (i : ℕ) (p : Plan) (ps : Operands) (c : AreOrderly stock (operands_in left) (operand_then i p ps))
     (cells : OperandCells) (new : List OperandCells) (t : IsTakenOut left i cells new) where
-  pub taken_orderly : IsOrderly stock (into cells.operand.id) cells.operand.tree cells.operand.whole p
+  pub taken_orderly : IsOrderly stock (home_destination cells.operand.home) cells.operand.tree cells.operand.whole p
   taken_orderly =
       let (there, at, is) = get_mapped (λ (s : OperandCells). s.operand) left i c.0 c.1 in
       let both : Some there ≡ Some cells = sym at ∙ t.at in
       let same : there ≡ cells = cc in
       let e : c.0 ≡ cells.operand = sym is ∙ ap (λ (s : OperandCells). s.operand) same in
-      subst (λ (o : Operand). IsOrderly stock (into o.id) o.tree o.whole p) e c.2
+      subst (λ (o : Operand). IsOrderly stock (home_destination o.home) o.tree o.whole p) e c.2
 
   pub left_orderly : AreOrderly stock (operands_in new) ps
   left_orderly = subst (λ z. AreOrderly stock z ps) (sym (ap operands_in t.rest ∙ map-remove (λ (s : OperandCells). s.operand) left i)) c.4
@@ -94,4 +112,4 @@ module _ (stock : Stock) (first : CodeCutCells) (later : List CodeCutCells) (p :
   cut_orderly = let e : c.0 ≡ (cells_of_cut first).tree = cc (c.2) in subst (λ t. IsOrderly stock temporary t false p) e c.3
 
   pub later_orderly : AreCut stock (trees_in (cells_of_cuts later)) cs
-  later_orderly = let e : c.1 ≡ trees_in (cells_of_cuts later) = cc (c.2) in subst (λ z. AreCut stock z cs) e c.4
+  later_orderly = let e : c.1 ≡ trees_in (cells_of_cuts later) = cc (c.2) in subst (λ z. AreCut stock z cs) e c.5

@@ -7,72 +7,82 @@ use Rattle.net_model.specs.Terms.{Term}
 use Rattle.net_model.specs.Fields.{fields}
 use Rattle.form_model.specs.declared.forms.Step.{Step}
 use Rattle.form_model.specs.Shapes.{is_shape, shape_setting, shows_below}
-use Rattle.form_model.specs.Rules.{Rule, Kind, into_reg, into_memory, branches, Destination, into, cell, stored, temporary, tested}
+use Rattle.form_model.specs.Rules.{Rule, Kind, into_reg, into_memory, into_file, branches, Destination, into, filed, cell, stored, temporary, tested}
 use Rattle.form_model.specs.Matches.{Site, operand, cut, Found, settled, both, matched, address_match, goal_match}
 use Rattle.form_model.specs.Plans.{Plan, use_form, Operands, no_operands, operand_then, Cuts, no_cuts, cut_then}
-use Rattle.form_model.specs.Covers.{Stock, IsOrderly, AreOrderly, AreCut}
-use Rattle.form_model.specs.Steps.{OperandCells, CutCells, cut_count, operand_counts, cut_counts, plan_operand_cells, plan_cut_cells, operand_cells_or_none, cells_setting, temp_setting, whole_setting, rule_at, found_at, own_steps, operand_steps, woven, cut_steps, inside_operands, into_cells, plan_setting, branch_setting, form_step, cover_steps}
+use Rattle.form_model.specs.Covers.{Stock, operands_of, home_destination, IsOrderly, AreOrderly, AreCut}
+use Rattle.form_model.specs.Steps.{OperandCells, CutCells, cut_count, operand_counts, cut_counts, plan_operand_cells, plan_cut_cells, operand_cells_or_none, holding, cell_of, operand_homes, own_setting, whole_setting, rule_at, found_at, own_steps, operand_steps, woven, cut_steps, inside_operands, into_cells, plan_setting, branch_setting, form_step, cover_steps}
 use Rattle.emit_seq.specs.Leaves.{condition_of}
 use Rattle.emit_seq.specs.Settles.{addr_fields, rule_fields, IsStepping, AreOfForms}
-use Rattle.emit_seq.proofs.Fields.{picked, or_zero, or_left, zero_left, zero_right}
-use Rattle.emit_seq.proofs.Matched.{Joined, joined, settled_some, bits_in}
+use Rattle.form_model.proofs.SettingLaws.{picked}
+use Rattle.emit_seq.proofs.BitUnions.{or_zero, zero_left, zero_right}
+use Rattle.emit_seq.proofs.Matched.{Joined, joined, settled_some, open_bits, none_open, bits_in}
 use Rattle.emit_seq.proofs.Within.{shape_within, none_within, Named, cuts_named, NamedSplit, named_split, IsIn, pair_in, matched_in}
 use Rattle.form_model.proofs.Zips.{Each}
 use Rattle.emit_seq.specs.Inner.CellLists.{operands_in, trees_in}
 use Rattle.emit_seq.proofs.Walks.{cells_operands, cells_trees}
-use Rattle.emit_seq.proofs.Opened.{IsOpened, opened_plan, IsOpenedOperand, opened_operand}
+use Rattle.emit_seq.proofs.Opened.{IsOpened, opened_plan, IsOpenedOperand, opened_operand, homes_long}
 use Rattle.emit_seq.proofs.Spared.{HasStep}
 
 -- ---- one form
 
-address_in : (temps : ℕ) (o : Option Term) (destination : Destination) (x : Found) (rs : List CutCells) → address_match temps o destination ≡ Some x → Named x.sites rs → IsIn (addr_fields o) x rs
-address_in temps None destination x rs h n = absurd (cc)
-address_in temps (Some addr) (cell a) x rs h n = λ k z.
+address_in : (temps : ℕ) (o : Option Term) (destination : Destination) (x : Found) (rs : List CutCells) (hs : List (Option ℕ)) → address_match temps o destination ≡ Some x → Named x.sites rs hs → IsIn (addr_fields o) x rs hs
+address_in temps None destination x rs hs h n = absurd (cc)
+address_in temps (Some addr) (cell a) x rs hs h n = λ k z.
     let c : (is_shape addr ≡ true) × (settled (shape_setting addr a) ≡ Some x) = picked (is_shape addr) (settled (shape_setting addr a)) x h in
     let (b, e, q) = settled_some (shape_setting addr a) x c.1 in
-    let none : rs ≡ [] = subst (λ (y : Found). Named y.sites rs) (sym q) n in
-    ap (λ (y : Found). bit_at (bits_in y rs) k) (sym q) ∙ ap (λ y. bit_at (bit_or b (cells_setting y)) k) none ∙ or_left b 0 k (bit_at-zero k) ∙ shape_within addr a b e k z
-address_in temps (Some addr) (stored address) x rs h n = matched_in temps addr address false x rs h n
-address_in temps (Some addr) temporary x rs h n = λ k z.
+    let none : (rs ≡ []) × (hs ≡ []) = subst (λ (y : Found). Named y.sites rs hs) (sym q) n in
+    ap (λ (y : Found). bit_at (bits_in y rs hs) k) (sym q) ∙ ap (λ y. bit_at (bit_or b (open_bits [] y hs)) k) none.0
+    ∙ ap (λ y. bit_at (bit_or b (open_bits [] [] y)) k) none.1 ∙ none_open b k ∙ shape_within addr a b e k z
+address_in temps (Some addr) (stored address) x rs hs h n = matched_in temps addr address false x rs hs h n
+address_in temps (Some addr) temporary x rs hs h n = λ k z.
     let c : ((is_shape addr && shows_below addr temps) ≡ true) × (settled (Some 0) ≡ Some x) = picked (is_shape addr && shows_below addr temps) (settled (Some 0)) x h in
     let q : record { setting = 0; sites = [] } ≡ x = cc in
-    let none : rs ≡ [] = subst (λ (y : Found). Named y.sites rs) (sym q) n in
-    ap (λ (y : Found). bit_at (bits_in y rs) k) (sym q) ∙ ap (λ y. bit_at (bit_or 0 (cells_setting y)) k) none ∙ bit_at-zero k
-address_in temps (Some addr) (into id) x rs h n = absurd (cc)
-address_in temps (Some addr) tested x rs h n = absurd (cc)
+    let none : (rs ≡ []) × (hs ≡ []) = subst (λ (y : Found). Named y.sites rs hs) (sym q) n in
+    ap (λ (y : Found). bit_at (bits_in y rs hs) k) (sym q) ∙ ap (λ y. bit_at (bit_or 0 (open_bits [] y hs)) k) none.0
+    ∙ ap (λ y. bit_at (bit_or 0 (open_bits [] [] y)) k) none.1 ∙ none_open 0 k ∙ bit_at-zero k
+address_in temps (Some addr) (into id) x rs hs h n = absurd (cc)
+address_in temps (Some addr) filed x rs hs h n = absurd (cc)
+address_in temps (Some addr) tested x rs hs h n = absurd (cc)
 
-memory_in : (temps : ℕ) (rule : Rule) (destination : Destination) (tree : Term) (whole : Bool) (found : Found) (rs : List CutCells)
-    → both (address_match temps rule.addr destination) (matched temps rule.value tree whole) ≡ Some found → Named found.sites rs → IsIn (rule_fields rule) found rs
-memory_in temps rule destination tree whole found rs h n =
+memory_in : (temps : ℕ) (rule : Rule) (destination : Destination) (tree : Term) (whole : Bool) (found : Found) (rs : List CutCells) (hs : List (Option ℕ))
+    → both (address_match temps rule.addr destination) (matched temps rule.value tree whole) ≡ Some found → Named found.sites rs hs → IsIn (rule_fields rule) found rs hs
+memory_in temps rule destination tree whole found rs hs h n =
     let j : Joined (address_match temps rule.addr destination) (matched temps rule.value tree whole) found = joined _ _ _ h in
-    let s : NamedSplit j.first.sites j.second.sites rs = named_split j.first.sites j.second.sites rs (subst (λ (y : Found). Named y.sites rs) (sym j.is) n) in
-    pair_in j.first j.second found rs s.front s.back (addr_fields rule.addr) (fields rule.value) j.is s.bits_of
-    (address_in temps rule.addr destination j.first s.front j.is_first s.first) (matched_in temps rule.value tree whole j.second s.back j.is_second s.second)
+    let s : NamedSplit j.first.sites j.second.sites rs hs = named_split j.first.sites j.second.sites rs hs (subst (λ (y : Found). Named y.sites rs hs) (sym j.is) n) in
+    pair_in j.first j.second found rs s.front s.back hs s.fronts s.backs (addr_fields rule.addr) (fields rule.value) j.is s.bits_of
+    (address_in temps rule.addr destination j.first s.front s.fronts j.is_first s.first) (matched_in temps rule.value tree whole j.second s.back s.backs j.is_second s.second)
 
-goal_in : (temps : ℕ) (rule : Rule) (goal : Kind) (destination : Destination) (tree : Term) (whole : Bool) (found : Found) (rs : List CutCells) → goal_match temps rule goal destination tree whole ≡ Some found
-    → Named found.sites rs → IsIn (rule_fields rule) found rs
-goal_in temps rule (into_reg q) (into id) tree whole found rs h n = λ k z.
+goal_in : (temps : ℕ) (rule : Rule) (goal : Kind) (destination : Destination) (tree : Term) (whole : Bool) (found : Found) (rs : List CutCells) (hs : List (Option ℕ)) → goal_match temps rule goal destination tree whole ≡ Some found
+    → Named found.sites rs hs → IsIn (rule_fields rule) found rs hs
+goal_in temps rule (into_reg q) (into id) tree whole found rs hs h n = λ k z.
     let c : ((q == id) ≡ true) × (matched temps rule.value tree whole ≡ Some found) = picked (q == id) (matched temps rule.value tree whole) found h in
-    matched_in temps rule.value tree whole found rs c.1 n k (zero_right (addr_fields rule.addr) (fields rule.value) k z)
-goal_in temps rule into_memory (cell a) tree whole found rs h n = memory_in temps rule (cell a) tree true found rs h n
-goal_in temps rule into_memory (stored a) tree whole found rs h n = memory_in temps rule (stored a) tree false found rs h n
-goal_in temps rule into_memory temporary tree whole found rs h n = memory_in temps rule temporary tree false found rs h n
-goal_in temps rule (branches when_one to) tested tree whole found rs h n = λ k z.
-    matched_in temps rule.value tree true found rs h n k (zero_right (addr_fields rule.addr) (fields rule.value) k z)
-goal_in temps rule goal destination tree whole found rs h n = absurd (cc)
+    matched_in temps rule.value tree whole found rs hs c.1 n k (zero_right (addr_fields rule.addr) (fields rule.value) k z)
+goal_in temps rule into_file filed tree whole found rs hs h n = λ k z.
+    matched_in temps rule.value tree whole found rs hs h n k (zero_right (addr_fields rule.addr) (fields rule.value) k z)
+goal_in temps rule into_memory (cell a) tree whole found rs hs h n = memory_in temps rule (cell a) tree true found rs hs h n
+goal_in temps rule into_memory (stored a) tree whole found rs hs h n = memory_in temps rule (stored a) tree false found rs hs h n
+goal_in temps rule into_memory temporary tree whole found rs hs h n = memory_in temps rule temporary tree false found rs hs h n
+goal_in temps rule (branches when_one to) tested tree whole found rs hs h n = λ k z.
+    matched_in temps rule.value tree true found rs hs h n k (zero_right (addr_fields rule.addr) (fields rule.value) k z)
+goal_in temps rule goal destination tree whole found rs hs h n = absurd (cc)
 
-test_in : (temps : ℕ) (rule : Rule) (goal : Kind) (tree : Term) (whole : Bool) (found : Found) (rs : List CutCells) → goal_match temps rule goal tested tree whole ≡ Some found
-    → Named found.sites rs → IsIn (fields rule.value) found rs
-test_in temps rule (branches when_one to) tree whole found rs h n = matched_in temps rule.value tree true found rs h n
-test_in temps rule goal tree whole found rs h n = absurd (cc)
+test_in : (temps : ℕ) (rule : Rule) (goal : Kind) (tree : Term) (whole : Bool) (found : Found) (rs : List CutCells) (hs : List (Option ℕ)) → goal_match temps rule goal tested tree whole ≡ Some found
+    → Named found.sites rs hs → IsIn (fields rule.value) found rs hs
+test_in temps rule (branches when_one to) tree whole found rs hs h n = matched_in temps rule.value tree true found rs hs h n
+test_in temps rule goal tree whole found rs hs h n = absurd (cc)
 
-temp_in : (destination : Destination) (o : Option Term) (own k : ℕ) → bit_at (addr_fields o) k ≡ 0 → bit_at (temp_setting destination o own) k ≡ 0
-temp_in temporary None own k z = bit_at-zero k
-temp_in temporary (Some addr) own k z = none_within (shape_setting addr own) k (λ b e. shape_within addr own b e k z)
-temp_in (into id) o own k z = bit_at-zero k
-temp_in (cell a) o own k z = bit_at-zero k
-temp_in (stored a) o own k z = bit_at-zero k
-temp_in tested o own k z = bit_at-zero k
+own_in : (destination : Destination) (o : Option Term) (own : ℕ) (home : Option ℕ) (k : ℕ) → bit_at (addr_fields o) k ≡ 0 → bit_at (own_setting destination o own home) k ≡ 0
+own_in temporary None own home k z = bit_at-zero k
+own_in temporary (Some addr) own home k z = none_within (shape_setting addr own) k (λ b e. shape_within addr own b e k z)
+own_in filed None own None k z = bit_at-zero k
+own_in filed None own (Some c) k z = bit_at-zero k
+own_in filed (Some addr) own None k z = bit_at-zero k
+own_in filed (Some addr) own (Some c) k z = none_within (shape_setting addr c) k (λ b e. shape_within addr c b e k z)
+own_in (into id) o own home k z = bit_at-zero k
+own_in (cell a) o own home k z = bit_at-zero k
+own_in (stored a) o own home k z = bit_at-zero k
+own_in tested o own home k z = bit_at-zero k
 
 -- a number whose bits are among those of a mask
 masked : (n mask : ℕ) → ((k : ℕ) → bit_at mask k ≡ 0 → bit_at n k ≡ 0) → bit_and n mask ≡ n
@@ -84,16 +94,17 @@ masked n mask f = same_from_bits (bit_and n mask) n (λ k. bit_at_and n mask k �
         zero_or_one : (n : ℕ) → n < 2 → (n ≡ 0) ⊎ (n ≡ 1)
         zero_or_one n h = grind arith
 
-setting_in : (temps : ℕ) (rule : Rule) (destination : Destination) (tree : Term) (whole : Bool) (found : Found) (rs : List CutCells) (own : ℕ) → goal_match temps rule rule.goal destination tree whole ≡ Some found
-    → Named found.sites rs → bit_and (whole_setting rule destination found rs own) (rule_fields rule) ≡ whole_setting rule destination found rs own
-setting_in temps rule destination tree whole found rs own h n =
-    masked (whole_setting rule destination found rs own) (rule_fields rule) (λ k z.
-    or_zero (bits_in found rs) (temp_setting destination rule.addr own) k (goal_in temps rule rule.goal destination tree whole found rs h n k z)
-    (temp_in destination rule.addr own k (zero_left (addr_fields rule.addr) (fields rule.value) k z)))
+setting_in : (temps : ℕ) (rule : Rule) (destination : Destination) (tree : Term) (whole : Bool) (found : Found) (rs : List CutCells) (hs : List (Option ℕ)) (own : ℕ) (home : Option ℕ) → goal_match temps rule rule.goal destination tree whole ≡ Some found
+    → Named found.sites rs hs → bit_and (whole_setting rule destination found rs hs own home) (rule_fields rule) ≡ whole_setting rule destination found rs hs own home
+setting_in temps rule destination tree whole found rs hs own home h n =
+    masked (whole_setting rule destination found rs hs own home) (rule_fields rule) (λ k z.
+    or_zero (bits_in found rs hs) (own_setting destination rule.addr own home) k (goal_in temps rule rule.goal destination tree whole found rs hs h n k z)
+    (own_in destination rule.addr own home k (zero_left (addr_fields rule.addr) (fields rule.value) k z)))
 
 steps_goal : (temps : ℕ) (rule : Rule) (goal : Kind) (destination : Destination) (tree : Term) (whole : Bool) (found : Found) → HasStep destination → goal_match temps rule goal destination tree whole ≡ Some found → IsStepping goal
 steps_goal temps rule (into_reg q) destination tree whole found s h = tt
 steps_goal temps rule into_memory destination tree whole found s h = tt
+steps_goal temps rule into_file destination tree whole found s h = tt
 steps_goal temps rule (branches when_one to) tested tree whole found s h = absurd s
 steps_goal temps rule goal destination tree whole found s h = absurd (cc)
 
@@ -117,11 +128,11 @@ of_woven rules (cut shape tree ∷ sites) xs (y ∷ ys) h k = of_append rules y 
 
 module _ (stock : Stock) where
   record IsSettled (p : Plan) : Type 0 where
-    own : (n : ℕ) (destination : Destination) (tree : Term) (whole : Bool) → IsOrderly stock destination tree whole p → AreOfForms stock.rules (own_steps stock p n destination tree whole)
+    own : (n held : ℕ) (destination : Destination) (tree : Term) (whole : Bool) → IsOrderly stock destination tree whole p → AreOfForms stock.rules (own_steps stock p n held destination tree whole)
     cuts : (n : ℕ) (destination : Destination) (tree : Term) (whole : Bool) → IsOrderly stock destination tree whole p → AreOfForms stock.rules (cut_steps stock p n destination tree whole)
 
   record AreSettled (ps : Operands) : Type 0 where
-    own : (left : List OperandCells) → AreOrderly stock (operands_in left) ps → AreOfForms stock.rules (operand_steps stock ps left)
+    own : (held : ℕ) (left : List OperandCells) → AreOrderly stock (operands_in left) ps → AreOfForms stock.rules (operand_steps stock ps left held)
     cuts : (left : List OperandCells) → AreOrderly stock (operands_in left) ps → Each (AreOfForms stock.rules) (inside_operands stock ps left)
 
   record CutsSettled (cs : Cuts) : Type 0 where
@@ -130,19 +141,19 @@ module _ (stock : Stock) where
   operand_settled : (i : ℕ) (p : Plan) (ps : Operands) → IsSettled p → AreSettled ps → AreSettled (operand_then i p ps)
   operand_settled i p ps h k = record { own = own'; cuts = cuts' }
     where
-      own' : (left : List OperandCells) → AreOrderly stock (operands_in left) (operand_then i p ps) → AreOfForms stock.rules (operand_steps stock (operand_then i p ps) left)
-      own' left o =
+      own' : (held : ℕ) (left : List OperandCells) → AreOrderly stock (operands_in left) (operand_then i p ps) → AreOfForms stock.rules (operand_steps stock (operand_then i p ps) left held)
+      own' held left o =
           let cells : OperandCells = operand_cells_or_none (slice_get left i) in
           let w : IsOpenedOperand stock left i cells p ps = opened_operand stock left i p ps o in
-          of_append stock.rules (own_steps stock p cells.first (into cells.operand.id) cells.operand.tree cells.operand.whole) (operand_steps stock ps (remove left i))
-          (h.own cells.first (into cells.operand.id) cells.operand.tree cells.operand.whole w.orderly) (k.own (remove left i) w.rest)
+          of_append stock.rules (own_steps stock p cells.first held (home_destination cells.operand.home) cells.operand.tree cells.operand.whole) (operand_steps stock ps (remove left i) (holding held (cell_of stock p held)))
+          (h.own cells.first held (home_destination cells.operand.home) cells.operand.tree cells.operand.whole w.orderly) (k.own (holding held (cell_of stock p held)) (remove left i) w.rest)
 
       cuts' : (left : List OperandCells) → AreOrderly stock (operands_in left) (operand_then i p ps) → Each (AreOfForms stock.rules) (inside_operands stock (operand_then i p ps) left)
       cuts' left o =
           let cells : OperandCells = operand_cells_or_none (slice_get left i) in
           let w : IsOpenedOperand stock left i cells p ps = opened_operand stock left i p ps o in
-          of_insert stock.rules (inside_operands stock ps (remove left i)) i (cut_steps stock p cells.first (into cells.operand.id) cells.operand.tree cells.operand.whole)
-          (h.cuts cells.first (into cells.operand.id) cells.operand.tree cells.operand.whole w.orderly) (k.cuts (remove left i) w.rest)
+          of_insert stock.rules (inside_operands stock ps (remove left i)) i (cut_steps stock p cells.first (home_destination cells.operand.home) cells.operand.tree cells.operand.whole)
+          (h.cuts cells.first (home_destination cells.operand.home) cells.operand.tree cells.operand.whole w.orderly) (k.cuts (remove left i) w.rest)
 
   cut_settled : (p : Plan) (cs : Cuts) → IsSettled p → CutsSettled cs → CutsSettled (cut_then p cs)
   cut_settled p cs h k = record { cuts = cuts' }
@@ -153,39 +164,41 @@ module _ (stock : Stock) where
           let e : o.0 ≡ cells.tree = cc (o.2) in
           let e' : o.1 ≡ trees_in cuts = cc (o.2) in
           let d : IsOrderly stock temporary cells.tree false p = subst (λ t. IsOrderly stock temporary t false p) e o.3 in (
-            of_append stock.rules (cut_steps stock p cells.first temporary cells.tree false) (own_steps stock p cells.first temporary cells.tree false)
-                (h.cuts cells.first temporary cells.tree false d) (h.own cells.first temporary cells.tree false d),
-            k.cuts cuts (subst (λ ts. AreCut stock ts cs) e' o.4),
+            of_append stock.rules (cut_steps stock p cells.first temporary cells.tree false) (own_steps stock p cells.first 0 temporary cells.tree false)
+                (h.cuts cells.first temporary cells.tree false d) (h.own cells.first 0 temporary cells.tree false d),
+            k.cuts cuts (subst (λ ts. AreCut stock ts cs) e' o.5),
           )
 
   form_of : (k setting : ℕ) (destination : Destination) → slice_get stock.rules k ≡ Some (rule_at stock k) → (HasStep destination → IsStepping (rule_at stock k).goal)
       → bit_and setting (rule_fields (rule_at stock k)) ≡ setting → AreOfForms stock.rules (form_step (rule_at stock k) destination setting)
   form_of k setting (into id) e g b = (record { destination = k; rule = rule_at stock k; listed = e; goal = g tt; pattern = refl; within = b }, tt)
+  form_of k setting filed e g b = (record { destination = k; rule = rule_at stock k; listed = e; goal = g tt; pattern = refl; within = b }, tt)
   form_of k setting (cell a) e g b = (record { destination = k; rule = rule_at stock k; listed = e; goal = g tt; pattern = refl; within = b }, tt)
   form_of k setting (stored a) e g b = (record { destination = k; rule = rule_at stock k; listed = e; goal = g tt; pattern = refl; within = b }, tt)
   form_of k setting temporary e g b = (record { destination = k; rule = rule_at stock k; listed = e; goal = g tt; pattern = refl; within = b }, tt)
   form_of k setting tested e g b = tt
 
-  root_setting : (k : ℕ) (ps : Operands) (cs : Cuts) (n : ℕ) (destination : Destination) (tree : Term) (whole : Bool) → IsOrderly stock destination tree whole (use_form k ps cs)
-      → bit_and (plan_setting stock (use_form k ps cs) n destination tree whole) (rule_fields (rule_at stock k)) ≡ plan_setting stock (use_form k ps cs) n destination tree whole
-  root_setting k ps cs n destination tree whole o =
+  root_setting : (k : ℕ) (ps : Operands) (cs : Cuts) (n held : ℕ) (destination : Destination) (tree : Term) (whole : Bool) → IsOrderly stock destination tree whole (use_form k ps cs)
+      → bit_and (plan_setting stock (use_form k ps cs) n held destination tree whole) (rule_fields (rule_at stock k)) ≡ plan_setting stock (use_form k ps cs) n held destination tree whole
+  root_setting k ps cs n held destination tree whole o =
       let w : IsOpened stock k ps cs destination tree whole = opened_plan stock k ps cs destination tree whole o in
       setting_in stock.temps (rule_at stock k) destination tree whole (found_at stock k destination tree whole) (plan_cut_cells (found_at stock k destination tree whole).sites ps cs n)
-      (n + cut_count (use_form k ps cs)) w.takes (cuts_named (found_at stock k destination tree whole).sites (operand_counts ps) (cut_counts cs) n)
+      (operand_homes stock ps held) (n + cut_count (use_form k ps cs)) (cell_of stock (use_form k ps cs) held) w.takes
+      (cuts_named (found_at stock k destination tree whole).sites (operand_counts ps) (cut_counts cs) n (operand_homes stock ps held) (homes_long stock ps (operands_of (found_at stock k destination tree whole).sites) held w.operands))
 
   form_settled : (k : ℕ) (ps : Operands) (cs : Cuts) → AreSettled ps → CutsSettled cs → IsSettled (use_form k ps cs)
   form_settled k ps cs hp hc = record { own = own'; cuts = cuts' }
     where
-      own' : (n : ℕ) (destination : Destination) (tree : Term) (whole : Bool) → IsOrderly stock destination tree whole (use_form k ps cs) → AreOfForms stock.rules (own_steps stock (use_form k ps cs) n destination tree whole)
-      own' n destination tree whole o =
+      own' : (n held : ℕ) (destination : Destination) (tree : Term) (whole : Bool) → IsOrderly stock destination tree whole (use_form k ps cs) → AreOfForms stock.rules (own_steps stock (use_form k ps cs) n held destination tree whole)
+      own' n held destination tree whole o =
           let w : IsOpened stock k ps cs destination tree whole = opened_plan stock k ps cs destination tree whole o in
           let found : Found = found_at stock k destination tree whole in
           let left : List OperandCells = plan_operand_cells found.sites ps cs n in
-          let setting : ℕ = plan_setting stock (use_form k ps cs) n destination tree whole in
-          of_append stock.rules (operand_steps stock ps left) (form_step (rule_at stock k) destination setting)
-          (hp.own left (subst (λ z. AreOrderly stock z ps) (sym (cells_operands found.sites (operand_counts ps) (cut_counts cs) n)) w.operands))
+          let setting : ℕ = plan_setting stock (use_form k ps cs) n held destination tree whole in
+          of_append stock.rules (operand_steps stock ps left held) (form_step (rule_at stock k) destination setting)
+          (hp.own held left (subst (λ z. AreOrderly stock z ps) (sym (cells_operands found.sites (operand_counts ps) (cut_counts cs) n)) w.operands))
           (form_of k setting destination w.listed (λ s. steps_goal stock.temps (rule_at stock k) (rule_at stock k).goal destination tree whole found s w.takes)
-          (root_setting k ps cs n destination tree whole o))
+          (root_setting k ps cs n held destination tree whole o))
 
       cuts' : (n : ℕ) (destination : Destination) (tree : Term) (whole : Bool) → IsOrderly stock destination tree whole (use_form k ps cs) → AreOfForms stock.rules (cut_steps stock (use_form k ps cs) n destination tree whole)
       cuts' n destination tree whole o =
@@ -200,7 +213,7 @@ module _ (stock : Stock) where
     settled_plan (use_form k ps cs) = form_settled k ps cs (settled_operands ps) (settled_cuts cs)
 
     settled_operands : (ps : Operands) → AreSettled ps
-    settled_operands no_operands = record { own = λ left o. tt; cuts = λ left o. tt }
+    settled_operands no_operands = record { own = λ held left o. tt; cuts = λ left o. tt }
     settled_operands (operand_then i p ps) = operand_settled i p ps (settled_plan p) (settled_operands ps)
 
     settled_cuts : (cs : Cuts) → CutsSettled cs
@@ -210,8 +223,8 @@ module _ (stock : Stock) where
   -- each step of an orderly cover is one of a form, with values for its bits alone
   pub steps_of_forms : (destination : Destination) (tree : Term) (plan : Plan) → IsOrderly stock destination tree true plan → AreOfForms stock.rules (cover_steps stock destination tree plan)
   steps_of_forms destination tree plan o =
-      of_append stock.rules (cut_steps stock plan 0 destination tree true) (own_steps stock plan 0 destination tree true)
-      ((settled_plan plan).cuts 0 destination tree true o) ((settled_plan plan).own 0 destination tree true o)
+      of_append stock.rules (cut_steps stock plan 0 destination tree true) (own_steps stock plan 0 0 destination tree true)
+      ((settled_plan plan).cuts 0 destination tree true o) ((settled_plan plan).own 0 0 destination tree true o)
 
   -- the setting of a branch has no bits but those of its condition
   pub branch_in : (tree : Term) (plan : Plan) → IsOrderly stock tested tree true plan
@@ -221,5 +234,5 @@ module _ (stock : Stock) where
       let found : Found = found_at stock k tested tree true in
       let cuts : List CutCells = plan_cut_cells found.sites ps cs 0 in
       masked (branch_setting stock tree (use_form k ps cs)) (fields (rule_at stock k).value) (λ j z.
-      or_zero (bits_in found cuts) 0 j
-      (test_in stock.temps (rule_at stock k) (rule_at stock k).goal tree true found cuts w.takes (cuts_named found.sites (operand_counts ps) (cut_counts cs) 0) j z) (bit_at-zero j))
+      or_zero (bits_in found cuts (operand_homes stock ps 0)) 0 j
+      (test_in stock.temps (rule_at stock k) (rule_at stock k).goal tree true found cuts (operand_homes stock ps 0) w.takes (cuts_named found.sites (operand_counts ps) (cut_counts cs) 0 (operand_homes stock ps 0) (homes_long stock ps (operands_of found.sites) 0 w.operands)) j z) (bit_at-zero j))

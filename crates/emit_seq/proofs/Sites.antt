@@ -1,28 +1,31 @@
 -- The trees of a match's sites, and the registers that a form's expression reads.
-use Rattle.std.proofs.Common.{◌≡◌, ℕ, ◌==◌, ◌||◌, ◌&&◌, ◌⊎◌, inl, inr, not, Bool, true, false, if◌then◌else◌, List, [], ◌∷◌, ◌++◌, Option, Some, refl, sym, ap, ◌∙◌, subst}
+use Rattle.std.proofs.Common.{◌≡◌, ℕ, ◌==◌, ◌||◌, ◌&&◌, ◌⊎◌, inl, inr, not, Bool, true, false, if◌then◌else◌, List, [], ◌∷◌, ◌++◌, Option, Some, None, refl, sym, ap, ◌∙◌, subst}
 use Rattle.std.proofs.lemmas.Bool.{true≢false, eqb-true}
 use Rattle.rec_bits.specs.declared.operator.Op1.{Op1}
 use Rattle.rec_bits.specs.declared.operator.Op2.{Op2}
+use Rattle.rec_bits.specs.declared.operator.Op2.TheVariants.{Add}
 use Rattle.net_model.specs.declared.hardware.Space.TheVariants.{Memory as InMemory, File as InFile}
 use Rattle.net_model.specs.declared.states.State.{State}
 use Rattle.net_model.specs.Terms.{Term, word, reg, const, read, un, bin, slice, cat, zext, sext, select, term_width}
 use Rattle.form_model.specs.Trees.{is_number, is_cell}
-use Rattle.form_model.specs.Shapes.{is_field, is_shape, shows_below}
-use Rattle.form_model.specs.Matches.{Site, operand, cut, Found, open_if, both, shape_match, literal_match, cell_match, read_match, un_match, bin_match, slice_match, zext_match, sext_match, matched, same_op1, same_op2}
+use Rattle.form_model.specs.Shapes.{Sum, is_field, is_plain, is_plain_sum, is_shape, shows_below, summands}
+use Rattle.form_model.specs.Matches.{in_register, in_file, Site, operand, cut, Found, open_if, both, shape_match, literal_match, cell_match, read_match, un_match, bin_match, slice_match, zext_match, sext_match, matched, same_op1, same_op2}
 use Rattle.form_model.specs.Covers.{Operand, operands_of}
 use Rattle.form_model.specs.Effects.{register, term_reads}
+use Rattle.form_model.proofs.SumNumbers.{sum_is_with}
+use Rattle.emit_seq.specs.Formed.{CellsShown}
 use Rattle.emit_seq.specs.Leaves.{ReadsFrom}
-use Rattle.emit_seq.proofs.Fields.{picked}
+use Rattle.form_model.proofs.SettingLaws.{picked}
 use Rattle.emit_seq.proofs.Matched.{Joined, joined, Literal, literal, opened}
 
 -- a register of an operand
 abbrev pub IsIdOf : List Operand → ℕ → Type 0
 IsIdOf [] r = ⊥
-IsIdOf (o ∷ os) r = (o.id ≡ r) ⊎ IsIdOf os r
+IsIdOf (o ∷ os) r = (o.home ≡ in_register r) ⊎ IsIdOf os r
 
 pub operands-append : (xs ys : List Site) → operands_of (xs ++ ys) ≡ operands_of xs ++ operands_of ys
 operands-append [] ys = refl
-operands-append (operand id tree whole ∷ xs) ys = ap (λ (z : List Operand). record { id = id; tree = tree; whole = whole } ∷ z) (operands-append xs ys)
+operands-append (operand id tree whole ∷ xs) ys = ap (λ (z : List Operand). record { home = id; tree = tree; whole = whole } ∷ z) (operands-append xs ys)
 operands-append (cut shape tree ∷ xs) ys = operands-append xs ys
 
 pub id_left : (xs ys : List Operand) (r : ℕ) → IsIdOf xs r → IsIdOf (xs ++ ys) r
@@ -41,7 +44,34 @@ field_unread (word w) i r h = refl
 field_unread (slice (word w) hi lo) i r h = refl
 field_unread t i r h = absurd (true≢false (sym h))
 
+plain_unread : (t : Term) (i r : ℕ) → is_plain t ≡ true → term_reads i t (register r) ≡ false
+plain_unread (const w v) i r h = refl
+plain_unread (zext a w) i r h = field_unread a i r h
+plain_unread (sext a w) i r h = field_unread a i r h
+plain_unread (word w) i r h = refl
+plain_unread (slice a hi lo) i r h = field_unread (slice a hi lo) i r h
+plain_unread t i r h = absurd (true≢false (sym h))
+
+no_read : (a b : Bool) → a ≡ false → b ≡ false → (a || b) ≡ false
+no_read true b p q = p
+no_read false b p q = q
+
+-- a sum has a constant and a plain part
+sum_unread : (a b : Term) (s : Sum) (i r : ℕ) → summands a b ≡ Some s → is_plain s.to ≡ true → (term_reads i a (register r) || term_reads i b (register r)) ≡ false
+sum_unread (const w c) b s i r e p =
+    let same = (sum_is_with w c b s e).is in plain_unread b i r (ap (λ (z : Sum). is_plain z.to) same ∙ p)
+sum_unread a (const w c) s i r e p =
+    let same = (sum_is_with w c a s e).is in
+    no_read (term_reads i a (register r)) false (plain_unread a i r (ap (λ (z : Sum). is_plain z.to) same ∙ p)) refl
+sum_unread a b s i r e p = absurd (cc)
+
 pub shape_unread : (t : Term) (i r : ℕ) → is_shape t ≡ true → term_reads i t (register r) ≡ false
+shape_unread (bin Add a b) i r h = by (summands a b) refl h
+  where
+    by : (o : Option Sum) → summands a b ≡ o → is_plain_sum o ≡ true → (term_reads i a (register r) || term_reads i b (register r)) ≡ false
+    by None e p = absurd (true≢false (sym p))
+    by (Some s) e p = sum_unread a b s i r e p
+shape_unread (bin _ a b) i r h = absurd (true≢false (sym h))
 shape_unread (const w v) i r h = refl
 shape_unread (zext a w) i r h = field_unread a i r h
 shape_unread (sext a w) i r h = field_unread a i r h
@@ -73,7 +103,7 @@ module _ (temps : ℕ) (before : State) where
   -- register that the expression reads
   pub record IsTaken (e t : Term) (f : Found) : Type 0 where
     pub sites : ReadsFrom temps before t → SitesRead f.sites
-    pub given : (i r : ℕ) → term_reads i e (register r) ≡ true → IsIdOf (operands_of f.sites) r
+    pub given : (size : ℕ) → CellsShown size e → (i r : ℕ) → term_reads i e (register r) ≡ true → IsIdOf (operands_of f.sites) r
 
   abbrev Takes : Term → Type 0
   Takes a = (t : Term) (whole : Bool) (f : Found) → matched temps a t whole ≡ Some f → IsTaken a t f
@@ -83,19 +113,28 @@ module _ (temps : ℕ) (before : State) where
       let l : Literal e t f = literal e t f h in
       record {
         sites = λ k. subst (λ (z : Found). SitesRead z.sites) l.is tt;
-        given = λ i r k. absurd (true≢false (sym k ∙ n i r));
+        given = λ size q i r k. absurd (true≢false (sym k ∙ n i r));
       }
 
   reg_taken : (id w : ℕ) → Takes (reg id w)
   reg_taken id w t whole f h =
-      let p : ((w == term_width t) ≡ true) × (record { setting = 0; sites = operand id t whole ∷ [] } ≡ f) = opened _ _ _ h in
+      let p : ((w == term_width t) ≡ true) × (record { setting = 0; sites = operand (in_register id) t whole ∷ [] } ≡ f) = opened _ _ _ h in
       record {
         sites = λ k. subst (λ (z : Found). SitesRead z.sites) p.1 (k, tt);
-        given = λ i r k. subst (λ (z : Found). IsIdOf (operands_of z.sites) r) p.1 (inl (eq_id r id k));
+        given = λ size q i r k. subst (λ (z : Found). IsIdOf (operands_of z.sites) r) p.1 (inl (ap in_register (eq_id r id k)));
       }
     where
       eq_id : (r id : ℕ) → (r == id) ≡ true → id ≡ r
       eq_id r id k = sym (eqb-true r id k)
+
+  -- a read of the file at a field shape reads no register
+  file_taken : (a : Term) (w : ℕ) → Takes (read InFile a w)
+  file_taken a w t whole f h =
+      let p : ((w == term_width t) ≡ true) × (record { setting = 0; sites = operand (in_file a) t whole ∷ [] } ≡ f) = opened _ _ _ h in
+      record {
+        sites = λ k. subst (λ (z : Found). SitesRead z.sites) p.1 (k, tt);
+        given = λ size q i r k. absurd (true≢false (sym k ∙ shape_unread a i r q.0));
+      }
 
   un_taken : (a : Term) (op : Op1) → Takes a → (t : Term) (f : Found) → un_match (matched temps a) op t ≡ Some f → IsTaken (un op a) t f
   un_taken a op ih (un o b) f h =
@@ -112,11 +151,11 @@ module _ (temps : ℕ) (before : State) where
       let n : IsTaken b d j.second = ihb d false j.second j.is_second in
       record {
         sites = λ k. subst (λ (z : Found). SitesRead z.sites) j.is (read-append j.first.sites j.second.sites (m.sites k.0) (n.sites k.1));
-        given = λ i r k. subst (λ (z : Found). IsIdOf (operands_of z.sites) r) j.is
+        given = λ size q i r k. subst (λ (z : Found). IsIdOf (operands_of z.sites) r) j.is
             (subst (λ z. IsIdOf z r) (sym (operands-append j.first.sites j.second.sites))
             (elim (or_some (term_reads i a (register r)) (term_reads i b (register r)) k) as (λ _. IsIdOf (operands_of j.first.sites ++ operands_of j.second.sites) r) [
-              | inl u ↦ id_left _ _ r (m.given i r u)
-              | inr u ↦ id_right (operands_of j.first.sites) _ r (n.given i r u)
+              | inl u ↦ id_left _ _ r (m.given size q.0 i r u)
+              | inr u ↦ id_right (operands_of j.first.sites) _ r (n.given size q.1 i r u)
             ]));
       }
   bin_taken a b op iha ihb t f h = absurd (cc)
@@ -139,7 +178,7 @@ module _ (temps : ℕ) (before : State) where
       let p : (b ≡ true) × (record { setting = 0; sites = cut a t ∷ [] } ≡ f) = opened _ _ _ h in
       record {
         sites = λ k. subst (λ (z : Found). SitesRead z.sites) p.1 (k, tt);
-        given = λ i r k. absurd (true≢false (sym k ∙ shape_unread a i r e));
+        given = λ size q i r k. absurd (true≢false (sym k ∙ shape_unread a i r e));
       }
 
   cell_taken : (a : Term) (w : ℕ) (t : Term) (whole : Bool) (f : Found) → is_shape a ≡ true → cell_match temps a w t whole ≡ Some f → IsTaken (read InMemory a w) t f
@@ -177,14 +216,18 @@ module _ (temps : ℕ) (before : State) where
   matched_taken (word w) t whole f h = shape_taken (word w) t f (λ i r. refl) h
   matched_taken (const w v) t whole f h = shape_taken (const w v) t f (λ i r. refl) h
   matched_taken (reg id w) t whole f h = reg_taken id w t whole f h
+  matched_taken (read InFile a w) t whole f h = file_taken a w t whole f h
   matched_taken (read InMemory a w) t whole f h =
       elim (chosen (is_shape a) (cell_match temps a w t whole) (read_match (matched temps a) w t) f h) as (λ _. IsTaken (read InMemory a w) t f) [
         | inl l ↦ cell_taken a w t whole f l.0 l.1
         | inr l ↦ read_taken a w (matched_taken a) t f l
       ]
-  matched_taken (read InFile a w) t whole f h = absurd (cc)
   matched_taken (un op a) t whole f h = un_taken a op (matched_taken a) t f h
-  matched_taken (bin op a b) t whole f h = bin_taken a b op (matched_taken a) (matched_taken b) t f h
+  matched_taken (bin op a b) t whole f h =
+      elim (chosen (is_shape (bin op a b)) (shape_match (bin op a b) t) (bin_match (matched temps a) (matched temps b) op t) f h) as (λ _. IsTaken (bin op a b) t f) [
+        | inl l ↦ shape_taken (bin op a b) t f (λ i r. shape_unread (bin op a b) i r l.0) l.1
+        | inr l ↦ bin_taken a b op (matched_taken a) (matched_taken b) t f l
+      ]
   matched_taken (slice a hi lo) t whole f h =
       elim (chosen (is_shape (slice a hi lo)) (shape_match (slice a hi lo) t) (slice_match (matched temps a) (term_width a) hi lo t) f h) as (λ _. IsTaken (slice a hi lo) t f) [
         | inl l ↦ shape_taken (slice a hi lo) t f (λ i r. shape_unread (slice a hi lo) i r l.0) l.1

@@ -9,17 +9,17 @@ use Rattle.net_model.specs.Symbolic.{no_state}
 use Rattle.net_model.specs.Patterns.{Pattern}
 use Rattle.form_model.specs.declared.forms.Step.{Step}
 use Rattle.form_model.specs.Shapes.{is_shape, shape_setting, shows_below}
-use Rattle.form_model.specs.Rules.{Rule, Kind, into_reg, into_memory, branches, Destination, into, cell, stored, temporary, tested}
-use Rattle.form_model.specs.Matches.{Site, Found, settled, both, matched, address_match, goal_match}
+use Rattle.form_model.specs.Rules.{Rule, Kind, into_reg, into_memory, into_file, branches, Destination, into, filed, cell, stored, temporary, tested}
+use Rattle.form_model.specs.Matches.{Home, in_register, in_file, Site, Found, settled, both, matched, address_match, goal_match}
 use Rattle.form_model.specs.Plans.{Plan, use_form, Operands, no_operands, operand_then, Cuts, no_cuts, cut_then}
-use Rattle.form_model.specs.Covers.{Stock, Operand, operands_of, written, all_written, IsOrderly, AreOrderly, AreCut}
+use Rattle.form_model.specs.Covers.{Stock, Operand, operands_of, home_destination, written, all_written, IsOrderly, AreOrderly, AreCut}
 use Rattle.form_model.specs.Effects.{Operation, operation_or_none, operation_of, register, reads, writes, term_reads}
 use Rattle.form_model.specs.Live.{Regs, no_regs, live_before, singles, AllSpare}
-use Rattle.form_model.specs.Steps.{OperandCells, CutCells, operand_counts, cut_counts, plan_operand_cells, plan_cut_cells, operand_cells_or_none, rule_at, found_at, own_steps, operand_steps, cut_steps, inside_operands, into_cells, plan_setting, branch_setting, form_step, cover_steps}
-use Rattle.emit_seq.specs.Formed.{IsIntoMemory, IsFormed, AreFormed}
+use Rattle.form_model.specs.Steps.{OperandCells, CutCells, holding, cell_of, operand_counts, cut_counts, plan_operand_cells, plan_cut_cells, operand_cells_or_none, rule_at, found_at, own_steps, operand_steps, cut_steps, inside_operands, into_cells, plan_setting, branch_setting, form_step, cover_steps}
+use Rattle.emit_seq.specs.Formed.{CellsShown, IsIntoMemory, IsIntoFile, IsFormed, AreFormed}
 use Rattle.emit_seq.specs.Leaves.{IsOfJob}
 use Rattle.emit_seq.specs.Spares.{clobbers_of, step_clobbers, AreShared, ReadsCounter, AreDefined, wanted, AreSpare}
-use Rattle.emit_seq.proofs.Fields.{picked}
+use Rattle.form_model.proofs.SettingLaws.{picked}
 use Rattle.emit_seq.proofs.Matched.{Joined, joined}
 use Rattle.emit_seq.proofs.Sites.{IsIdOf, operands-append, id_left, id_right, shape_unread, matched_taken}
 use Rattle.form_model.proofs.Zips.{Each}
@@ -40,65 +40,82 @@ abbrev pub HasStep : Destination → Type 0
 HasStep tested = ⊥
 HasStep destination = Unit {0}
 
-record IsFormStep (patterns : List Pattern) (rule : Rule) (destination : Destination) (found : Found) : Type 0 where
-  read : (i r : ℕ) → reads (operation_of patterns (record { pattern = rule.pattern; setting = i })) (register r) ≡ true → IsIdOf (operands_of found.sites) r
-  owns : (i r : ℕ) → IsOwn destination r → writes (operation_of patterns (record { pattern = rule.pattern; setting = i })) r ≡ true
-  owned : (i r : ℕ) → writes (operation_of patterns (record { pattern = rule.pattern; setting = i })) r ≡ true → IsOwn destination r
+record IsFormStep (file_storage : Option ℕ) (patterns : List Pattern) (rule : Rule) (destination : Destination) (found : Found) : Type 0 where
+  read : (i r : ℕ) → reads (operation_of file_storage patterns (record { pattern = rule.pattern; setting = i })) (register r) ≡ true → IsIdOf (operands_of found.sites) r
+  owns : (i r : ℕ) → IsOwn destination r → writes (operation_of file_storage patterns (record { pattern = rule.pattern; setting = i })) r ≡ true
+  owned : (i r : ℕ) → writes (operation_of file_storage patterns (record { pattern = rule.pattern; setting = i })) r ≡ true → IsOwn destination r
 
 or_some : (a b : Bool) → (a || b) ≡ true → (a ≡ true) ⊎ (b ≡ true)
 or_some true b h = inl refl
 or_some false b h = inr h
 
-address_given : (temps : ℕ) (at : Term) (destination : Destination) (x : Found) → address_match temps (Some at) destination ≡ Some x → (i r : ℕ) → term_reads i at (register r) ≡ true
+address_given : (temps size : ℕ) (at : Term) (destination : Destination) (x : Found) → CellsShown size at → address_match temps (Some at) destination ≡ Some x → (i r : ℕ) → term_reads i at (register r) ≡ true
     → IsIdOf (operands_of x.sites) r
-address_given temps at (cell a) x h i r e =
+address_given temps size at (cell a) x q h i r e =
     let c : (is_shape at ≡ true) × (settled (shape_setting at a) ≡ Some x) = picked (is_shape at) (settled (shape_setting at a)) x h in
     absurd (true≢false (sym e ∙ shape_unread at i r c.0))
-address_given temps at (stored address) x h i r e = (matched_taken temps no_state at address false x h).given i r e
-address_given temps at temporary x h i r e =
+address_given temps size at (stored address) x q h i r e = (matched_taken temps no_state at address false x h).given size q i r e
+address_given temps size at temporary x shown h i r e =
     let c : ((is_shape at && shows_below at temps) ≡ true) × (settled (Some 0) ≡ Some x) = picked (is_shape at && shows_below at temps) (settled (Some 0)) x h in
     let q : (is_shape at ≡ true) × (shows_below at temps ≡ true) = and_parts _ _ c.0 in
     absurd (true≢false (sym e ∙ shape_unread at i r q.0))
-address_given temps at (into id) x h i r e = absurd (cc)
-address_given temps at tested x h i r e = absurd (cc)
+address_given temps size at (into id) x q h i r e = absurd (cc)
+address_given temps size at filed x q h i r e = absurd (cc)
+address_given temps size at tested x q h i r e = absurd (cc)
 
-memory_step : (temps : ℕ) (patterns : List Pattern) (rule : Rule) (destination : Destination) (tree : Term) (whole : Bool) (found : Found) → IsIntoMemory patterns rule
+memory_step : (temps size : ℕ) (file_storage : Option ℕ) (patterns : List Pattern) (rule : Rule) (destination : Destination) (tree : Term) (whole : Bool) (found : Found) → IsIntoMemory file_storage patterns size rule
     → both (address_match temps rule.addr destination) (matched temps rule.value tree whole) ≡ Some found → (i r : ℕ)
-    → reads (operation_of patterns (record { pattern = rule.pattern; setting = i })) (register r) ≡ true → IsIdOf (operands_of found.sites) r
-memory_step temps patterns rule destination tree whole found f h i r e =
+    → reads (operation_of file_storage patterns (record { pattern = rule.pattern; setting = i })) (register r) ≡ true → IsIdOf (operands_of found.sites) r
+memory_step temps size file_storage patterns rule destination tree whole found f h i r e =
     let j : Joined (address_match temps rule.addr destination) (matched temps rule.value tree whole) found = joined _ _ _ h in
-    let e' : (term_reads i f.addr (register r) || term_reads i f.value (register r)) ≡ true = sym (ap (λ (p : Option Pattern). reads (operation_or_none p i) (register r)) f.is) ∙ e in
+    let e' : (term_reads i f.addr (register r) || term_reads i f.value (register r)) ≡ true = sym (ap (λ (p : Option Pattern). reads (operation_or_none file_storage p i) (register r)) f.is) ∙ e in
     subst (λ (z : Found). IsIdOf (operands_of z.sites) r) j.is
     (subst (λ z. IsIdOf z r) (sym (operands-append j.first.sites j.second.sites))
     (elim (or_some (term_reads i f.addr (register r)) (term_reads i f.value (register r)) e') as (λ _. IsIdOf (operands_of j.first.sites ++ operands_of j.second.sites) r) [
       | inl u ↦ id_left (operands_of j.first.sites) (operands_of j.second.sites) r
-          (address_given temps f.at destination j.first (ap (λ z. address_match temps z destination) (sym f.has) ∙ j.is_first) i r (f.alike_addr.reads i r ∙ u))
+          (address_given temps size f.at destination j.first f.shown_addr (ap (λ z. address_match temps z destination) (sym f.has) ∙ j.is_first) i r (f.alike_addr.reads i r ∙ u))
       | inr u ↦ id_right (operands_of j.first.sites) (operands_of j.second.sites) r
-          ((matched_taken temps no_state rule.value tree whole j.second j.is_second).given i r (f.alike_value.reads i r ∙ u))
+          ((matched_taken temps no_state rule.value tree whole j.second j.is_second).given size f.shown_value i r (f.alike_value.reads i r ∙ u))
     ]))
 
-memory_writes : (patterns : List Pattern) (rule : Rule) → IsIntoMemory patterns rule → (i r : ℕ) → writes (operation_of patterns (record { pattern = rule.pattern; setting = i })) r ≡ true → ⊥
-memory_writes patterns rule f i r e = true≢false (sym e ∙ ap (λ (p : Option Pattern). writes (operation_or_none p i) r) f.is)
+memory_writes : (size : ℕ) (file_storage : Option ℕ) (patterns : List Pattern) (rule : Rule) → IsIntoMemory file_storage patterns size rule → (i r : ℕ) → writes (operation_of file_storage patterns (record { pattern = rule.pattern; setting = i })) r ≡ true → ⊥
+memory_writes size file_storage patterns rule f i r e = true≢false (sym e ∙ ap (λ (p : Option Pattern). writes (operation_or_none file_storage p i) r) f.is)
 
-form_step_of : (temps : ℕ) (patterns : List Pattern) (count : ℕ) (rule : Rule) (goal : Kind) (destination : Destination) (tree : Term) (whole : Bool) (found : Found)
-    → IsFormed patterns count rule goal → HasStep destination → goal_match temps rule goal destination tree whole ≡ Some found → IsFormStep patterns rule destination found
-form_step_of temps patterns count rule (into_reg q) (into id) tree whole found f s h =
+-- a form that writes the file
+file_read : (temps size : ℕ) (file_storage : Option ℕ) (patterns : List Pattern) (rule : Rule) (tree : Term) (whole : Bool) (found : Found) → IsIntoFile file_storage patterns size rule
+    → matched temps rule.value tree whole ≡ Some found → (i r : ℕ)
+    → reads (operation_of file_storage patterns (record { pattern = rule.pattern; setting = i })) (register r) ≡ true → IsIdOf (operands_of found.sites) r
+file_read temps size file_storage patterns rule tree whole found f h i r e =
+    let e' : (term_reads i f.addr (register r) || term_reads i f.value (register r)) ≡ true = sym (ap (λ (p : Option Pattern). reads (operation_or_none file_storage p i) (register r)) f.is) ∙ e in
+    elim (or_some (term_reads i f.addr (register r)) (term_reads i f.value (register r)) e') as (λ _. IsIdOf (operands_of found.sites) r) [
+      | inl u ↦ absurd (true≢false (sym (f.alike_addr.reads i r ∙ u) ∙ shape_unread f.at i r f.shape))
+      | inr u ↦ (matched_taken temps no_state rule.value tree whole found h).given size f.shown_value i r (f.alike_value.reads i r ∙ u)
+    ]
+
+file_writes : (size : ℕ) (file_storage : Option ℕ) (patterns : List Pattern) (rule : Rule) → IsIntoFile file_storage patterns size rule → (i r : ℕ) → writes (operation_of file_storage patterns (record { pattern = rule.pattern; setting = i })) r ≡ true → ⊥
+file_writes size file_storage patterns rule f i r e = true≢false (sym e ∙ ap (λ (p : Option Pattern). writes (operation_or_none file_storage p i) r) f.is)
+
+form_step_of : (temps size : ℕ) (file_storage : Option ℕ) (patterns : List Pattern) (count : ℕ) (rule : Rule) (goal : Kind) (destination : Destination) (tree : Term) (whole : Bool) (found : Found)
+    → IsFormed file_storage patterns count size rule goal → HasStep destination → goal_match temps rule goal destination tree whole ≡ Some found → IsFormStep file_storage patterns rule destination found
+form_step_of temps size file_storage patterns count rule (into_reg q) (into id) tree whole found f s h =
     let c : ((q == id) ≡ true) × (matched temps rule.value tree whole ≡ Some found) = picked (q == id) (matched temps rule.value tree whole) found h in
     let same : q ≡ id = eqb-true q id c.0 in
     record {
-      read = λ i r e. (matched_taken temps no_state rule.value tree whole found c.1).given i r
-          (f.alike.reads i r ∙ sym (ap (λ (p : Option Pattern). reads (operation_or_none p i) (register r)) f.is) ∙ e);
-      owns = λ i r e. ap (λ (p : Option Pattern). writes (operation_or_none p i) r) f.is ∙ eq-eqb q r (same ∙ e);
-      owned = λ i r e. sym same ∙ eqb-true q r (sym (ap (λ (p : Option Pattern). writes (operation_or_none p i) r) f.is) ∙ e);
+      read = λ i r e. (matched_taken temps no_state rule.value tree whole found c.1).given size f.shown i r
+          (f.alike.reads i r ∙ sym (ap (λ (p : Option Pattern). reads (operation_or_none file_storage p i) (register r)) f.is) ∙ e);
+      owns = λ i r e. ap (λ (p : Option Pattern). writes (operation_or_none file_storage p i) r) f.is ∙ eq-eqb q r (same ∙ e);
+      owned = λ i r e. sym same ∙ eqb-true q r (sym (ap (λ (p : Option Pattern). writes (operation_or_none file_storage p i) r) f.is) ∙ e);
     }
-form_step_of temps patterns count rule into_memory (cell a) tree whole found f s h =
-    record { read = memory_step temps patterns rule (cell a) tree true found f h; owns = λ i r e. absurd e; owned = memory_writes patterns rule f }
-form_step_of temps patterns count rule into_memory (stored a) tree whole found f s h =
-    record { read = memory_step temps patterns rule (stored a) tree false found f h; owns = λ i r e. absurd e; owned = memory_writes patterns rule f }
-form_step_of temps patterns count rule into_memory temporary tree whole found f s h =
-    record { read = memory_step temps patterns rule temporary tree false found f h; owns = λ i r e. absurd e; owned = memory_writes patterns rule f }
-form_step_of temps patterns count rule (branches when_one to) tested tree whole found f s h = absurd s
-form_step_of temps patterns count rule goal destination tree whole found f s h = absurd (cc)
+form_step_of temps size file_storage patterns count rule into_file filed tree whole found f s h =
+    record { read = file_read temps size file_storage patterns rule tree whole found f h; owns = λ i r e. absurd e; owned = file_writes size file_storage patterns rule f }
+form_step_of temps size file_storage patterns count rule into_memory (cell a) tree whole found f s h =
+    record { read = memory_step temps size file_storage patterns rule (cell a) tree true found f h; owns = λ i r e. absurd e; owned = memory_writes size file_storage patterns rule f }
+form_step_of temps size file_storage patterns count rule into_memory (stored a) tree whole found f s h =
+    record { read = memory_step temps size file_storage patterns rule (stored a) tree false found f h; owns = λ i r e. absurd e; owned = memory_writes size file_storage patterns rule f }
+form_step_of temps size file_storage patterns count rule into_memory temporary tree whole found f s h =
+    record { read = memory_step temps size file_storage patterns rule temporary tree false found f h; owns = λ i r e. absurd e; owned = memory_writes size file_storage patterns rule f }
+form_step_of temps size file_storage patterns count rule (branches when_one to) tested tree whole found f s h = absurd s
+form_step_of temps size file_storage patterns count rule goal destination tree whole found f s h = absurd (cc)
 
 -- the pattern's clobbers are those of each of its forms
 clobbers_first : (rules : List Rule) (p k : ℕ) (rule : Rule) → slice_get rules k ≡ Some rule → rule.pattern ≡ p → (j : ℕ) × (a : Rule) × (slice_get rules j ≡ Some a) × (a.pattern ≡ p) × (clobbers_of rules p ≡ a.clobbers)
@@ -121,21 +138,30 @@ clobbers_at rules shared k rule h =
 
 -- ---- operands
 
-pub id_split : (left : List OperandCells) (i : ℕ) (cells : OperandCells) (r : ℕ) → slice_get left i ≡ Some cells → IsIdOf (operands_in left) r → (cells.operand.id ≡ r) ⊎ IsIdOf (operands_in (remove left i)) r
+pub id_split : (left : List OperandCells) (i : ℕ) (cells : OperandCells) (r : ℕ) → slice_get left i ≡ Some cells → IsIdOf (operands_in left) r → (cells.operand.home ≡ in_register r) ⊎ IsIdOf (operands_in (remove left i)) r
 id_split [] i cells r e h = absurd h
-id_split (x ∷ left) zero cells r e (inl h) = inl (let q : cells ≡ x = cc in ap (λ (z : OperandCells). z.operand.id) q ∙ h)
+id_split (x ∷ left) zero cells r e (inl h) = inl (let q : cells ≡ x = cc in ap (λ (z : OperandCells). z.operand.home) q ∙ h)
 id_split (x ∷ left) zero cells r e (inr h) = inr h
 id_split (x ∷ left) (suc i) cells r e (inl h) = inr (inl h)
 id_split (x ∷ left) (suc i) cells r e (inr h) =
-    elim (id_split left i cells r e h) as (λ _. (cells.operand.id ≡ r) ⊎ IsIdOf (operands_in (remove (x ∷ left) (suc i))) r) [ inl u ↦ inl u | inr u ↦ inr (inr u) ]
+    elim (id_split left i cells r e h) as (λ _. (cells.operand.home ≡ in_register r) ⊎ IsIdOf (operands_in (remove (x ∷ left) (suc i))) r) [ inl u ↦ inl u | inr u ↦ inr (inr u) ]
 
-operand_split : (left : List Operand) (i : ℕ) (o : Operand) (r : ℕ) → slice_get left i ≡ Some o → IsIdOf left r → (o.id ≡ r) ⊎ IsIdOf (remove left i) r
+operand_split : (left : List Operand) (i : ℕ) (o : Operand) (r : ℕ) → slice_get left i ≡ Some o → IsIdOf left r → (o.home ≡ in_register r) ⊎ IsIdOf (remove left i) r
 operand_split [] i o r e h = absurd h
-operand_split (x ∷ left) zero o r e (inl h) = inl (let q : o ≡ x = cc in ap (λ (z : Operand). z.id) q ∙ h)
+operand_split (x ∷ left) zero o r e (inl h) = inl (let q : o ≡ x = cc in ap (λ (z : Operand). z.home) q ∙ h)
 operand_split (x ∷ left) zero o r e (inr h) = inr h
 operand_split (x ∷ left) (suc i) o r e (inl h) = inr (inl h)
 operand_split (x ∷ left) (suc i) o r e (inr h) =
-    elim (operand_split left i o r e h) as (λ _. (o.id ≡ r) ⊎ IsIdOf (remove (x ∷ left) (suc i)) r) [ inl u ↦ inl u | inr u ↦ inr (inr u) ]
+    elim (operand_split left i o r e h) as (λ _. (o.home ≡ in_register r) ⊎ IsIdOf (remove (x ∷ left) (suc i)) r) [ inl u ↦ inl u | inr u ↦ inr (inr u) ]
+
+-- an operand's home is its cover's own register
+pub home_own : (home : Home) (r : ℕ) → home ≡ in_register r → IsOwn (home_destination home) r
+home_own (in_register id) r e = cc
+home_own (in_file shape) r e = absurd (cc)
+
+pub home_step : (home : Home) → HasStep (home_destination home)
+home_step (in_register id) = tt
+home_step (in_file shape) = tt
 
 live_parts : (a b d : Bool) → ((a || false) || (b && not (d || false))) ≡ true → (a ≡ true) ⊎ ((b ≡ true) × (d ≡ false))
 live_parts true b d e = inl refl
@@ -172,9 +198,9 @@ module _ (m : Step → Operation) (c : Step → Regs) (pc : ℕ) where
             | inr u ↦ u
           ]
 
-module _ (stock : Stock) (patterns : List Pattern) (count pc : ℕ) (formed : AreFormed patterns count stock.rules) (shared : AreShared stock.rules) (counter : ReadsCounter stock.rules pc) where
+module _ (stock : Stock) (file_storage : Option ℕ) (patterns : List Pattern) (count pc : ℕ) (formed : AreFormed file_storage patterns count stock.file stock.rules) (shared : AreShared stock.rules) (counter : ReadsCounter stock.rules pc) where
   abbrev m : Step → Operation
-  m = operation_of patterns
+  m = operation_of file_storage patterns
 
   abbrev c : Step → Regs
   c = step_clobbers stock.rules
@@ -206,6 +232,9 @@ module _ (stock : Stock) (patterns : List Pattern) (count pc : ℕ) (formed : Ar
       (ap (λ n. into_reg n) (eqb-true q id d.0), d.1)
   goal_is temps rule goal id tree whole found h = absurd (cc)
 
+  into_shown : (rule : Rule) (r : ℕ) → rule.goal ≡ into_reg r → IsFormed file_storage patterns count stock.file rule rule.goal → CellsShown stock.file rule.value
+  into_shown rule r e f = (subst (IsFormed file_storage patterns count stock.file rule) e f).shown
+
   form_no_counter : (k : ℕ) (ps : Operands) (cs : Cuts) → AreNoCounter ps → IsNoCounter (use_form k ps cs)
   form_no_counter k ps cs h = record { none = none' }
     where
@@ -216,7 +245,7 @@ module _ (stock : Stock) (patterns : List Pattern) (count pc : ℕ) (formed : Ar
           goal_is stock.temps (rule_at stock k) (rule_at stock k).goal pc tree whole (found_at stock k (into pc) tree whole) w.takes in
           let (i, e) = counter k (rule_at stock k) w.listed g.0 in
           h.none (operands_of (found_at stock k (into pc) tree whole).sites) w.operands
-          ((matched_taken stock.temps no_state (rule_at stock k).value tree whole (found_at stock k (into pc) tree whole) g.1).given i pc e)
+          ((matched_taken stock.temps no_state (rule_at stock k).value tree whole (found_at stock k (into pc) tree whole) g.1).given stock.file (into_shown (rule_at stock k) pc g.0 (formed k (rule_at stock k) w.listed)) i pc e)
 
   operand_no_counter : (i : ℕ) (p : Plan) (ps : Operands) → IsNoCounter p → AreNoCounter ps → AreNoCounter (operand_then i p ps)
   operand_no_counter i p ps h k = record { none = none' }
@@ -224,7 +253,7 @@ module _ (stock : Stock) (patterns : List Pattern) (count pc : ℕ) (formed : Ar
       none' : (left : List Operand) → AreOrderly stock left (operand_then i p ps) → IsIdOf left pc → ⊥
       none' left o d =
           elim (operand_split left i o.0 pc o.1 d) as (λ _. ⊥) [
-            | inl e ↦ h.none o.0.tree o.0.whole (subst (λ n. IsOrderly stock (into n) o.0.tree o.0.whole p) e o.2)
+            | inl e ↦ h.none o.0.tree o.0.whole (subst (λ n. IsOrderly stock (home_destination n) o.0.tree o.0.whole p) e o.2)
             | inr e ↦ k.none (remove left i) o.4 e
           ]
 
@@ -242,13 +271,13 @@ module _ (stock : Stock) (patterns : List Pattern) (count pc : ℕ) (formed : Ar
   -- ---- covers
 
   record IsSpared (p : Plan) : Type 0 where
-    own : (n : ℕ) (destination : Destination) (tree : Term) (whole : Bool) → IsOrderly stock destination tree whole p → HasStep destination → (after : Regs)
-        → ((r : ℕ) → after r ≡ true → bit_at (written stock.rules p) r ≡ 1 → IsOwn destination r) → IsTidy m c pc (own_steps stock p n destination tree whole) after (IsOwn destination)
+    own : (n held : ℕ) (destination : Destination) (tree : Term) (whole : Bool) → IsOrderly stock destination tree whole p → HasStep destination → (after : Regs)
+        → ((r : ℕ) → after r ≡ true → bit_at (written stock.rules p) r ≡ 1 → IsOwn destination r) → IsTidy m c pc (own_steps stock p n held destination tree whole) after (IsOwn destination)
     cuts : (n : ℕ) (destination : Destination) (tree : Term) (whole : Bool) → IsOrderly stock destination tree whole p → IsAlone m c pc (cut_steps stock p n destination tree whole)
 
   record AreSpared (ps : Operands) : Type 0 where
-    own : (left : List OperandCells) → AreOrderly stock (operands_in left) ps → (after : Regs)
-        → ((r : ℕ) → after r ≡ true → bit_at (all_written stock.rules ps) r ≡ 1 → IsIdOf (operands_in left) r) → IsTidy m c pc (operand_steps stock ps left) after (IsIdOf (operands_in left))
+    own : (held : ℕ) (left : List OperandCells) → AreOrderly stock (operands_in left) ps → (after : Regs)
+        → ((r : ℕ) → after r ≡ true → bit_at (all_written stock.rules ps) r ≡ 1 → IsIdOf (operands_in left) r) → IsTidy m c pc (operand_steps stock ps left held) after (IsIdOf (operands_in left))
     cuts : (left : List OperandCells) → AreOrderly stock (operands_in left) ps → Each (IsAlone m c pc) (inside_operands stock ps left)
 
   record CutsSpared (cs : Cuts) : Type 0 where
@@ -257,38 +286,39 @@ module _ (stock : Stock) (patterns : List Pattern) (count pc : ℕ) (formed : Ar
   none_spared : AreSpared no_operands
   none_spared = record { own = own'; cuts = λ left o. tt }
     where
-      own' : (left : List OperandCells) → AreOrderly stock (operands_in left) no_operands → (after : Regs)
+      own' : (held : ℕ) (left : List OperandCells) → AreOrderly stock (operands_in left) no_operands → (after : Regs)
           → ((r : ℕ) → after r ≡ true → bit_at (all_written stock.rules no_operands) r ≡ 1 → IsIdOf (operands_in left) r) → IsTidy m c pc [] after (IsIdOf (operands_in left))
-      own' left o after f = record { spare = tt; apart = tt; live = λ r h. h; gone = λ r h d. subst (λ z. IsIdOf z r) o d }
+      own' held left o after f = record { spare = tt; apart = tt; live = λ r h. h; gone = λ r h d. subst (λ z. IsIdOf z r) o d }
 
   operand_spared : (i : ℕ) (p : Plan) (ps : Operands) → IsSpared p → AreSpared ps → AreSpared (operand_then i p ps)
   operand_spared i p ps h k = record { own = own'; cuts = cuts' }
     where
-      own' : (left : List OperandCells) → AreOrderly stock (operands_in left) (operand_then i p ps) → (after : Regs)
+      own' : (held : ℕ) (left : List OperandCells) → AreOrderly stock (operands_in left) (operand_then i p ps) → (after : Regs)
           → ((r : ℕ) → after r ≡ true → bit_at (all_written stock.rules (operand_then i p ps)) r ≡ 1 → IsIdOf (operands_in left) r)
-          → IsTidy m c pc (operand_steps stock (operand_then i p ps) left) after (IsIdOf (operands_in left))
-      own' left o after f =
+          → IsTidy m c pc (operand_steps stock (operand_then i p ps) left held) after (IsIdOf (operands_in left))
+      own' held left o after f =
           let cells : OperandCells = operand_cells_or_none (slice_get left i) in
           let w : IsOpenedOperand stock left i cells p ps = opened_operand stock left i p ps o in
-          let first : List Step = own_steps stock p cells.first (into cells.operand.id) cells.operand.tree cells.operand.whole in
-          let later : List Step = operand_steps stock ps (remove left i) in
-          let t : IsTidy m c pc later after (IsIdOf (operands_in (remove left i))) = k.own (remove left i) w.rest after (λ r a b. rest_id r a b cells w) in
-          let u : IsTidy m c pc first (live_before m (singles later) after) (IsOwn (into cells.operand.id)) =
-          h.own cells.first (into cells.operand.id) cells.operand.tree cells.operand.whole w.orderly tt (live_before m (singles later) after)
-          (λ r a b. own_id r cells w (t.live r a) (t.gone r a) b) in
-          tidy_append m c pc first later after (IsOwn (into cells.operand.id)) (IsIdOf (operands_in (remove left i))) (IsIdOf (operands_in left)) u t
-          (λ r d. id_split left i cells r w.at d)
+          let more : ℕ = holding held (cell_of stock p held) in
+          let first : List Step = own_steps stock p cells.first held (home_destination cells.operand.home) cells.operand.tree cells.operand.whole in
+          let later : List Step = operand_steps stock ps (remove left i) more in
+          let t : IsTidy m c pc later after (IsIdOf (operands_in (remove left i))) = k.own more (remove left i) w.rest after (λ r a b. rest_id r a b cells w) in
+          let u : IsTidy m c pc first (live_before m (singles later) after) (IsOwn (home_destination cells.operand.home)) =
+          h.own cells.first held (home_destination cells.operand.home) cells.operand.tree cells.operand.whole w.orderly (home_step cells.operand.home) (live_before m (singles later) after)
+          (λ r a b. home_own cells.operand.home r (own_id r cells w (t.live r a) (t.gone r a) b)) in
+          tidy_append m c pc first later after (IsOwn (home_destination cells.operand.home)) (IsIdOf (operands_in (remove left i))) (IsIdOf (operands_in left)) u t
+          (λ r d. elim (id_split left i cells r w.at d) as (λ _. IsOwn (home_destination cells.operand.home) r ⊎ IsIdOf (operands_in (remove left i)) r) [ inl e ↦ inl (home_own cells.operand.home r e) | inr e ↦ inr e ])
         where
           rest_id : (r : ℕ) → after r ≡ true → bit_at (all_written stock.rules ps) r ≡ 1 → (cells : OperandCells) → IsOpenedOperand stock left i cells p ps → IsIdOf (operands_in (remove left i)) r
           rest_id r a b cells w =
               elim (id_split left i cells r w.at (f r a (part_written (written stock.rules p) (all_written stock.rules ps) r b))) as (λ _. IsIdOf (operands_in (remove left i)) r) [
-                | inl e ↦ absurd (let z : bit_at (all_written stock.rules ps) r ≡ 0 = ap (λ n. bit_at (all_written stock.rules ps) n) (sym e) ∙ w.apart in omega (arith, z, b))
+                | inl e ↦ absurd (let z : bit_at (all_written stock.rules ps) r ≡ 0 = w.apart r e in omega (arith, z, b))
                 | inr d ↦ d
               ]
 
-          own_id : (r : ℕ) (cells : OperandCells) → IsOpenedOperand stock left i cells p ps → after r ≡ true → (IsIdOf (operands_in (remove left i)) r → ⊥) → bit_at (written stock.rules p) r ≡ 1 → cells.operand.id ≡ r
+          own_id : (r : ℕ) (cells : OperandCells) → IsOpenedOperand stock left i cells p ps → after r ≡ true → (IsIdOf (operands_in (remove left i)) r → ⊥) → bit_at (written stock.rules p) r ≡ 1 → cells.operand.home ≡ in_register r
           own_id r cells w a g b =
-              elim (id_split left i cells r w.at (f r a (part_written_left (written stock.rules p) (all_written stock.rules ps) r b))) as (λ _. cells.operand.id ≡ r) [
+              elim (id_split left i cells r w.at (f r a (part_written_left (written stock.rules p) (all_written stock.rules ps) r b))) as (λ _. cells.operand.home ≡ in_register r) [
                 | inl e ↦ e
                 | inr d ↦ absurd (g d)
               ]
@@ -298,8 +328,8 @@ module _ (stock : Stock) (patterns : List Pattern) (count pc : ℕ) (formed : Ar
           let cells : OperandCells = operand_cells_or_none (slice_get left i) in
           let w : IsOpenedOperand stock left i cells p ps = opened_operand stock left i p ps o in
           each_in m c pc (IsAlone m c pc) (inside_operands stock ps (remove left i)) i
-          (cut_steps stock p cells.first (into cells.operand.id) cells.operand.tree cells.operand.whole)
-          (h.cuts cells.first (into cells.operand.id) cells.operand.tree cells.operand.whole w.orderly) (k.cuts (remove left i) w.rest)
+          (cut_steps stock p cells.first (home_destination cells.operand.home) cells.operand.tree cells.operand.whole)
+          (h.cuts cells.first (home_destination cells.operand.home) cells.operand.tree cells.operand.whole w.orderly) (k.cuts (remove left i) w.rest)
 
   cut_spared : (p : Plan) (cs : Cuts) → IsSpared p → CutsSpared cs → CutsSpared (cut_then p cs)
   cut_spared p cs h k = record { cuts = cuts' }
@@ -310,14 +340,15 @@ module _ (stock : Stock) (patterns : List Pattern) (count pc : ℕ) (formed : Ar
           let e : o.0 ≡ cells.tree = cc (o.2) in
           let e' : o.1 ≡ trees_in cuts = cc (o.2) in
           let d : IsOrderly stock temporary cells.tree false p = subst (λ t. IsOrderly stock temporary t false p) e o.3 in (
-            alone_append m c pc (cut_steps stock p cells.first temporary cells.tree false) (own_steps stock p cells.first temporary cells.tree false)
+            alone_append m c pc (cut_steps stock p cells.first temporary cells.tree false) (own_steps stock p cells.first 0 temporary cells.tree false)
                 (h.cuts cells.first temporary cells.tree false d)
-                (λ after n. h.own cells.first temporary cells.tree false d tt after (λ r a b. n r a)),
-            k.cuts cuts (subst (λ ts. AreCut stock ts cs) e' o.4),
+                (λ after n. h.own cells.first 0 temporary cells.tree false d tt after (λ r a b. n r a)),
+            k.cuts cuts (subst (λ ts. AreCut stock ts cs) e' o.5),
           )
 
   step_of : (rule : Rule) (destination : Destination) (setting : ℕ) → HasStep destination → form_step rule destination setting ≡ record { pattern = rule.pattern; setting = setting } ∷ []
   step_of rule (into id) setting h = refl
+  step_of rule filed setting h = refl
   step_of rule (cell a) setting h = refl
   step_of rule (stored a) setting h = refl
   step_of rule temporary setting h = refl
@@ -329,6 +360,7 @@ module _ (stock : Stock) (patterns : List Pattern) (count pc : ℕ) (formed : Ar
 
   no_own : (k : ℕ) (ps : Operands) (cs : Cuts) (destination : Destination) (tree : Term) (whole : Bool) → IsOrderly stock destination tree whole (use_form k ps cs) → IsOwn destination pc → ⊥
   no_own k ps cs (into id) tree whole o e = (no_counter (use_form k ps cs)).none tree whole (subst (λ n. IsOrderly stock (into n) tree whole (use_form k ps cs)) e o)
+  no_own k ps cs filed tree whole o e = e
   no_own k ps cs (cell a) tree whole o e = e
   no_own k ps cs (stored a) tree whole o e = e
   no_own k ps cs temporary tree whole o e = e
@@ -337,31 +369,31 @@ module _ (stock : Stock) (patterns : List Pattern) (count pc : ℕ) (formed : Ar
   form_spared : (k : ℕ) (ps : Operands) (cs : Cuts) → AreSpared ps → CutsSpared cs → IsSpared (use_form k ps cs)
   form_spared k ps cs hp hc = record { own = own'; cuts = cuts' }
     where
-      own' : (n : ℕ) (destination : Destination) (tree : Term) (whole : Bool) → IsOrderly stock destination tree whole (use_form k ps cs) → HasStep destination → (after : Regs)
+      own' : (n held : ℕ) (destination : Destination) (tree : Term) (whole : Bool) → IsOrderly stock destination tree whole (use_form k ps cs) → HasStep destination → (after : Regs)
           → ((r : ℕ) → after r ≡ true → bit_at (written stock.rules (use_form k ps cs)) r ≡ 1 → IsOwn destination r)
-          → IsTidy m c pc (own_steps stock (use_form k ps cs) n destination tree whole) after (IsOwn destination)
-      own' n destination tree whole o s after f =
+          → IsTidy m c pc (own_steps stock (use_form k ps cs) n held destination tree whole) after (IsOwn destination)
+      own' n held destination tree whole o s after f =
           let w : IsOpened stock k ps cs destination tree whole = opened_plan stock k ps cs destination tree whole o in
           let rule : Rule = rule_at stock k in
           let found : Found = found_at stock k destination tree whole in
           let left : List OperandCells = plan_operand_cells found.sites ps cs n in
           let e : operands_in left ≡ operands_of found.sites = cells_operands found.sites (operand_counts ps) (cut_counts cs) n in
           let orderly : AreOrderly stock (operands_in left) ps = subst (λ z. AreOrderly stock z ps) (sym e) w.operands in
-          let setting : ℕ = plan_setting stock (use_form k ps cs) n destination tree whole in
+          let setting : ℕ = plan_setting stock (use_form k ps cs) n held destination tree whole in
           let step : Step = record { pattern = rule.pattern; setting = setting } in
-          let g : IsFormStep patterns rule destination found =
-          form_step_of stock.temps patterns count rule rule.goal destination tree whole found (formed k rule w.listed) s w.takes in
+          let g : IsFormStep file_storage patterns rule destination found =
+          form_step_of stock.temps stock.file file_storage patterns count rule rule.goal destination tree whole found (formed k rule w.listed) s w.takes in
           let read : (r : ℕ) → reads (m step) (register r) ≡ true → IsIdOf (operands_in left) r = λ r h. subst (λ z. IsIdOf z r) (sym e) (g.read setting r h) in
           let wrote : (r : ℕ) → after r ≡ true → bit_at (written stock.rules (use_form k ps cs)) r ≡ 1 → writes (m step) r ≡ false → ⊥ =
           λ r a b x. true≢false (sym (g.owns setting r (f r a b)) ∙ x) in
-          let t : IsTidy m c pc (operand_steps stock ps left) (live_before m (singles (step ∷ [])) after) (IsIdOf (operands_in left)) =
-          hp.own left orderly (live_before m (singles (step ∷ [])) after)
+          let t : IsTidy m c pc (operand_steps stock ps left held) (live_before m (singles (step ∷ [])) after) (IsIdOf (operands_in left)) =
+          hp.own held left orderly (live_before m (singles (step ∷ [])) after)
           (λ r a b. elim (live_parts (reads (m step) (register r)) (after r) (writes (m step) r) a) as (λ _. IsIdOf (operands_in left) r) [
             | inl u ↦ read r u
             | inr u ↦ absurd (wrote r u.0 (part_written _ (all_written stock.rules ps) r b) u.1)
           ]) in
-          subst (λ z. IsTidy m c pc (operand_steps stock ps left ++ z) after (IsOwn destination)) (sym (step_of rule destination setting s))
-          (tidy_form m c pc (operand_steps stock ps left) step after (IsIdOf (operands_in left)) (IsOwn destination) t
+          subst (λ z. IsTidy m c pc (operand_steps stock ps left held ++ z) after (IsOwn destination)) (sym (step_of rule destination setting s))
+          (tidy_form m c pc (operand_steps stock ps left held) step after (IsIdOf (operands_in left)) (IsOwn destination) t
           (λ r x y. spare_or (after r) (writes (m step) r) (λ a. wrote r a (clobber_written k rule ps cs setting r w.listed x)) y)
           (not_true (reads (m step) (register pc)) (λ h. no_operand ps (operands_in left) orderly (read pc h)))
           (not_true (writes (m step) pc) (λ h. no_own k ps cs destination tree whole o (g.owned setting pc h)))
@@ -396,13 +428,13 @@ module _ (stock : Stock) (patterns : List Pattern) (count pc : ℕ) (formed : Ar
   left_alone r h = true≢false (sym h)
 
   stored_spare : (destination : Destination) (tree : Term) (plan : Plan) → HasStep destination → (wanted stock destination tree plan ≡ no_regs) → ((r : ℕ) → IsOwn destination r → ⊥) → IsOrderly stock destination tree true plan
-      → AreSpare stock patterns pc destination tree plan
+      → AreSpare stock file_storage patterns pc destination tree plan
   stored_spare destination tree plan s e n o =
-      let t : IsTidy m c pc (own_steps stock plan 0 destination tree true) no_regs (IsOwn destination) = (spared plan).own 0 destination tree true o s no_regs (λ r a b. absurd (left_alone r a)) in
-      let u : IsTidy m c pc (cut_steps stock plan 0 destination tree true) (live_before m (singles (own_steps stock plan 0 destination tree true)) no_regs) (λ r. ⊥) =
-      (spared plan).cuts 0 destination tree true o (live_before m (singles (own_steps stock plan 0 destination tree true)) no_regs) (λ r a. left_alone r (t.live r a)) in
+      let t : IsTidy m c pc (own_steps stock plan 0 0 destination tree true) no_regs (IsOwn destination) = (spared plan).own 0 0 destination tree true o s no_regs (λ r a b. absurd (left_alone r a)) in
+      let u : IsTidy m c pc (cut_steps stock plan 0 destination tree true) (live_before m (singles (own_steps stock plan 0 0 destination tree true)) no_regs) (λ r. ⊥) =
+      (spared plan).cuts 0 destination tree true o (live_before m (singles (own_steps stock plan 0 0 destination tree true)) no_regs) (λ r a. left_alone r (t.live r a)) in
       let w : IsTidy m c pc (cover_steps stock destination tree plan) no_regs (λ r. ⊥) =
-      tidy_append m c pc (cut_steps stock plan 0 destination tree true) (own_steps stock plan 0 destination tree true) no_regs (λ r. ⊥) (IsOwn destination) (λ r. ⊥) u t (λ r h. inl h) in
+      tidy_append m c pc (cut_steps stock plan 0 destination tree true) (own_steps stock plan 0 0 destination tree true) no_regs (λ r. ⊥) (IsOwn destination) (λ r. ⊥) u t (λ r h. inl h) in
       record {
         spare = subst (λ (z : Regs). AllSpare m c (cover_steps stock destination tree plan) z) (sym e) w.spare;
         given = subst (λ (z : Regs). AreDefined m no_regs (cover_steps stock destination tree plan) z) (sym e)
@@ -411,16 +443,16 @@ module _ (stock : Stock) (patterns : List Pattern) (count pc : ℕ) (formed : Ar
         unwanted = ap (λ (z : Regs). z pc) e;
       }
 
-  test_given : (temps : ℕ) (rule : Rule) (goal : Kind) (tree : Term) (whole : Bool) (found : Found) → goal_match temps rule goal tested tree whole ≡ Some found → (i r : ℕ)
+  test_given : (temps : ℕ) (rule : Rule) (goal : Kind) (tree : Term) (whole : Bool) (found : Found) → IsFormed file_storage patterns count stock.file rule goal → goal_match temps rule goal tested tree whole ≡ Some found → (i r : ℕ)
       → term_reads i rule.value (register r) ≡ true → IsIdOf (operands_of found.sites) r
-  test_given temps rule (branches when_one to) tree whole found h i r e = (matched_taken temps no_state rule.value tree true found h).given i r e
-  test_given temps rule goal tree whole found h i r e = absurd (cc)
+  test_given temps rule (branches when_one to) tree whole found f h i r e = (matched_taken temps no_state rule.value tree true found h).given stock.file f.1 i r e
+  test_given temps rule goal tree whole found f h i r e = absurd (cc)
 
   append_none : (xs : List Step) → xs ≡ xs ++ []
   append_none [] = refl
   append_none (x ∷ xs) = ap (λ z. x ∷ z) (append_none xs)
 
-  test_spare : (tree : Term) (k : ℕ) (ps : Operands) (cs : Cuts) → IsOrderly stock tested tree true (use_form k ps cs) → AreSpare stock patterns pc tested tree (use_form k ps cs)
+  test_spare : (tree : Term) (k : ℕ) (ps : Operands) (cs : Cuts) → IsOrderly stock tested tree true (use_form k ps cs) → AreSpare stock file_storage patterns pc tested tree (use_form k ps cs)
   test_spare tree k ps cs o =
       let plan : Plan = use_form k ps cs in
       let after : Regs = wanted stock tested tree plan in
@@ -430,15 +462,15 @@ module _ (stock : Stock) (patterns : List Pattern) (count pc : ℕ) (formed : Ar
       let e : operands_in left ≡ operands_of found.sites = cells_operands found.sites (operand_counts ps) (cut_counts cs) 0 in
       let orderly : AreOrderly stock (operands_in left) ps = subst (λ z. AreOrderly stock z ps) (sym e) w.operands in
       let read : (r : ℕ) → after r ≡ true → IsIdOf (operands_in left) r =
-      λ r h. subst (λ z. IsIdOf z r) (sym e) (test_given stock.temps (rule_at stock k) (rule_at stock k).goal tree true found w.takes (branch_setting stock tree plan) r h) in
-      let t' : IsTidy m c pc (operand_steps stock ps left) after (IsIdOf (operands_in left)) = (spared_operands ps).own left orderly after (λ r a b. read r a) in
-      let t : IsTidy m c pc (own_steps stock plan 0 tested tree true) after (IsIdOf (operands_in left)) =
-      subst (λ z. IsTidy m c pc z after (IsIdOf (operands_in left))) (append_none (operand_steps stock ps left)) t' in
-      let none : (r : ℕ) → live_before m (singles (own_steps stock plan 0 tested tree true)) after r ≡ true → ⊥ = λ r a. t.gone r a (read r (t.live r a)) in
-      let u : IsTidy m c pc (cut_steps stock plan 0 tested tree true) (live_before m (singles (own_steps stock plan 0 tested tree true)) after) (λ r. ⊥) =
-      (spared plan).cuts 0 tested tree true o (live_before m (singles (own_steps stock plan 0 tested tree true)) after) none in
+      λ r h. subst (λ z. IsIdOf z r) (sym e) (test_given stock.temps (rule_at stock k) (rule_at stock k).goal tree true found (formed k (rule_at stock k) w.listed) w.takes (branch_setting stock tree plan) r h) in
+      let t' : IsTidy m c pc (operand_steps stock ps left 0) after (IsIdOf (operands_in left)) = (spared_operands ps).own 0 left orderly after (λ r a b. read r a) in
+      let t : IsTidy m c pc (own_steps stock plan 0 0 tested tree true) after (IsIdOf (operands_in left)) =
+      subst (λ z. IsTidy m c pc z after (IsIdOf (operands_in left))) (append_none (operand_steps stock ps left 0)) t' in
+      let none : (r : ℕ) → live_before m (singles (own_steps stock plan 0 0 tested tree true)) after r ≡ true → ⊥ = λ r a. t.gone r a (read r (t.live r a)) in
+      let u : IsTidy m c pc (cut_steps stock plan 0 tested tree true) (live_before m (singles (own_steps stock plan 0 0 tested tree true)) after) (λ r. ⊥) =
+      (spared plan).cuts 0 tested tree true o (live_before m (singles (own_steps stock plan 0 0 tested tree true)) after) none in
       let all : IsTidy m c pc (cover_steps stock tested tree plan) after (IsIdOf (operands_in left)) =
-      tidy_append m c pc (cut_steps stock plan 0 tested tree true) (own_steps stock plan 0 tested tree true) after (λ r. ⊥) (IsIdOf (operands_in left)) (IsIdOf (operands_in left)) u t (λ r h. inr h) in
+      tidy_append m c pc (cut_steps stock plan 0 tested tree true) (own_steps stock plan 0 0 tested tree true) after (λ r. ⊥) (IsIdOf (operands_in left)) (IsIdOf (operands_in left)) u t (λ r h. inr h) in
       record {
         spare = all.spare;
         given = given_of m c pc (cover_steps stock tested tree plan) no_regs after (λ r h. absurd (all.gone r h (read r (all.live r h))));
@@ -447,9 +479,10 @@ module _ (stock : Stock) (patterns : List Pattern) (count pc : ℕ) (formed : Ar
       }
 
   -- the second half of what the steps of an orderly cover promise
-  pub steps_spare : (destination : Destination) (tree : Term) (plan : Plan) → IsOfJob destination → IsOrderly stock destination tree true plan → AreSpare stock patterns pc destination tree plan
+  pub steps_spare : (destination : Destination) (tree : Term) (plan : Plan) → IsOfJob destination → IsOrderly stock destination tree true plan → AreSpare stock file_storage patterns pc destination tree plan
   steps_spare (cell a) tree plan j o = stored_spare (cell a) tree plan tt refl (λ r h. h) o
   steps_spare (stored a) tree plan j o = stored_spare (stored a) tree plan tt refl (λ r h. h) o
   steps_spare tested tree (use_form k ps cs) j o = test_spare tree k ps cs o
   steps_spare (into id) tree plan j o = absurd j
+  steps_spare filed tree plan j o = absurd j
   steps_spare temporary tree plan j o = absurd j

@@ -1,5 +1,5 @@
 -- The steps that put the cuts of a form's sites into their cells, from left to right.
-use Rattle.std.proofs.Common.{◌≡◌, ℕ, ◌+◌, ◌<◌, ◌≤◌, ◌⊎◌, inl, inr, List, [], ◌∷◌, ◌++◌, length, drop, slice_index, refl, sym, ap, ◌∙◌, subst, arith}
+use Rattle.std.proofs.Common.{◌≡◌, ℕ, ◌+◌, ◌<◌, ◌≤◌, ◌⊎◌, inl, inr, List, [], ◌∷◌, ◌++◌, Option, length, drop, slice_index, refl, sym, ap, ◌∙◌, subst, arith}
 use Rattle.std.specs.List.{AllZip}
 use Rattle.net_model.specs.declared.states.State.{State}
 use Rattle.net_model.specs.Meaning.{mean}
@@ -10,7 +10,7 @@ use Rattle.form_model.specs.Effects.{Operation, apply_operation, steps_effect}
 use Rattle.form_model.specs.Steps.{OperandCells, CutCells, operand_cells, cut_cells, woven}
 use Rattle.emit_seq.specs.Inner.CellLists.{operands_in, trees_in}
 use Rattle.emit_seq.specs.Leaves.{ReadsFrom}
-use Rattle.emit_seq.proofs.Matched.{Holds}
+use Rattle.emit_seq.proofs.Matched.{AtHome, Holds}
 use Rattle.emit_seq.proofs.Sites.{SitesRead}
 use Rattle.form_model.proofs.Zips.{Each, total}
 
@@ -22,7 +22,7 @@ effect-steps m (x ∷ xs) ys s = effect-steps m xs ys (apply_operation (m x) s s
 
 pub cells_operands : (sites : List Site) (ks ls : List ℕ) (n : ℕ) → operands_in (operand_cells sites ks ls n) ≡ operands_of sites
 cells_operands [] ks ls n = refl
-cells_operands (operand id tree whole ∷ sites) ks ls n = ap (λ (z : List Operand). record { id = id; tree = tree; whole = whole } ∷ z) (cells_operands sites (drop 1 ks) ls (n + slice_index ks 0))
+cells_operands (operand id tree whole ∷ sites) ks ls n = ap (λ (z : List Operand). record { home = id; tree = tree; whole = whole } ∷ z) (cells_operands sites (drop 1 ks) ls (n + slice_index ks 0))
 cells_operands (cut shape tree ∷ sites) ks ls n = cells_operands sites ks (drop 1 ls) (n + slice_index ls 0 + 1)
 
 pub cells_trees : (sites : List Site) (ks ls : List ℕ) (n : ℕ) → trees_in (cut_cells sites ks ls n) ≡ cuts_of sites
@@ -93,30 +93,35 @@ cuts_read temps before [] ks ls n h = tt
 cuts_read temps before (operand id tree whole ∷ sites) ks ls n h = cuts_read temps before sites (drop 1 ks) ls (n + slice_index ks 0) h.1
 cuts_read temps before (cut shape tree ∷ sites) ks ls n h = (h.0, cuts_read temps before sites ks (drop 1 ls) (n + slice_index ls 0 + 1) h.1)
 
--- operands in their registers and cuts in their cells
-pub holds_of : (temps : ℕ) (before now : State) (sites : List Site) (ks ls : List ℕ) (n : ℕ)
-    → Each (λ (cells : OperandCells). slice_index now.regs cells.operand.id ≡ mean cells.operand.tree before 0) (operand_cells sites ks ls n)
+-- operands in their homes and cuts in their cells
+pub holds_of : (temps size : ℕ) (before now : State) (sites : List Site) (ks ls : List ℕ) (n : ℕ) (homes : List (Option ℕ))
+    → AllZip (λ (cells : OperandCells) (h : Option ℕ). AtHome temps size before now cells.operand.home h cells.operand.tree) (operand_cells sites ks ls n) homes
     → Each (λ (cells : CutCells). (cells.cell < temps) × (slice_index now.cells cells.cell ≡ mean cells.tree before 0)) (cut_cells sites ks ls n)
-    → Holds temps before now sites (cut_cells sites ks ls n)
-holds_of temps before now [] ks ls n h k = refl
-holds_of temps before now (operand id tree whole ∷ sites) ks ls n h k = (h.0, holds_of temps before now sites (drop 1 ks) ls (n + slice_index ks 0) h.1 k)
-holds_of temps before now (cut shape tree ∷ sites) ks ls n h k = (refl, k.0.0, k.0.1, holds_of temps before now sites ks (drop 1 ls) (n + slice_index ls 0 + 1) h k.1)
+    → Holds temps size before now sites (cut_cells sites ks ls n) homes
+holds_of temps size before now [] ks ls n [] h k = (refl, refl)
+holds_of temps size before now [] ks ls n (c ∷ homes) h k = absurd h
+holds_of temps size before now (operand home tree whole ∷ sites) ks ls n [] h k = absurd h
+holds_of temps size before now (operand home tree whole ∷ sites) ks ls n (c ∷ homes) h k = (h.0, holds_of temps size before now sites (drop 1 ks) ls (n + slice_index ks 0) homes h.1 k)
+holds_of temps size before now (cut shape tree ∷ sites) ks ls n homes h k = (refl, k.0.0, k.0.1, holds_of temps size before now sites ks (drop 1 ls) (n + slice_index ls 0 + 1) homes h k.1)
 
 -- ---- the walk
 
--- nothing but the cells from the first to the one past the last is changed, apart from registers
+-- nothing but the cells from the first to the one past the last is changed, apart from registers and
+-- the file
 pub record IsLocal (first past : ℕ) (s t : State) : Type 0 where
   pub regs : length t.regs ≡ length s.regs
   pub cells : length t.cells ≡ length s.cells
+  pub file : length t.file ≡ length s.file
   pub same : (c : ℕ) → (c < first) ⊎ (past ≤ c) → slice_index t.cells c ≡ slice_index s.cells c
 
 pub local_refl : (a b : ℕ) (s : State) → IsLocal a b s s
-local_refl a b s = record { regs = refl; cells = refl; same = λ c h. refl }
+local_refl a b s = record { regs = refl; cells = refl; file = refl; same = λ c h. refl }
 
 pub local_trans : (a b c d : ℕ) (s t u : State) → a ≤ b → b ≤ c → c ≤ d → IsLocal a b s t → IsLocal b d t u → IsLocal a d s u
 local_trans a b c d s t u p q r x y = record {
   regs = y.regs ∙ x.regs;
   cells = y.cells ∙ x.cells;
+  file = y.file ∙ x.file;
   same = λ e h. y.same e (higher e h) ∙ x.same e (lower e h);
 }
   where
@@ -133,12 +138,14 @@ module _ (temps : ℕ) (before : State) where
   pub record IsKept (s : State) : Type 0 where
     pub regs : length s.regs ≡ length before.regs
     pub cells : length s.cells ≡ length before.cells
+    pub file : length s.file ≡ length before.file
     pub same : (c : ℕ) → temps ≤ c → slice_index s.cells c ≡ slice_index before.cells c
 
   pub kept_local : (a b : ℕ) (s t : State) → b ≤ temps → IsKept s → IsLocal a b s t → IsKept t
   kept_local a b s t h k l = record {
     regs = l.regs ∙ k.regs;
     cells = l.cells ∙ k.cells;
+    file = l.file ∙ k.file;
     same = λ c m. l.same c (inr (omega arith)) ∙ k.same c m;
   }
 

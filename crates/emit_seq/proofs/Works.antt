@@ -1,62 +1,70 @@
 -- The steps of an orderly cover leave the tree's value: by induction over covers.
-use Rattle.std.proofs.Common.{◌≡◌, ◌≢◌, ℕ, ◌+◌, ◌<◌, ◌≤◌, ◌⊎◌, inl, inr, Bool, false, List, [], ◌∷◌, ◌++◌, length, slice_index, slice_set, refl, sym, ap, ◌∙◌, subst, arith}
+use Rattle.std.proofs.Common.{◌≡◌, ◌≢◌, ℕ, ◌+◌, ◌<◌, ◌≤◌, ◌⊎◌, inl, inr, Bool, false, List, [], ◌∷◌, ◌++◌, Option, Some, None, length, slice_index, slice_set, refl, sym, ap, ◌∙◌, subst, arith}
 use Rattle.std.specs.Prelude.{slice_get, remove}
 use Rattle.std.specs.Int.{bit_at}
 use Rattle.std.specs.List.{AllZip}
+use Rattle.std.proofs.lemmas.Nat.Bits.{bit_at-zero}
 use Rattle.std.proofs.lemmas.List.{get_or-set_same, get_or-set_other, length-set}
 use Rattle.net_model.specs.declared.states.State.{State}
 use Rattle.net_model.specs.Terms.{Term}
 use Rattle.net_model.specs.Meaning.{mean}
 use Rattle.net_model.specs.Patterns.{Pattern}
 use Rattle.form_model.specs.declared.forms.Step.{Step}
-use Rattle.form_model.specs.Rules.{Destination, into, temporary}
-use Rattle.form_model.specs.Matches.{Site, Found}
+use Rattle.form_model.specs.Rules.{Destination, into, filed, cell, stored, temporary, tested}
+use Rattle.form_model.specs.Matches.{Home, in_register, in_file, Site, Found}
 use Rattle.form_model.specs.Plans.{Plan, use_form, Operands, no_operands, operand_then, Cuts, no_cuts, cut_then}
-use Rattle.form_model.specs.Covers.{Stock, operands_of, cuts_of, written, all_written, IsOrderly, AreOrderly, AreCut}
+use Rattle.form_model.specs.Covers.{Stock, operands_of, cuts_of, home_destination, home_cells, form_cells, left_cells, need, operands_need, written, all_written, IsOrderly, AreOrderly, AreCut}
 use Rattle.form_model.specs.Effects.{Operation, operation_of, steps_effect}
-use Rattle.form_model.specs.Steps.{OperandCells, CutCells, cut_count, operand_counts, cut_counts, plan_operand_cells, plan_cut_cells, operand_cells_or_none, rule_at, found_at, own_steps, operand_steps, woven, cut_steps, inside_operands, into_cells, plan_setting, form_step}
+use Rattle.form_model.specs.Steps.{OperandCells, CutCells, cut_count, operand_counts, cut_counts, plan_operand_cells, plan_cut_cells, operand_cells_or_none, rule_at, found_at, holding, cell_or, free_cell, cell_of, operand_homes, first_home, own_steps, operand_steps, woven, cut_steps, inside_operands, into_cells, plan_setting, form_step}
 use Rattle.emit_seq.specs.Formed.{AreFormed}
 use Rattle.emit_seq.specs.Leaves.{ReadsFrom, placed, DestinationReads}
-use Rattle.emit_seq.proofs.Fields.{zero_left, zero_right}
-use Rattle.emit_seq.proofs.Matched.{Holds}
+use Rattle.emit_seq.proofs.BitUnions.{zero_left, zero_right}
+use Rattle.emit_seq.proofs.Matched.{AtHome, Holds}
 use Rattle.emit_seq.proofs.Sites.{SitesRead}
-use Rattle.form_model.proofs.Zips.{Each, each_at, each_put, each_weaker, each_both, zip_put, zip_at}
+use Rattle.form_model.proofs.NeedLaws.{goal_cells, cells_left}
+use Rattle.form_model.proofs.Zips.{Each, each_at, each_weaker, each_both, zip_put, zip_at}
 use Rattle.emit_seq.specs.Inner.CellLists.{operands_in, trees_in}
 use Rattle.emit_seq.proofs.Walks.{effect-steps, cells_operands, cells_trees, past_sites, OperandCount, CutCount, operands_counted, cuts_counted, operands_below, cuts_below, operands_read, cuts_read, holds_of, IsLocal, IsKept, kept_local, Fills, Stores, IsFilled, IsWalked, walk}
 use Rattle.emit_seq.proofs.Opened.{IsOpened, opened_plan, IsOpenedOperand, opened_operand, operands_long, cuts_long, past_plan, into_formed, writes_own, goal_sites}
-use Rattle.emit_seq.proofs.Forms.{OwnBelow, form_done}
+use Rattle.emit_seq.proofs.Forms.{OwnBelow, OwnIn, form_done}
+use Rattle.emit_seq.proofs.FreeCells.{free_count, all_free, held_same, held_more, IsFree, left_some, left_none, room_left, cell_free, tied_is}
 
-module _ (stock : Stock) (patterns : List Pattern) (before : State) where
+module _ (stock : Stock) (file_storage : Option ℕ) (patterns : List Pattern) (before : State) where
   abbrev m : Step → Operation
-  m = operation_of patterns
+  m = operation_of file_storage patterns
 
   abbrev low : ℕ
   low = stock.temps
 
-  -- operands in their registers and cuts in their cells, for the form at the root
-  abbrev pub PlanHolds : Plan → ℕ → Destination → Term → Bool → State → Type 0
-  PlanHolds (use_form k ps cs) n destination tree whole mid =
-      Holds low before mid (found_at stock k destination tree whole).sites (plan_cut_cells (found_at stock k destination tree whole).sites ps cs n)
+  abbrev size : ℕ
+  size = stock.file
+
+  -- operands in their homes and cuts in their cells, for the form at the root
+  abbrev pub PlanHolds : Plan → ℕ → ℕ → Destination → Term → Bool → State → Type 0
+  PlanHolds (use_form k ps cs) n held destination tree whole mid =
+      Holds low size before mid (found_at stock k destination tree whole).sites (plan_cut_cells (found_at stock k destination tree whole).sites ps cs n) (operand_homes stock ps held)
 
   -- from s the cover's own steps lead to a state in which its operands stand, and put the value of
-  -- the tree into its destination
-  pub record IsDone (p : Plan) (n : ℕ) (destination : Destination) (tree : Term) (whole : Bool) (s : State) : Type 0 where
+  -- the tree into its destination; the cells of the file that are held stay
+  pub record IsDone (p : Plan) (n held : ℕ) (destination : Destination) (tree : Term) (whole : Bool) (s : State) : Type 0 where
     pub mid : State
     pub cells : mid.cells ≡ s.cells
     pub regs : length mid.regs ≡ length s.regs
+    pub file : length mid.file ≡ length s.file
+    pub stay : (c : ℕ) → bit_at held c ≡ 1 → slice_index mid.file c ≡ slice_index s.file c
     pub kept : (r : ℕ) → bit_at (written stock.rules p) r ≡ 0 → slice_index mid.regs r ≡ slice_index s.regs r
-    pub holds : PlanHolds p n destination tree whole mid
-    pub ends : steps_effect m (own_steps stock p n destination tree whole) s ≡ placed before mid destination (n + cut_count p) (mean tree before 0)
+    pub holds : PlanHolds p n held destination tree whole mid
+    pub ends : steps_effect m (own_steps stock p n held destination tree whole) s ≡ placed before mid destination (n + cut_count p) (cell_of stock p held) (mean tree before 0)
 
   -- the steps for the cuts of a cover change their cells alone, and its own steps do what they
   -- should once those are filled
   pub record IsGood (p : Plan) : Type 0 where
     pub quiet : (n : ℕ) (destination : Destination) (tree : Term) (whole : Bool) → IsOrderly stock destination tree whole p → ReadsFrom low before tree → DestinationReads low before destination
         → n + cut_count p ≤ low → (s : State) → IsKept low before s → IsLocal n (n + cut_count p) s (steps_effect m (cut_steps stock p n destination tree whole) s)
-    pub works : (n : ℕ) (destination : Destination) (tree : Term) (whole : Bool) → IsOrderly stock destination tree whole p → ReadsFrom low before tree → DestinationReads low before destination
+    pub works : (n held : ℕ) (destination : Destination) (tree : Term) (whole : Bool) → IsOrderly stock destination tree whole p → need stock.rules p ≤ free_count held size → ReadsFrom low before tree → DestinationReads low before destination
         → n + cut_count p ≤ low → OwnBelow destination (n + cut_count p) low → (s : State) → IsKept low before s → (from : State) → IsKept low before from
         → ((c : ℕ) → n ≤ c → c < n + cut_count p → slice_index s.cells c ≡ slice_index (steps_effect m (cut_steps stock p n destination tree whole) from).cells c)
-        → IsDone p n destination tree whole s
+        → IsDone p n held destination tree whole s
 
   three : (a b c d : State) → a ≡ b → b ≡ c → c ≡ d → a ≡ d
   three a b c d p q r = p ∙ q ∙ r
@@ -67,21 +75,23 @@ module _ (stock : Stock) (patterns : List Pattern) (before : State) where
   abbrev CutFits : CutCells → Type 0
   CutFits cells = ReadsFrom low before cells.tree × (cells.cell < low)
 
-  abbrev IsHeld : State → OperandCells → Type 0
-  IsHeld t cells = slice_index t.regs cells.operand.id ≡ mean cells.operand.tree before 0
+  abbrev IsHeld : State → OperandCells → Option ℕ → Type 0
+  IsHeld t cells home = AtHome low size before t cells.operand.home home cells.operand.tree
 
-  record IsEvaluated (ps : Operands) (left : List OperandCells) (s t : State) : Type 0 where
+  record IsEvaluated (ps : Operands) (held : ℕ) (left : List OperandCells) (s t : State) : Type 0 where
     cells : t.cells ≡ s.cells
     regs : length t.regs ≡ length s.regs
+    file : length t.file ≡ length s.file
+    stay : (c : ℕ) → bit_at held c ≡ 1 → slice_index t.file c ≡ slice_index s.file c
     kept : (r : ℕ) → bit_at (all_written stock.rules ps) r ≡ 0 → slice_index t.regs r ≡ slice_index s.regs r
-    held : Each (IsHeld t) left
+    homes : AllZip (IsHeld t) left (operand_homes stock ps held)
 
   record AreGood (ps : Operands) : Type 0 where
     fills : (left : List OperandCells) → AreOrderly stock (operands_in left) ps → Each OperandFits left → AllZip OperandCount left (operand_counts ps)
         → AllZip (Fills m low before) left (inside_operands stock ps left)
-    evaluates : (left : List OperandCells) → AreOrderly stock (operands_in left) ps → Each OperandFits left → AllZip OperandCount left (operand_counts ps)
+    evaluates : (held : ℕ) (left : List OperandCells) → AreOrderly stock (operands_in left) ps → operands_need stock.rules ps ≤ free_count held size → Each OperandFits left → AllZip OperandCount left (operand_counts ps)
         → (s : State) → IsKept low before s → AllZip (IsFilled m low before s) left (inside_operands stock ps left)
-        → IsEvaluated ps left s (steps_effect m (operand_steps stock ps left) s)
+        → IsEvaluated ps held left s (steps_effect m (operand_steps stock ps left held) s)
 
   record AreStored (cs : Cuts) : Type 0 where
     stores : (cuts : List CutCells) → AreCut stock (trees_in cuts) cs → Each CutFits cuts → AllZip CutCount cuts (cut_counts cs)
@@ -95,31 +105,83 @@ module _ (stock : Stock) (patterns : List Pattern) (before : State) where
       let f : IsFilled m low before now cells x = h.0 in
       (record { from = f.from; kept = f.kept; same = λ c lo hi. ap (λ z. slice_index z c) e ∙ f.same c lo hi }, filled_same now next e left xs h.1)
 
-  module _ (count : ℕ) (formed : AreFormed patterns count stock.rules) (wide : count ≡ length before.regs) (large : low ≤ length before.cells) where
+  module _ (count : ℕ) (formed : AreFormed file_storage patterns count stock.file stock.rules) (wide : count ≡ length before.regs) (large : low ≤ length before.cells) (roomy : stock.file ≤ length before.file) where
     -- a cover into a register writes it
     plan_into : (p : Plan) (id : ℕ) (tree : Term) (whole : Bool) → IsOrderly stock (into id) tree whole p → (id < count) × (bit_at (written stock.rules p) id ≡ 1)
     plan_into (use_form k ps cs) id tree whole c =
         let w : IsOpened stock k ps cs (into id) tree whole = opened_plan stock k ps cs (into id) tree whole c in
         let f : (id < count) × (bit_at (rule_at stock k).clobbers id ≡ 1) =
-        into_formed stock.temps patterns count (rule_at stock k) (rule_at stock k).goal id tree whole (found_at stock k (into id) tree whole)
+        into_formed stock.temps file_storage patterns count stock.file (rule_at stock k) (rule_at stock k).goal id tree whole (found_at stock k (into id) tree whole)
         (formed k (rule_at stock k) w.listed) w.takes in
         (f.0, writes_own stock.rules k (rule_at stock k) ps cs id w.listed f.1)
 
+    -- a value put into its home: it is there, and no other register and no other cell has changed
+    record IsHomed (home : Home) (own_cell : Option ℕ) (v : ℕ) (mid t : State) : Type 0 where
+      cells : t.cells ≡ mid.cells
+      regs : length t.regs ≡ length mid.regs
+      file : length t.file ≡ length mid.file
+      others : (r : ℕ) → (home ≡ in_register r → ⊥) → slice_index t.regs r ≡ slice_index mid.regs r
+      stay : (c : ℕ) → ((d : ℕ) → home_cells home ≡ 1 → own_cell ≡ Some d → c ≢ d) → slice_index t.file c ≡ slice_index mid.file c
+      at_register : (r : ℕ) → home ≡ in_register r → slice_index t.regs r ≡ v
+      at_cell : (c : ℕ) → home_cells home ≡ 1 → own_cell ≡ Some c → slice_index t.file c ≡ v
+
+    homed : (home : Home) (own_cell : Option ℕ) (own v : ℕ) (mid : State) → ((r : ℕ) → home ≡ in_register r → r < length mid.regs)
+        → (home_cells home ≡ 1 → (c : ℕ) × (own_cell ≡ Some c) × (c < length mid.file))
+        → IsHomed home own_cell v mid (placed before mid (home_destination home) own own_cell v)
+    homed (in_register id) own_cell own v mid f g = record {
+      cells = refl;
+      regs = length-set mid.regs id v;
+      file = refl;
+      others = λ r ne. get_or-set_other mid.regs id r v 0 (λ q. ne (ap in_register (sym q)));
+      stay = λ c ne. refl;
+      at_register = λ r e. (let q : id ≡ r = cc in ap (λ z. slice_index (slice_set mid.regs id v) z) (sym q) ∙ get_or-set_same mid.regs id v 0 (f id refl));
+      at_cell = λ c one e. absurd (omega (arith, one));
+    }
+    homed (in_file shape) own_cell own v mid f g =
+        let (c, e, lt) = g refl in
+        let at : cell_or own_cell 0 ≡ c = ap (λ z. cell_or z 0) e in
+        record {
+          cells = refl;
+          regs = refl;
+          file = length-set mid.file (cell_or own_cell 0) v;
+          others = λ r ne. refl;
+          stay = λ d ne. get_or-set_other mid.file (cell_or own_cell 0) d v 0 (λ q. ne c refl e (q ∙ at));
+          at_register = λ r e'. absurd (cc);
+          at_cell = λ d one e'. (let q : c ≡ d = cc in ap (λ z. slice_index (slice_set mid.file z v) d) at ∙ ap (λ z. slice_index (slice_set mid.file c v) z) (sym q) ∙ get_or-set_same mid.file c v 0 lt);
+        }
+
+    -- an operand in its home stays there
+    held_at : (home : Home) (own_cell : Option ℕ) (tree : Term) (t : State) → IsFree size 0 own_cell → (home_cells home ≡ 1 → (c : ℕ) × (own_cell ≡ Some c)) → ((r : ℕ) → home ≡ in_register r → slice_index t.regs r ≡ mean tree before 0)
+        → ((c : ℕ) → home_cells home ≡ 1 → own_cell ≡ Some c → slice_index t.file c ≡ mean tree before 0) → AtHome low size before t home own_cell tree
+    held_at (in_register id) own_cell tree t f s g h = g id refl
+    held_at (in_file shape) None tree t f s g h = let (c, e) = s refl in absurd (cc)
+    held_at (in_file shape) (Some c) tree t f s g h = (f.0, h c refl refl)
+
+    -- no operand's cover is wider than the operands' together
+    own_dest : (home : Home) (own : ℕ) → OwnBelow (home_destination home) own low
+    own_dest (in_register id) own = tt
+    own_dest (in_file shape) own = tt
+
+    home_reads : (home : Home) → DestinationReads low before (home_destination home)
+    home_reads (in_register id) = tt
+    home_reads (in_file shape) = tt
+
     -- one operand's own steps
-    operand_done : (i : ℕ) (p : Plan) (ps : Operands) → IsGood p → (left : List OperandCells) → AreOrderly stock (operands_in left) (operand_then i p ps) → Each OperandFits left
+    operand_done : (held i : ℕ) (p : Plan) (ps : Operands) → IsGood p → (left : List OperandCells) → AreOrderly stock (operands_in left) (operand_then i p ps) → need stock.rules p ≤ free_count held size → Each OperandFits left
         → AllZip OperandCount left (operand_counts (operand_then i p ps)) → (s : State) → IsKept low before s
         → AllZip (IsFilled m low before s) left (inside_operands stock (operand_then i p ps) left)
-        → IsDone p (operand_cells_or_none (slice_get left i)).first (into (operand_cells_or_none (slice_get left i)).operand.id) (operand_cells_or_none (slice_get left i)).operand.tree
+        → IsDone p (operand_cells_or_none (slice_get left i)).first held (home_destination (operand_cells_or_none (slice_get left i)).operand.home) (operand_cells_or_none (slice_get left i)).operand.tree
         (operand_cells_or_none (slice_get left i)).operand.whole s
-    operand_done i p ps good left c f z s k y =
+    operand_done held i p ps good left c room f z s k y =
         let cells : OperandCells = operand_cells_or_none (slice_get left i) in
+        let into_home : Destination = home_destination cells.operand.home in
         let w : IsOpenedOperand stock left i cells p ps = opened_operand stock left i p ps c in
         let fits : OperandFits cells = (each_at OperandFits left i cells w.at f).0 in
         let long : OperandCount cells (cut_count p) = (zip_at OperandCount left (operand_counts ps) i cells (cut_count p) w.at z).0 in
-        let filled : IsFilled m low before s cells (cut_steps stock p cells.first (into cells.operand.id) cells.operand.tree cells.operand.whole) =
+        let filled : IsFilled m low before s cells (cut_steps stock p cells.first into_home cells.operand.tree cells.operand.whole) =
         (zip_at (IsFilled m low before s) left (inside_operands stock ps (remove left i)) i cells
-        (cut_steps stock p cells.first (into cells.operand.id) cells.operand.tree cells.operand.whole) w.at y).0 in
-        good.works cells.first (into cells.operand.id) cells.operand.tree cells.operand.whole w.orderly fits.0 tt (omega (arith, fits.1, long)) tt s k filled.from filled.kept
+        (cut_steps stock p cells.first into_home cells.operand.tree cells.operand.whole) w.at y).0 in
+        good.works cells.first held into_home cells.operand.tree cells.operand.whole w.orderly room fits.0 (home_reads cells.operand.home) (omega (arith, fits.1, long)) (own_dest cells.operand.home (cells.first + cut_count p)) s k filled.from filled.kept
         (λ e lo hi. filled.same e lo (omega (arith, hi, long)))
 
     operand_good : (i : ℕ) (p : Plan) (ps : Operands) → IsGood p → AreGood ps → AreGood (operand_then i p ps)
@@ -129,54 +191,84 @@ module _ (stock : Stock) (patterns : List Pattern) (before : State) where
             → AllZip (Fills m low before) left (inside_operands stock (operand_then i p ps) left)
         fills' left c f z =
             let cells : OperandCells = operand_cells_or_none (slice_get left i) in
+            let into_home : Destination = home_destination cells.operand.home in
             let w : IsOpenedOperand stock left i cells p ps = opened_operand stock left i p ps c in
             let fits : OperandFits cells × Each OperandFits (remove left i) = each_at OperandFits left i cells w.at f in
             let long : OperandCount cells (cut_count p) × AllZip OperandCount (remove left i) (operand_counts ps) = zip_at OperandCount left (operand_counts ps) i cells (cut_count p) w.at z in
-            let seg : List Step = cut_steps stock p cells.first (into cells.operand.id) cells.operand.tree cells.operand.whole in
+            let seg : List Step = cut_steps stock p cells.first into_home cells.operand.tree cells.operand.whole in
             let head : Fills m low before cells seg =
             λ s k. subst (λ n. IsLocal cells.first n s (steps_effect m seg s)) (sym long.0)
-            (good.quiet cells.first (into cells.operand.id) cells.operand.tree cells.operand.whole w.orderly fits.0.0 tt (omega (arith, fits.0.1, long.0)) s k) in
+            (good.quiet cells.first into_home cells.operand.tree cells.operand.whole w.orderly fits.0.0 (home_reads cells.operand.home) (omega (arith, fits.0.1, long.0)) s k) in
             zip_put (Fills m low before) left (inside_operands stock ps (remove left i)) i cells seg w.at head
             (rest.fills (remove left i) w.rest fits.1 long.1)
 
-        evaluates' : (left : List OperandCells) → AreOrderly stock (operands_in left) (operand_then i p ps) → Each OperandFits left → AllZip OperandCount left (operand_counts (operand_then i p ps))
+        evaluates' : (held : ℕ) (left : List OperandCells) → AreOrderly stock (operands_in left) (operand_then i p ps) → operands_need stock.rules (operand_then i p ps) ≤ free_count held size → Each OperandFits left → AllZip OperandCount left (operand_counts (operand_then i p ps))
             → (s : State) → IsKept low before s → AllZip (IsFilled m low before s) left (inside_operands stock (operand_then i p ps) left)
-            → IsEvaluated (operand_then i p ps) left s (steps_effect m (operand_steps stock (operand_then i p ps) left) s)
-        evaluates' left c f z s k y =
+            → IsEvaluated (operand_then i p ps) held left s (steps_effect m (operand_steps stock (operand_then i p ps) left held) s)
+        evaluates' held left c room f z s k y =
             let cells : OperandCells = operand_cells_or_none (slice_get left i) in
-            let id : ℕ = cells.operand.id in
+            let home : Home = cells.operand.home in
+            let into_home : Destination = home_destination home in
+            let cell : Option ℕ = cell_of stock p held in
+            let more : ℕ = holding held cell in
             let v : ℕ = mean cells.operand.tree before 0 in
             let w : IsOpenedOperand stock left i cells p ps = opened_operand stock left i p ps c in
-            let own : List Step = own_steps stock p cells.first (into id) cells.operand.tree cells.operand.whole in
-            let later : List Step = operand_steps stock ps (remove left i) in
-            let d : IsDone p cells.first (into id) cells.operand.tree cells.operand.whole s = operand_done i p ps good left c f z s k y in
-            let t : State = record { regs = slice_set d.mid.regs id v; cells = d.mid.cells; file = d.mid.file } in
-            let long : length t.regs ≡ length s.regs = length-set d.mid.regs id v ∙ d.regs in
+            let own : List Step = own_steps stock p cells.first held into_home cells.operand.tree cells.operand.whole in
+            let later : List Step = operand_steps stock ps (remove left i) more in
+            let needs : need stock.rules p ≤ free_count held size = omega (arith, room) in
+            let free : IsFree size held cell = cell_free stock p held needs in
+            let left_more : operands_need stock.rules ps ≤ free_count more size = room_left stock p held (operands_need stock.rules ps) free (omega (arith, room)) in
+            let takes : left_cells stock.rules p ≡ home_cells home = cells_left stock p home cells.operand.tree cells.operand.whole w.orderly in
+            let given : home_cells home ≡ 1 → (d : ℕ) × (cell ≡ Some d) = λ one. left_some stock p held (takes ∙ one) in
+            let none : home_cells home ≡ 0 → cell ≡ None = λ no. left_none stock p held (takes ∙ no) in
+            let d : IsDone p cells.first held into_home cells.operand.tree cells.operand.whole s = operand_done held i p ps good left c needs f z s k y in
+            let t : State = placed before d.mid into_home (cells.first + cut_count p) cell v in
+            let at : (r : ℕ) → home ≡ in_register r → (r < count) × (bit_at (written stock.rules p) r ≡ 1) =
+            λ r e. plan_into p r cells.operand.tree cells.operand.whole (subst (λ q. IsOrderly stock (home_destination q) cells.operand.tree cells.operand.whole p) e w.orderly) in
+            let h : IsHomed home cell v d.mid t =
+            homed home cell (cells.first + cut_count p) v d.mid (λ r e. (let a = (at r e).0 in omega (arith, a, wide, d.regs, k.regs)))
+            (λ one. (let (q, e) = given one in (q, e, (let a = (subst (IsFree size held) e free).0 in omega (arith, a, roomy, d.file, k.file))))) in
             let kt : IsKept low before t = record {
-              regs = long ∙ k.regs;
-              cells = ap length d.cells ∙ k.cells;
-              same = λ e h. ap (λ q. slice_index q e) d.cells ∙ k.same e h;
+              regs = h.regs ∙ d.regs ∙ k.regs;
+              cells = ap (λ (q : List ℕ). length q) h.cells ∙ ap (λ (q : List ℕ). length q) d.cells ∙ k.cells;
+              file = h.file ∙ d.file ∙ k.file;
+              same = λ e b. ap (λ q. slice_index q e) h.cells ∙ ap (λ q. slice_index q e) d.cells ∙ k.same e b;
             } in
             let fits : OperandFits cells × Each OperandFits (remove left i) = each_at OperandFits left i cells w.at f in
             let counts : OperandCount cells (cut_count p) × AllZip OperandCount (remove left i) (operand_counts ps) = zip_at OperandCount left (operand_counts ps) i cells (cut_count p) w.at z in
             let filled : AllZip (IsFilled m low before s) (remove left i) (inside_operands stock ps (remove left i)) =
             (zip_at (IsFilled m low before s) left (inside_operands stock ps (remove left i)) i cells
-            (cut_steps stock p cells.first (into id) cells.operand.tree cells.operand.whole) w.at y).1 in
-            let e : IsEvaluated ps (remove left i) t (steps_effect m later t) =
-            rest.evaluates (remove left i) w.rest fits.1 counts.1 t kt (filled_same s t d.cells (remove left i) (inside_operands stock ps (remove left i)) filled) in
+            (cut_steps stock p cells.first into_home cells.operand.tree cells.operand.whole) w.at y).1 in
+            let e : IsEvaluated ps more (remove left i) t (steps_effect m later t) =
+            rest.evaluates more (remove left i) w.rest left_more fits.1 counts.1 t kt (filled_same s t (h.cells ∙ d.cells) (remove left i) (inside_operands stock ps (remove left i)) filled) in
             let all : steps_effect m (own ++ later) s ≡ steps_effect m later t = effect-steps m own later s ∙ ap (λ q. steps_effect m later q) d.ends in
-            let writes : (id < count) × (bit_at (written stock.rules p) id ≡ 1) = plan_into p id cells.operand.tree cells.operand.whole w.orderly in
-            let other : (r : ℕ) → bit_at (written stock.rules p) r ≡ 0 → r ≢ id = λ r h q. let h' : bit_at (written stock.rules p) id ≡ 0 = ap (λ n. bit_at (written stock.rules p) n) (sym q) ∙ h in omega (arith, h', writes.1) in
-            subst (λ q. IsEvaluated (operand_then i p ps) left s q) (sym all) (record {
-              cells = e.cells ∙ d.cells;
-              regs = e.regs ∙ long;
-              kept = λ r h.
-                  let hp : bit_at (written stock.rules p) r ≡ 0 = zero_left (written stock.rules p) (all_written stock.rules ps) r h in
-                  e.kept r (zero_right (written stock.rules p) (all_written stock.rules ps) r h)
-                  ∙ get_or-set_other d.mid.regs id r v 0 (other r hp) ∙ d.kept r hp;
-              held = each_put (IsHeld (steps_effect m later t)) left i cells w.at
-                  (e.kept id w.apart ∙ get_or-set_same d.mid.regs id v 0 (omega (arith, writes.0, wide, d.regs, k.regs))) e.held;
+            let apart : (r : ℕ) → bit_at (written stock.rules p) r ≡ 0 → home ≡ in_register r → ⊥ = λ r b q. (let a = (at r q).1 in omega (arith, a, b)) in
+            let away : (q : ℕ) → bit_at held q ≡ 1 → (x : ℕ) → home_cells home ≡ 1 → cell ≡ Some x → q ≢ x =
+            λ q b x one ex same_cell. (let a = (subst (IsFree size held) ex free).1 in let b' : bit_at held x ≡ 1 = ap (bit_at held) (sym same_cell) ∙ b in omega (arith, a, b')) in
+            let end : State = steps_effect m later t in
+            let waits : AtHome low size before end home cell cells.operand.tree =
+            held_at home cell cells.operand.tree end (within_size cell free) given
+            (λ r q. e.kept r (w.apart r q) ∙ h.at_register r q)
+            (λ q one ex. e.stay q (ap (λ o. bit_at (holding held o) q) ex ∙ held_same held q) ∙ h.at_cell q one ex) in
+            subst (λ q. IsEvaluated (operand_then i p ps) held left s q) (sym all) (record {
+              cells = e.cells ∙ h.cells ∙ d.cells;
+              regs = e.regs ∙ h.regs ∙ d.regs;
+              file = e.file ∙ h.file ∙ d.file;
+              stay = λ q b. e.stay q (more_held cell q b) ∙ h.stay q (away q b) ∙ d.stay q b;
+              kept = λ r b.
+                  let hp : bit_at (written stock.rules p) r ≡ 0 = zero_left (written stock.rules p) (all_written stock.rules ps) r b in
+                  e.kept r (zero_right (written stock.rules p) (all_written stock.rules ps) r b)
+                  ∙ h.others r (apart r hp) ∙ d.kept r hp;
+              homes = zip_put (IsHeld end) left (operand_homes stock ps more) i cells cell w.at waits e.homes;
             })
+          where
+            within_size : (o : Option ℕ) → IsFree size held o → IsFree size 0 o
+            within_size None q = tt
+            within_size (Some x) q = (q.0, bit_at-zero x)
+
+            more_held : (o : Option ℕ) (q : ℕ) → bit_at held q ≡ 1 → bit_at (holding held o) q ≡ 1
+            more_held None q b = b
+            more_held (Some x) q b = held_more held x q b
 
     none_good : AreGood no_operands
     none_good = record { fills = fills'; evaluates = evaluates' }
@@ -185,10 +277,10 @@ module _ (stock : Stock) (patterns : List Pattern) (before : State) where
         fills' [] c f z = tt
         fills' (cells ∷ left) c f z = absurd (cc)
 
-        evaluates' : (left : List OperandCells) → AreOrderly stock (operands_in left) no_operands → Each OperandFits left → AllZip OperandCount left []
-            → (s : State) → IsKept low before s → AllZip (IsFilled m low before s) left [] → IsEvaluated no_operands left s s
-        evaluates' [] c f z s k y = record { cells = refl; regs = refl; kept = λ r h. refl; held = tt }
-        evaluates' (cells ∷ left) c f z s k y = absurd (cc)
+        evaluates' : (held : ℕ) (left : List OperandCells) → AreOrderly stock (operands_in left) no_operands → operands_need stock.rules no_operands ≤ free_count held size → Each OperandFits left → AllZip OperandCount left []
+            → (s : State) → IsKept low before s → AllZip (IsFilled m low before s) left [] → IsEvaluated no_operands held left s s
+        evaluates' held [] c room f z s k y = record { cells = refl; regs = refl; file = refl; stay = λ q h. refl; kept = λ r h. refl; homes = tt }
+        evaluates' held (cells ∷ left) c room f z s k y = absurd (cc)
 
     none_stored : AreStored no_cuts
     none_stored = record { stores = stores' }
@@ -198,27 +290,28 @@ module _ (stock : Stock) (patterns : List Pattern) (before : State) where
         stores' (cells ∷ cuts) c f z = absurd (cc)
 
     -- a cut's steps put its value into its cell
-    cut_stored : (p : Plan) → IsGood p → (cells : CutCells) → IsOrderly stock temporary cells.tree false p → CutFits cells → CutCount cells (cut_count p)
-        → Stores m low before cells (cut_steps stock p cells.first temporary cells.tree false ++ own_steps stock p cells.first temporary cells.tree false)
-    cut_stored p good cells c f z s k =
+    cut_stored : (p : Plan) → IsGood p → (cells : CutCells) → IsOrderly stock temporary cells.tree false p → need stock.rules p ≤ size → CutFits cells → CutCount cells (cut_count p)
+        → Stores m low before cells (cut_steps stock p cells.first temporary cells.tree false ++ own_steps stock p cells.first 0 temporary cells.tree false)
+    cut_stored p good cells c room f z s k =
         let inside : List Step = cut_steps stock p cells.first temporary cells.tree false in
-        let own : List Step = own_steps stock p cells.first temporary cells.tree false in
+        let own : List Step = own_steps stock p cells.first 0 temporary cells.tree false in
         let t : State = steps_effect m inside s in
         let v : ℕ = mean cells.tree before 0 in
         let l : IsLocal cells.first (cells.first + cut_count p) s t = good.quiet cells.first temporary cells.tree false c f.0 tt (omega (arith, f.1, z)) s k in
         let kt : IsKept low before t = kept_local low before cells.first (cells.first + cut_count p) s t (omega (arith, f.1, z)) k l in
-        let d : IsDone p cells.first temporary cells.tree false t =
-        good.works cells.first temporary cells.tree false c f.0 tt (omega (arith, f.1, z)) (omega (arith, f.1, z)) t kt s k (λ e lo hi. refl) in
-        let u : State = record { regs = d.mid.regs; cells = slice_set d.mid.cells cells.cell v; file = d.mid.file } in
+        let d : IsDone p cells.first 0 temporary cells.tree false t =
+        good.works cells.first 0 temporary cells.tree false c (let all = all_free size in omega (arith, all, room)) f.0 tt (omega (arith, f.1, z)) (omega (arith, f.1, z)) t kt s k (λ e lo hi. refl) in
+        let u : State = record d.mid { cells = slice_set d.mid.cells cells.cell v } in
         let all : steps_effect m (inside ++ own) s ≡ u =
-        three (steps_effect m (inside ++ own) s) (steps_effect m own t) (record { regs = d.mid.regs; cells = slice_set d.mid.cells (cells.first + cut_count p) v; file = d.mid.file }) u
-        (effect-steps m inside own s) d.ends (ap (λ n. record { regs = d.mid.regs; cells = slice_set d.mid.cells n v; file = d.mid.file }) (sym {a = cells.cell} {b = cells.first + cut_count p} z)) in
+        three (steps_effect m (inside ++ own) s) (steps_effect m own t) (record d.mid { cells = slice_set d.mid.cells (cells.first + cut_count p) v }) u
+        (effect-steps m inside own s) d.ends (ap (λ n. record d.mid { cells = slice_set d.mid.cells n v }) (sym {a = cells.cell} {b = cells.first + cut_count p} z)) in
         let long : length u.cells ≡ length s.cells = length-set d.mid.cells cells.cell v ∙ ap length d.cells ∙ l.cells in
         let apart : (e : ℕ) → (e < cells.first) ⊎ (cells.cell + 1 ≤ e) → (e ≢ cells.cell) × ((e < cells.first) ⊎ (cells.first + cut_count p ≤ e)) = λ e h. outside cells.first (cut_count p) cells.cell e z h in
         moved (steps_effect m (inside ++ own) s) u all (
           record {
             regs = d.regs ∙ l.regs;
             cells = long;
+            file = d.file ∙ l.file;
             same = λ e h. get_or-set_other d.mid.cells cells.cell e v 0 (apart e h).0 ∙ ap (λ q. slice_index q e) d.cells ∙ l.same e (apart e h).1;
           },
           get_or-set_same d.mid.cells cells.cell v 0 (omega (arith, f.1, large, k.cells, l.cells, ap length d.cells)),
@@ -241,8 +334,8 @@ module _ (stock : Stock) (patterns : List Pattern) (before : State) where
         stores' (cells ∷ cuts) c f z =
             let e : c.0 ≡ cells.tree = cc (c.2) in
             let e' : c.1 ≡ trees_in cuts = cc (c.2) in (
-              cut_stored p good cells (subst (λ t. IsOrderly stock temporary t false p) e c.3) f.0 z.0,
-              rest.stores cuts (subst (λ ts. AreCut stock ts cs) e' c.4) f.1 z.1,
+              cut_stored p good cells (subst (λ t. IsOrderly stock temporary t false p) e c.3) c.4 f.0 z.0,
+              rest.stores cuts (subst (λ ts. AreCut stock ts cs) e' c.5) f.1 z.1,
             )
 
     -- what the parts of a form's cover give
@@ -287,6 +380,20 @@ module _ (stock : Stock) (patterns : List Pattern) (before : State) where
           stores = gc.stores (plan_cut_cells sites ps cs n) cuts cut_fits cut_counted;
         }
 
+    -- the cell that a form writes is one of the file's, and that of its tied operand
+    own_in : (k : ℕ) (ps : Operands) (cs : Cuts) (held : ℕ) (destination : Destination) (tree : Term) (whole : Bool) → IsOpened stock k ps cs destination tree whole → need stock.rules (use_form k ps cs) ≤ free_count held size
+        → OwnIn destination (rule_at stock k) (operand_homes stock ps held) (cell_of stock (use_form k ps cs) held) size
+    own_in k ps cs held (into id) tree whole w room = tt
+    own_in k ps cs held filed tree whole w room =
+        let takes : form_cells (slice_get stock.rules k) ≡ 1 = ap form_cells w.listed ∙ goal_cells stock.temps (rule_at stock k) (rule_at stock k).goal (in_file tree) tree whole (found_at stock k filed tree whole) w.takes in
+        let (c, e) = left_some stock (use_form k ps cs) held takes in
+        let free : IsFree size held (Some c) = subst (IsFree size held) e (cell_free stock (use_form k ps cs) held room) in
+        (c, e, free.0, λ d t. tied_is (slice_get stock.rules k) (rule_at stock k) w.listed (operand_homes stock ps held) (first_home stock ps held) (free_cell held stock.file) c d e t)
+    own_in k ps cs held (cell a) tree whole w room = tt
+    own_in k ps cs held (stored a) tree whole w room = tt
+    own_in k ps cs held temporary tree whole w room = tt
+    own_in k ps cs held tested tree whole w room = tt
+
     form_good : (k : ℕ) (ps : Operands) (cs : Cuts) → AreGood ps → AreStored cs → IsGood (use_form k ps cs)
     form_good k ps cs gs gc = record { quiet = quiet'; works = works' }
       where
@@ -302,11 +409,11 @@ module _ (stock : Stock) (patterns : List Pattern) (before : State) where
             walk low before m sites (operand_counts ps) (cut_counts cs) n segs cuts (omega (arith, y.past, b)) y.fills y.stores s (steps_effect m (woven sites segs cuts) s) h (λ e lo hi. refl) in
             subst (λ q. IsLocal n q s (steps_effect m (woven sites segs cuts) s)) y.past w.local
 
-        works' : (n : ℕ) (destination : Destination) (tree : Term) (whole : Bool) → IsOrderly stock destination tree whole (use_form k ps cs) → ReadsFrom low before tree → DestinationReads low before destination
+        works' : (n held : ℕ) (destination : Destination) (tree : Term) (whole : Bool) → IsOrderly stock destination tree whole (use_form k ps cs) → need stock.rules (use_form k ps cs) ≤ free_count held size → ReadsFrom low before tree → DestinationReads low before destination
             → n + cut_count (use_form k ps cs) ≤ low → OwnBelow destination (n + cut_count (use_form k ps cs)) low → (s : State) → IsKept low before s → (from : State) → IsKept low before from
             → ((e : ℕ) → n ≤ e → e < n + cut_count (use_form k ps cs) → slice_index s.cells e ≡ slice_index (steps_effect m (cut_steps stock (use_form k ps cs) n destination tree whole) from).cells e)
-            → IsDone (use_form k ps cs) n destination tree whole s
-        works' n destination tree whole c r pr b o s hs from hf a =
+            → IsDone (use_form k ps cs) n held destination tree whole s
+        works' n held destination tree whole c room r pr b o s hs from hf a =
             let y : IsReady k ps cs n destination tree whole = ready k ps cs gs gc n destination tree whole c r pr b in
             let found : Found = found_at stock k destination tree whole in
             let sites : List Site = found.sites in
@@ -317,23 +424,27 @@ module _ (stock : Stock) (patterns : List Pattern) (before : State) where
             let below : past_sites sites (operand_counts ps) (cut_counts cs) n ≤ low = omega (arith, y.past, b) in
             let w : IsWalked low before m sites (operand_counts ps) (cut_counts cs) n segs cuts from s =
             walk low before m sites (operand_counts ps) (cut_counts cs) n segs cuts below y.fills y.stores from s hf (λ e lo hi. a e lo (omega (arith, hi, y.past))) in
-            let e : IsEvaluated ps left s (steps_effect m (operand_steps stock ps left) s) = gs.evaluates left y.orderly y.fits y.counts s hs w.filled in
-            let mid : State = steps_effect m (operand_steps stock ps left) s in
+            let homes : List (Option ℕ) = operand_homes stock ps held in
+            let e : IsEvaluated ps held left s (steps_effect m (operand_steps stock ps left held) s) = gs.evaluates held left y.orderly (omega (arith, room)) y.fits y.counts s hs w.filled in
+            let mid : State = steps_effect m (operand_steps stock ps left held) s in
             let stored : Each (λ (cells : CutCells). (cells.cell < low) × (slice_index mid.cells cells.cell ≡ mean cells.tree before 0)) own_rooms =
             each_both (λ (cells : CutCells). cells.cell < low) (λ (cells : CutCells). slice_index mid.cells cells.cell ≡ mean cells.tree before 0) own_rooms
             (cuts_below sites (operand_counts ps) (cut_counts cs) n low below)
             (each_weaker (λ (cells : CutCells). slice_index s.cells cells.cell ≡ mean cells.tree before 0) (λ (cells : CutCells). slice_index mid.cells cells.cell ≡ mean cells.tree before 0)
             (λ cells h. ap (λ q. slice_index q cells.cell) e.cells ∙ h) own_rooms w.stored) in
-            let holds : Holds low before mid sites own_rooms = holds_of low before mid sites (operand_counts ps) (cut_counts cs) n e.held stored in
+            let holds : Holds low size before mid sites own_rooms homes = holds_of low size before mid sites (operand_counts ps) (cut_counts cs) n homes e.homes stored in
             record {
               mid = mid;
               cells = e.cells;
               regs = e.regs;
+              file = e.file;
+              stay = e.stay;
               kept = λ q h. e.kept q (zero_right _ (all_written stock.rules ps) q h);
               holds = holds;
-              ends = effect-steps m (operand_steps stock ps left) (form_step (rule_at stock k) destination (plan_setting stock (use_form k ps cs) n destination tree whole)) s
-                  ∙ form_done low before mid (λ q h. ap (λ z. slice_index z q) e.cells ∙ hs.same q h) patterns count (rule_at stock k) (rule_at stock k).goal destination tree whole
-                  found own_rooms (n + cut_count (use_form k ps cs)) (formed k (rule_at stock k) y.opened.listed) y.opened.takes r pr holds o;
+              ends = effect-steps m (operand_steps stock ps left held) (form_step (rule_at stock k) destination (plan_setting stock (use_form k ps cs) n held destination tree whole)) s
+                  ∙ form_done low size before mid (λ q h. ap (λ z. slice_index z q) e.cells ∙ hs.same q h) file_storage patterns count (rule_at stock k) (rule_at stock k).goal destination tree whole
+                  found own_rooms homes (n + cut_count (use_form k ps cs)) (cell_of stock (use_form k ps cs) held) (formed k (rule_at stock k) y.opened.listed) y.opened.takes r pr holds o
+                  (own_in k ps cs held destination tree whole y.opened room);
             }
 
     mutual

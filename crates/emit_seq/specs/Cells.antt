@@ -4,7 +4,7 @@ use Rattle.std.specs.Prelude.{ℕ, ◌+◌, ◌≡◌, ◌==◌, ◌&&◌, not, 
 use Rattle.net_model.specs.declared.hardware.Space.TheVariants.{Memory as InMemory, File as InFile}
 use Rattle.net_model.specs.Terms.{Term, word, reg, const, read, un, bin, slice, cat, zext, sext, select, term_width}
 use Rattle.form_model.specs.Trees.{is_number, is_cell}
-use Rattle.form_model.specs.Rules.{Rule, Destination, into, cell, stored, temporary, tested}
+use Rattle.form_model.specs.Rules.{Rule, Destination, into, filed, cell, stored, temporary, tested}
 
 abbrev pub one_if : Bool → ℕ
 one_if b = if b then 1 else 0
@@ -39,6 +39,7 @@ cuttable_nodes bits t whole = cuttable_below bits t + one_if (not whole && is_cu
 -- those of a job: a store's node stands above its address and its value
 abbrev pub cuttable_count : ℕ → Destination → Term → Bool → ℕ
 cuttable_count bits (into id) tree whole = cuttable_nodes bits tree whole
+cuttable_count bits filed tree whole = cuttable_nodes bits tree whole
 cuttable_count bits (cell address) tree whole = cuttable_nodes bits tree true
 cuttable_count bits (stored address) tree whole = cuttable_nodes bits address false + cuttable_nodes bits tree false
 cuttable_count bits temporary tree whole = cuttable_nodes bits tree false

@@ -10,19 +10,21 @@ use Rattle.emit_seq.specs.declared.emits.Emitted.{Emitted}
 use Rattle.emit_seq.specs.declared.roots.Root.{Root}
 use Rattle.emit_seq.specs.Views.{cells_of_operands, cells_of_cuts}
 
--- the form at the root of a cover whose cuts have the cells from n on: its match, its operands and
+-- the form at the root of a cover whose cuts have the cells from n on, while these cells of the file
+-- are held: its match, its operands and
 -- cuts, and its step
-pub record IsFormAtRoot (stock : Stock) (k : ℕ) (ps : Operands) (cs : Cuts) (n : ℕ)
+pub record IsFormAtRoot (stock : Stock) (k : ℕ) (ps : Operands) (cs : Cuts) (n held : ℕ)
     (destination : Destination) (tree : Term) (whole : Bool) (root : Root) : Type 0 where
   pub parts : sites_of root.parts.items ≡ (found_at stock k destination tree whole).sites
   pub operands : cells_of_operands root.operands.items
       ≡ plan_operand_cells (found_at stock k destination tree whole).sites ps cs n
   pub cuts : cells_of_cuts root.cuts.items ≡ plan_cut_cells (found_at stock k destination tree whole).sites ps cs n
   pub pattern : root.step.pattern ≡ (rule_at stock k).pattern
-  pub setting : root.step.setting ≡ plan_setting stock (use_form k ps cs) n destination tree whole
+  pub setting : root.step.setting ≡ plan_setting stock (use_form k ps cs) n held destination tree whole
 
-abbrev pub IsRoot : Stock → Plan → ℕ → Destination → Term → Bool → Root → Type 0
-IsRoot stock (use_form k ps cs) n destination tree whole root = IsFormAtRoot stock k ps cs n destination tree whole root
+abbrev pub IsRoot : Stock → Plan → ℕ → ℕ → Destination → Term → Bool → Root → Type 0
+IsRoot stock (use_form k ps cs) n held destination tree whole root =
+    IsFormAtRoot stock k ps cs n held destination tree whole root
 
 -- an operand is taken out of a list
 pub record IsTakenOut (old : List OperandCells) (i : ℕ) (cells : OperandCells) (new : List OperandCells) : Type 0 where
@@ -35,7 +37,7 @@ setting_of_test tested setting = Some setting
 setting_of_test destination setting = None
 
 abbrev pub branch_of : Stock → Destination → Term → Plan → Option ℕ
-branch_of stock destination tree plan = setting_of_test destination (plan_setting stock plan 0 destination tree true)
+branch_of stock destination tree plan = setting_of_test destination (plan_setting stock plan 0 0 destination tree true)
 
 -- the steps of the tree that the cover names, and for a test the setting of the bits of its
 -- branch's condition

@@ -1,5 +1,5 @@
 -- What the steps of a cover leave.
-use Rattle.std.specs.Prelude.{ℕ, ◌≤◌, ◌<◌, ◌≡◌, List, length, slice_index, slice_set}
+use Rattle.std.specs.Prelude.{ℕ, ◌≤◌, ◌<◌, ◌≡◌, List, Option, length, slice_index, slice_set}
 use Rattle.net_model.specs.declared.hardware.Space.TheVariants.{Memory as InMemory, File as InFile}
 use Rattle.net_model.specs.declared.states.State.{State}
 use Rattle.net_model.specs.Terms.{Term, word, reg, const, read, un, bin, slice, cat, zext, sext, select}
@@ -8,10 +8,10 @@ use Rattle.net_model.specs.Patterns.{Pattern}
 use Rattle.form_model.specs.Plans.{Plan, use_form}
 use Rattle.form_model.specs.Covers.{Stock}
 use Rattle.form_model.specs.Effects.{operation_of, steps_effect}
-use Rattle.form_model.specs.Steps.{rule_at, cover_steps, branch_setting}
-use Rattle.form_model.specs.Rules.{Destination, into, cell, stored, temporary, tested}
+use Rattle.form_model.specs.Steps.{rule_at, cell_or, cover_steps, branch_setting}
+use Rattle.form_model.specs.Rules.{Destination, into, filed, cell, stored, temporary, tested}
 
--- no read of the tree has an address below this one, and none is of the register file
+-- no read of the tree has an address below this one, and it doesn't read the file
 abbrev pub ReadsFrom : ℕ → State → Term → Type 0
 ReadsFrom low s (word w) = Unit {0}
 ReadsFrom low s (reg r w) = Unit {0}
@@ -35,12 +35,13 @@ address_of before (stored address) own = mean address before 0
 address_of before temporary own = own
 address_of before destination own = 0
 
--- the state with a value put where it goes
-abbrev pub placed : State → State → Destination → ℕ → ℕ → State
-placed before now (into id) own v = record { regs = slice_set now.regs id v; cells = now.cells; file = now.file }
-placed before now tested own v = now
-placed before now destination own v =
-    record { regs = now.regs; cells = slice_set now.cells (address_of before destination own) v; file = now.file }
+-- the state with a value put where it goes, where `home` is the cell of the file
+abbrev pub placed : State → State → Destination → ℕ → Option ℕ → ℕ → State
+placed before now (into id) own home v = record now { regs = slice_set now.regs id v }
+placed before now filed own home v = record now { file = slice_set now.file (cell_or home 0) v }
+placed before now tested own home v = now
+placed before now destination own home v =
+    record now { cells = slice_set now.cells (address_of before destination own) v }
 
 -- the address tree of a store reads nothing below, too
 abbrev pub DestinationReads : ℕ → State → Destination → Type 0
@@ -56,17 +57,20 @@ IsAimWithin (stored address) s = mean address s 0 < length s.cells
 IsAimWithin destination s = Unit {0}
 
 -- a state from which the steps do their work: so many registers, no read of the tree and of a
--- store's address below the temporary cells, and both the aim and the temporary cells in the memory
+-- store's address below the temporary cells, both the aim and the temporary cells in the memory, and
+-- the file as long as the forms have it
 pub record IsCoverStart (stock : Stock) (count : ℕ) (destination : Destination) (tree : Term) (s : State) : Type 0 where
   pub regs : length s.regs ≡ count
   pub reads : ReadsFrom stock.temps s tree
   pub aim_reads : DestinationReads stock.temps s destination
   pub aim : IsAimWithin destination s
   pub temps : stock.temps ≤ length s.cells
+  pub file : stock.file ≤ length s.file
 
--- where a job's tree goes: not into a register, and not into a temporary cell
+-- where a job's tree goes: not into a register or the file, and not into a temporary cell
 abbrev pub IsOfJob : Destination → Type 0
 IsOfJob (into id) = ⊥
+IsOfJob filed = ⊥
 IsOfJob temporary = ⊥
 IsOfJob destination = Unit {0}
 
@@ -89,14 +93,16 @@ HasValue stock destination tree plan s t = Unit {0}
 
 -- the steps, done one after the other from s, leave the tree's value at its aim, and change no
 -- other cell from the temporary ones on
-pub record LeaveValue (stock : Stock) (patterns : List Pattern) (destination : Destination)
+pub record LeaveValue (stock : Stock) (file_storage : Option ℕ) (patterns : List Pattern) (destination : Destination)
     (tree : Term) (plan : Plan) (s : State) : Type 0 where
   pub value : HasValue stock destination tree plan s
-      (steps_effect (operation_of patterns) (cover_steps stock destination tree plan) s)
+      (steps_effect (operation_of file_storage patterns) (cover_steps stock destination tree plan) s)
   pub others : (c : ℕ) → stock.temps ≤ c → (IsAim destination s c → ⊥)
-      → slice_index (steps_effect (operation_of patterns) (cover_steps stock destination tree plan) s).cells c
+      → slice_index (steps_effect (operation_of file_storage patterns) (cover_steps stock destination tree plan) s).cells c
       ≡ slice_index s.cells c
-  pub regs : length (steps_effect (operation_of patterns) (cover_steps stock destination tree plan) s).regs
+  pub regs : length (steps_effect (operation_of file_storage patterns) (cover_steps stock destination tree plan) s).regs
       ≡ length s.regs
-  pub cells : length (steps_effect (operation_of patterns) (cover_steps stock destination tree plan) s).cells
+  pub cells : length (steps_effect (operation_of file_storage patterns) (cover_steps stock destination tree plan) s).cells
       ≡ length s.cells
+  pub file : length (steps_effect (operation_of file_storage patterns) (cover_steps stock destination tree plan) s).file
+      ≡ length s.file

@@ -3,7 +3,7 @@ use Rattle.std.specs.Prelude.{ℕ, ◌≡◌, List, [], ◌∷◌, Option, Some,
 use Rattle.net_model.specs.Terms.{Term}
 use Rattle.net_model.specs.Fields.{fields}
 use Rattle.form_model.specs.declared.forms.Step.{Step}
-use Rattle.form_model.specs.Rules.{Rule, Kind, into_reg, into_memory, jumps, branches}
+use Rattle.form_model.specs.Rules.{Rule, Kind, into_reg, into_memory, into_file, jumps, branches}
 
 -- the instruction bits that occur in a form's transfer, address and value together
 abbrev pub addr_fields : Option Term → ℕ
@@ -17,6 +17,7 @@ rule_fields rule = bit_or (addr_fields rule.addr) (fields rule.value)
 abbrev pub IsStepping : Kind → Type 0
 IsStepping (into_reg r) = Unit {0}
 IsStepping into_memory = Unit {0}
+IsStepping into_file = Unit {0}
 IsStepping (jumps reach) = ⊥
 IsStepping (branches when_one to) = ⊥
 

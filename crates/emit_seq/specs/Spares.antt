@@ -1,5 +1,5 @@
 -- What the steps of a cover may change beside their destinations, and what they read.
-use Rattle.std.specs.Prelude.{ℕ, ◌≡◌, ◌==◌, ◌||◌, true, false, if◌then◌else◌, List, [], ◌∷◌, Some, slice_get}
+use Rattle.std.specs.Prelude.{ℕ, ◌≡◌, ◌==◌, ◌||◌, true, false, if◌then◌else◌, List, [], ◌∷◌, Option, Some, slice_get}
 use Rattle.net_model.specs.Terms.{Term}
 use Rattle.net_model.specs.Patterns.{Pattern}
 use Rattle.form_model.specs.declared.forms.Step.{Step}
@@ -54,11 +54,11 @@ wanted stock destination tree plan = no_regs
 
 -- apart from its own destination, a step's clobbers hold no register whose value is still needed;
 -- all that is read was put there by an earlier step; and the program counter takes no part
-pub record AreSpare (stock : Stock) (patterns : List Pattern) (pc : ℕ) (destination : Destination)
+pub record AreSpare (stock : Stock) (file : Option ℕ) (patterns : List Pattern) (pc : ℕ) (destination : Destination)
     (tree : Term) (plan : Plan) : Type 0 where
-  pub spare : AllSpare (operation_of patterns) (step_clobbers stock.rules)
+  pub spare : AllSpare (operation_of file patterns) (step_clobbers stock.rules)
       (cover_steps stock destination tree plan) (wanted stock destination tree plan)
-  pub given : AreDefined (operation_of patterns) no_regs (cover_steps stock destination tree plan)
+  pub given : AreDefined (operation_of file patterns) no_regs (cover_steps stock destination tree plan)
       (wanted stock destination tree plan)
-  pub apart : AreApart (operation_of patterns) pc (cover_steps stock destination tree plan)
+  pub apart : AreApart (operation_of file patterns) pc (cover_steps stock destination tree plan)
   pub unwanted : wanted stock destination tree plan pc ≡ false

@@ -1,5 +1,6 @@
 -- Worked instances: forms of two netlists, covers of trees by them, and their steps.
 use Rattle.std.specs.Prelude.{ℕ, ◌≡◌, true, List, [], ◌∷◌, Some, None, refl}
+use Rattle.std.proofs.Common.{arith}
 use Rattle.rec_bits.specs.declared.operator.Op2.TheVariants.{Add, Sub, Eq}
 use Rattle.net_model.specs.declared.hardware.Space.TheVariants.{Memory as InMemory}
 use Rattle.net_model.specs.Terms.{Term, word, reg, const, read, bin, slice, zext, select, write, write_at}
@@ -17,7 +18,7 @@ field = slice (word 12) 7 0
 
 abbrev rule : ℕ → ℕ → Term → ℕ → Rule
 rule p r value clobbers =
-    record { pattern = p; goal = into_reg r; addr = None; value = value; fields = 255; clobbers = clobbers }
+    record { pattern = p; goal = into_reg r; addr = None; value = value; fields = 255; clobbers = clobbers; tied = None }
 
 abbrev store : ℕ → Term → ℕ → Rule
 store p value clobbers = record {
@@ -27,6 +28,7 @@ store p value clobbers = record {
   value = value;
   fields = 255;
   clobbers = clobbers;
+  tied = None;
 }
 
 -- the accumulator machine: PC 0, ACC 1, M 2
@@ -44,18 +46,19 @@ branch value = record {
   value = value;
   fields = 255;
   clobbers = 3;
+  tied = None;
 }
 
 abbrev pub acc_rules : List Rule
 acc_rules = rule 0 0 (bin Add (reg 0 8) (const 8 1)) 1 ∷ rule 0 0 (bin Add (const 8 1) (reg 0 8)) 1
     ∷ branch (bin Eq acc (const 16 0)) ∷ branch (bin Eq (const 16 0) acc)
-    ∷ record { pattern = 2; goal = jumps 256; addr = None; value = field; fields = 255; clobbers = 3 }
+    ∷ record { pattern = 2; goal = jumps 256; addr = None; value = field; fields = 255; clobbers = 3; tied = None }
     ∷ rule 3 1 (bin Add acc mem) 3 ∷ rule 3 1 (bin Add mem acc) 3 ∷ rule 4 1 mem 3
     ∷ rule 5 1 (bin Sub acc mem) 3 ∷ rule 6 1 (zext field 16) 3
     ∷ store 7 acc 5 ∷ []
 
 abbrev pub acc_stock : ℕ → Stock
-acc_stock temps = record { rules = acc_rules; temps = temps }
+acc_stock temps = record { rules = acc_rules; temps = temps; file = 0 }
 
 -- a variable's cell
 abbrev pub at : ℕ → Term
@@ -103,7 +106,7 @@ less_orderly = (
       _,
       refl,
       (_, refl, (_, refl, _, refl, (_, refl, (_, refl, _, refl, refl, refl), refl, refl), refl), refl, refl),
-      (_, _, refl, (_, refl, _, refl, (_, refl, (_, refl, _, refl, (_, refl, (_, refl, _, refl, refl, refl), refl, refl), refl), refl, refl), refl), refl),
+      (_, _, refl, (_, refl, _, refl, (_, refl, (_, refl, _, refl, (_, refl, (_, refl, _, refl, refl, refl), refl, refl), refl), refl, refl), refl), omega arith, refl),
     ),
     refl,
     refl,
@@ -161,12 +164,12 @@ x_reg = reg 2 16
 
 abbrev two_rules : List Rule
 two_rules = rule 0 0 (bin Add (reg 0 8) (const 8 1)) 1 ∷ rule 0 0 (bin Add (const 8 1) (reg 0 8)) 1
-    ∷ record { pattern = 1; goal = jumps 256; addr = None; value = field; fields = 255; clobbers = 7 }
+    ∷ record { pattern = 1; goal = jumps 256; addr = None; value = field; fields = 255; clobbers = 7; tied = None }
     ∷ rule 2 1 x_reg 3 ∷ rule 3 1 (bin Add a_reg x_reg) 3 ∷ rule 3 1 (bin Add x_reg a_reg) 3
     ∷ rule 4 2 mem 5 ∷ store 5 a_reg 9 ∷ []
 
 abbrev two_stock : Stock
-two_stock = record { rules = two_rules; temps = 0 }
+two_stock = record { rules = two_rules; temps = 0; file = 0 }
 
 two_steps : cover_steps two_stock (cell 2) (bin Add (at 0) (at 1))
     (with_one 7 (use_form 4 (operand_then 0 (with_one 3 (leaf 6)) (operand_then 0 (leaf 6) no_operands)) no_cuts))
@@ -185,13 +188,13 @@ two_patterns =
 abbrev two_start : State
 two_start = record { regs = 0 ∷ 0 ∷ 0 ∷ 0 ∷ []; cells = 5 ∷ 7 ∷ 0 ∷ []; file = [] }
 
-two_right : steps_effect (operation_of two_patterns) (cover_steps two_stock (cell 2) (bin Add (at 0) (at 1))
+two_right : steps_effect (operation_of None two_patterns) (cover_steps two_stock (cell 2) (bin Add (at 0) (at 1))
     (with_one 7 (use_form 4 (operand_then 0 (with_one 3 (leaf 6)) (operand_then 0 (leaf 6) no_operands)) no_cuts)))
     two_start
     ≡ record { regs = 0 ∷ 12 ∷ 7 ∷ 0 ∷ []; cells = 5 ∷ 7 ∷ 12 ∷ []; file = [] }
 two_right = refl
 
-two_wrong : steps_effect (operation_of two_patterns) (cover_steps two_stock (cell 2) (bin Add (at 0) (at 1))
+two_wrong : steps_effect (operation_of None two_patterns) (cover_steps two_stock (cell 2) (bin Add (at 0) (at 1))
     (with_one 7 (use_form 4 (operand_then 1 (leaf 6) (operand_then 0 (with_one 3 (leaf 6)) no_operands)) no_cuts)))
     two_start
     ≡ record { regs = 0 ∷ 10 ∷ 5 ∷ 0 ∷ []; cells = 5 ∷ 7 ∷ 10 ∷ []; file = [] }

@@ -10,13 +10,13 @@ use form_model::Tree;
 use net_model::Expr;
 use rec_bits::NoMemory;
 use std::alloc::Global;
-use tree_grammar::{Part, plus};
+use tree_grammar::{Home, Part, plus};
 
 /// An operand, with the cells of the cuts inside its cover: from the first up to the one past the
 /// last.
 #[derive(Clone, Copy)]
 pub struct OperandCells<'a> {
-    pub id: u32,
+    pub home: Home<'a>,
     pub tree: &'a Tree,
     pub whole: bool,
     pub first: u64,
@@ -62,14 +62,14 @@ fn add_part<'a>(
 {
     match part {
         Part::Operand {
-            id,
+            home,
             tree,
             whole,
             ..
         } => {
             let past = plus(first, count_at(inside, cells.operands.len()))?;
             cells.operands.push(OperandCells {
-                id,
+                home,
                 tree,
                 whole,
                 first,

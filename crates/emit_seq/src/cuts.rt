@@ -109,7 +109,7 @@ pub fn all_steps<'a>(
     ensures { IfOk result (λ steps.
         steps ≡ cut_steps_of (stock_of stock.entry) (plan_of cover.now) covered.entry.first
         (destination_at covered.entry.destination) (tree_term covered.entry.tree.now) covered.entry.whole
-        ++ own_steps (stock_of stock.entry) (plan_of cover.now) covered.entry.first
+        ++ own_steps (stock_of stock.entry) (plan_of cover.now) covered.entry.first covered.entry.held
         (destination_at covered.entry.destination) (tree_term covered.entry.tree.now) covered.entry.whole) }
 {
     let mut steps = cut_steps(alloc, stock, cover, covered)?;
@@ -134,7 +134,7 @@ fn inside_operands<'a>(
     match operands {
         CoverOperands::Empty => Ok(Vec::new(alloc)),
         CoverOperands::Then { place, cover, rest } => {
-            let operand = operand_covered(take_out(left, *place));
+            let operand = operand_covered(take_out(left, *place), 0);
             let steps = cut_steps(alloc, stock, cover, operand)?;
             let others = inside_operands(alloc, stock, rest, left)?;
             let lists = inserted(others, *place, steps)?;

@@ -36,7 +36,7 @@ fn branch_of<'a>(
         (tree_term covered.tree.now) covered.whole (plan_of cover.now) }
     ensures { IfOk result (λ branch. branch
         ≡ setting_of_test (destination_at covered.entry.destination)
-        (plan_setting (stock_of stock.entry) (plan_of cover.now) covered.entry.first
+        (plan_setting (stock_of stock.entry) (plan_of cover.now) covered.entry.first covered.entry.held
         (destination_at covered.entry.destination) (tree_term covered.entry.tree.now)
         covered.entry.whole)) }
 {
@@ -70,6 +70,7 @@ fn emit_at<'a>(
         destination,
         whole: true,
         first: 0,
+        held: 0,
     };
     let branch = branch_of(alloc, stock, cover, covered)?;
     let steps = all_steps(alloc, stock, cover, covered)?;
@@ -87,14 +88,15 @@ pub fn emit(
     cover: &Cover,
     temps: u32,
 ) -> Result<Emitted, NoMemory>
-    requires { Covers (stock_with forms.now.list.items temps) (destination_of job.now.aim)
+    requires { Covers (stock_with forms.now.list.items temps forms.now.file) (destination_of job.now.aim)
         (map tree_term job.now.trees.items) (record { which = which; plan = plan_of cover.now }) }
-    ensures { IfOk result (λ e. IsEmitted (stock_with forms.now.list.items temps) (destination_of job.now.aim)
+    ensures { IfOk result (λ e. IsEmitted (stock_with forms.now.list.items temps forms.now.file) (destination_of job.now.aim)
         (map tree_term job.now.trees.items) (record { which = which; plan = plan_of cover.now }) e) }
 {
     let stock = Stock {
         forms: forms.list.as_slice(),
         temps,
+        file: forms.file,
     };
     let tree = &job.trees[which];
     emit_at(alloc, stock, cover, Destination::of(&job.aim), tree)

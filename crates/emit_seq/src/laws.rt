@@ -1,13 +1,13 @@
 //! Laws of the steps of covers, proved here once for all that make code of them.
 
-ghost use Rattle.std.specs.Prelude.{◌≡◌, ◌≤◌, ℕ, List, bit_and, length, true};
+ghost use Rattle.std.specs.Prelude.{◌≡◌, ◌≤◌, ℕ, List, Option, bit_and, length, true};
 ghost use Rattle.net_model.specs.declared.states.State.{State};
 ghost use Rattle.net_model.specs.Fields.{fields};
 ghost use Rattle.net_model.specs.Terms.{Term};
 ghost use Rattle.net_model.specs.Patterns.{Pattern};
 ghost use Rattle.form_model.specs.Rules.{Destination, tested};
 ghost use Rattle.form_model.specs.Plans.{Plan};
-ghost use Rattle.form_model.specs.Covers.{Stock, Choice, IsChosen, IsOrderly, job_cost};
+ghost use Rattle.form_model.specs.Covers.{Stock, Choice, IsChosen, IsOrderly, job_cost, need};
 ghost use Rattle.form_model.specs.Steps.{branch_setting, cut_count, cover_steps};
 ghost use Rattle.emit_seq.specs.Cells.{AllReadWords, cuttable_count};
 ghost use Rattle.emit_seq.specs.Formed.{AreFormed};
@@ -15,26 +15,28 @@ ghost use Rattle.emit_seq.specs.Leaves.{condition_of, IsOfJob, IsCoverStart, Lea
 ghost use Rattle.emit_seq.specs.Settles.{AreOfForms};
 ghost use Rattle.emit_seq.specs.Spares.{AreShared, ReadsCounter, AreSpare};
 
-/// The steps of an orderly cover with at most as many cuts as there are temporary cells, done one
-/// after the other, leave its tree's value at the aim, and change no other cell from the temporary
-/// ones on. For a test, the branch's condition has the tree's value after them.
+/// The steps of an orderly cover that needs no more cells of the file than there are, with at most
+/// as many cuts as there are temporary cells, done one after the other, leave its tree's value at
+/// the aim, and change no other cell from the temporary ones on. For a test, the branch's condition
+/// has the tree's value after them.
 pub fn law_of_values()
-    ensures { (stock : Stock) (patterns : List Pattern) (count : ℕ) →
-        AreFormed patterns count stock.rules →
+    ensures { (stock : Stock) (file : Option ℕ) (patterns : List Pattern) (count : ℕ) →
+        AreFormed file patterns count stock.file stock.rules →
         (destination : Destination) (tree : Term) (plan : Plan) (s : State) → IsOfJob destination →
-        IsOrderly stock destination tree true plan → cut_count plan ≤ stock.temps →
+        IsOrderly stock destination tree true plan → need stock.rules plan ≤ stock.file →
+        cut_count plan ≤ stock.temps →
         IsCoverStart stock count destination tree s →
-        LeaveValue stock patterns destination tree plan s }
+        LeaveValue stock file patterns destination tree plan s }
 {}
 
 /// The steps spare what is still needed, read only what an earlier step put into a register, and
 /// leave the program counter alone.
 pub fn law_of_registers()
-    ensures { (stock : Stock) (patterns : List Pattern) (count pc : ℕ) →
-        AreFormed patterns count stock.rules → AreShared stock.rules → ReadsCounter stock.rules pc →
+    ensures { (stock : Stock) (file : Option ℕ) (patterns : List Pattern) (count pc : ℕ) →
+        AreFormed file patterns count stock.file stock.rules → AreShared stock.rules → ReadsCounter stock.rules pc →
         (destination : Destination) (tree : Term) (plan : Plan) → IsOfJob destination →
         IsOrderly stock destination tree true plan →
-        AreSpare stock patterns pc destination tree plan }
+        AreSpare stock file patterns pc destination tree plan }
 {}
 
 /// There are as many steps as the cover costs.

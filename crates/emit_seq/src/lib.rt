@@ -17,6 +17,7 @@
 //!
 //! - `counts`: how many cuts covers have.
 //! - `cells`: the operands and cuts of a match with their cells.
+//! - `homes`: the cells of the file in which covers leave their values.
 //! - `settings`: the bits of a form's word that name cells.
 //! - `roots`: the form at the root of a cover, with its match, its parts and its step.
 //! - `operands`: the steps of operands and of the form behind them.
@@ -36,6 +37,7 @@ mod cells;
 mod counts;
 mod cuts;
 mod emits;
+mod homes;
 mod laws;
 mod operands;
 mod roots;

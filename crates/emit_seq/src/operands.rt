@@ -11,6 +11,7 @@ ghost use Rattle.emit_seq.specs.Inner.CellLists.{operands_in};
 ghost use Rattle.emit_seq.specs.Views.{cells_of_operands, stock_of};
 
 use crate::cells::OperandCells;
+use crate::homes::{cell_of, holding};
 use crate::roots::{Covered, Stock, operand_covered, root_of, take_out};
 use form_model::{Cover, CoverOperands, Step};
 use rec_bits::{Items, NoMemory};
@@ -45,12 +46,19 @@ pub fn put_own_steps<'a>(
     requires { IsOrderly (stock_of stock) (destination_at covered.destination)
         (tree_term covered.tree.now) covered.whole (plan_of cover.now) }
     ensures { OnOk result (out.new ≡ out.old
-        ++ own_steps (stock_of stock.entry) (plan_of cover.now) covered.entry.first
+        ++ own_steps (stock_of stock.entry) (plan_of cover.now) covered.entry.first covered.entry.held
         (destination_at covered.entry.destination) (tree_term covered.entry.tree.now)
         covered.entry.whole) }
 {
     let mut root = root_of(alloc, stock, cover, covered)?;
-    put_operands(alloc, stock, &cover.operands, &mut root.operands, out)?;
+    put_operands(
+        alloc,
+        stock,
+        &cover.operands,
+        covered.held,
+        &mut root.operands,
+        out,
+    )?;
     put_form_step(out, covered.destination, root.step)
 }
 
@@ -61,20 +69,23 @@ fn put_operands<'a>(
     alloc: Global,
     stock: Stock<'a>,
     operands: &CoverOperands,
+    held: u64,
     left: &mut Vec<OperandCells<'a>>,
     out: &mut Items<Step>,
 ) -> Result<(), NoMemory>
     requires { AreOrderly (stock_of stock) (operands_in (cells_of_operands left.old.items))
         (operands_plan operands.now) }
     ensures { OnOk result (out.new ≡ out.old
-        ++ operand_steps (stock_of stock.entry) (operands_plan operands.now) (cells_of_operands left.old.items)) }
+        ++ operand_steps (stock_of stock.entry) (operands_plan operands.now)
+        (cells_of_operands left.old.items) held) }
 {
     match operands {
         CoverOperands::Empty => Ok(()),
         CoverOperands::Then { place, cover, rest } => {
-            let operand = operand_covered(take_out(left, *place));
+            let operand = operand_covered(take_out(left, *place), held);
             put_own_steps(alloc, stock, cover, operand, out)?;
-            put_operands(alloc, stock, rest, left, out)
+            let more = holding(held, cell_of(alloc, stock, cover, held)?)?;
+            put_operands(alloc, stock, rest, more, left, out)
         }
     }
 }

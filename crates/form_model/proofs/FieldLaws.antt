@@ -1,8 +1,8 @@
 -- Which values a field has, and under which words.
-use Rattle.std.proofs.Common.{lit<, ◌≡◌, ℕ, ◌+◌, ◌-◌, ◌*◌, ◌/◌, ◌%◌, ◌^◌, ◌<◌, ◌≤◌, nat_lt, Bool, true, false, true≢false, Some, refl, sym, ap, subst, ◌∙◌, arith}
+use Rattle.std.proofs.Common.{lit<, ◌≡◌, ℕ, ◌+◌, ◌-◌, ◌*◌, ◌^◌, ◌<◌, ◌≤◌, nat_lt, Bool, true, false, true≢false, Some, refl, sym, subst, arith}
 use Rattle.std.specs.Prelude.{is_some}
-use Rattle.std.proofs.lemmas.Nat.{pow_pos, mod_below, shl-shr, shl_below}
-use Rattle.std.proofs.Math.Nat.{pow-le-pow_right, mod-eq_of_lt}
+use Rattle.std.proofs.lemmas.Nat.{pow_pos, mod_below, shl_below}
+use Rattle.std.proofs.Math.Nat.{pow-le-pow_right}
 use Rattle.net_model.specs.Terms.{Term, word, reg, const, read, un, bin, slice, cat, zext, sext, select, term_width}
 use Rattle.net_model.specs.Symbolic.{no_state}
 use Rattle.net_model.specs.Meaning.{mean}
@@ -26,38 +26,22 @@ true_less a b e = grind (arith, e)
 
 -- ---- a field
 
--- a word that gives a field a value, with no other bits
-pub record IsFieldAt (bits : ℕ) (field : Term) (v b : ℕ) : Type 0 where
-  pub fits : b < 2 ^ bits
-  pub small : v < 2 ^ term_width field
-  pub is : mean field no_state b ≡ v
-
-slice_at : (bits hi lo v : ℕ) → lo ≤ hi → hi < bits → v < 2 ^ (hi + 1 - lo) → (v * 2 ^ lo < 2 ^ bits) × ((v * 2 ^ lo / 2 ^ lo) % 2 ^ (hi + 1 - lo) ≡ v)
-slice_at bits hi lo v p q h =
+slice_fits : (bits hi lo v : ℕ) → lo ≤ hi → hi < bits → v < 2 ^ (hi + 1 - lo) → v * 2 ^ lo < 2 ^ bits
+slice_fits bits hi lo v p q h =
     let room : 2 ^ ((hi + 1 - lo) + lo) ≤ 2 ^ bits = pow-le-pow_right (lit< tt) (omega (arith, p, q)) in
     let low : v * 2 ^ lo < 2 ^ ((hi + 1 - lo) + lo) = shl_below v (hi + 1 - lo) lo h in
-    (omega (arith, room, low), ap (λ n. n % 2 ^ (hi + 1 - lo)) (shl-shr v lo) ∙ mod-eq_of_lt h)
+    omega (arith, room, low)
 
-pub setting_of_field : (bits : ℕ) (t : Term) → is_field t ≡ true → FieldFits bits t → (v b : ℕ) → field_setting t v ≡ Some b → IsFieldAt bits t v b
-setting_of_field bits (word w) i f v b e =
+-- the bits that give a field a value are bits of a word
+pub field_setting_fits : (bits : ℕ) (t : Term) → FieldFits bits t → (v b : ℕ) → field_setting t v ≡ Some b → b < 2 ^ bits
+field_setting_fits bits (word w) f v b e =
     let g = then_some_true (nat_lt v (2 ^ w)) v b e in
-    let lt : v < 2 ^ w = less_true v (2 ^ w) g.0 in
-    record { fits = subst (λ n. n < 2 ^ bits) g.1 (subst (λ k. v < 2 ^ k) f lt); small = lt; is = sym g.1 }
-setting_of_field bits (slice (word w) hi lo) i f v b e =
+    subst (λ n. n < 2 ^ bits) g.1 (subst (λ k. v < 2 ^ k) f (less_true v (2 ^ w) g.0))
+field_setting_fits bits (slice (word w) hi lo) f v b e =
     let g = then_some_true (nat_lt v (2 ^ (hi + 1 - lo))) (v * 2 ^ lo) b e in
     let lt : v < 2 ^ (hi + 1 - lo) = less_true v (2 ^ (hi + 1 - lo)) g.0 in
-    let s = slice_at bits hi lo v f.1 (subst (λ k. hi < k) f.0 f.2) lt in
-    record { fits = subst (λ n. n < 2 ^ bits) g.1 s.0; small = lt; is = ap (λ n. (n / 2 ^ lo) % 2 ^ (hi + 1 - lo)) (sym g.1) ∙ s.1 }
-setting_of_field bits (reg r w) i f v b e = absurd (true≢false (sym i))
-setting_of_field bits (const w c) i f v b e = absurd (true≢false (sym i))
-setting_of_field bits (read space a w) i f v b e = absurd (true≢false (sym i))
-setting_of_field bits (un o a) i f v b e = absurd (true≢false (sym i))
-setting_of_field bits (bin o a c) i f v b e = absurd (true≢false (sym i))
-setting_of_field bits (slice _ hi lo) i f v b e = absurd (true≢false (sym i))
-setting_of_field bits (cat a c) i f v b e = absurd (true≢false (sym i))
-setting_of_field bits (zext a w) i f v b e = absurd (true≢false (sym i))
-setting_of_field bits (sext a w) i f v b e = absurd (true≢false (sym i))
-setting_of_field bits (select a c d) i f v b e = absurd (true≢false (sym i))
+    subst (λ n. n < 2 ^ bits) g.1 (slice_fits bits hi lo v f.1 (subst (λ k. hi < k) f.0 f.2) lt)
+field_setting_fits bits e f v b h = absurd (cc)
 
 -- each word gives a field a value of its width
 pub field_small : (bits : ℕ) (t : Term) → is_field t ≡ true → FieldFits bits t → (i : ℕ) → i < 2 ^ bits → mean t no_state i < 2 ^ term_width t

@@ -1,5 +1,10 @@
 pub mod FieldLaws
+pub mod SumNumbers
+pub mod SettingLaws
+pub mod PlainLaws
+pub mod SumLaws
 pub mod ShapeLaws
 pub mod TreeLaws
+pub mod NeedLaws
 pub mod Zips
 mod WorkedCovers

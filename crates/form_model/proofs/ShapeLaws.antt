@@ -1,107 +1,51 @@
 -- Which numbers a shape shows, and up to where it shows them all.
-use Rattle.std.proofs.Common.{lit<, ◌≡◌, ◌↔◌, ℕ, zero, suc, ◌+◌, ◌-◌, ◌*◌, ◌%◌, ◌^◌, ◌<◌, ◌≤◌, ◌==◌, Bool, true, false, true≢false, cond, Option, Some, None, refl, sym, ap, subst, ◌∙◌, arith}
+use Rattle.std.proofs.Common.{◌≡◌, ◌↔◌, ℕ, zero, suc, ◌^◌, ◌<◌, ◌==◌, Bool, true, false, true≢false, Option, Some, None, refl, sym, ap, subst, ◌∙◌, arith}
 use Rattle.std.specs.Prelude.{is_some}
-use Rattle.std.proofs.lemmas.Bool.{eqb-true, eq-eqb, and_from}
-use Rattle.std.proofs.lemmas.Nat.{pow_pos, pow-add, mod_low, pow_below}
-use Rattle.std.proofs.Math.Nat.{pow-le-pow_right, mod-eq_of_lt}
-use Rattle.rec_bits.specs.Operators.{sext_of, is_negative_of}
+use Rattle.std.proofs.lemmas.Bool.{eqb-true, and_from}
 use Rattle.rec_bits.proofs.Booleans.{both}
-use Rattle.net_model.specs.Terms.{Term, word, reg, const, read, un, bin, slice, cat, zext, sext, select, term_width}
+use Rattle.net_model.specs.Terms.{Term, word, reg, const, read, un, bin, slice, cat, zext, sext, select}
 use Rattle.net_model.specs.Symbolic.{no_state}
 use Rattle.net_model.specs.Meaning.{mean}
-use Rattle.form_model.specs.Shapes.{FieldFits, IsExactShape, IsReach, ShapeFits, Shows, field_setting, is_field, is_shape, reach_of, shape_setting, shows, shows_below}
-use Rattle.form_model.proofs.FieldLaws.{setting_of_field, field_has_setting, field_small, then_some_is, then_some_true}
+use Rattle.form_model.specs.Shapes.{IsExactShape, IsReach, ShapeFits, Shows, Sum, is_plain_sum, is_shape, reach_of, shape_setting, shows, shows_below, sum_reach, sum_of, sum_setting}
+use Rattle.form_model.proofs.SettingLaws.{setting_means}
+use Rattle.form_model.proofs.PlainLaws.{plain_has_setting, plain_reach_is, plain_setting_fits, some_of}
+use Rattle.form_model.proofs.SumLaws.{sum_has_setting, sum_setting_fits, sum_is, sum_reach_is}
 
--- ---- numbers
-
--- the low bits of an extended number are the number
-pub sext_low : (x n w : ℕ) → x < 2 ^ n → n ≤ w → sext_of x n w % 2 ^ n ≡ x
-sext_low x n w h le = by (is_negative_of n x)
+-- the bits that give a shape a value are bits of a word
+shape_setting_fits : (bits : ℕ) (t : Term) → is_shape t ≡ true → ShapeFits bits t → (v b : ℕ) → shape_setting t v ≡ Some b → b < 2 ^ bits
+shape_setting_fits bits (bin o a b) p f v x e = by (sum_of o a b) refl p e
   where
-    room : 2 ^ (w - n) * 2 ^ n ≡ 2 ^ w
-    room = sym (pow-add 2 (w - n) n) ∙ ap (λ k. 2 ^ k) (omega (arith, le))
-
-    more : x + (2 ^ w - 2 ^ n) ≡ (2 ^ (w - n) - 1) * 2 ^ n + x
-    more = (let pos : 0 < 2 ^ (w - n) = pow_pos (w - n) in let e : 2 ^ (w - n) - 1 + 1 ≡ 2 ^ (w - n) = omega (arith, pos) in
-        let q : (2 ^ (w - n) - 1 + 1) * 2 ^ n ≡ 2 ^ w = ap (λ k. k * 2 ^ n) e ∙ room in
-        let r : (2 ^ (w - n) - 1) * 2 ^ n + 2 ^ n ≡ 2 ^ w = grind (arith, q) in omega (arith, r))
-
-    by : (b : Bool) → cond b (x + (2 ^ w - 2 ^ n)) x % 2 ^ n ≡ x
-    by true = ap (λ k. k % 2 ^ n) more ∙ mod_low (2 ^ (w - n) - 1) n x h
-    by false = mod-eq_of_lt h
-
--- a number whose top bit is 0 stays as it is
-pub sext_plain : (x n w : ℕ) → x < 2 ^ (n - 1) → sext_of x n w ≡ x
-sext_plain x n w h = by (is_negative_of n x) refl
-  where
-    by : (b : Bool) → is_negative_of n x ≡ b → cond b (x + (2 ^ w - 2 ^ n)) x ≡ x
-    by true e = absurd (let q : 2 ^ (n - 1) ≤ x = grind (arith, e) in omega (arith, h, q))
-    by false e = refl
-
--- and no other comes to be the least of those whose top bit is 1
-sext_other : (x n w : ℕ) → 1 ≤ n → n < w → x < 2 ^ n → sext_of x n w ≡ 2 ^ (n - 1) → ⊥
-sext_other x n w one less h = by (is_negative_of n x) refl
-  where
-    by : (b : Bool) → is_negative_of n x ≡ b → cond b (x + (2 ^ w - 2 ^ n)) x ≡ 2 ^ (n - 1) → ⊥
-    by true e q =
-        let top : 2 ^ (n - 1) ≤ x = grind (arith, e) in
-        let wide : 2 ^ n < 2 ^ w = pow_below n w less in
-        omega (arith, q, top, wide)
-    by false e q = (let no : 2 ^ (n - 1) ≤ x → ⊥ = (λ le. let t : is_negative_of n x ≡ true = grind (arith, le) in true≢false (sym t ∙ e)) in no (omega (arith, q)))
-
--- ---- what shows
-
-setting_of_sext : (bits : ℕ) (a : Term) (w : ℕ) → is_field a ≡ true → ShapeFits bits (sext a w) → (v b : ℕ) → shape_setting (sext a w) v ≡ Some b → (b < 2 ^ bits) × (mean (sext a w) no_state b ≡ v)
-setting_of_sext bits a w i f v b e = by (sext_of (v % 2 ^ term_width a) (term_width a) w == v) refl e
-  where
-    by : (t : Bool) → (sext_of (v % 2 ^ term_width a) (term_width a) w == v) ≡ t → cond t (field_setting a (v % 2 ^ term_width a)) None ≡ Some b → (b < 2 ^ bits) × (mean (sext a w) no_state b ≡ v)
-    by true q e =
-        let g = setting_of_field bits a i f.0 (v % 2 ^ term_width a) b e in
-        (g.fits, ap (λ n. sext_of n (term_width a) w) g.is ∙ eqb-true _ _ q)
-    by false q e = absurd (cc)
+    by : (z : Option Sum) → sum_of o a b ≡ z → is_plain_sum z ≡ true → sum_setting z v ≡ Some x → x < 2 ^ bits
+    by None q plain e = absurd (cc)
+    by (Some s) q plain e = sum_setting_fits bits (bin o a b) s (sum_is bits o a b s q plain f) v x e
+shape_setting_fits bits (const w c) p f v x e = plain_setting_fits bits (const w c) f v x e
+shape_setting_fits bits (zext a w) p f v x e = plain_setting_fits bits (zext a w) f v x e
+shape_setting_fits bits (sext a w) p f v x e = plain_setting_fits bits (sext a w) f v x e
+shape_setting_fits bits (word w) p f v x e = plain_setting_fits bits (word w) f v x e
+shape_setting_fits bits (slice a hi lo) p f v x e = plain_setting_fits bits (slice a hi lo) f v x e
+shape_setting_fits bits t p f v x e = absurd (true≢false (sym p))
 
 -- under the setting the shape has the value
 pub setting_of_shape : (bits : ℕ) (t : Term) → is_shape t ≡ true → ShapeFits bits t → (v b : ℕ) → shape_setting t v ≡ Some b → (b < 2 ^ bits) × (mean t no_state b ≡ v)
-setting_of_shape bits (const w c) i f v b e =
-    let g = then_some_true (v == c) 0 b e in
-    (subst (λ n. n < 2 ^ bits) g.1 (pow_pos bits), sym (eqb-true v c g.0))
-setting_of_shape bits (zext a w) i f v b e = (let g = setting_of_field bits a i f.0 v b e in (g.fits, g.is))
-setting_of_shape bits (sext a w) i f v b e = setting_of_sext bits a w i f v b e
-setting_of_shape bits (word w) i f v b e = (let g = setting_of_field bits (word w) i f v b e in (g.fits, g.is))
-setting_of_shape bits (slice a hi lo) i f v b e = (let g = setting_of_field bits (slice a hi lo) i f v b e in (g.fits, g.is))
-setting_of_shape bits (reg r w) i f v b e = absurd (true≢false (sym i))
-setting_of_shape bits (read space a w) i f v b e = absurd (true≢false (sym i))
-setting_of_shape bits (un o a) i f v b e = absurd (true≢false (sym i))
-setting_of_shape bits (bin o a c) i f v b e = absurd (true≢false (sym i))
-setting_of_shape bits (cat a c) i f v b e = absurd (true≢false (sym i))
-setting_of_shape bits (select a c d) i f v b e = absurd (true≢false (sym i))
-
-some_of : (o : Option ℕ) → is_some o ≡ true → (b : ℕ) × (o ≡ Some b)
-some_of None e = absurd (true≢false (sym e))
-some_of (Some b) e = (b, refl)
-
-sext_has_setting : (bits : ℕ) (a : Term) (w : ℕ) → is_field a ≡ true → ShapeFits bits (sext a w) → (i v : ℕ) → i < 2 ^ bits → mean (sext a w) no_state i ≡ v → is_some (shape_setting (sext a w) v) ≡ true
-sext_has_setting bits a w p f i v lt e =
-    let x = mean a no_state i in
-    let small = field_small bits a p f.0 i lt in
-    let low : v % 2 ^ term_width a ≡ x = ap (λ n. n % 2 ^ term_width a) (sym e) ∙ sext_low x (term_width a) w small (omega (arith, f.2)) in
-    let same : (sext_of (v % 2 ^ term_width a) (term_width a) w == v) ≡ true = eq-eqb _ _ (ap (λ n. sext_of n (term_width a) w) low ∙ e) in
-    subst (λ (t : Bool). is_some (cond t (field_setting a (v % 2 ^ term_width a)) None) ≡ true) (sym same)
-    (field_has_setting bits a p f.0 (v % 2 ^ term_width a) (subst (λ n. n < 2 ^ term_width a) (sym low) small))
+setting_of_shape bits t p f v b e = (shape_setting_fits bits t p f v b e, setting_means t no_state v b e)
 
 -- and there is a setting for each value under some word
 pub shape_has_setting : (bits : ℕ) (t : Term) → is_shape t ≡ true → ShapeFits bits t → (i v : ℕ) → i < 2 ^ bits → mean t no_state i ≡ v → is_some (shape_setting t v) ≡ true
-shape_has_setting bits (const w c) p f i v lt e = then_some_is (v == c) 0 (eq-eqb v c (sym e))
-shape_has_setting bits (zext a w) p f i v lt e = field_has_setting bits a p f.0 v (subst (λ n. n < 2 ^ term_width a) e (field_small bits a p f.0 i lt))
-shape_has_setting bits (sext a w) p f i v lt e = sext_has_setting bits a w p f i v lt e
-shape_has_setting bits (word w) p f i v lt e = field_has_setting bits (word w) p f v (subst (λ n. n < 2 ^ w) e (field_small bits (word w) p f i lt))
-shape_has_setting bits (slice a hi lo) p f i v lt e = field_has_setting bits (slice a hi lo) p f v (subst (λ n. n < 2 ^ (hi + 1 - lo)) e (field_small bits (slice a hi lo) p f i lt))
-shape_has_setting bits (reg r w) p f i v lt e = absurd (true≢false (sym p))
-shape_has_setting bits (read space a w) p f i v lt e = absurd (true≢false (sym p))
-shape_has_setting bits (un o a) p f i v lt e = absurd (true≢false (sym p))
-shape_has_setting bits (bin o a c) p f i v lt e = absurd (true≢false (sym p))
-shape_has_setting bits (cat a c) p f i v lt e = absurd (true≢false (sym p))
-shape_has_setting bits (select a c d) p f i v lt e = absurd (true≢false (sym p))
+shape_has_setting bits (bin o a b) p f i v lt e = by (sum_of o a b) refl p
+  where
+    by : (z : Option Sum) → sum_of o a b ≡ z → is_plain_sum z ≡ true → is_some (sum_setting z v) ≡ true
+    by None q plain = absurd (cc)
+    by (Some s) q plain = sum_has_setting bits (bin o a b) s (sum_is bits o a b s q plain f) i v lt e
+shape_has_setting bits (const w c) p f i v lt e = plain_has_setting bits (const w c) p f i v lt e
+shape_has_setting bits (zext a w) p f i v lt e = plain_has_setting bits (zext a w) p f i v lt e
+shape_has_setting bits (sext a w) p f i v lt e = plain_has_setting bits (sext a w) p f i v lt e
+shape_has_setting bits (word w) p f i v lt e = plain_has_setting bits (word w) p f i v lt e
+shape_has_setting bits (slice a hi lo) p f i v lt e = plain_has_setting bits (slice a hi lo) p f i v lt e
+shape_has_setting bits (reg r w) p f i v lt e = plain_has_setting bits (reg r w) p f i v lt e
+shape_has_setting bits (read space a w) p f i v lt e = plain_has_setting bits (read space a w) p f i v lt e
+shape_has_setting bits (un o a) p f i v lt e = plain_has_setting bits (un o a) p f i v lt e
+shape_has_setting bits (cat a c) p f i v lt e = plain_has_setting bits (cat a c) p f i v lt e
+shape_has_setting bits (select a c d) p f i v lt e = plain_has_setting bits (select a c d) p f i v lt e
 
 -- there is a setting exactly where the shape shows the value
 pub shows_is : (bits : ℕ) (t : Term) → is_shape t ≡ true → ShapeFits bits t → (v : ℕ) → (shows t v ≡ true) ↔ Shows bits t v
@@ -138,47 +82,22 @@ below_is t (suc n) = (
   λ h. and_from (shows t n) (shows_below t n) (h n (omega arith)) ((below_is t n).1 (λ v lt. h v (omega (arith, lt)))),
 )
 
--- a field shows the numbers of its width, and no other
-field_reach : (bits : ℕ) (t : Term) → is_field t ≡ true → FieldFits bits t → IsReach bits t (2 ^ term_width t)
-field_reach bits t p f = record {
-  below = λ v lt. (let s = some_of (field_setting t v) (field_has_setting bits t p f v lt) in let g = setting_of_field bits t p f v s.0 s.1 in record { word = s.0; fits = g.fits; is = g.is });
-  unshown = λ h. (let small = field_small bits t p f h.word h.fits in let e = h.is in omega (arith, small, e));
-}
-
-const_reach : (bits w c : ℕ) (b : Bool) → (c == 0) ≡ b → IsReach bits (const w c) (cond b 1 0)
-const_reach bits w c true e = (let z : c ≡ 0 = eqb-true c 0 e in record {
-  below = λ v lt. record { word = 0; fits = pow_pos bits; is = omega (arith, z, lt) };
-  unshown = λ h. (let q : c ≡ 1 = h.is in omega (arith, z, q));
-})
-const_reach bits w c false e = record {
-  below = λ v lt. absurd (omega (arith, lt));
-  unshown = λ h. (let q : c ≡ 0 = h.is in true≢false (sym (eq-eqb c 0 q) ∙ e));
-}
-
-sext_reach : (bits : ℕ) (a : Term) (w : ℕ) → is_field a ≡ true → ShapeFits bits (sext a w) → IsReach bits (sext a w) (2 ^ (term_width a - 1))
-sext_reach bits a w p f = record {
-  below = λ v lt. (let r = field_reach bits a p f.0 in
-      let wide : 2 ^ (term_width a - 1) ≤ 2 ^ term_width a = pow-le-pow_right (lit< tt) (omega arith) in
-      let h = r.below v (omega (arith, wide, lt)) in
-      record { word = h.word; fits = h.fits; is = ap (λ n. sext_of n (term_width a) w) h.is ∙ sext_plain v (term_width a) w lt });
-  unshown = λ h. sext_other (mean a no_state h.word) (term_width a) w f.1 f.2 (field_small bits a p f.0 h.word h.fits) h.is;
-}
-
 pub reach_is : (bits : ℕ) (t : Term) → is_shape t ≡ true → ShapeFits bits t → IsReach bits t (reach_of t)
-reach_is bits (const w c) p f = const_reach bits w c (c == 0) refl
-reach_is bits (zext a w) p f = (let r = field_reach bits a p f.0 in record {
-  below = λ v lt. (let h = r.below v lt in record { word = h.word; fits = h.fits; is = h.is });
-  unshown = λ h. r.unshown (record { word = h.word; fits = h.fits; is = h.is });
-})
-reach_is bits (sext a w) p f = sext_reach bits a w p f
-reach_is bits (word w) p f = field_reach bits (word w) p f
-reach_is bits (slice a hi lo) p f = field_reach bits (slice a hi lo) p f
-reach_is bits (reg r w) p f = absurd (true≢false (sym p))
-reach_is bits (read space a w) p f = absurd (true≢false (sym p))
-reach_is bits (un o a) p f = absurd (true≢false (sym p))
-reach_is bits (bin o a c) p f = absurd (true≢false (sym p))
-reach_is bits (cat a c) p f = absurd (true≢false (sym p))
-reach_is bits (select a c d) p f = absurd (true≢false (sym p))
+reach_is bits (bin o a b) p f = by (sum_of o a b) refl p
+  where
+    by : (z : Option Sum) → sum_of o a b ≡ z → is_plain_sum z ≡ true → IsReach bits (bin o a b) (sum_reach z)
+    by None q plain = absurd (cc)
+    by (Some s) q plain = sum_reach_is bits (bin o a b) s (sum_is bits o a b s q plain f)
+reach_is bits (const w c) p f = plain_reach_is bits (const w c) p f
+reach_is bits (zext a w) p f = plain_reach_is bits (zext a w) p f
+reach_is bits (sext a w) p f = plain_reach_is bits (sext a w) p f
+reach_is bits (word w) p f = plain_reach_is bits (word w) p f
+reach_is bits (slice a hi lo) p f = plain_reach_is bits (slice a hi lo) p f
+reach_is bits (reg r w) p f = plain_reach_is bits (reg r w) p f
+reach_is bits (read space a w) p f = plain_reach_is bits (read space a w) p f
+reach_is bits (un o a) p f = plain_reach_is bits (un o a) p f
+reach_is bits (cat a c) p f = plain_reach_is bits (cat a c) p f
+reach_is bits (select a c d) p f = plain_reach_is bits (select a c d) p f
 
 -- ---- all of it
 

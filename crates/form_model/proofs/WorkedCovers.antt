@@ -31,10 +31,11 @@ branch_on condition = record {
   value = condition;
   fields = 255;
   clobbers = 0;
+  tied = None;
 }
 
 abbrev stock : Stock
-stock = record { rules = branch_on (no_difference (read InMemory low_byte 16)) ∷ branch_on (equal (read InMemory low_byte 16)) ∷ []; temps = 1 }
+stock = record { rules = branch_on (no_difference (read InMemory low_byte 16)) ∷ branch_on (equal (read InMemory low_byte 16)) ∷ []; temps = 1; file = 0 }
 
 abbrev of_first : Choice
 of_first = record { which = 0; plan = use_form 1 no_operands no_cuts }
@@ -47,6 +48,7 @@ first_covers = record {
   tree = equal (read InMemory (const 8 3) 16);
   used = refl;
   orderly = (branch_on (equal (read InMemory low_byte 16)), refl, record { setting = 3; sites = [] }, refl, refl, refl);
+  enough = omega arith;
 }
 
 second_covers : Covers stock tested trees of_second
@@ -54,6 +56,7 @@ second_covers = record {
   tree = no_difference (read InMemory (const 8 3) 16);
   used = refl;
   orderly = (branch_on (no_difference (read InMemory low_byte 16)), refl, record { setting = 3; sites = [] }, refl, refl, refl);
+  enough = omega arith;
 }
 
 same_cost : cost of_first.plan ≡ cost of_second.plan

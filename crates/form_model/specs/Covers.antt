@@ -1,28 +1,43 @@
 -- Orderly covers of a tree, and the one that is chosen.
-use Rattle.std.specs.Prelude.{ℕ, ◌+◌, ◌<◌, ◌≡◌, ◌⊎◌, Bool, true, false, List, [], ◌∷◌, Option, Some, None, slice_get, remove, bit_or, bit_and, ◌^◌}
+use Rattle.std.specs.Prelude.{ℕ, ◌+◌, ◌<◌, ◌≤◌, ◌≡◌, max, ◌⊎◌, Bool, true, false, List, [], ◌∷◌, Option, Some, None, slice_get, remove, bit_or, bit_and, ◌^◌}
 use Rattle.net_model.specs.Terms.{Term}
 use Rattle.form_model.specs.declared.forms.Form.{Form}
-use Rattle.form_model.specs.Rules.{Rule, rules_of, Destination, into, temporary, tested}
-use Rattle.form_model.specs.Matches.{Site, operand, cut, Found, taken}
+use Rattle.form_model.specs.Rules.{Rule, rules_of, Kind, into_reg, into_memory, into_file, jumps, branches, Destination, into, filed, temporary, tested}
+use Rattle.form_model.specs.Matches.{Home, in_register, in_file, Site, operand, cut, Found, taken}
 use Rattle.form_model.specs.Plans.{Plan, use_form, Operands, no_operands, operand_then, Cuts, no_cuts, cut_then, cost, operands_cost, cuts_cost}
 
 -- ---- sites: operands and cuts apart, each from left to right
 
--- an operand: its register, its tree, and whether it is whole
+-- an operand: its home, its tree, and whether it is whole
 pub record Operand : Type 0 where
-  pub id : ℕ
+  pub home : Home
   pub tree : Term
   pub whole : Bool
 
 abbrev pub operands_of : List Site → List Operand
 operands_of [] = []
-operands_of (operand id tree whole ∷ sites) = record { id = id; tree = tree; whole = whole } ∷ operands_of sites
+operands_of (operand home tree whole ∷ sites) = record { home = home; tree = tree; whole = whole } ∷ operands_of sites
 operands_of (cut shape tree ∷ sites) = operands_of sites
 
 abbrev pub cuts_of : List Site → List Term
 cuts_of [] = []
-cuts_of (operand id tree whole ∷ sites) = cuts_of sites
+cuts_of (operand home tree whole ∷ sites) = cuts_of sites
 cuts_of (cut shape tree ∷ sites) = tree ∷ cuts_of sites
+
+-- where an operand's cover goes
+abbrev pub home_destination : Home → Destination
+home_destination (in_register id) = into id
+home_destination (in_file shape) = filed
+
+-- the set of its register; a cell of the file is in no set of registers
+abbrev pub home_set : Home → ℕ
+home_set (in_register id) = 2 ^ id
+home_set (in_file shape) = 0
+
+-- how many cells of the file it takes
+abbrev pub home_cells : Home → ℕ
+home_cells (in_register id) = 0
+home_cells (in_file shape) = 1
 
 -- ---- the registers that a cover writes
 
@@ -40,16 +55,48 @@ abbrev mutual
   all_written rules no_operands = 0
   all_written rules (operand_then i p ps) = bit_or (written rules p) (all_written rules ps)
 
+-- ---- the cells of the file that a cover needs
+
+-- 1 for a form that writes the file
+abbrev pub kind_cells : Kind → ℕ
+kind_cells (into_reg id) = 0
+kind_cells into_memory = 0
+kind_cells into_file = 1
+kind_cells (jumps reach) = 0
+kind_cells (branches when_one to) = 0
+
+abbrev pub form_cells : Option Rule → ℕ
+form_cells None = 0
+form_cells (Some rule) = kind_cells rule.goal
+
+-- the cells of the file in which the cover leaves its value: an operand's cover leaves it in the
+-- operand's home
+abbrev pub left_cells : List Rule → Plan → ℕ
+left_cells rules (use_form k ps cs) = form_cells (slice_get rules k)
+
+-- the greatest number of cells of the file that are taken at one time: while an operand is
+-- computed, those before it in the order stay in theirs. Cuts are stored before
+abbrev mutual
+  pub need : List Rule → Plan → ℕ
+  need rules (use_form k ps cs) = max (form_cells (slice_get rules k)) (operands_need rules ps)
+
+  pub operands_need : List Rule → Operands → ℕ
+  operands_need rules no_operands = 0
+  operands_need rules (operand_then i p ps) =
+      max (need rules p) (left_cells rules p + operands_need rules ps)
+
 -- ---- orderly covers
 
--- what a netlist and a program give: the forms in order and the number of temporary cells
+-- what a netlist and a program give: the forms in order, the number of temporary cells, and that of
+-- the file's cells, 0 where there is no file
 pub record Stock : Type 0 where
   pub rules : List Rule
   pub temps : ℕ
+  pub file : ℕ
 
--- what the code's forms and so many temporary cells give
-abbrev pub stock_with : List Form → ℕ → Stock
-stock_with forms temps = record { rules = rules_of forms; temps = temps }
+-- what the code's forms, so many temporary cells and a file of so many cells give
+abbrev pub stock_with : List Form → ℕ → ℕ → Stock
+stock_with forms temps file = record { rules = rules_of forms; temps = temps; file = file }
 
 abbrev mutual
   -- the plan is an orderly cover of a tree that goes to a destination
@@ -59,20 +106,20 @@ abbrev mutual
       × (found : Found) × (taken stock.temps rule destination tree whole ≡ Some found)
       × AreOrderly stock (operands_of found.sites) ps × AreCut stock (cuts_of found.sites) cs
 
-  -- each operand has an orderly cover into its register, and no later one writes an earlier one's
+  -- each operand has an orderly cover into its home, and no later one writes an earlier one's
   -- register
   pub AreOrderly : Stock → List Operand → Operands → Type 0
   AreOrderly stock left no_operands = left ≡ []
   AreOrderly stock left (operand_then i p ps) =
-      (o : Operand) × (slice_get left i ≡ Some o) × IsOrderly stock (into o.id) o.tree o.whole p
-      × (bit_and (all_written stock.rules ps) (2 ^ o.id) ≡ 0) × AreOrderly stock (remove left i) ps
+      (o : Operand) × (slice_get left i ≡ Some o) × IsOrderly stock (home_destination o.home) o.tree o.whole p
+      × (bit_and (all_written stock.rules ps) (home_set o.home) ≡ 0) × AreOrderly stock (remove left i) ps
 
-  -- each cut has an orderly cover into a temporary cell
+  -- each cut has an orderly cover into a temporary cell, for which the file is large enough
   pub AreCut : Stock → List Term → Cuts → Type 0
   AreCut stock cuts no_cuts = cuts ≡ []
   AreCut stock cuts (cut_then p cs) =
       (tree : Term) × (later : List Term) × (cuts ≡ tree ∷ later)
-      × IsOrderly stock temporary tree false p × AreCut stock later cs
+      × IsOrderly stock temporary tree false p × (need stock.rules p ≤ stock.file) × AreCut stock later cs
 
 -- ---- which of two covers comes first
 
@@ -114,6 +161,7 @@ pub record Covers (stock : Stock) (destination : Destination) (trees : List Term
   pub tree : Term
   pub used : slice_get trees choice.which ≡ Some tree
   pub orderly : IsOrderly stock destination tree true choice.plan
+  pub enough : need stock.rules choice.plan ≤ stock.file
 
 abbrev pub ChoiceBefore : Choice → Choice → Type 0
 ChoiceBefore a b = (a.which < b.which) ⊎ ((a.which ≡ b.which) × IsBefore a.plan b.plan)

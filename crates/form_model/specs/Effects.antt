@@ -2,41 +2,52 @@
 -- with the values of its field bits, and the meaning of its expressions is read under those bits,
 -- since they have no others.
 use Rattle.std.specs.Prelude.{ℕ, Bool, true, false, ◌==◌, ◌||◌, ◌&&◌, not, if◌then◌else◌, List, [], ◌∷◌, Option, Some, None, slice_get, slice_set}
+use Rattle.net_model.specs.declared.hardware.Space.{Space}
 use Rattle.net_model.specs.declared.hardware.Space.TheVariants.{Memory as InMemory, File as InFile}
 use Rattle.net_model.specs.declared.states.State.{State}
 use Rattle.net_model.specs.Terms.{Term, word, reg, const, read, un, bin, slice, cat, zext, sext, select, Move, keep, write, write_at}
 use Rattle.net_model.specs.Symbolic.{no_state}
 use Rattle.net_model.specs.Meaning.{mean}
+use Rattle.net_model.specs.MemoryText.{with_cell}
 use Rattle.net_model.specs.Patterns.{Pattern}
 use Rattle.form_model.specs.declared.forms.Step.{Step}
 use Rattle.form_model.specs.Shapes.{is_shape}
 
 -- ---- what a step does
 
--- a transfer of a storage under the field bits of a setting
+-- a transfer of a storage under the field bits of a setting, and the cells that a write of cells is
+-- of
 pub record Operation : Type 0 where
   pub storage : ℕ
+  pub space : Space
   pub move : Move
   pub setting : ℕ
 
-abbrev pub operation_or_none : Option Pattern → ℕ → Operation
-operation_or_none None setting = record { storage = 0; move = keep; setting = setting }
-operation_or_none (Some p) setting = record { storage = p.storage; move = p.move; setting = setting }
+-- those of the storage of this number, where the file, if there is one, has that one
+abbrev pub space_in : Option ℕ → ℕ → Space
+space_in None storage = InMemory
+space_in (Some file) storage = if file == storage then InFile else InMemory
 
--- the transfer of a step; a pattern's number is its place
-abbrev pub operation_of : List Pattern → Step → Operation
-operation_of patterns step = operation_or_none (slice_get patterns step.pattern) step.setting
+abbrev pub operation_or_none : Option ℕ → Option Pattern → ℕ → Operation
+operation_or_none file None setting = record { storage = 0; space = InMemory; move = keep; setting = setting }
+operation_or_none file (Some p) setting =
+    record { storage = p.storage; space = space_in file p.storage; move = p.move; setting = setting }
+
+-- the transfer of a step, where the file has this number among the storages; a pattern's number is
+-- its place
+abbrev pub operation_of : Option ℕ → List Pattern → Step → Operation
+operation_of file patterns step = operation_or_none file (slice_get patterns step.pattern) step.setting
 
 -- the new state with the transfer done from the old state
-abbrev pub apply_move : ℕ → Move → ℕ → State → State → State
-apply_move storage keep setting old new = new
-apply_move storage (write e) setting old new =
-    record { regs = slice_set new.regs storage (mean e old setting); cells = new.cells; file = new.file }
-apply_move storage (write_at a e) setting old new =
-    record { regs = new.regs; cells = slice_set new.cells (mean a old setting) (mean e old setting); file = new.file }
+abbrev pub apply_move : ℕ → Space → Move → ℕ → State → State → State
+apply_move storage space keep setting old new = new
+apply_move storage space (write e) setting old new =
+    record new { regs = slice_set new.regs storage (mean e old setting) }
+apply_move storage space (write_at a e) setting old new =
+    with_cell new space (mean a old setting) (mean e old setting)
 
 abbrev pub apply_operation : Operation → State → State → State
-apply_operation d old new = apply_move d.storage d.move d.setting old new
+apply_operation d old new = apply_move d.storage d.space d.move d.setting old new
 
 -- m says what each step does
 abbrev pub apply_all : {A : Type 0} → (A → Operation) → List A → State → State → State
@@ -59,32 +70,40 @@ steps_effect m (x ∷ xs) s = steps_effect m xs (apply_operation (m x) s s)
 
 -- ---- what a step reads and writes
 
--- a location that is written: a register, a cell whose address the step settles, or some cell
+-- a location that is written: a register, a cell of the memory or of the file whose address the
+-- step settles, or some cell of it
 pub data Location : Type 0 where
   register : (id : ℕ) → Location
-  cell_at : (address : ℕ) → Location
-  some_cell : Location
+  cell_at : (space : Space) → (address : ℕ) → Location
+  some_cell : (space : Space) → Location
 
 -- an address that is a field shape is settled by the setting, a constant's too; any other may be
 -- every address
-abbrev pub location_at : ℕ → Term → Location
-location_at setting a = if is_shape a then cell_at (mean a no_state setting) else some_cell
+abbrev pub location_at : Space → ℕ → Term → Location
+location_at space setting a = if is_shape a then cell_at space (mean a no_state setting) else some_cell space
 
-abbrev pub move_location : ℕ → ℕ → Move → Location
-move_location storage setting keep = register storage
-move_location storage setting (write e) = register storage
-move_location storage setting (write_at a e) = location_at setting a
+abbrev pub move_location : ℕ → Space → ℕ → Move → Location
+move_location storage space setting keep = register storage
+move_location storage space setting (write e) = register storage
+move_location storage space setting (write_at a e) = location_at space setting a
 
 -- the location that a step writes
 abbrev pub location_of : Operation → Location
-location_of d = move_location d.storage d.setting d.move
+location_of d = move_location d.storage d.space d.setting d.move
+
+abbrev pub same_space : Space → Space → Bool
+same_space InMemory InMemory = true
+same_space InFile InFile = true
+same_space _ _ = false
 
 -- a read at the first location may see a write at the second
 abbrev pub may_see : Location → Location → Bool
 may_see x (register r) = false
 may_see (register r) y = false
-may_see (cell_at v) (cell_at w) = v == w
-may_see x y = true
+may_see (cell_at space v) (cell_at other w) = same_space space other && (v == w)
+may_see (cell_at space v) (some_cell other) = same_space space other
+may_see (some_cell space) (cell_at other w) = same_space space other
+may_see (some_cell space) (some_cell other) = same_space space other
 
 abbrev pub names_register : Location → ℕ → Bool
 names_register (register q) r = q == r
@@ -94,8 +113,7 @@ abbrev pub term_reads : ℕ → Term → Location → Bool
 term_reads setting (word w) p = false
 term_reads setting (reg r w) p = names_register p r
 term_reads setting (const w v) p = false
-term_reads setting (read InMemory a w) p = may_see (location_at setting a) p || term_reads setting a p
-term_reads setting (read InFile a w) p = term_reads setting a p
+term_reads setting (read space a w) p = may_see (location_at space setting a) p || term_reads setting a p
 term_reads setting (un o a) p = term_reads setting a p
 term_reads setting (bin o a b) p = term_reads setting a p || term_reads setting b p
 term_reads setting (slice a hi lo) p = term_reads setting a p
@@ -126,6 +144,13 @@ abbrev pub is_store : Move → Bool
 is_store (write_at a e) = true
 is_store _ = false
 
--- two steps have one destination: a register, or the memory
+-- of two steps that write cells: the memory is one destination, and each cell of the file is one
+abbrev pub same_cells : Space → Operation → Operation → Bool
+same_cells InMemory c d = same_space InMemory d.space
+same_cells InFile c d = may_see (location_of c) (location_of d)
+
+-- two steps have one destination: a register, the memory, or a cell of the file
 abbrev pub same_destination : Operation → Operation → Bool
-same_destination c d = if is_store c.move then is_store d.move else not (is_store d.move) && (c.storage == d.storage)
+same_destination c d =
+    if is_store c.move then is_store d.move && same_cells c.space c d
+    else not (is_store d.move) && (c.storage == d.storage)

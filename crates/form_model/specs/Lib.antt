@@ -1,5 +1,6 @@
 pub mod Trees
 pub mod Shapes
+pub mod Bits
 pub mod Rules
 pub mod Registers
 pub mod Matches
@@ -9,3 +10,4 @@ pub mod Effects
 pub mod Live
 pub mod Steps
 pub mod Worked
+pub mod WorkedFile

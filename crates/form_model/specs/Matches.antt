@@ -8,18 +8,24 @@ use Rattle.net_model.specs.declared.hardware.Space.TheVariants.{Memory as InMemo
 use Rattle.net_model.specs.Terms.{Term, word, reg, const, read, un, bin, slice, cat, zext, sext, select, term_width}
 use Rattle.form_model.specs.Trees.{is_number, is_cell}
 use Rattle.form_model.specs.Shapes.{is_shape, shape_setting, shows_below}
-use Rattle.form_model.specs.Rules.{Rule, Kind, into_reg, into_memory, branches, Destination, into, cell, stored, temporary, tested}
+use Rattle.form_model.specs.Rules.{Rule, Kind, into_reg, into_memory, into_file, branches, Destination, into, filed, cell, stored, temporary, tested}
 
--- what a match leaves open: an operand, which another form has to put into a register, and a cut,
+-- where an operand waits for the form that takes it: in a register, or in a cell of the file, which
+-- this field shape names
+pub data Home : Type 0 where
+  in_register : (id : ℕ) → Home
+  in_file : (shape : Term) → Home
+
+-- what a match leaves open: an operand, which another form has to put into its home, and a cut,
 -- which has to be in a temporary cell before, where the read's address is this field shape. An
 -- operand that is whole can't be a cut itself: it is the tree of a job, or the number that is a
 -- read's address
 pub data Site : Type 0 where
-  operand : (id : ℕ) → (tree : Term) → (whole : Bool) → Site
+  operand : (home : Home) → (tree : Term) → (whole : Bool) → Site
   cut : (shape : Term) → (tree : Term) → Site
 
--- a match: the bits of the word that it settles, with 0 in those that will name a temporary cell,
--- and its sites from left to right
+-- a match: the bits of the word that it settles, with 0 in those that will name a temporary cell
+-- or a cell of the file, and its sites from left to right
 pub record Found : Type 0 where
   pub setting : ℕ
   pub sites : List Site
@@ -94,12 +100,14 @@ sext_match f from width _ = None
 abbrev pub matched : ℕ → Term → Term → Bool → Option Found
 matched temps (word w) tree whole = shape_match (word w) tree
 matched temps (const w v) tree whole = shape_match (const w v) tree
-matched temps (reg r w) tree whole = open_if (w == term_width tree) (operand r tree whole)
+matched temps (reg r w) tree whole = open_if (w == term_width tree) (operand (in_register r) tree whole)
 matched temps (read InMemory a w) tree whole =
     if is_shape a then cell_match temps a w tree whole else read_match (matched temps a) w tree
-matched temps (read InFile a w) tree whole = None
+matched temps (read InFile a w) tree whole = open_if (w == term_width tree) (operand (in_file a) tree whole)
 matched temps (un o a) tree whole = un_match (matched temps a) o tree
-matched temps (bin o a b) tree whole = bin_match (matched temps a) (matched temps b) o tree
+matched temps (bin o a b) tree whole =
+    if is_shape (bin o a b) then shape_match (bin o a b) tree
+    else bin_match (matched temps a) (matched temps b) o tree
 matched temps (slice a hi lo) tree whole =
     if is_shape (slice a hi lo) then shape_match (slice a hi lo) tree
     else slice_match (matched temps a) (term_width a) hi lo tree
@@ -121,11 +129,13 @@ address_match temps (Some addr) (cell address) = if is_shape addr then settled (
 address_match temps (Some addr) (stored address) = matched temps addr address false
 address_match temps (Some addr) temporary = if is_shape addr && shows_below addr temps then settled (Some 0) else None
 address_match temps (Some addr) (into id) = None
+address_match temps (Some addr) filed = None
 address_match temps (Some addr) tested = None
 
 -- what a form with this goal takes of a tree that goes to a destination
 abbrev pub goal_match : ℕ → Rule → Kind → Destination → Term → Bool → Option Found
 goal_match temps rule (into_reg r) (into id) tree whole = if r == id then matched temps rule.value tree whole else None
+goal_match temps rule into_file filed tree whole = matched temps rule.value tree whole
 goal_match temps rule into_memory (cell address) tree whole =
     both (address_match temps rule.addr (cell address)) (matched temps rule.value tree true)
 goal_match temps rule into_memory (stored address) tree whole =

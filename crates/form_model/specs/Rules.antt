@@ -4,7 +4,7 @@ use Rattle.std.specs.Option.{option_map}
 use Rattle.net_model.specs.Terms.{Term, term_of}
 use Rattle.form_model.specs.declared.forms.Form.{Form}
 use Rattle.form_model.specs.declared.forms.Goal.{Goal}
-use Rattle.form_model.specs.declared.forms.Goal.TheVariants.{Reg, Memory, Jump, Branch}
+use Rattle.form_model.specs.declared.forms.Goal.TheVariants.{Reg, Memory, File, Jump, Branch}
 use Rattle.form_model.specs.declared.forms.Target.{Target}
 use Rattle.form_model.specs.declared.forms.Target.TheVariants.{Absolute, Relative}
 use Rattle.form_model.specs.declared.trees.Aim.{Aim}
@@ -24,12 +24,14 @@ branch_target_of (Relative e) = relative (term_of e)
 pub data Kind : Type 0 where
   into_reg : (id : ℕ) → Kind
   into_memory : Kind
+  into_file : Kind
   jumps : (reach : ℕ) → Kind
   branches : (when_one : Bool) → (to : BranchTarget) → Kind
 
 abbrev pub kind_of : Goal → Kind
 kind_of (Reg id) = into_reg id
 kind_of Memory = into_memory
+kind_of File = into_file
 kind_of (Jump reach) = jumps reach
 kind_of (Branch when_one to) = branches when_one (branch_target_of to)
 
@@ -41,6 +43,7 @@ pub record Rule : Type 0 where
   pub value : Term
   pub fields : ℕ
   pub clobbers : ℕ
+  pub tied : Option ℕ
 
 abbrev pub rule_of : Form → Rule
 rule_of f = record {
@@ -50,14 +53,16 @@ rule_of f = record {
   value = term_of f.value;
   fields = f.fields;
   clobbers = f.clobbers;
+  tied = f.tied;
 }
 
 abbrev pub rules_of : List Form → List Rule
 rules_of forms = map rule_of forms
 
--- where a tree goes: as an aim, or as an operand into a register
+-- where a tree goes: as an aim, or as an operand into a register or into the file
 pub data Destination : Type 0 where
   into : (id : ℕ) → Destination
+  filed : Destination
   cell : (address : ℕ) → Destination
   stored : (address : Term) → Destination
   temporary : Destination

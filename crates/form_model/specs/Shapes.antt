@@ -1,7 +1,10 @@
--- Field shapes: the parts of an expression that the instruction word gives as it stands.
-use Rattle.std.specs.Prelude.{ℕ, zero, suc, Bool, true, false, ◌+◌, ◌-◌, ◌*◌, ◌^◌, ◌%◌, ◌==◌, ◌<◌, ◌≤◌, ◌≡◌, ◌↔◌, ◌&&◌, nat_lt, is_some, if◌then◌else◌, Option, Some, None}
+-- Field shapes: the parts of an expression that the instruction word gives as it stands, or with a
+-- constant added.
+use Rattle.std.specs.Prelude.{ℕ, zero, suc, Bool, true, false, ◌+◌, ◌-◌, ◌*◌, ◌^◌, ◌%◌, ◌==◌, ◌<◌, ◌≤◌, ◌≡◌, ◌↔◌, ◌&&◌, nat_lt, nat_le, is_some, if◌then◌else◌, Option, Some, None}
+use Rattle.rec_bits.specs.declared.operator.Op2.{Op2}
+use Rattle.rec_bits.specs.declared.operator.Op2.TheVariants.{Add}
 use Rattle.rec_bits.specs.Operators.{sext_of}
-use Rattle.net_model.specs.Terms.{Term, word, const, slice, zext, sext, term_width}
+use Rattle.net_model.specs.Terms.{Term, word, const, bin, slice, zext, sext, term_width}
 use Rattle.net_model.specs.Symbolic.{no_state}
 use Rattle.net_model.specs.Meaning.{mean}
 
@@ -12,11 +15,49 @@ is_field (slice (word w) hi lo) = true
 is_field _ = false
 
 -- one of these, one of these extended, or a constant
+abbrev pub is_plain : Term → Bool
+is_plain (const w v) = true
+is_plain (zext a w) = is_field a
+is_plain (sext a w) = is_field a
+is_plain t = is_field t
+
+-- a constant, with its width, and what it is added to
+pub record Sum : Type 0 where
+  pub width : ℕ
+  pub added : ℕ
+  pub to : Term
+
+-- a constant has at most 64 bits and is of its width, as all constants of a netlist are, and so is
+-- what it is added to
+abbrev pub sum_with : ℕ → ℕ → Term → Option Sum
+sum_with w c t =
+    if nat_le w 64 && (nat_lt c (2 ^ w) && (term_width t == w))
+    then Some (record { width = w; added = c; to = t })
+    else None
+
+-- two expressions, one of which is a constant
+abbrev pub summands : Term → Term → Option Sum
+summands (const w c) b = sum_with w c b
+summands a (const w c) = sum_with w c a
+summands a b = None
+
+-- the sum that an operator with its operands is, either way round
+abbrev pub sum_of : Op2 → Term → Term → Option Sum
+sum_of Add a b = summands a b
+sum_of o a b = None
+
+abbrev pub is_plain_sum : Option Sum → Bool
+is_plain_sum None = false
+is_plain_sum (Some s) = is_plain s.to
+
+-- one of these, or the sum of a constant and one of these; there is no sum in a sum
 abbrev pub is_shape : Term → Bool
-is_shape (const w v) = true
-is_shape (zext a w) = is_field a
-is_shape (sext a w) = is_field a
-is_shape t = is_field t
+is_shape (bin o a b) = is_plain_sum (sum_of o a b)
+is_shape t = is_plain t
+
+-- what is a field shape in texts of an edition: a sum is one from edition 2 on
+abbrev pub is_shape_in : ℕ → Term → Bool
+is_shape_in edition t = if nat_lt edition 2 then is_plain t else is_shape t
 
 -- a field of words of so many bits
 abbrev pub FieldFits : ℕ → Term → Type 0
@@ -25,10 +66,20 @@ FieldFits bits (slice (word w) hi lo) = (w ≡ bits) × (lo ≤ hi) × (hi < w)
 FieldFits bits _ = Unit {0}
 
 -- a shape of words of so many bits: what is extended gets longer
+abbrev pub PlainFits : ℕ → Term → Type 0
+PlainFits bits (zext a w) = FieldFits bits a × (term_width a < w)
+PlainFits bits (sext a w) = FieldFits bits a × (1 ≤ term_width a) × (term_width a < w)
+PlainFits bits t = FieldFits bits t
+
+-- a part of a sum: a constant is of its width
+abbrev pub SummandFits : ℕ → Term → Type 0
+SummandFits bits (const w v) = v < 2 ^ w
+SummandFits bits t = PlainFits bits t
+
+-- the parts of a sum are of one width
 abbrev pub ShapeFits : ℕ → Term → Type 0
-ShapeFits bits (zext a w) = FieldFits bits a × (term_width a < w)
-ShapeFits bits (sext a w) = FieldFits bits a × (1 ≤ term_width a) × (term_width a < w)
-ShapeFits bits t = FieldFits bits t
+ShapeFits bits (bin o a b) = (term_width a ≡ term_width b) × SummandFits bits a × SummandFits bits b
+ShapeFits bits t = PlainFits bits t
 
 -- some word of so many bits gives the shape this value
 pub record Shows (bits : ℕ) (shape : Term) (value : ℕ) : Type 0 where
@@ -53,26 +104,56 @@ field_setting (word w) v = then_some (nat_lt v (2 ^ w)) v
 field_setting (slice (word w) hi lo) v = then_some (nat_lt v (2 ^ (hi + 1 - lo))) (v * 2 ^ lo)
 field_setting _ v = None
 
--- the bits of the word, in their places, that give the shape this value, where it shows it
-abbrev pub shape_setting : Term → ℕ → Option ℕ
-shape_setting (const w c) v = then_some (v == c) 0
-shape_setting (zext a w) v = field_setting a v
-shape_setting (sext a w) v =
+-- those that give an extended field or a constant this value
+abbrev pub plain_setting : Term → ℕ → Option ℕ
+plain_setting (const w c) v = then_some (v == c) 0
+plain_setting (zext a w) v = field_setting a v
+plain_setting (sext a w) v =
     if sext_of (v % 2 ^ term_width a) (term_width a) w == v
     then field_setting a (v % 2 ^ term_width a)
     else None
-shape_setting t v = field_setting t v
+plain_setting t v = field_setting t v
+
+-- the number to which another one is added to give this value, in so many bits
+abbrev pub less_by : ℕ → ℕ → ℕ → ℕ
+less_by width v added = (v + 2 ^ width - added) % 2 ^ width
+
+-- the bits that give a sum this value
+abbrev pub sum_setting : Option Sum → ℕ → Option ℕ
+sum_setting None v = None
+sum_setting (Some s) v =
+    if nat_lt v (2 ^ s.width) then plain_setting s.to (less_by s.width v s.added) else None
+
+-- the bits of the word, in their places, that give the shape this value, where it shows it
+abbrev pub shape_setting : Term → ℕ → Option ℕ
+shape_setting (bin o a b) v = sum_setting (sum_of o a b) v
+shape_setting t v = plain_setting t v
 
 -- whether there are such bits
 abbrev pub shows : Term → ℕ → Bool
 shows t v = is_some (shape_setting t v)
 
 -- the least number that a shape doesn't show
+abbrev pub plain_reach : Term → ℕ
+plain_reach (const w v) = if v == 0 then 1 else 0
+plain_reach (sext a w) = 2 ^ (term_width a - 1)
+plain_reach (zext a w) = 2 ^ term_width a
+plain_reach t = 2 ^ term_width t
+
+-- where a constant is added, what is shown moves up by it, and what gets past the width begins at 0
+abbrev pub moved_reach : ℕ → Term → ℕ
+moved_reach c (const w v) = if (c + v) % 2 ^ w == 0 then 1 else 0
+moved_reach c (sext a w) = if nat_le c (2 ^ (term_width a - 1)) then 2 ^ (term_width a - 1) + c else 2 ^ (term_width a - 1) + c - 2 ^ w
+moved_reach c (zext a w) = if c == 0 then 2 ^ term_width a else 2 ^ term_width a + c - 2 ^ w
+moved_reach c t = 2 ^ term_width t
+
+abbrev pub sum_reach : Option Sum → ℕ
+sum_reach None = 0
+sum_reach (Some s) = moved_reach s.added s.to
+
 abbrev pub reach_of : Term → ℕ
-reach_of (const w v) = if v == 0 then 1 else 0
-reach_of (sext a w) = 2 ^ (term_width a - 1)
-reach_of (zext a w) = 2 ^ term_width a
-reach_of t = 2 ^ term_width t
+reach_of (bin o a b) = sum_reach (sum_of o a b)
+reach_of t = plain_reach t
 
 -- the shape shows each number below this one
 abbrev pub shows_below : Term → ℕ → Bool

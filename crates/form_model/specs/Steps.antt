@@ -1,13 +1,15 @@
 -- The steps of a cover: first those that put its cuts into temporary cells, each cell its own, then
--- those of its operands in their order, then the form's own step.
-use Rattle.std.specs.Prelude.{ℕ, ◌+◌, Bool, true, false, List, [], ◌∷◌, ◌++◌, Option, Some, None, slice_get, slice_index, remove, insert, bit_or, drop}
+-- those of its operands in their order, then the form's own step. What a form writes into the file
+-- goes into the cell of an operand that it takes from there, or into a free cell.
+use Rattle.std.specs.Prelude.{ℕ, ◌+◌, ◌==◌, ◌^◌, if◌then◌else◌, suc, zero, Bool, true, false, List, [], ◌∷◌, ◌++◌, Option, Some, None, slice_get, slice_index, remove, insert, bit_or, drop}
+use Rattle.std.specs.Int.{bit_at}
 use Rattle.net_model.specs.Terms.{Term, const}
 use Rattle.form_model.specs.declared.forms.Step.{Step}
 use Rattle.form_model.specs.Shapes.{shape_setting}
-use Rattle.form_model.specs.Rules.{Rule, into_memory, Destination, into, temporary, tested}
-use Rattle.form_model.specs.Matches.{Site, operand, cut, Found, taken}
+use Rattle.form_model.specs.Rules.{Rule, into_memory, Destination, filed, temporary, tested}
+use Rattle.form_model.specs.Matches.{Home, in_register, in_file, Site, operand, cut, Found, taken}
 use Rattle.form_model.specs.Plans.{Plan, use_form, Operands, no_operands, operand_then, Cuts, no_cuts, cut_then}
-use Rattle.form_model.specs.Covers.{Stock, Operand}
+use Rattle.form_model.specs.Covers.{Stock, Operand, operands_of, home_destination, kind_cells}
 
 -- ---- cuts are numbered in the order of the tree from left to right, a cut after those inside it,
 -- and their numbers are their cells
@@ -53,9 +55,9 @@ pub record CutCells : Type 0 where
 -- and ls those inside the form's own cuts
 abbrev pub operand_cells : List Site → List ℕ → List ℕ → ℕ → List OperandCells
 operand_cells [] ks ls n = []
-operand_cells (operand id tree whole ∷ sites) ks ls n =
+operand_cells (operand home tree whole ∷ sites) ks ls n =
     record {
-      operand = record { id = id; tree = tree; whole = whole };
+      operand = record { home = home; tree = tree; whole = whole };
       first = n;
       past = n + slice_index ks 0;
     }
@@ -65,7 +67,7 @@ operand_cells (cut shape tree ∷ sites) ks ls n = operand_cells sites ks (drop 
 -- and the form's own cuts
 abbrev pub cut_cells : List Site → List ℕ → List ℕ → ℕ → List CutCells
 cut_cells [] ks ls n = []
-cut_cells (operand id tree whole ∷ sites) ks ls n = cut_cells sites (drop 1 ks) ls (n + slice_index ks 0)
+cut_cells (operand home tree whole ∷ sites) ks ls n = cut_cells sites (drop 1 ks) ls (n + slice_index ks 0)
 cut_cells (cut shape tree ∷ sites) ks ls n =
     record { shape = shape; tree = tree; first = n; cell = n + slice_index ls 0 }
     ∷ cut_cells sites ks (drop 1 ls) (n + slice_index ls 0 + 1)
@@ -76,10 +78,66 @@ plan_operand_cells sites ps cs n = operand_cells sites (operand_counts ps) (cut_
 abbrev pub plan_cut_cells : List Site → Operands → Cuts → ℕ → List CutCells
 plan_cut_cells sites ps cs n = cut_cells sites (operand_counts ps) (cut_counts cs) n
 
+-- ---- cells of the file. A set of cells is a number, as a set of registers is
+
+-- the least number up to n that isn't in the set
+abbrev pub free_cell : ℕ → ℕ → ℕ
+free_cell held zero = 0
+free_cell held (suc n) = if bit_at held (free_cell held n) == 0 then free_cell held n else suc n
+
+-- the set with the cell of an operand, where it is in the file
+abbrev pub holding : ℕ → Option ℕ → ℕ
+holding held None = held
+holding held (Some c) = bit_or held (2 ^ c)
+
+abbrev pub some_or : Option ℕ → Option ℕ → Option ℕ
+some_or None other = other
+some_or (Some c) other = Some c
+
+-- the cell of the tied operand, from those of all operands from left to right
+abbrev pub cell_in : Option (Option ℕ) → Option ℕ
+cell_in None = None
+cell_in (Some c) = c
+
+abbrev pub tied_cell : Option ℕ → List (Option ℕ) → Option ℕ
+tied_cell None cells = None
+tied_cell (Some place) cells = cell_in (slice_get cells place)
+
+abbrev pub cell_or : Option ℕ → ℕ → ℕ
+cell_or None c = c
+cell_or (Some c) other = c
+
+-- the cell that a form writes, if it writes the file: the tied operand's, or else that of the first
+-- operand in the order that is in the file, or else the least that holds no operand
+abbrev pub form_cell : Option Rule → List (Option ℕ) → Option ℕ → ℕ → Option ℕ
+form_cell None cells first free = None
+form_cell (Some rule) cells first free =
+    if kind_cells rule.goal == 1 then Some (cell_or (some_or (tied_cell rule.tied cells) first) free) else None
+
+abbrev mutual
+  -- the cell of the file in which a cover leaves its value, if it leaves it there; `held` are the
+  -- cells of the operands that wait meanwhile
+  pub cell_of : Stock → Plan → ℕ → Option ℕ
+  cell_of stock (use_form k ps cs) held =
+      form_cell (slice_get stock.rules k) (operand_homes stock ps held) (first_home stock ps held)
+      (free_cell held stock.file)
+
+  -- the operands' cells, from left to right
+  pub operand_homes : Stock → Operands → ℕ → List (Option ℕ)
+  operand_homes stock no_operands held = []
+  operand_homes stock (operand_then i p ps) held =
+      insert (operand_homes stock ps (holding held (cell_of stock p held))) i (cell_of stock p held)
+
+  -- the cell of the first operand in the order that is in the file
+  pub first_home : Stock → Operands → ℕ → Option ℕ
+  first_home stock no_operands held = None
+  first_home stock (operand_then i p ps) held =
+      some_or (cell_of stock p held) (first_home stock ps (holding held (cell_of stock p held)))
+
 -- ---- the setting of a form
 
 abbrev pub rule_or_none : Option Rule → Rule
-rule_or_none None = record { pattern = 0; goal = into_memory; addr = None; value = const 0 0; fields = 0; clobbers = 0 }
+rule_or_none None = record { pattern = 0; goal = into_memory; addr = None; value = const 0 0; fields = 0; clobbers = 0; tied = None }
 rule_or_none (Some rule) = rule
 
 abbrev pub found_or_none : Option Found → Found
@@ -88,7 +146,7 @@ found_or_none (Some found) = found
 
 abbrev pub operand_cells_or_none : Option OperandCells → OperandCells
 operand_cells_or_none None =
-    record { operand = record { id = 0; tree = const 0 0; whole = false }; first = 0; past = 0 }
+    record { operand = record { home = in_register 0; tree = const 0 0; whole = false }; first = 0; past = 0 }
 operand_cells_or_none (Some cells) = cells
 
 abbrev pub cut_cells_or_none : Option CutCells → CutCells
@@ -111,26 +169,42 @@ abbrev pub cells_setting : List CutCells → ℕ
 cells_setting [] = 0
 cells_setting (first ∷ rest) = bit_or (bits_or_none (shape_setting first.shape first.cell)) (cells_setting rest)
 
--- the bits that name the temporary cell that is written
+-- the bits that name the cells of the operands in the file, which are given from left to right
+abbrev pub home_setting : Home → Option ℕ → ℕ
+home_setting (in_file shape) (Some c) = bits_or_none (shape_setting shape c)
+home_setting _ _ = 0
+
+abbrev pub homes_setting : List Operand → List (Option ℕ) → ℕ
+homes_setting (o ∷ os) (c ∷ cs) = bit_or (home_setting o.home c) (homes_setting os cs)
+homes_setting _ _ = 0
+
+-- the bits that name the temporary cell that is written, or the cell of the file
 abbrev pub address_setting : Option Term → ℕ → ℕ
 address_setting None own = 0
 address_setting (Some addr) own = bits_or_none (shape_setting addr own)
 
-abbrev pub temp_setting : Destination → Option Term → ℕ → ℕ
-temp_setting temporary addr own = address_setting addr own
-temp_setting destination addr own = 0
+abbrev pub own_setting : Destination → Option Term → ℕ → Option ℕ → ℕ
+own_setting temporary addr own cell = address_setting addr own
+own_setting filed addr own (Some c) = address_setting addr c
+own_setting destination addr own cell = 0
 
--- the bits of the match, of the cells of its cuts, and of the temporary cell that is written
-abbrev pub whole_setting : Rule → Destination → Found → List CutCells → ℕ → ℕ
-whole_setting rule destination found cuts own =
-    bit_or (bit_or found.setting (cells_setting cuts)) (temp_setting destination rule.addr own)
+-- the bits that name cells of cuts and of operands
+abbrev pub open_setting : List Operand → List CutCells → List (Option ℕ) → ℕ
+open_setting operands cuts homes = bit_or (cells_setting cuts) (homes_setting operands homes)
 
--- the setting of the form at the root of a cover whose cuts have the cells from n on
-abbrev pub plan_setting : Stock → Plan → ℕ → Destination → Term → Bool → ℕ
-plan_setting stock (use_form k ps cs) n destination tree whole =
+-- the bits of the match, of the cells that it leaves open, and of the cell that is written
+abbrev pub whole_setting : Rule → Destination → Found → List CutCells → List (Option ℕ) → ℕ → Option ℕ → ℕ
+whole_setting rule destination found cuts homes own cell =
+    bit_or (bit_or found.setting (open_setting (operands_of found.sites) cuts homes))
+    (own_setting destination rule.addr own cell)
+
+-- the setting of the form at the root of a cover whose cuts have the cells from n on, while these
+-- cells of the file are held
+abbrev pub plan_setting : Stock → Plan → ℕ → ℕ → Destination → Term → Bool → ℕ
+plan_setting stock (use_form k ps cs) n held destination tree whole =
     whole_setting (rule_at stock k) destination (found_at stock k destination tree whole)
-    (plan_cut_cells (found_at stock k destination tree whole).sites ps cs n)
-    (n + cut_count (use_form k ps cs))
+    (plan_cut_cells (found_at stock k destination tree whole).sites ps cs n) (operand_homes stock ps held)
+    (n + cut_count (use_form k ps cs)) (cell_of stock (use_form k ps cs) held)
 
 -- ---- steps
 
@@ -141,18 +215,18 @@ form_step rule destination setting = record { pattern = rule.pattern; setting = 
 
 abbrev mutual
   -- the operands' steps in order of evaluation, and the form's own
-  pub own_steps : Stock → Plan → ℕ → Destination → Term → Bool → List Step
-  own_steps stock (use_form k ps cs) n destination tree whole =
-      operand_steps stock ps (plan_operand_cells (found_at stock k destination tree whole).sites ps cs n)
-      ++ form_step (rule_at stock k) destination (plan_setting stock (use_form k ps cs) n destination tree whole)
+  pub own_steps : Stock → Plan → ℕ → ℕ → Destination → Term → Bool → List Step
+  own_steps stock (use_form k ps cs) n held destination tree whole =
+      operand_steps stock ps (plan_operand_cells (found_at stock k destination tree whole).sites ps cs n) held
+      ++ form_step (rule_at stock k) destination (plan_setting stock (use_form k ps cs) n held destination tree whole)
 
-  pub operand_steps : Stock → Operands → List OperandCells → List Step
-  operand_steps stock no_operands left = []
-  operand_steps stock (operand_then i p ps) left =
-      own_steps stock p (operand_cells_or_none (slice_get left i)).first
-      (into (operand_cells_or_none (slice_get left i)).operand.id)
+  pub operand_steps : Stock → Operands → List OperandCells → ℕ → List Step
+  operand_steps stock no_operands left held = []
+  operand_steps stock (operand_then i p ps) left held =
+      own_steps stock p (operand_cells_or_none (slice_get left i)).first held
+      (home_destination (operand_cells_or_none (slice_get left i)).operand.home)
       (operand_cells_or_none (slice_get left i)).operand.tree (operand_cells_or_none (slice_get left i)).operand.whole
-      ++ operand_steps stock ps (remove left i)
+      ++ operand_steps stock ps (remove left i) (holding held (cell_of stock p held))
 
 abbrev pub first_or_none : List (List Step) → List Step
 first_or_none [] = []
@@ -161,7 +235,7 @@ first_or_none (steps ∷ rest) = steps
 -- the steps for the operands and those for the form's own cuts, joined in the order of the sites
 abbrev pub woven : List Site → List (List Step) → List (List Step) → List Step
 woven [] for_operands for_cuts = []
-woven (operand id tree whole ∷ sites) for_operands for_cuts =
+woven (operand home tree whole ∷ sites) for_operands for_cuts =
     first_or_none for_operands ++ woven sites (drop 1 for_operands) for_cuts
 woven (cut shape tree ∷ sites) for_operands for_cuts =
     first_or_none for_cuts ++ woven sites for_operands (drop 1 for_cuts)
@@ -180,7 +254,7 @@ abbrev mutual
   inside_operands stock (operand_then i p ps) left =
       insert (inside_operands stock ps (remove left i)) i
       (cut_steps stock p (operand_cells_or_none (slice_get left i)).first
-      (into (operand_cells_or_none (slice_get left i)).operand.id)
+      (home_destination (operand_cells_or_none (slice_get left i)).operand.home)
       (operand_cells_or_none (slice_get left i)).operand.tree
       (operand_cells_or_none (slice_get left i)).operand.whole)
 
@@ -190,15 +264,15 @@ abbrev mutual
   into_cells stock (cut_then p cs) cuts =
       (cut_steps stock p (cut_cells_or_none (slice_get cuts 0)).first temporary
       (cut_cells_or_none (slice_get cuts 0)).tree false
-      ++ own_steps stock p (cut_cells_or_none (slice_get cuts 0)).first temporary
+      ++ own_steps stock p (cut_cells_or_none (slice_get cuts 0)).first 0 temporary
       (cut_cells_or_none (slice_get cuts 0)).tree false)
       ∷ into_cells stock cs (drop 1 cuts)
 
 -- the steps of an orderly cover of a tree that goes to a destination
 abbrev pub cover_steps : Stock → Destination → Term → Plan → List Step
 cover_steps stock destination tree plan =
-    cut_steps stock plan 0 destination tree true ++ own_steps stock plan 0 destination tree true
+    cut_steps stock plan 0 destination tree true ++ own_steps stock plan 0 0 destination tree true
 
 -- the setting of the bits of a branch's condition
 abbrev pub branch_setting : Stock → Term → Plan → ℕ
-branch_setting stock tree plan = plan_setting stock plan 0 tested tree true
+branch_setting stock tree plan = plan_setting stock plan 0 0 tested tree true

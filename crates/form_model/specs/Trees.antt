@@ -1,6 +1,6 @@
--- Trees as expressions. A tree is an expression without registers, instruction bits, cat and
--- select, so width, size and meaning are those of expressions, and what a form computes and what a
--- program asks for are of one language.
+-- Trees as expressions. A tree is an expression without registers, reads of the file, instruction
+-- bits, cat and select, so width, size and meaning are those of expressions, and what a form
+-- computes and what a program asks for are of one language.
 use Rattle.std.specs.Prelude.{◌≡◌, ℕ, Bool, true, false, ◌&&◌}
 use Rattle.net_model.specs.declared.hardware.Space.TheVariants.{Memory as InMemory, File as InFile}
 use Rattle.net_model.specs.Terms.{Term, word, reg, const, read, un, bin, slice, cat, zext, sext, select}

@@ -1,13 +1,13 @@
 -- Worked field shapes and matches: a netlist of 12 instruction bits, whose words name a cell or a
 -- number by their low 8.
 use Rattle.std.specs.Prelude.{ℕ, ◌≡◌, refl, true, false, [], ◌∷◌, List, Option, Some, None}
-use Rattle.rec_bits.specs.declared.operator.Op2.TheVariants.{Add, Mul}
+use Rattle.rec_bits.specs.declared.operator.Op2.TheVariants.{Add, Sub, Mul}
 use Rattle.net_model.specs.declared.hardware.Space.TheVariants.{Memory as InMemory, File as InFile}
 use Rattle.net_model.specs.Terms.{Term, word, reg, const, read, bin, slice, cat, zext, sext}
 use Rattle.form_model.specs.Trees.{is_tree}
-use Rattle.form_model.specs.Shapes.{is_shape, reach_of, shape_setting, shows, shows_below}
+use Rattle.form_model.specs.Shapes.{is_shape, is_shape_in, reach_of, shape_setting, shows, shows_below}
 use Rattle.form_model.specs.Rules.{Rule, into_reg, into_memory, into, cell, stored, temporary, tested}
-use Rattle.form_model.specs.Matches.{Site, operand, cut, Found, matched, taken}
+use Rattle.form_model.specs.Matches.{Site, operand, cut, Found, in_register, in_file, matched, taken}
 
 -- ---- field shapes
 
@@ -72,6 +72,52 @@ reach_of_three = refl
 all_below : shows_below low_byte 5 ≡ true
 all_below = refl
 
+-- a sum of a constant and one of these is a field shape from edition 2 on, either way round; there
+-- is no sum in a sum, nor a difference
+abbrev one_more : Term
+one_more = bin Add (zext (slice (word 12) 3 0) 8) (const 8 1)
+
+sum_of_first : is_shape_in 1 one_more ≡ false
+sum_of_first = refl
+
+sum_of_second : is_shape_in 2 one_more ≡ true
+sum_of_second = refl
+
+sum_of_constants : is_shape (bin Add (const 8 1) (const 8 2)) ≡ true
+sum_of_constants = refl
+
+sum_of_fields : is_shape (bin Add low_byte low_byte) ≡ false
+sum_of_fields = refl
+
+sum_in_sum : is_shape (bin Add (const 8 1) one_more) ≡ false
+sum_in_sum = refl
+
+difference : is_shape (bin Sub low_byte (const 8 1)) ≡ false
+difference = refl
+
+-- it shows 1 to 16
+sum_first : shape_setting one_more 1 ≡ Some 0
+sum_first = refl
+
+sum_last : shape_setting one_more 16 ≡ Some 15
+sum_last = refl
+
+sum_past : shape_setting one_more 17 ≡ None
+sum_past = refl
+
+reach_of_sum : reach_of one_more ≡ 0
+reach_of_sum = refl
+
+-- what gets past the width begins at 0
+sum_around : shape_setting (bin Add (const 8 250) (zext (slice (word 12) 3 0) 8)) 9 ≡ Some 15
+sum_around = refl
+
+reach_around : reach_of (bin Add (const 8 250) (zext (slice (word 12) 3 0) 8)) ≡ 10
+reach_around = refl
+
+reach_back : reach_of (bin Add (const 8 3) (sext (slice (word 12) 3 0) 8)) ≡ 11
+reach_back = refl
+
 -- ---- matches of expressions
 
 -- ACC := add(ACC, read(M, slice(I,7,0))), and with its operands swapped
@@ -92,12 +138,12 @@ abbrev found : ℕ → List Site → Option Found
 found setting sites = Some (record { setting = setting; sites = sites })
 
 -- the swapped form takes it with the number in the register
-swapped_takes : matched 1 swapped sum false ≡ found 1 (operand 1 (const 16 5) false ∷ [])
+swapped_takes : matched 1 swapped sum false ≡ found 1 (operand (in_register 1) (const 16 5) false ∷ [])
 swapped_takes = refl
 
 -- the form as extracted only with the number as a cut
 extracted_takes : matched 1 extracted sum false
-    ≡ found 0 (operand 1 (read InMemory (const 8 1) 16) false ∷ cut low_byte (const 16 5) ∷ [])
+    ≡ found 0 (operand (in_register 1) (read InMemory (const 8 1) 16) false ∷ cut low_byte (const 16 5) ∷ [])
 extracted_takes = refl
 
 -- which it isn't where there are more temporary cells than the field shows
@@ -109,18 +155,18 @@ too_many_cells = refl
 no_cut_at_root : matched 1 variable sum true ≡ None
 no_cut_at_root = refl
 
-address_operand : matched 1 (read InMemory (reg 2 8) 16) (read InMemory (const 8 5) 16) false ≡ found 0 (operand 2 (const 8 5) true ∷ [])
+address_operand : matched 1 (read InMemory (reg 2 8) 16) (read InMemory (const 8 5) 16) false ≡ found 0 (operand (in_register 2) (const 8 5) true ∷ [])
 address_operand = refl
 
 no_cut_at_address : matched 1 (read InMemory (read InMemory low_byte 8) 16) (read InMemory (const 8 5) 16) false ≡ None
 no_cut_at_address = refl
 
--- a cell of the register file takes nothing, not even a cut, and no tree reads one
-no_cell_of_file : matched 1 (read InFile low_byte 16) (read InMemory (const 8 1) 16) false ≡ None
-no_cell_of_file = refl
-
-no_cut_of_file : matched 1 (bin Add (reg 1 16) (read InFile low_byte 16)) sum false ≡ None
-no_cut_of_file = refl
+-- a read of the register file takes what a register takes, here a number; no tree reads
+-- the file
+file_operand : matched 1 (bin Add (reg 1 16) (read InFile (slice (word 12) 1 0) 16)) sum false
+    ≡ found 0
+    (operand (in_register 1) (read InMemory (const 8 1) 16) false ∷ operand (in_file (slice (word 12) 1 0)) (const 16 5) false ∷ [])
+file_operand = refl
 
 no_tree_of_file : is_tree (bin Add (read InFile (const 4 1) 16) (const 16 5)) ≡ false
 no_tree_of_file = refl
@@ -136,24 +182,24 @@ other_width = refl
 
 -- M[slice(I,7,0)] := ACC, whose pattern's number is 7
 abbrev store : Rule
-store = record { pattern = 7; goal = into_memory; addr = Some low_byte; value = reg 1 16; fields = 255; clobbers = 5 }
+store = record { pattern = 7; goal = into_memory; addr = Some low_byte; value = reg 1 16; fields = 255; clobbers = 5; tied = None }
 
 -- ACC := add(ACC, read(M, slice(I,7,0)))
 abbrev sum_into : Rule
-sum_into = record { pattern = 3; goal = into_reg 1; addr = None; value = extracted; fields = 255; clobbers = 3 }
+sum_into = record { pattern = 3; goal = into_reg 1; addr = None; value = extracted; fields = 255; clobbers = 3; tied = None }
 
 -- the address of a cell is settled, that of a temporary cell isn't yet
-to_cell : taken 1 store (cell 2) sum false ≡ found 2 (operand 1 sum true ∷ [])
+to_cell : taken 1 store (cell 2) sum false ≡ found 2 (operand (in_register 1) sum true ∷ [])
 to_cell = refl
 
-to_temporary : taken 1 store temporary sum false ≡ found 0 (operand 1 sum false ∷ [])
+to_temporary : taken 1 store temporary sum false ≡ found 0 (operand (in_register 1) sum false ∷ [])
 to_temporary = refl
 
 -- an address that is computed isn't one that the field shows, and a number is
 to_computed : taken 1 store (stored (read InMemory (const 8 1) 8)) sum false ≡ None
 to_computed = refl
 
-to_number : taken 1 store (stored (const 8 9)) sum false ≡ found 9 (operand 1 sum false ∷ [])
+to_number : taken 1 store (stored (const 8 9)) sum false ≡ found 9 (operand (in_register 1) sum false ∷ [])
 to_number = refl
 
 -- M[AR] := ACC, whose address is in register 2: it stores at any address, which goes into that
@@ -166,14 +212,15 @@ store_through = record {
   value = reg 1 16;
   fields = 255;
   clobbers = 5;
+  tied = None;
 }
 
 through_computed : taken 1 store_through (stored (read InMemory (const 8 1) 8)) sum false
-    ≡ found 0 (operand 2 (read InMemory (const 8 1) 8) false ∷ operand 1 sum false ∷ [])
+    ≡ found 0 (operand (in_register 2) (read InMemory (const 8 1) 8) false ∷ operand (in_register 1) sum false ∷ [])
 through_computed = refl
 
 through_number : taken 1 store_through (stored (const 8 9)) sum false
-    ≡ found 0 (operand 2 (const 8 9) false ∷ operand 1 sum false ∷ [])
+    ≡ found 0 (operand (in_register 2) (const 8 9) false ∷ operand (in_register 1) sum false ∷ [])
 through_number = refl
 
 -- a cell and a temporary cell have no address tree, and it takes neither

@@ -15,6 +15,8 @@ pub enum Goal {
     Reg(u32),
     /// The data memory.
     Memory,
+    /// The register file.
+    File,
     /// The program counter, in every case; `reach` is the least address that no setting of the
     /// form's bits gives.
     Jump { reach: u64 },
@@ -39,14 +41,17 @@ pub struct Form {
     /// The number of its pattern.
     pub pattern: u32,
     pub goal: Goal,
-    /// The address of a write of the memory, with the form's swaps.
+    /// The address of a write of the memory or of the file, with the form's swaps.
     pub addr: Option<Expr>,
     /// The value that is written, or the condition of a branch, with the form's swaps.
     pub value: Expr,
     /// The instruction bits that occur in the pattern.
     pub fields: u64,
-    /// The storages that it may change, its own among them.
+    /// The registers and memories that it may change, its own among them; the file isn't one.
     pub clobbers: RegSet,
+    /// Of a form that writes the file: the place from the left, from 0, of the operand that is read
+    /// at the form's own address, where there is one.
+    pub tied: Option<u32>,
 }
 
 /// The forms of a netlist in their order.
@@ -55,6 +60,8 @@ pub struct Forms {
     pub list: Vec<Form>,
     /// The greatest reach of the jump forms, and 0 where there is none.
     pub reach: u64,
+    /// The number of cells of the register file, and 0 where there is none.
+    pub file: u32,
     /// A set of registers has a bit for each register that a form goes to or names.
     pub ghost low: { AreLow (rules_of list.items) },
 }

@@ -6,7 +6,8 @@ use Rattle.net_model.specs.Terms.{Term, write}
 use Rattle.sym_expr.specs.declared.pool.Node.{Node}
 use Rattle.sym_expr.specs.Pools.{term_at}
 use Rattle.transfer_set.specs.Entries.{ids_move}
-use Rattle.form_model.specs.Shapes.{reach_of}
+use Rattle.form_model.specs.Shapes.{is_shape, reach_of}
+use Rattle.form_set.proofs.Editions.{shape_from}
 use Rattle.form_set.specs.declared.pattern_ids.PatternIds.{PatternIds}
 use Rattle.std.specs.Prelude.{option_map}
 use Rattle.form_model.specs.declared.forms.Form.{Form}
@@ -27,6 +28,10 @@ write_same a b e = cc
 pub value_is : (pool : List Node) (addr : Option ℕ) (value : ℕ) (t : Term) → ids_move pool addr value ≡ write t → term_at pool value ≡ t
 value_is pool None value t e = write_same (term_at pool value) t e
 value_is pool (Some addr) value t e = absurd (cc)
+
+-- the value of a jump is a field shape
+pub jump_shape : (netlist : Netlist) (pool : List Node) (ids : PatternIds) → IsJump netlist (ids_pattern pool ids) → is_shape (term_at pool ids.value) ≡ true
+jump_shape netlist pool ids j = ap is_shape (value_is pool ids.addr ids.value j.target j.move) ∙ shape_from netlist.edition j.target j.shape
 
 pub reach_is_of : (netlist : Netlist) (pool : List Node) (ids : PatternIds) (b : Bool) → (b ≡ true) ↔ IsJump netlist (ids_pattern pool ids) → b ≡ true
     → (reach : ℕ) → reach ≡ reach_of (term_at pool ids.value) → IsReachOf netlist (ids_pattern pool ids) reach

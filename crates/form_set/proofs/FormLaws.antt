@@ -1,21 +1,22 @@
 -- What the forms of a list promise, and when there are none of a kind.
-use Rattle.std.proofs.Common.{◌≡◌, ℕ, zero, suc, ◌+◌, ◌%◌, ◌^◌, ◌<◌, ◌==◌, Bool, true, false, cond, List, [], ◌∷◌, ◌++◌, Some, length, slice_get, refl, sym, ap, subst, ◌∙◌, arith, inl, inr}
+use Rattle.std.proofs.Common.{◌≡◌, ◌≢◌, ℕ, zero, suc, ◌+◌, ◌%◌, ◌^◌, ◌<◌, ◌==◌, Bool, true, false, cond, List, [], ◌∷◌, ◌++◌, Some, length, slice_get, refl, sym, ap, subst, ◌∙◌, arith, inl, inr}
 use Rattle.std.specs.Prelude.{bit_or, bit_xor, ◌⊎◌}
 use Rattle.std.specs.Int.{bit_at}
-use Rattle.std.proofs.lemmas.Bool.{eqb-true}
+use Rattle.std.proofs.lemmas.Bool.{eqb-true, ne_eqb}
 use Rattle.std.proofs.lemmas.Nat.{and_le_l}
 use Rattle.std.proofs.lemmas.Nat.Bits.{bit_at_or, bit_at_xor, bit_at-lt, bit_at-pow_same}
 use Rattle.net_model.specs.declared.hardware.Netlist.{Netlist}
 use Rattle.net_model.specs.declared.hardware.Storage.{Storage}
 use Rattle.net_model.specs.Fields.{move_fields}
-use Rattle.net_model.specs.Nets.{IsRegister, counter_of}
+use Rattle.net_model.specs.declared.hardware.Space.TheVariants.{File as InFile}
+use Rattle.net_model.specs.Nets.{IsRegister, counter_of, place_in}
 use Rattle.net_model.specs.Patterns.{Pattern}
 use Rattle.net_model.specs.Terms.{Move, Term, keep, write}
 use Rattle.form_model.specs.Rules.{Rule}
 use Rattle.form_set.specs.Listing.{AreRules, AreRulesOf, plain, jump, branch, other, IsPlain, branch_rule, plain_rule, sides_of, test_sides}
 use Rattle.form_set.specs.Promises.{HasWords, IsForm, IsFormOf, of_branch, of_jump, of_plain}
 use Rattle.form_set.specs.Swaps.{map_below, swap_count}
-use Rattle.form_set.specs.Words.{AreClobbers, AreKept, CanKeep, Joins, joins, fails, none, all_registers, is_register_storage, registers_below, with}
+use Rattle.form_set.specs.Words.{AreClobbers, AreKept, CanKeep, Joins, joins, fails, none, all_registers, is_register_storage, own_storage, registers_below, with}
 use Rattle.net_model.proofs.Storages.{register_within}
 use Rattle.form_set.proofs.Bits.{bit_cases}
 use Rattle.form_set.proofs.Holding.{with_new, with_old}
@@ -49,9 +50,9 @@ below_has storages (suc n) r lt h = by (r == n) refl (λ less. below_has storage
     by false e before = one_more (is_register_storage (slice_get storages n)) (registers_below storages n) n r (before (grind (arith, e, lt)))
 
 -- a register that is no clobber is kept
-unclobbered : (all kept storage r : ℕ) → bit_at all r ≡ 1 → bit_at (bit_or (2 ^ storage) (bit_xor all kept)) r ≡ 0 → bit_at kept r ≡ 1
-unclobbered all kept storage r a e =
-    let o = bit_at_or (2 ^ storage) (bit_xor all kept) r in
+unclobbered : (all kept own r : ℕ) → bit_at all r ≡ 1 → bit_at (bit_or own (bit_xor all kept)) r ≡ 0 → bit_at kept r ≡ 1
+unclobbered all kept own r a e =
+    let o = bit_at_or own (bit_xor all kept) r in
     let x : bit_at (bit_xor all kept) r ≡ 0 = omega (arith, o, e) in
     let y = bit_at_xor all kept r in
     by (bit_cases kept r) x y
@@ -71,17 +72,19 @@ plain_words netlist p clobbers h c setting is =
         given = w.2.given;
         steps = w.2.steps;
         memory = w.2.memory;
+        file = w.2.file;
         registers = λ r reg z. w.2.registers r
-            (unclobbered (all_registers netlist.storages) c.kept p.storage r (below_has netlist.storages (length netlist.storages) r (register_within netlist.storages r reg) ((register_is _).1 reg))
+            (unclobbered (all_registers netlist.storages) c.kept (own_storage netlist p.storage) r (below_has netlist.storages (length netlist.storages) r (register_within netlist.storages r reg) ((register_is _).1 reg))
             (subst (λ n. bit_at n r ≡ 0) c.is z));
       },
     )
 
--- the destination is one of them
-pub own_clobber : (netlist : Netlist) (p : Pattern) (clobbers : ℕ) → AreClobbers netlist p clobbers → bit_at clobbers p.storage ≡ 1
-own_clobber netlist p clobbers c =
-    let o = bit_at_or (2 ^ p.storage) (bit_xor (all_registers netlist.storages) c.kept) p.storage in
-    let s = bit_at-pow_same p.storage in
+-- the destination is one of them, unless it is the file
+pub own_clobber : (netlist : Netlist) (p : Pattern) (clobbers : ℕ) → AreClobbers netlist p clobbers → p.storage ≢ place_in InFile netlist.storages → bit_at clobbers p.storage ≡ 1
+own_clobber netlist p clobbers c n =
+    let o = bit_at_or (own_storage netlist p.storage) (bit_xor (all_registers netlist.storages) c.kept) p.storage in
+    let same : own_storage netlist p.storage ≡ 2 ^ p.storage = ap (λ (b : Bool). cond b 0 (2 ^ p.storage)) (ne_eqb p.storage (place_in InFile netlist.storages) n) in
+    let s : bit_at (own_storage netlist p.storage) p.storage ≡ 1 = ap (λ k. bit_at k p.storage) same ∙ bit_at-pow_same p.storage in
     let lt = bit_at-lt (bit_xor (all_registers netlist.storages) c.kept) p.storage in
     subst (λ n. bit_at n p.storage ≡ 1) (sym c.is) (omega (arith, o, s, lt))
 

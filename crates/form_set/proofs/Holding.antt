@@ -1,5 +1,5 @@
 -- Sets of words by what holds of their words, and as a book grows.
-use Rattle.std.proofs.Common.{◌≡◌, ◌↔◌, ◌≢◌, ℕ, ◌^◌, ◌<◌, ◌≤◌, ◌==◌, ◌&&◌, Bool, true, false, true≢false, List, [], ◌∷◌, length, refl, sym, ap, subst, ◌∙◌, arith, inl, inr}
+use Rattle.std.proofs.Common.{◌≡◌, ◌↔◌, ◌≢◌, ℕ, zero, suc, ◌^◌, ◌<◌, ◌≤◌, ◌==◌, ◌&&◌, Bool, true, false, true≢false, List, [], ◌∷◌, Option, Some, None, length, slice_get, refl, sym, ap, subst, ◌∙◌, arith, inl, inr}
 use Rattle.std.specs.Prelude.{◌⊎◌}
 use Rattle.std.specs.Int.{bit_at}
 use Rattle.std.proofs.lemmas.Bool.{eqb-true, eq-eqb}
@@ -10,10 +10,12 @@ use Rattle.net_model.specs.declared.hardware.Netlist.{Netlist}
 use Rattle.net_model.specs.declared.hardware.Storage.{Storage}
 use Rattle.net_model.specs.declared.hardware.Storage.TheVariants.{Register, Memory, File}
 use Rattle.net_model.specs.CheckedRules.{memory_count}
-use Rattle.net_model.specs.Nets.{memory_id}
+use Rattle.net_model.specs.declared.hardware.Space.TheVariants.{File as InFile}
+use Rattle.net_model.specs.Nets.{memory_id, place_in}
 use Rattle.net_model.specs.Patterns.{IsWordOf, Pattern}
 use Rattle.net_model.specs.Terms.{keep}
-use Rattle.net_model.specs.Transfers.{Keeps, StepsOn, move_at}
+use Rattle.net_model.specs.Transfers.{Keeps, StepsOn, move_at, transfer_of}
+use Rattle.form_set.specs.Inner.Holds.{KeepsMemory, StepsTo}
 use Rattle.transfer_set.specs.Sets.{IsKeepSet, IsStepSet}
 use Rattle.sym_expr.specs.declared.pool.Node.{Node}
 use Rattle.form_set.specs.declared.pattern_ids.PatternIds.{PatternIds}
@@ -66,17 +68,43 @@ memory_within (File cells ∷ storages) e = (let r = memory_within storages (ome
 
 -- ---- what the words do
 
-pub own_memory : (netlist : Netlist) (p : Pattern) → p.storage ≡ memory_id netlist.storages → (word : ℕ) → (IsWordOf netlist p word × StepsOn netlist word) ↔ KeepsOthers netlist p 0 word
-own_memory netlist p e word = (
-  (λ h. record { given = h.0; steps = h.1.steps; memory = λ n. absurd (n e); registers = λ r b. absurd (let z = bit_at-zero r in omega (arith, z, b)) }),
-  λ k. (k.given, record { clean = k.given.clean; steps = k.steps }),
-)
+-- those that step, where the memory is the pattern's own storage, and where it isn't
+pub own_memory : (netlist : Netlist) (p : Pattern) → p.storage ≡ memory_id netlist.storages → (word : ℕ) → StepsTo netlist p word ↔ KeepsMemory netlist p word
+own_memory netlist p e word = ((λ h. (h, λ n. absurd (n e))), λ k. k.0)
 
 pub other_memory : (netlist : Netlist) (p : Pattern) → p.storage ≢ memory_id netlist.storages → (word : ℕ)
-    → ((IsWordOf netlist p word × StepsOn netlist word) × Keeps netlist (memory_id netlist.storages) word) ↔ KeepsOthers netlist p 0 word
-other_memory netlist p n word = (
-  (λ h. record { given = h.0.0; steps = h.0.1.steps; memory = λ m. h.1.keeps; registers = λ r b. absurd (let z = bit_at-zero r in omega (arith, z, b)) }),
-  λ k. ((k.given, record { clean = k.given.clean; steps = k.steps }), record { clean = k.given.clean; keeps = k.memory n }),
+    → (StepsTo netlist p word × Keeps netlist (memory_id netlist.storages) word) ↔ KeepsMemory netlist p word
+other_memory netlist p n word = ((λ h. (h.0, λ m. h.1.keeps)), λ k. (k.0, record { clean = k.0.0.clean; keeps = k.1 n }))
+
+-- the same of the file; where there is none, every word keeps it
+pub own_file : (netlist : Netlist) (p : Pattern) → p.storage ≡ place_in InFile netlist.storages → (word : ℕ) → KeepsMemory netlist p word ↔ KeepsOthers netlist p 0 word
+own_file netlist p e word = (
+  (λ h. record { given = h.0.0; steps = h.0.1.steps; memory = h.1; file = λ n. absurd (n e); registers = λ r b. absurd (let z = bit_at-zero r in omega (arith, z, b)) }),
+  λ k. ((k.given, record { clean = k.given.clean; steps = k.steps }), k.memory),
+)
+
+pub other_file : (netlist : Netlist) (p : Pattern) → p.storage ≢ place_in InFile netlist.storages → (word : ℕ)
+    → (KeepsMemory netlist p word × Keeps netlist (place_in InFile netlist.storages) word) ↔ KeepsOthers netlist p 0 word
+other_file netlist p n word = (
+  (λ h. record { given = h.0.0.0; steps = h.0.0.1.steps; memory = h.0.1; file = λ m. h.1.keeps; registers = λ r b. absurd (let z = bit_at-zero r in omega (arith, z, b)) }),
+  λ k. (((k.given, record { clean = k.given.clean; steps = k.steps }), k.memory), record { clean = k.given.clean; keeps = k.file n }),
+)
+
+past_none : (storages : List Storage) (id : ℕ) → length storages ≤ id → slice_get storages id ≡ None
+past_none [] id ge = refl
+past_none (s ∷ storages) zero ge = absurd (omega (arith, ge))
+past_none (s ∷ storages) (suc id) ge = past_none storages id (omega (arith, ge))
+
+pub no_file : (netlist : Netlist) (p : Pattern) → length netlist.storages ≤ place_in InFile netlist.storages → (word : ℕ) → KeepsMemory netlist p word ↔ KeepsOthers netlist p 0 word
+no_file netlist p ge word = (
+  (λ h. record {
+    given = h.0.0;
+    steps = h.0.1.steps;
+    memory = h.1;
+    file = λ n. ap (λ (o : Option Storage). transfer_of netlist word (place_in InFile netlist.storages) o) (past_none netlist.storages (place_in InFile netlist.storages) ge);
+    registers = λ r b. absurd (let z = bit_at-zero r in omega (arith, z, b));
+  }),
+  λ k. ((k.given, record { clean = k.given.clean; steps = k.steps }), k.memory),
 )
 
 pub memory_kept : (netlist : Netlist) (p : Pattern) (word : ℕ) → (IsWordOf netlist p word × Keeps netlist (memory_id netlist.storages) word) ↔ WordKeepsMemory netlist p word
@@ -100,9 +128,9 @@ with_cases set r q e = by (q == r) refl
 
 pub one_more : (netlist : Netlist) (p : Pattern) (kept r word : ℕ) → (KeepsOthers netlist p kept word × Keeps netlist r word) ↔ KeepsOthers netlist p (with kept r) word
 one_more netlist p kept r word = (
-  (λ h. record { given = h.0.given; steps = h.0.steps; memory = h.0.memory; registers = λ q b. by h.0 h.1 q (with_cases kept r q b) }),
+  (λ h. record { given = h.0.given; steps = h.0.steps; memory = h.0.memory; file = h.0.file; registers = λ q b. by h.0 h.1 q (with_cases kept r q b) }),
   λ k. (
-    record { given = k.given; steps = k.steps; memory = k.memory; registers = λ q b. k.registers q (with_old kept r q b) },
+    record { given = k.given; steps = k.steps; memory = k.memory; file = k.file; registers = λ q b. k.registers q (with_old kept r q b) },
     record { clean = k.given.clean; keeps = k.registers r (with_new kept r) },
   ),
 )

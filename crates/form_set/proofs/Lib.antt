@@ -5,8 +5,10 @@ pub mod Holding
 pub mod Chosen
 pub mod FieldsBelow
 pub mod Looking
+pub mod SumSwaps
 pub mod Swapping
 pub mod Classifying
+pub mod Editions
 pub mod RuleLists
 pub mod ShapeBits
 pub mod SwapLaws
@@ -15,5 +17,6 @@ pub mod LowForms
 pub mod NoForms
 pub mod LinearLaws
 pub mod OneList
-pub mod ShowsTwo
+pub mod ShapeShows
+pub mod TiedLaws
 pub mod Levels

@@ -17,10 +17,11 @@ use Rattle.rec_bits.specs.declared.operator.Op2.{Op2}
 use Rattle.transfer_set.specs.declared.stepping.Counter.{Counter}
 use Rattle.transfer_set.specs.Stepping.{is_next}
 use Rattle.form_model.specs.Registers.{AreLow, IsLow, IsLowGoal, IsLowTerm}
-use Rattle.form_model.specs.Rules.{BranchTarget, Rule, into_memory, into_reg}
-use Rattle.form_set.specs.Listing.{AreRules, counter_at, sides_of}
+use Rattle.form_model.specs.Rules.{BranchTarget, Rule, into_file, into_memory, into_reg}
+use Rattle.form_set.specs.Listing.{AreRules, counter_at, goal_at, sides_of}
+use Rattle.form_set.specs.Static.{is_file_at}
 use Rattle.form_set.specs.Promises.{IsFormOf, of_branch, of_jump, of_plain}
-use Rattle.form_set.specs.Swaps.{Path, can_swap, ordered, picks, swap_at, swap_paths, swapped}
+use Rattle.form_set.specs.Swaps.{Path, ordered, picks, swap_at, swap_paths, swapped, swaps_here}
 use Rattle.form_set.specs.Targets.{Branch, allowed_target, branch_if, first_of, term_branch}
 use Rattle.form_set.proofs.FormLaws.{form_at}
 
@@ -55,7 +56,7 @@ module _ (q : ℕ) where
   swap_occurs chosen (zext a w) = swap_occurs (λ path. chosen (0 ∷ path)) a
   swap_occurs chosen (sext a w) = swap_occurs (λ path. chosen (0 ∷ path)) a
   swap_occurs chosen (bin o a b) =
-      turned o (swap_at (λ path. chosen (0 ∷ path)) a) (swap_at (λ path. chosen (1 ∷ path)) b) (can_swap o && chosen [])
+      turned o (swap_at (λ path. chosen (0 ∷ path)) a) (swap_at (λ path. chosen (1 ∷ path)) b) (swaps_here o a b && chosen [])
       ∙ (λ j. swap_occurs (λ path. chosen (0 ∷ path)) a j || swap_occurs (λ path. chosen (1 ∷ path)) b j)
   swap_occurs chosen (cat a b) = (λ j. swap_occurs (λ path. chosen (0 ∷ path)) a j || swap_occurs (λ path. chosen (1 ∷ path)) b j)
   swap_occurs chosen (select c a b) =
@@ -74,24 +75,25 @@ if_test true when_one c None parts e = absurd (cc)
 if_test false when_one c to parts e = absurd (cc)
 
 -- what occurs in it occurs in the value of its pattern
-test_occurs : (q : ℕ) (pc : Counter) (reach : ℕ) (t : Term) (parts : Branch) → term_branch pc reach t ≡ Some parts → occurs q parts.test ≡ true → occurs q t ≡ true
-test_occurs q pc reach (select c a b) parts e k = either_left (occurs q c) (occurs q a || occurs q b) (ap (occurs q) test ∙ k)
+test_occurs : (q edition : ℕ) (pc : Counter) (reach : ℕ) (t : Term) (parts : Branch) → term_branch edition pc reach t ≡ Some parts → occurs q parts.test ≡ true → occurs q t ≡ true
+test_occurs q edition pc reach (select c a b) parts e k = either_left (occurs q c) (occurs q a || occurs q b) (ap (occurs q) test ∙ k)
   where
     test : c ≡ parts.test
-    test = elim (first_some (branch_if (is_next pc b) true c (allowed_target pc reach a)) (branch_if (is_next pc a) false c (allowed_target pc reach b)) parts e) [
-      | inl x ↦ if_test (is_next pc b) true c (allowed_target pc reach a) parts x
-      | inr y ↦ if_test (is_next pc a) false c (allowed_target pc reach b) parts y
+    test = elim (first_some (branch_if (is_next pc b) true c (allowed_target edition pc reach a)) (branch_if (is_next pc a) false c (allowed_target edition pc reach b)) parts e) [
+      | inl x ↦ if_test (is_next pc b) true c (allowed_target edition pc reach a) parts x
+      | inr y ↦ if_test (is_next pc a) false c (allowed_target edition pc reach b) parts y
     ]
-test_occurs q pc reach _ parts e k = absurd (cc)
+test_occurs q edition pc reach _ parts e k = absurd (cc)
 
 -- ---- forms
 
-goal_low : (storage memory : ℕ) → storage < 16 → IsLowGoal (if storage == memory then into_memory else into_reg storage)
-goal_low storage memory lt = by (storage == memory)
+goal_low : (netlist : Netlist) (storage : ℕ) → storage < 16 → IsLowGoal (goal_at netlist storage)
+goal_low netlist storage lt = by (storage == memory_id netlist.storages) (is_file_at netlist storage)
   where
-    by : (b : Bool) → IsLowGoal (if b then into_memory else into_reg storage)
-    by true q e = absurd (cc)
-    by false q e = let same : storage ≡ q = cc in subst (λ n. n < 16) same lt
+    by : (b c : Bool) → IsLowGoal (if b then into_memory else if c then into_file else into_reg storage)
+    by true c q e = absurd (cc)
+    by false true q e = absurd (cc)
+    by false false q e = let same : storage ≡ q = cc in subst (λ n. n < 16) same lt
 
 -- the registers of an address and of a value
 addr_low : (choice : ℕ) (m : Move) → ((q : ℕ) → move_occurs q m ≡ true → q < 16) → (a : Term) → (swapped choice (sides_of m)).addr ≡ Some a → IsLowTerm a
@@ -119,7 +121,7 @@ module _ (netlist : Netlist) (order : List ℕ) (keeps : KeepsRules netlist orde
   of_low : (reach number : ℕ) (p : Pattern) (rule : Rule) → IsPattern netlist p → IsFormOf netlist reach number p rule → IsLow rule
   of_low reach number p rule is (of_plain choice clobbers plain are e) =
       subst IsLow (sym e) (
-        goal_low p.storage (memory_id netlist.storages) (let within = storage_within netlist p is in omega (arith, within, few_storages netlist order keeps)),
+        goal_low netlist p.storage (let within = storage_within netlist p is in omega (arith, within, few_storages netlist order keeps)),
         addr_low choice p.move (pattern_low p is),
         value_low choice p.move (pattern_low p is),
       )
@@ -131,7 +133,7 @@ module _ (netlist : Netlist) (order : List ℕ) (keeps : KeepsRules netlist orde
         (λ q x. absurd (cc)),
         (λ a x. absurd (cc)),
         (λ q k. pattern_low p is q (ap (move_occurs q) b.move
-            ∙ test_occurs q (counter_at netlist) reach b.value parts b.parts (sym (swap_occurs q chosen parts.test) ∙ k))),
+            ∙ test_occurs q netlist.edition (counter_at netlist) reach b.value parts b.parts (sym (swap_occurs q chosen parts.test) ∙ k))),
       )
 
   pattern_at : (patterns : List Pattern) (i : ℕ) (p : Pattern) → All (IsPattern netlist) patterns → slice_get patterns i ≡ Some p → IsPattern netlist p

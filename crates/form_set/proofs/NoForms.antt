@@ -8,7 +8,8 @@ use Rattle.net_model.specs.Patterns.{Pattern}
 use Rattle.net_model.specs.Terms.{Term, Move, write, next_of, swapped_next_of}
 use Rattle.net_model.specs.Transfers.{move_at}
 use Rattle.net_model.specs.Fields.{move_fields}
-use Rattle.form_model.specs.Rules.{Rule, into_memory, into_reg}
+use Rattle.form_model.specs.Rules.{Rule, into_file, into_memory, into_reg}
+use Rattle.form_set.specs.Static.{is_file_at}
 use Rattle.form_set.specs.Listing.{AreRules, AreRulesOf, plain, jump, branch, other, IsBranch, IsJump, IsPlain, branch_rule, plain_rule, counter_at, goal_at, sides_of, test_sides}
 use Rattle.form_set.specs.Promises.{all_rules, is_no_jump, is_control_goal, no_jumps, only_control}
 use Rattle.form_set.specs.Swaps.{map_below, swap_count}
@@ -47,17 +48,18 @@ none_each q f h (suc n) lt e =
 -- ---- goals
 
 goal_plain : (netlist : Netlist) (storage : ℕ) → (is_control_goal (goal_at netlist storage) ≡ false) × (is_no_jump (goal_at netlist storage) ≡ true)
-goal_plain netlist storage = by (storage == memory_id netlist.storages)
+goal_plain netlist storage = by (storage == memory_id netlist.storages) (is_file_at netlist storage)
   where
-    by : (b : Bool) → (is_control_goal (cond b into_memory (into_reg storage)) ≡ false) × (is_no_jump (cond b into_memory (into_reg storage)) ≡ true)
-    by true = (refl, refl)
-    by false = (refl, refl)
+    by : (b c : Bool) → (is_control_goal (cond b into_memory (cond c into_file (into_reg storage))) ≡ false) × (is_no_jump (cond b into_memory (cond c into_file (into_reg storage))) ≡ true)
+    by true c = (refl, refl)
+    by false true = (refl, refl)
+    by false false = (refl, refl)
 
 -- ---- a pattern that steps is no branch
 
-sum_no_branch : (pc : Counter) (reach : ℕ) (t : Term) (id width : ℕ) → (t ≡ next_of id width) ⊎ (t ≡ swapped_next_of id width) → term_branch pc reach t ≡ None
-sum_no_branch pc reach t id width (inl e) = ap (term_branch pc reach) e
-sum_no_branch pc reach t id width (inr e) = ap (term_branch pc reach) e
+sum_no_branch : (edition : ℕ) (pc : Counter) (reach : ℕ) (t : Term) (id width : ℕ) → (t ≡ next_of id width) ⊎ (t ≡ swapped_next_of id width) → term_branch edition pc reach t ≡ None
+sum_no_branch edition pc reach t id width (inl e) = ap (term_branch edition pc reach) e
+sum_no_branch edition pc reach t id width (inr e) = ap (term_branch edition pc reach) e
 
 write_both : (m : Move) (t : Term) (a b : Term) → m ≡ write t → (m ≡ write a) ⊎ (m ≡ write b) → (t ≡ a) ⊎ (t ≡ b)
 write_both m t a b e (inl q) = inl (cc)
@@ -67,7 +69,7 @@ pub plain_not_branch : (netlist : Netlist) (reach : ℕ) (p : Pattern) (parts : 
 plain_not_branch netlist reach p parts h b =
     let w = h.ok 0 (let le = and_le_l 0 (move_fields p.move) in omega (arith, le)) in
     let to : move_at netlist w.0 (counter_of netlist.codes) ≡ write b.value = sym (ap (move_at netlist w.0) b.storage) ∙ w.2.given.gives ∙ b.move in
-    let nothing = sum_no_branch (counter_at netlist) reach b.value (counter_of netlist.codes) (counter_width netlist) (write_both _ b.value _ _ to w.2.steps.step) in
+    let nothing = sum_no_branch netlist.edition (counter_at netlist) reach b.value (counter_of netlist.codes) (counter_width netlist) (write_both _ b.value _ _ to w.2.steps.step) in
     let some = b.parts in
     absurd (cc)
 

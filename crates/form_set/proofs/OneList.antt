@@ -10,7 +10,7 @@ use Rattle.form_model.specs.Shapes.{reach_of}
 use Rattle.form_set.specs.Inner.Adding.{IsGreatestReach, IsReachOf, jumps_not, jumps_to}
 use Rattle.form_set.specs.Listing.{AreForms, AreRules, AreRulesOf, plain, jump, branch, other, IsBranch, branch_rules, counter_at, jump_rule, plain_rules}
 use Rattle.form_set.specs.Targets.{Branch, term_branch}
-use Rattle.form_set.specs.Words.{AreClobbers, AreKept, Joins, joins, fails, none, all_registers}
+use Rattle.form_set.specs.Words.{AreClobbers, AreKept, Joins, joins, fails, none, all_registers, own_storage}
 use Rattle.form_set.proofs.RuleLists.{branch_not_jump, greatest_is, plain_not_jump}
 use Rattle.form_set.proofs.NoForms.{plain_not_branch}
 
@@ -35,7 +35,7 @@ kept_one netlist p (suc n) a b h k =
 
 pub clobbers_one : (netlist : Netlist) (p : Pattern) (a b : ℕ) → AreClobbers netlist p a → AreClobbers netlist p b → a ≡ b
 clobbers_one netlist p a b h k =
-    h.is ∙ ap (λ q. bit_or (2 ^ p.storage) (bit_xor (all_registers netlist.storages) q)) (kept_one netlist p (length netlist.storages) h.kept k.kept h.are k.are) ∙ sym k.is
+    h.is ∙ ap (λ q. bit_or (own_storage netlist p.storage) (bit_xor (all_registers netlist.storages) q)) (kept_one netlist p (length netlist.storages) h.kept k.kept h.are k.are) ∙ sym k.is
 
 -- ---- the forms of one pattern
 
@@ -48,7 +48,7 @@ some_one o a b e f = cc
 parts_one : (netlist : Netlist) (reach : ℕ) (p : Pattern) (a b : Branch) → IsBranch netlist reach p a → IsBranch netlist reach p b → a ≡ b
 parts_one netlist reach p a b h k =
     let e = write_one p.move h.value k.value h.move k.move in
-    some_one (term_branch (counter_at netlist) reach k.value) a b (subst (λ t. term_branch (counter_at netlist) reach t ≡ Some a) e h.parts) k.parts
+    some_one (term_branch netlist.edition (counter_at netlist) reach k.value) a b (subst (λ t. term_branch netlist.edition (counter_at netlist) reach t ≡ Some a) e h.parts) k.parts
 
 of_one : (netlist : Netlist) (reach number : ℕ) (p : Pattern) (xs ys : List Rule) → AreRulesOf netlist reach number p xs → AreRulesOf netlist reach number p ys → xs ≡ ys
 of_one netlist reach number p xs ys (plain a h c e) (plain b k d f) = e ∙ ap (plain_rules netlist number p) (clobbers_one netlist p a b c d) ∙ sym f

@@ -11,7 +11,9 @@ use Rattle.sym_expr.specs.declared.pool.Node.{Node}
 use Rattle.transfer_set.specs.declared.row.Row.{Row}
 use Rattle.transfer_set.specs.Rows.{row_pattern, row_patterns}
 use Rattle.net_model.specs.Fields.{move_fields}
-use Rattle.form_model.specs.Rules.{Rule, into_memory, into_reg}
+use Rattle.form_model.specs.Rules.{Rule, into_file, into_memory, into_reg}
+use Rattle.form_set.specs.Static.{is_file_at}
+use Rattle.form_set.proofs.Editions.{no_sum_with, shape_from}
 use Rattle.form_model.specs.Shapes.{is_shape, reach_of}
 use Rattle.form_set.specs.Inner.Adding.{HasAdded, IsGreatestReach, IsReachOf, jumps_not, jumps_to}
 use Rattle.form_set.specs.Listing.{AreRules, AreRulesOf, plain, jump, branch, other, IsBranch, IsJump, IsPlain, greatest_reach, goal_at, goal_reach, jump_rule, branch_rule, plain_rule, counter_at, sides_of, test_sides}
@@ -74,11 +76,12 @@ greatest_each f h zero = refl
 greatest_each f h (suc n) = (let a = greatest_append (map_below f n) (f n ∷ []) in let e = greatest_each f h n in let z = h n in omega (arith, a, e, z))
 
 goal_none : (netlist : Netlist) (storage : ℕ) → goal_reach (goal_at netlist storage) ≡ 0
-goal_none netlist storage = by (storage == memory_id netlist.storages)
+goal_none netlist storage = by (storage == memory_id netlist.storages) (is_file_at netlist storage)
   where
-    by : (b : Bool) → goal_reach (cond b into_memory (into_reg storage)) ≡ 0
-    by true = refl
-    by false = refl
+    by : (b c : Bool) → goal_reach (cond b into_memory (cond c into_file (into_reg storage))) ≡ 0
+    by true c = refl
+    by false true = refl
+    by false false = refl
 
 -- ---- a pattern is one thing alone
 
@@ -96,27 +99,27 @@ plain_not_jump netlist p h j =
     no_sum t y s f e = true≢false (sym y ∙ ap is_shape e ∙ f)
 
     by : {m : Move} → (m ≡ write (next_of (counter_of netlist.codes) (counter_width netlist))) ⊎ (m ≡ write (swapped_next_of (counter_of netlist.codes) (counter_width netlist))) → m ≡ write j.target → ⊥
-    by (inl e) to = no_sum j.target j.shape (next_of (counter_of netlist.codes) (counter_width netlist)) refl (write_eq _ _ (sym to ∙ e))
-    by (inr e) to = no_sum j.target j.shape (swapped_next_of (counter_of netlist.codes) (counter_width netlist)) refl (write_eq _ _ (sym to ∙ e))
+    by (inl e) to = no_sum j.target (shape_from netlist.edition j.target j.shape) (next_of (counter_of netlist.codes) (counter_width netlist)) (no_sum_with (counter_width netlist) 1 (reg (counter_of netlist.codes) (counter_width netlist)) refl) (write_eq _ _ (sym to ∙ e))
+    by (inr e) to = no_sum j.target (shape_from netlist.edition j.target j.shape) (swapped_next_of (counter_of netlist.codes) (counter_width netlist)) (no_sum_with (counter_width netlist) 1 (reg (counter_of netlist.codes) (counter_width netlist)) refl) (write_eq _ _ (sym to ∙ e))
 
 -- and so is a branch
-shape_no_branch : (pc : Counter) (reach : ℕ) (t : Term) → is_shape t ≡ true → term_branch pc reach t ≡ None
-shape_no_branch pc reach (word w) h = refl
-shape_no_branch pc reach (reg r w) h = refl
-shape_no_branch pc reach (const w v) h = refl
-shape_no_branch pc reach (read space a w) h = refl
-shape_no_branch pc reach (un o a) h = refl
-shape_no_branch pc reach (bin o a b) h = refl
-shape_no_branch pc reach (slice a hi lo) h = refl
-shape_no_branch pc reach (cat a b) h = refl
-shape_no_branch pc reach (zext a w) h = refl
-shape_no_branch pc reach (sext a w) h = refl
-shape_no_branch pc reach (select c a b) h = absurd (true≢false (sym h))
+shape_no_branch : (edition : ℕ) (pc : Counter) (reach : ℕ) (t : Term) → is_shape t ≡ true → term_branch edition pc reach t ≡ None
+shape_no_branch edition pc reach (word w) h = refl
+shape_no_branch edition pc reach (reg r w) h = refl
+shape_no_branch edition pc reach (const w v) h = refl
+shape_no_branch edition pc reach (read space a w) h = refl
+shape_no_branch edition pc reach (un o a) h = refl
+shape_no_branch edition pc reach (bin o a b) h = refl
+shape_no_branch edition pc reach (slice a hi lo) h = refl
+shape_no_branch edition pc reach (cat a b) h = refl
+shape_no_branch edition pc reach (zext a w) h = refl
+shape_no_branch edition pc reach (sext a w) h = refl
+shape_no_branch edition pc reach (select c a b) h = absurd (true≢false (sym h))
 
 pub branch_not_jump : (netlist : Netlist) (reach : ℕ) (p : Pattern) (parts : Branch) → IsBranch netlist reach p parts → IsJump netlist p → ⊥
 branch_not_jump netlist reach p parts b j =
     let e : b.value ≡ j.target = write_eq b.value j.target (sym b.move ∙ j.move) in
-    let none : term_branch (counter_at netlist) reach b.value ≡ None = ap (term_branch (counter_at netlist) reach) e ∙ shape_no_branch (counter_at netlist) reach j.target j.shape in
+    let none : term_branch netlist.edition (counter_at netlist) reach b.value ≡ None = ap (term_branch netlist.edition (counter_at netlist) reach) e ∙ shape_no_branch netlist.edition (counter_at netlist) reach j.target (shape_from netlist.edition j.target j.shape) in
     let some = b.parts in
     absurd (cc)
 

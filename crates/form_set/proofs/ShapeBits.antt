@@ -1,11 +1,14 @@
 -- The bits of a field shape: a setting has no others, and each word with these bits gives the shape
 -- its value.
-use Rattle.std.proofs.Common.{◌≡◌, ℕ, ◌+◌, ◌-◌, ◌*◌, ◌/◌, ◌%◌, ◌^◌, ◌<◌, ◌≤◌, ◌==◌, Bool, true, false, true≢false, cond, Some, None, refl, sym, ap, subst, ◌∙◌, arith}
-use Rattle.std.specs.Prelude.{bit_and}
+use Rattle.std.proofs.Common.{◌≡◌, ℕ, ◌+◌, ◌-◌, ◌*◌, ◌/◌, ◌%◌, ◌^◌, ◌<◌, ◌≤◌, ◌==◌, ◌&&◌, nat_le, nat_lt, Bool, true, false, true≢false, cond, Option, Some, None, refl, sym, ap, subst, ◌∙◌, arith}
+use Rattle.std.specs.Prelude.{bit_and, bit_or}
+use Rattle.std.specs.Int.Bits.{or_zero_l, or_zero_r}
 use Rattle.std.proofs.lemmas.Nat.{and_mask, shl-shr}
 use Rattle.std.proofs.lemmas.Nat.Bits.{and_high}
 use Rattle.std.proofs.Math.Nat.{mod-eq_of_lt}
-use Rattle.rec_bits.specs.Operators.{sext_of}
+use Rattle.rec_bits.specs.declared.operator.Op2.{Op2}
+use Rattle.rec_bits.specs.declared.operator.Op2.TheVariants.{Add}
+use Rattle.rec_bits.specs.Operators.{apply2_of, sext_of}
 use Rattle.net_model.specs.declared.hardware.Netlist.{Netlist}
 use Rattle.net_model.specs.declared.states.State.{State}
 use Rattle.net_model.specs.Fields.{WordFitsTerm, bits_between, fields}
@@ -17,7 +20,9 @@ use Rattle.net_model.proofs.TermLaws.{mean_fields}
 use Rattle.sym_expr.specs.Pools.{TermFits}
 use Rattle.sym_expr.proofs.Fits.{width_fits}
 use Rattle.transfer_set.specs.TextMarks.{IsTermOf}
-use Rattle.form_model.specs.Shapes.{FieldFits, ShapeFits, field_setting, is_field, is_shape, shape_setting}
+use Rattle.form_model.specs.Shapes.{FieldFits, PlainFits, ShapeFits, Sum, SummandFits, field_setting, is_field, is_plain, is_plain_sum, is_shape, less_by, plain_setting, shape_setting, sum_of, sum_setting, sum_with, summands}
+use Rattle.form_model.proofs.SumNumbers.{sum_is_with}
+use Rattle.form_model.proofs.SumLaws.{IsSum, sum_is}
 use Rattle.form_model.proofs.FieldLaws.{less_true, then_some_true}
 use Rattle.form_model.proofs.ShapeLaws.{setting_of_shape}
 
@@ -47,21 +52,85 @@ field_only bits (zext a w) i f v b e = absurd (true≢false (sym i))
 field_only bits (sext a w) i f v b e = absurd (true≢false (sym i))
 field_only bits (select a c d) i f v b e = absurd (true≢false (sym i))
 
+-- the parts of a sum are a constant and what is plain
+plain_with : (w c : ℕ) (t : Term) → is_plain_sum (sum_with w c t) ≡ true → is_plain t ≡ true
+plain_with w c t = by (nat_le w 64 && (nat_lt c (2 ^ w) && (term_width t == w)))
+  where
+    by : (b : Bool) → is_plain_sum (cond b (Some (record { width = w; added = c; to = t })) None) ≡ true → is_plain t ≡ true
+    by true h = h
+    by false h = absurd (true≢false (sym h))
+
+summands_plain : (a b : Term) → is_plain_sum (summands a b) ≡ true → (is_plain a ≡ true) × (is_plain b ≡ true)
+summands_plain (const w c) b h = (refl, plain_with w c b h)
+summands_plain a (const w c) h = (plain_with w c a h, refl)
+summands_plain a b h = absurd (true≢false (sym h))
+
+pub both_plain : (o : Op2) (a b : Term) → is_plain_sum (sum_of o a b) ≡ true → (is_plain a ≡ true) × (is_plain b ≡ true)
+both_plain Add a b h = summands_plain a b h
+both_plain o a b h = absurd (true≢false (sym h))
+
+-- and the constant has no bits
+summands_fields : (a b : Term) (s : Sum) → summands a b ≡ Some s → bit_or (fields a) (fields b) ≡ fields s.to
+summands_fields (const w c) b s e = or_zero_l (fields b) ∙ ap (λ (z : Sum). fields z.to) (sum_is_with w c b s e).is
+summands_fields a (const w c) s e = or_zero_r (fields a) ∙ ap (λ (z : Sum). fields z.to) (sum_is_with w c a s e).is
+summands_fields a b s e = absurd (cc)
+
+sum_fields : (o : Op2) (a b : Term) (s : Sum) → sum_of o a b ≡ Some s → fields (bin o a b) ≡ fields s.to
+sum_fields Add a b s e = summands_fields a b s e
+sum_fields o a b s e = absurd (cc)
+
+plain_of : (bits : ℕ) (t : Term) → SummandFits bits t → PlainFits bits t
+plain_of bits (const w v) f = tt
+plain_of bits (word w) f = f
+plain_of bits (reg r w) f = f
+plain_of bits (read space a w) f = f
+plain_of bits (un o a) f = f
+plain_of bits (bin o a b) f = f
+plain_of bits (slice a hi lo) f = f
+plain_of bits (cat a b) f = f
+plain_of bits (zext a w) f = f
+plain_of bits (sext a w) f = f
+plain_of bits (select c a b) f = f
+
 -- the bits that are told are bits of the shape
-pub shape_only : (bits : ℕ) (t : Term) → is_shape t ≡ true → ShapeFits bits t → (v b : ℕ) → shape_setting t v ≡ Some b → bit_and b (fields t) ≡ b
-shape_only bits (const w c) i f v b e = (let g = then_some_true (v == c) 0 b e in subst (λ n. bit_and n 0 ≡ n) g.1 refl)
-shape_only bits (zext a w) i f v b e = field_only bits a i f.0 v b e
-shape_only bits (sext a w) i f v b e = by (sext_of (v % 2 ^ term_width a) (term_width a) w == v) e
+plain_only : (bits : ℕ) (t : Term) → is_plain t ≡ true → PlainFits bits t → (v b : ℕ) → plain_setting t v ≡ Some b → bit_and b (fields t) ≡ b
+plain_only bits (const w c) i f v b e = (let g = then_some_true (v == c) 0 b e in subst (λ n. bit_and n 0 ≡ n) g.1 refl)
+plain_only bits (zext a w) i f v b e = field_only bits a i f.0 v b e
+plain_only bits (sext a w) i f v b e = by (sext_of (v % 2 ^ term_width a) (term_width a) w == v) e
   where
     by : (t : Bool) → cond t (field_setting a (v % 2 ^ term_width a)) None ≡ Some b → bit_and b (fields a) ≡ b
     by true q = field_only bits a i f.0 (v % 2 ^ term_width a) b q
     by false q = absurd (cc)
-shape_only bits (word w) i f v b e = field_only bits (word w) i f v b e
-shape_only bits (slice a hi lo) i f v b e = field_only bits (slice a hi lo) i f v b e
+plain_only bits (word w) i f v b e = field_only bits (word w) i f v b e
+plain_only bits (slice a hi lo) i f v b e = field_only bits (slice a hi lo) i f v b e
+plain_only bits (reg r w) i f v b e = absurd (true≢false (sym i))
+plain_only bits (read space a w) i f v b e = absurd (true≢false (sym i))
+plain_only bits (un o a) i f v b e = absurd (true≢false (sym i))
+plain_only bits (bin o a c) i f v b e = absurd (true≢false (sym i))
+plain_only bits (cat a c) i f v b e = absurd (true≢false (sym i))
+plain_only bits (select a c d) i f v b e = absurd (true≢false (sym i))
+
+sum_only : (bits : ℕ) (o : Op2) (a c : Term) (s : Sum) → IsSum bits (bin o a c) s → sum_of o a c ≡ Some s → (v b : ℕ) → sum_setting (Some s) v ≡ Some b → bit_and b (fields (bin o a c)) ≡ b
+sum_only bits o a c s sum e v b told = ap (bit_and b) (sum_fields o a c s e) ∙ by (nat_lt v (2 ^ s.width)) told
+  where
+    by : (t : Bool) → cond t (plain_setting s.to (less_by s.width v s.added)) None ≡ Some b → bit_and b (fields s.to) ≡ b
+    by true q = plain_only bits s.to sum.plain (plain_of bits s.to sum.fits) (less_by s.width v s.added) b q
+    by false q = absurd (cc)
+
+pub shape_only : (bits : ℕ) (t : Term) → is_shape t ≡ true → ShapeFits bits t → (v b : ℕ) → shape_setting t v ≡ Some b → bit_and b (fields t) ≡ b
+shape_only bits (bin o a c) i f v b e = by (sum_of o a c) refl i e
+  where
+    by : (z : Option Sum) → sum_of o a c ≡ z → is_plain_sum z ≡ true → sum_setting z v ≡ Some b → bit_and b (fields (bin o a c)) ≡ b
+    by None q plain e = absurd (cc)
+    by (Some s) q plain e = sum_only bits o a c s (sum_is bits o a c s q plain f) q v b e
+shape_only bits (const w c) i f v b e = plain_only bits (const w c) i f v b e
+shape_only bits (zext a w) i f v b e = plain_only bits (zext a w) i f v b e
+shape_only bits (sext a w) i f v b e = plain_only bits (sext a w) i f v b e
+shape_only bits (word w) i f v b e = plain_only bits (word w) i f v b e
+shape_only bits (slice a hi lo) i f v b e = plain_only bits (slice a hi lo) i f v b e
 shape_only bits (reg r w) i f v b e = absurd (true≢false (sym i))
 shape_only bits (read space a w) i f v b e = absurd (true≢false (sym i))
 shape_only bits (un o a) i f v b e = absurd (true≢false (sym i))
-shape_only bits (bin o a c) i f v b e = absurd (true≢false (sym i))
 shape_only bits (cat a c) i f v b e = absurd (true≢false (sym i))
 shape_only bits (select a c d) i f v b e = absurd (true≢false (sym i))
 
@@ -80,16 +149,29 @@ field_blank (zext a w) h s i = absurd (true≢false (sym h))
 field_blank (sext a w) h s i = absurd (true≢false (sym h))
 field_blank (select a c d) h s i = absurd (true≢false (sym h))
 
+plain_blank : (t : Term) → is_plain t ≡ true → (s : State) (i : ℕ) → mean t s i ≡ mean t no_state i
+plain_blank (const w c) h s i = refl
+plain_blank (zext a w) h s i = field_blank a h s i
+plain_blank (sext a w) h s i = ap (λ n. sext_of n (term_width a) w) (field_blank a h s i)
+plain_blank (word w) h s i = refl
+plain_blank (slice a hi lo) h s i = field_blank (slice a hi lo) h s i
+plain_blank (reg r w) h s i = absurd (true≢false (sym h))
+plain_blank (read space a w) h s i = absurd (true≢false (sym h))
+plain_blank (un o a) h s i = absurd (true≢false (sym h))
+plain_blank (bin o a c) h s i = absurd (true≢false (sym h))
+plain_blank (cat a c) h s i = absurd (true≢false (sym h))
+plain_blank (select a c d) h s i = absurd (true≢false (sym h))
+
 pub shape_blank : (t : Term) → is_shape t ≡ true → (s : State) (i : ℕ) → mean t s i ≡ mean t no_state i
-shape_blank (const w c) h s i = refl
-shape_blank (zext a w) h s i = field_blank a h s i
-shape_blank (sext a w) h s i = ap (λ n. sext_of n (term_width a) w) (field_blank a h s i)
-shape_blank (word w) h s i = refl
-shape_blank (slice a hi lo) h s i = field_blank (slice a hi lo) h s i
+shape_blank (bin o a c) h s i = (let p = both_plain o a c h in (λ j. apply2_of o (term_width a) (plain_blank a p.0 s i j) (plain_blank c p.1 s i j)))
+shape_blank (const w c) h s i = plain_blank (const w c) h s i
+shape_blank (zext a w) h s i = plain_blank (zext a w) h s i
+shape_blank (sext a w) h s i = plain_blank (sext a w) h s i
+shape_blank (word w) h s i = plain_blank (word w) h s i
+shape_blank (slice a hi lo) h s i = plain_blank (slice a hi lo) h s i
 shape_blank (reg r w) h s i = absurd (true≢false (sym h))
 shape_blank (read space a w) h s i = absurd (true≢false (sym h))
 shape_blank (un o a) h s i = absurd (true≢false (sym h))
-shape_blank (bin o a c) h s i = absurd (true≢false (sym h))
 shape_blank (cat a c) h s i = absurd (true≢false (sym h))
 shape_blank (select a c d) h s i = absurd (true≢false (sym h))
 
@@ -109,16 +191,29 @@ field_word bits (zext a w) h f i lt = absurd (true≢false (sym h))
 field_word bits (sext a w) h f i lt = absurd (true≢false (sym h))
 field_word bits (select a c d) h f i lt = absurd (true≢false (sym h))
 
+plain_word : (bits : ℕ) (t : Term) → is_plain t ≡ true → PlainFits bits t → (i : ℕ) → i < 2 ^ bits → WordFitsTerm t i
+plain_word bits (const w c) h f i lt = tt
+plain_word bits (zext a w) h f i lt = field_word bits a h f.0 i lt
+plain_word bits (sext a w) h f i lt = field_word bits a h f.0 i lt
+plain_word bits (word w) h f i lt = field_word bits (word w) h f i lt
+plain_word bits (slice a hi lo) h f i lt = field_word bits (slice a hi lo) h f i lt
+plain_word bits (reg r w) h f i lt = tt
+plain_word bits (read space a w) h f i lt = absurd (true≢false (sym h))
+plain_word bits (un o a) h f i lt = absurd (true≢false (sym h))
+plain_word bits (bin o a c) h f i lt = absurd (true≢false (sym h))
+plain_word bits (cat a c) h f i lt = absurd (true≢false (sym h))
+plain_word bits (select a c d) h f i lt = absurd (true≢false (sym h))
+
 shape_word : (bits : ℕ) (t : Term) → is_shape t ≡ true → ShapeFits bits t → (i : ℕ) → i < 2 ^ bits → WordFitsTerm t i
-shape_word bits (const w c) h f i lt = tt
-shape_word bits (zext a w) h f i lt = field_word bits a h f.0 i lt
-shape_word bits (sext a w) h f i lt = field_word bits a h f.0 i lt
-shape_word bits (word w) h f i lt = field_word bits (word w) h f i lt
-shape_word bits (slice a hi lo) h f i lt = field_word bits (slice a hi lo) h f i lt
-shape_word bits (reg r w) h f i lt = tt
+shape_word bits (bin o a c) h f i lt = (let p = both_plain o a c h in (plain_word bits a p.0 (plain_of bits a f.1) i lt, plain_word bits c p.1 (plain_of bits c f.2) i lt))
+shape_word bits (const w c) h f i lt = plain_word bits (const w c) h f i lt
+shape_word bits (zext a w) h f i lt = plain_word bits (zext a w) h f i lt
+shape_word bits (sext a w) h f i lt = plain_word bits (sext a w) h f i lt
+shape_word bits (word w) h f i lt = plain_word bits (word w) h f i lt
+shape_word bits (slice a hi lo) h f i lt = plain_word bits (slice a hi lo) h f i lt
+shape_word bits (reg r w) h f i lt = absurd (true≢false (sym h))
 shape_word bits (read space a w) h f i lt = absurd (true≢false (sym h))
 shape_word bits (un o a) h f i lt = absurd (true≢false (sym h))
-shape_word bits (bin o a c) h f i lt = absurd (true≢false (sym h))
 shape_word bits (cat a c) h f i lt = absurd (true≢false (sym h))
 shape_word bits (select a c d) h f i lt = absurd (true≢false (sym h))
 
@@ -145,15 +240,28 @@ field_fits netlist (zext a w) k f = tt
 field_fits netlist (sext a w) k f = tt
 field_fits netlist (select a c d) k f = tt
 
+summand_fits : (netlist : Netlist) (t : Term) → is_plain t ≡ true → IsTermOf netlist t → TermFits t → SummandFits (word_width netlist) t
+summand_fits netlist (const w c) h k f = f.2
+summand_fits netlist (zext a w) h k f = (field_fits netlist a k.0 f.0, f.1.0)
+summand_fits netlist (sext a w) h k f = (field_fits netlist a k.0 f.0, (width_fits a f.0).0, f.1.0)
+summand_fits netlist (word w) h k f = field_fits netlist (word w) k f
+summand_fits netlist (slice a hi lo) h k f = field_fits netlist (slice a hi lo) k f
+summand_fits netlist (reg r w) h k f = absurd (true≢false (sym h))
+summand_fits netlist (read space a w) h k f = absurd (true≢false (sym h))
+summand_fits netlist (un o a) h k f = absurd (true≢false (sym h))
+summand_fits netlist (bin o a c) h k f = absurd (true≢false (sym h))
+summand_fits netlist (cat a c) h k f = absurd (true≢false (sym h))
+summand_fits netlist (select a c d) h k f = absurd (true≢false (sym h))
+
 pub shape_fits : (netlist : Netlist) (t : Term) → is_shape t ≡ true → IsTermOf netlist t → TermFits t → ShapeFits (word_width netlist) t
+shape_fits netlist (bin o a c) h k f = (let p = both_plain o a c h in (sym f.2, summand_fits netlist a p.0 k.0 f.0, summand_fits netlist c p.1 k.1 f.1))
 shape_fits netlist (const w c) h k f = tt
-shape_fits netlist (zext a w) h k f = (field_fits netlist a k.0 f.0, f.1.0)
-shape_fits netlist (sext a w) h k f = (field_fits netlist a k.0 f.0, (width_fits a f.0).0, f.1.0)
-shape_fits netlist (word w) h k f = field_fits netlist (word w) k f
-shape_fits netlist (slice a hi lo) h k f = field_fits netlist (slice a hi lo) k f
+shape_fits netlist (zext a w) h k f = summand_fits netlist (zext a w) h k f
+shape_fits netlist (sext a w) h k f = summand_fits netlist (sext a w) h k f
+shape_fits netlist (word w) h k f = summand_fits netlist (word w) h k f
+shape_fits netlist (slice a hi lo) h k f = summand_fits netlist (slice a hi lo) h k f
 shape_fits netlist (reg r w) h k f = absurd (true≢false (sym h))
 shape_fits netlist (read space a w) h k f = absurd (true≢false (sym h))
 shape_fits netlist (un o a) h k f = absurd (true≢false (sym h))
-shape_fits netlist (bin o a c) h k f = absurd (true≢false (sym h))
 shape_fits netlist (cat a c) h k f = absurd (true≢false (sym h))
 shape_fits netlist (select a c d) h k f = absurd (true≢false (sym h))

@@ -8,12 +8,13 @@ use Rattle.rec_bits.specs.declared.operator.Op1.{Op1}
 use Rattle.rec_bits.specs.declared.operator.Op2.{Op2}
 use Rattle.rec_bits.specs.declared.operator.Op2.TheVariants.{Add, Sub, Mul, And, Or, Xor, Shl, Shr, Sar, Eq, Ltu, Lts}
 use Rattle.rec_bits.specs.Operators.{apply1_of, apply2_of, bit_of, slice_of, cat_of, sext_of, result_width}
+use Rattle.std.proofs.lemmas.Bool.{and_parts}
 use Rattle.net_model.specs.Nets.{held}
 use Rattle.net_model.specs.declared.hardware.Space.{Space}
 use Rattle.net_model.specs.Meaning.{mean}
 use Rattle.net_model.specs.Terms.{Term, word, reg, const, read, un, bin, slice, cat, zext, sext, select, term_width}
 use Rattle.form_set.specs.Promises.{AreAlike, IsAddrAlike, IsAlike}
-use Rattle.form_set.specs.Swaps.{Path, Sides, can_swap, ordered, picks, swap_at, swap_paths, swapped}
+use Rattle.form_set.specs.Swaps.{Path, Sides, can_swap, ordered, picks, swap_at, swap_paths, swapped, swaps_here}
 
 alike_refl : (t : Term) → IsAlike t t
 alike_refl t = record { width = λ f. refl; fits = λ f. f; same = λ f s i. refl }
@@ -129,7 +130,7 @@ at_alike chosen (slice a hi lo) = alike_slice a _ hi lo (at_alike (λ path. chos
 at_alike chosen (zext a w) = alike_zext a _ w (at_alike (λ path. chosen (0 ∷ path)) a)
 at_alike chosen (sext a w) = alike_sext a _ w (at_alike (λ path. chosen (0 ∷ path)) a)
 at_alike chosen (bin o a b) =
-    by (can_swap o) (chosen []) refl (alike_bin o a b c d (at_alike (λ path. chosen (0 ∷ path)) a) (at_alike (λ path. chosen (1 ∷ path)) b))
+    by (swaps_here o a b) (chosen []) refl (alike_bin o a b c d (at_alike (λ path. chosen (0 ∷ path)) a) (at_alike (λ path. chosen (1 ∷ path)) b))
   where
     c : Term
     c = swap_at (λ path. chosen (0 ∷ path)) a
@@ -137,8 +138,8 @@ at_alike chosen (bin o a b) =
     d : Term
     d = swap_at (λ path. chosen (1 ∷ path)) b
 
-    by : (can is : Bool) → can_swap o ≡ can → IsAlike (bin o a b) (bin o c d) → IsAlike (bin o a b) (ordered (can && is) o c d)
-    by true true e h = alike_trans (bin o a b) (bin o c d) (bin o d c) h (turn_alike o c d e)
+    by : (can is : Bool) → swaps_here o a b ≡ can → IsAlike (bin o a b) (bin o c d) → IsAlike (bin o a b) (ordered (can && is) o c d)
+    by true true e h = alike_trans (bin o a b) (bin o c d) (bin o d c) h (turn_alike o c d (and_parts _ _ e).0)
     by true false e h = h
     by false is e h = h
 at_alike chosen (cat a b) = alike_cat a b _ _ (at_alike (λ path. chosen (0 ∷ path)) a) (at_alike (λ path. chosen (1 ∷ path)) b)

@@ -10,7 +10,8 @@ use Rattle.std.specs.List.{AllByRecursion}
 use Rattle.rec_bits.proofs.Lists.{all_append, all_weaker}
 use Rattle.rec_bits.specs.declared.operator.Op2.{Op2}
 use Rattle.net_model.specs.Terms.{Term, word, reg, const, read, un, bin, slice, cat, zext, sext, select}
-use Rattle.form_set.specs.Swaps.{Path, Sides, addr_paths, at_level, can_swap, level_paths, levels, operator_paths, ordered, paths_from, picks, same_path, swap_at, swap_count, swapped, under}
+use Rattle.form_set.specs.Swaps.{Path, Sides, addr_paths, at_level, level_paths, levels, operator_paths, ordered, paths_from, picks, same_path, swap_at, swap_count, swapped, swaps_here, under}
+use Rattle.form_set.proofs.SumSwaps.{here_stays}
 use Rattle.form_set.specs.Inner.LevelSwaps.{addr_swaps, left_behind, left_levels, left_of, root_swaps, swap_level, swap_levels, swaps_of}
 
 -- ---- truth values
@@ -136,7 +137,7 @@ level_left level choice (slice a hi lo) = one_passes (level == 0) choice _ _ (le
 level_left level choice (zext a w) = one_passes (level == 0) choice _ _ (level_left (level - 1) choice a)
 level_left level choice (sext a w) = one_passes (level == 0) choice _ _ (level_left (level - 1) choice a)
 level_left level choice (bin o a b) =
-    two_pass (level == 0) choice _ _ (if can_swap o then [] ∷ [] else []) (level_paths (level - 1) a) (level_paths (level - 1) b) (root_passes (can_swap o) choice)
+    two_pass (level == 0) choice _ _ (if swaps_here o a b then [] ∷ [] else []) (level_paths (level - 1) a) (level_paths (level - 1) b) (root_passes (swaps_here o a b) choice)
     (level_left (level - 1) (left_of (level - 1) choice a) b ∙ ap (λ k. left_behind k (level_paths (level - 1) b)) (level_left (level - 1) choice a))
 level_left level choice (cat a b) =
     two_pass (level == 0) choice choice _ [] (level_paths (level - 1) a) (level_paths (level - 1) b) refl
@@ -165,7 +166,7 @@ swap_none (un o a) = (λ j. un o (swap_none a j))
 swap_none (slice a hi lo) = (λ j. slice (swap_none a j) hi lo)
 swap_none (zext a w) = (λ j. zext (swap_none a j) w)
 swap_none (sext a w) = (λ j. sext (swap_none a j) w)
-swap_none (bin o a b) = (λ j. ordered (and_none (can_swap o) j) o (swap_none a j) (swap_none b j))
+swap_none (bin o a b) = (λ j. ordered (and_none (swaps_here o a b) j) o (swap_none a j) (swap_none b j))
 swap_none (cat a b) = (λ j. cat (swap_none a j) (swap_none b j))
 swap_none (select c a b) = (λ j. select (swap_none c j) (swap_none a j) (swap_none b j))
 
@@ -179,9 +180,9 @@ one_swaps k false choice ps a x e = ap k (e ∙ swap_same _ _ a (λ p. sym (pick
 
 bin_swaps : (o : Op2) (here : Bool) (choice : ℕ) (ps qs : List Path) (a b x y : Term)
     → x ≡ swap_at (picks choice ps) a → y ≡ swap_at (picks (left_behind choice ps) qs) b
-    → (if here then ordered (can_swap o && bit_at choice 0 == 1) o a b else bin o x y)
-    ≡ swap_at (picks choice (if here then (if can_swap o then [] ∷ [] else []) else two ps qs)) (bin o a b)
-bin_swaps o true choice ps qs a b x y d e = by (can_swap o)
+    → (if here then ordered (swaps_here o a b && bit_at choice 0 == 1) o a b else bin o x y)
+    ≡ swap_at (picks choice (if here then (if swaps_here o a b then [] ∷ [] else []) else two ps qs)) (bin o a b)
+bin_swaps o true choice ps qs a b x y d e = by (swaps_here o a b)
   where
     root : (is : Bool) → is ≡ ((true && is) || false)
     root true = refl
@@ -194,7 +195,7 @@ bin_swaps o true choice ps qs a b x y d e = by (can_swap o)
     by false = (λ j. ordered false o (sym (swap_none a) j) (sym (swap_none b) j))
 bin_swaps o false choice ps qs a b x y d e =
     (λ j. bin o ((d ∙ swap_same _ _ a (λ p. sym (two_first choice ps qs p))) j) ((e ∙ swap_same _ _ b (λ p. sym (two_second choice ps qs p))) j))
-    ∙ (λ j. ordered (sym (ap (λ is. can_swap o && is) (two_root choice ps qs) ∙ and_none (can_swap o)) j) o
+    ∙ (λ j. ordered (sym (ap (λ is. swaps_here o a b && is) (two_root choice ps qs) ∙ and_none (swaps_here o a b)) j) o
     (swap_at (λ p. picks choice (two ps qs) (0 ∷ p)) a) (swap_at (λ p. picks choice (two ps qs) (1 ∷ p)) b))
 
 cat_swaps : (here : Bool) (choice : ℕ) (ps qs : List Path) (a b x y : Term)
@@ -256,8 +257,8 @@ swap_both f g (bin o a b) h =
     by true e k l =
         swap_no f (swap_at g (bin o a b)) (λ q. h [] q e) ∙ swap_same g (λ p. f p || g p) (bin o a b) (λ p. (λ j. sym (h [] p e) j || g p))
     by false e k l =
-        ap (λ is. swap_at f (ordered is o (swap_at (λ p. g (0 ∷ p)) a) (swap_at (λ p. g (1 ∷ p)) b))) (ap (λ x. can_swap o && x) e ∙ and_none (can_swap o))
-        ∙ (λ j. ordered (can_swap o && (sym (ap (λ x. f [] || x) e ∙ or_none (f [])) j)) o (k j) (l j))
+        ap (λ is. swap_at f (ordered is o (swap_at (λ p. g (0 ∷ p)) a) (swap_at (λ p. g (1 ∷ p)) b))) (ap (λ x. swaps_here o a b && x) e ∙ and_none (swaps_here o a b))
+        ∙ (λ j. ordered (here_stays o a b (λ p. g (0 ∷ p)) (λ p. g (1 ∷ p)) j && (sym (ap (λ x. f [] || x) e ∙ or_none (f [])) j)) o (k j) (l j))
 swap_both f g (cat a b) h =
     (λ j. cat (swap_both (λ p. f (0 ∷ p)) (λ p. g (0 ∷ p)) a (λ p q. h (0 ∷ p) q) j) (swap_both (λ p. f (1 ∷ p)) (λ p. g (1 ∷ p)) b (λ p q. h (1 ∷ p) q) j))
 swap_both f g (select c a b) h =
@@ -329,7 +330,7 @@ level_long level (slice a hi lo) = one_long (level == 0) level (level_paths (lev
 level_long level (zext a w) = one_long (level == 0) level (level_paths (level - 1) a) refl (level_long (level - 1) a)
 level_long level (sext a w) = one_long (level == 0) level (level_paths (level - 1) a) refl (level_long (level - 1) a)
 level_long level (bin o a b) =
-    two_long (level == 0) level (if can_swap o then [] ∷ [] else []) (level_paths (level - 1) a) (level_paths (level - 1) b) refl (root_long (can_swap o) level)
+    two_long (level == 0) level (if swaps_here o a b then [] ∷ [] else []) (level_paths (level - 1) a) (level_paths (level - 1) b) refl (root_long (swaps_here o a b) level)
     (level_long (level - 1) a) (level_long (level - 1) b)
 level_long level (cat a b) =
     two_long (level == 0) level [] (level_paths (level - 1) a) (level_paths (level - 1) b) refl (λ e. tt) (level_long (level - 1) a) (level_long (level - 1) b)
@@ -346,7 +347,7 @@ paths_far (suc more) level t =
 
 -- ---- swaps below a level leave its paths as they were
 
-deeper : (level step : ℕ) (p : Path) → (level == 0) ≡ false → length p < level - 1 → length (step ∷ p) < level
+deeper : (level step : ℕ) (p : Path) → (level == 0) ≡ false → length p ≤ level - 1 → length (step ∷ p) ≤ level
 deeper level step p e l = (let pos = not_zero level e in omega (arith, pos, l))
 
 one_stays : (here : Bool) (level : ℕ) (ps qs : List Path) → (level == 0) ≡ here → ((level == 0) ≡ false → ps ≡ qs) → (if here then [] else under 0 ps) ≡ (if here then [] else under 0 qs)
@@ -358,22 +359,14 @@ two_stay : (here : Bool) (level : ℕ) (hs ps qs xs ys : List Path) → (level =
 two_stay true level hs ps qs xs ys e h k = refl
 two_stay false level hs ps qs xs ys e h k = (λ j. two (h e j) (k e j))
 
-bin_stays : (s : Bool) (level : ℕ) (o : Op2) (a b c d : Term) → ((level == 0) ≡ false → s ≡ false)
+bin_stays : (level : ℕ) (o : Op2) (a b c d : Term) → swaps_here o c d ≡ swaps_here o a b
     → ((level == 0) ≡ false → level_paths (level - 1) c ≡ level_paths (level - 1) a) → ((level == 0) ≡ false → level_paths (level - 1) d ≡ level_paths (level - 1) b)
-    → level_paths level (ordered s o c d) ≡ level_paths level (bin o a b)
-bin_stays false level o a b c d n h k =
-    two_stay (level == 0) level (if can_swap o then [] ∷ [] else []) (level_paths (level - 1) c) (level_paths (level - 1) d) (level_paths (level - 1) a) (level_paths (level - 1) b) refl h k
-bin_stays true level o a b c d n h k = by (level == 0) refl
-  where
-    hs : List Path
-    hs = if can_swap o then [] ∷ [] else []
+    → level_paths level (bin o c d) ≡ level_paths level (bin o a b)
+bin_stays level o a b c d e h k =
+    ap (λ (can : Bool). if level == 0 then (if can then [] ∷ [] else []) else two (level_paths (level - 1) c) (level_paths (level - 1) d)) e
+    ∙ two_stay (level == 0) level (if swaps_here o a b then [] ∷ [] else []) (level_paths (level - 1) c) (level_paths (level - 1) d) (level_paths (level - 1) a) (level_paths (level - 1) b) refl h k
 
-    by : (here : Bool) → (level == 0) ≡ here
-        → (if here then hs else two (level_paths (level - 1) d) (level_paths (level - 1) c)) ≡ (if here then hs else two (level_paths (level - 1) a) (level_paths (level - 1) b))
-    by true e = refl
-    by false e = absurd (true≢false (n e))
-
-level_stays : (level : ℕ) (f : Path → Bool) (t : Term) → ((p : Path) → length p < level → f p ≡ false) → level_paths level (swap_at f t) ≡ level_paths level t
+level_stays : (level : ℕ) (f : Path → Bool) (t : Term) → ((p : Path) → length p ≤ level → f p ≡ false) → level_paths level (swap_at f t) ≡ level_paths level t
 level_stays level f (word w) h = refl
 level_stays level f (reg r w) h = refl
 level_stays level f (const w v) h = refl
@@ -388,8 +381,8 @@ level_stays level f (zext a w) h =
 level_stays level f (sext a w) h =
     one_stays (level == 0) level _ _ refl (λ e. level_stays (level - 1) (λ p. f (0 ∷ p)) a (λ p l. h (0 ∷ p) (deeper level 0 p e l)))
 level_stays level f (bin o a b) h =
-    bin_stays (can_swap o && f []) level o a b (swap_at (λ p. f (0 ∷ p)) a) (swap_at (λ p. f (1 ∷ p)) b)
-    (λ e. ap (λ x. can_swap o && x) (h [] (let pos = not_zero level e in omega (arith, pos))) ∙ and_none (can_swap o))
+    ap (λ is. level_paths level (ordered is o (swap_at (λ p. f (0 ∷ p)) a) (swap_at (λ p. f (1 ∷ p)) b))) (ap (λ x. swaps_here o a b && x) (h [] (omega arith)) ∙ and_none (swaps_here o a b))
+    ∙ bin_stays level o a b (swap_at (λ p. f (0 ∷ p)) a) (swap_at (λ p. f (1 ∷ p)) b) (here_stays o a b (λ p. f (0 ∷ p)) (λ p. f (1 ∷ p)))
     (λ e. level_stays (level - 1) (λ p. f (0 ∷ p)) a (λ p l. h (0 ∷ p) (deeper level 0 p e l)))
     (λ e. level_stays (level - 1) (λ p. f (1 ∷ p)) b (λ p l. h (1 ∷ p) (deeper level 1 p e l)))
 level_stays level f (cat a b) h =
@@ -508,8 +501,8 @@ one_total : (n m : ℕ) (c : ℕ → ℕ) (a : Term) → levels a + 1 ≤ n → 
     → ((x : ℕ) → levels a ≤ x → total x 0 (λ k. length (level_paths k a)) ≡ m) → total n 0 c ≡ m
 one_total n m c a h z e f = (let s = step_total n c (λ k. length (level_paths k a)) (levels a) m h e f in omega (arith, s, z))
 
-root_count : (o : Op2) (a b : Term) → length {A = Path} (if can_swap o then [] ∷ [] else []) ≡ root_swaps (bin o a b)
-root_count o a b = by (can_swap o)
+root_count : (o : Op2) (a b : Term) → length {A = Path} (if swaps_here o a b then [] ∷ [] else []) ≡ root_swaps (bin o a b)
+root_count o a b = by (swaps_here o a b)
   where
     by : (can : Bool) → length {A = Path} (if can then [] ∷ [] else []) ≡ (if can then 1 else 0)
     by true = refl
@@ -526,7 +519,7 @@ levels_count (zext a w) n h = one_total n (swaps_of a) (λ k. length (level_path
 levels_count (sext a w) n h = one_total n (swaps_of a) (λ k. length (level_paths k (sext a w))) a h refl (λ k. one_up k a) (levels_count a)
 levels_count (bin o a b) n h =
     step_total n (λ k. length (level_paths k (bin o a b))) (λ k. length (level_paths k a) + length (level_paths k b)) (max (levels a) (levels b)) (swaps_of a + swaps_of b) h
-    (λ k. two_up k (if can_swap o then [] ∷ [] else []) a b)
+    (λ k. two_up k (if swaps_here o a b then [] ∷ [] else []) a b)
     (λ x l. total_add x 0 (λ k. length (level_paths k a)) (λ k. length (level_paths k b)) ∙ (λ j. levels_count a x (omega (arith, l)) j + levels_count b x (omega (arith, l)) j))
     ∙ ap (λ r. r + (swaps_of a + swaps_of b)) (root_count o a b)
 levels_count (cat a b) n h =

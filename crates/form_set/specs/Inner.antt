@@ -1,6 +1,7 @@
 -- What no public contract cites: what the functions of the crate tell one another, and what only
 -- proofs speak of.
 pub mod Linear
+pub mod Holds
 pub mod PatternIds
 pub mod Copies
 pub mod LevelSwaps

@@ -1,11 +1,12 @@
 -- What the forms of a netlist promise, as statements.
-use Rattle.std.specs.Prelude.{◌≡◌, ◌↔◌, ℕ, ◌^◌, ◌<◌, true, bit_and, List, Some, slice_get}
+use Rattle.std.specs.Prelude.{◌≡◌, ◌≢◌, ◌↔◌, ℕ, ◌^◌, ◌<◌, true, bit_and, List, Some, slice_get}
 use Rattle.std.specs.Int.{bit_at}
 use Rattle.net_model.specs.declared.hardware.Netlist.{Netlist}
+use Rattle.net_model.specs.declared.hardware.Space.TheVariants.{File as InFile}
 use Rattle.net_model.specs.declared.states.State.{State}
 use Rattle.net_model.specs.Fields.{fields}
 use Rattle.net_model.specs.Meaning.{mean}
-use Rattle.net_model.specs.Nets.{IsRegister, counter_of, word_width}
+use Rattle.net_model.specs.Nets.{IsRegister, counter_of, place_in, word_width}
 use Rattle.net_model.specs.Patterns.{Pattern}
 use Rattle.net_model.specs.Terms.{Term}
 use Rattle.form_model.specs.Rules.{Rule}
@@ -37,11 +38,11 @@ SettingsHaveWords =
     (netlist : Netlist) (pattern : Pattern) (clobbers : ℕ) → IsPlain netlist pattern →
     AreClobbers netlist pattern clobbers → HasWords netlist pattern clobbers
 
--- what a pattern writes is among its clobbers
+-- what a pattern writes is among its clobbers, unless it is the file
 abbrev pub ClobbersHaveOwn : Type 0
 ClobbersHaveOwn =
     (netlist : Netlist) (pattern : Pattern) (clobbers : ℕ) → AreClobbers netlist pattern clobbers →
-    bit_at clobbers pattern.storage ≡ 1
+    pattern.storage ≢ place_in InFile netlist.storages → bit_at clobbers pattern.storage ≡ 1
 
 -- and so is the program counter
 abbrev pub ClobbersHaveCounter : Type 0

@@ -1,6 +1,7 @@
 pub mod Static
 pub mod Swaps
 pub mod Targets
+pub mod Tied
 pub mod Words
 pub mod Listing
 pub mod Promises

@@ -1,16 +1,18 @@
 -- The forms of a netlist, in their order.
 use Rattle.std.specs.Prelude.{◌≡◌, ℕ, ◌+◌, ◌^◌, ◌==◌, true, if◌then◌else◌, max, List, [], ◌∷◌, ◌++◌, Some, None}
 use Rattle.net_model.specs.declared.hardware.Netlist.{Netlist}
-use Rattle.net_model.specs.Nets.{counter_of, counter_width, memory_id}
+use Rattle.net_model.specs.declared.hardware.Space.TheVariants.{File as InFile}
+use Rattle.net_model.specs.Nets.{counter_of, counter_width, memory_id, size_in}
 use Rattle.net_model.specs.Patterns.{Pattern}
 use Rattle.net_model.specs.Terms.{Term, const, Move, keep, write, write_at}
 use Rattle.net_model.specs.Fields.{move_fields}
-use Rattle.form_model.specs.Shapes.{is_shape, reach_of}
-use Rattle.form_model.specs.Rules.{Kind as GoalKind, Rule, into_memory, into_reg, jumps, branches}
+use Rattle.form_model.specs.Shapes.{is_shape_in, reach_of}
+use Rattle.form_model.specs.Rules.{Kind as GoalKind, Rule, into_file, into_memory, into_reg, jumps, branches}
 use Rattle.net_model.specs.Occurs.{IsLinear}
-use Rattle.form_set.specs.Static.{has_shapes, move_shaped}
+use Rattle.form_set.specs.Static.{cells_shown, has_shapes, is_file_at, move_shaped, reads_shown}
 use Rattle.form_set.specs.Swaps.{Sides, map_below, swap_count, swapped}
 use Rattle.form_set.specs.Targets.{Branch, term_branch}
+use Rattle.form_set.specs.Tied.{counted, tied_of}
 use Rattle.transfer_set.specs.declared.stepping.Counter.{Counter}
 use Rattle.form_set.specs.Words.{AreClobbers, CanJump, CanKeep, all_registers}
 
@@ -25,15 +27,20 @@ abbrev pub counter_at : Netlist → Counter
 counter_at netlist = record { storage = counter_of netlist.codes; width = counter_width netlist }
 
 abbrev pub goal_at : Netlist → ℕ → GoalKind
-goal_at netlist storage = if storage == memory_id netlist.storages then into_memory else into_reg storage
+goal_at netlist storage =
+    if storage == memory_id netlist.storages then into_memory
+    else if is_file_at netlist storage then into_file
+    else into_reg storage
 
 -- ---- plain forms
 
--- what gives forms: linear, with field shapes for its outermost static parts, and ok without
--- anything to keep
+-- what gives forms: linear, where a tied read's address isn't counted again, with field shapes for
+-- its outermost static parts and addresses of the file that show every cell, and ok without anything
+-- to keep
 pub record IsPlain (netlist : Netlist) (pattern : Pattern) : Type 0 where
-  pub linear : IsLinear 0 pattern.move
-  pub shapes : move_shaped pattern.move ≡ true
+  pub linear : IsLinear 0 (counted (is_file_at netlist pattern.storage) pattern.move)
+  pub shapes : move_shaped netlist.edition pattern.move ≡ true
+  pub cells : cells_shown netlist pattern ≡ true
   pub ok : CanKeep netlist pattern 0
 
 abbrev pub plain_rule : Netlist → ℕ → Pattern → ℕ → ℕ → Rule
@@ -44,6 +51,7 @@ plain_rule netlist number pattern clobbers choice = record {
   value = (swapped choice (sides_of pattern.move)).value;
   fields = move_fields pattern.move;
   clobbers = clobbers;
+  tied = tied_of (is_file_at netlist pattern.storage) (swapped choice (sides_of pattern.move));
 }
 
 -- one for each choice of swaps
@@ -58,7 +66,7 @@ pub record IsJump (netlist : Netlist) (pattern : Pattern) : Type 0 where
   pub target : Term
   pub storage : pattern.storage ≡ counter_of netlist.codes
   pub move : pattern.move ≡ write target
-  pub shape : is_shape target ≡ true
+  pub shape : is_shape_in netlist.edition target ≡ true
   pub can : CanJump netlist pattern
 
 abbrev pub jump_rule : Netlist → ℕ → Term → ℕ → Rule
@@ -69,18 +77,20 @@ jump_rule netlist number target fields = record {
   value = target;
   fields = fields;
   clobbers = all_registers netlist.storages;
+  tied = None;
 }
 
 -- ---- branch forms
 
 -- a pattern PC := select(c, t, step) or PC := select(c, step, t) with an allowed target, where
--- reach is that of the jump forms
+-- reach is that of the jump forms, and where each address of the file in c shows every cell
 pub record IsBranch (netlist : Netlist) (reach : ℕ) (pattern : Pattern) (branch : Branch) : Type 0 where
   pub value : Term
   pub storage : pattern.storage ≡ counter_of netlist.codes
   pub move : pattern.move ≡ write value
-  pub parts : term_branch (counter_at netlist) reach value ≡ Some branch
-  pub shapes : has_shapes branch.test ≡ true
+  pub parts : term_branch netlist.edition (counter_at netlist) reach value ≡ Some branch
+  pub shapes : has_shapes netlist.edition branch.test ≡ true
+  pub cells : reads_shown (size_in InFile netlist.storages) branch.test ≡ true
   pub linear : IsLinear (2 ^ counter_of netlist.codes) pattern.move
   pub can : CanJump netlist pattern
 
@@ -95,6 +105,7 @@ branch_rule netlist number pattern branch choice = record {
   value = (swapped choice (test_sides branch)).value;
   fields = move_fields pattern.move;
   clobbers = all_registers netlist.storages;
+  tied = None;
 }
 
 -- one for each choice of swaps in the condition

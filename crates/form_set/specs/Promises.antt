@@ -2,13 +2,14 @@
 use Rattle.std.specs.Prelude.{◌≡◌, ◌≢◌, ℕ, ◌+◌, ◌&&◌, Bool, true, false, List, [], ◌∷◌, Option, None, Some, slice_get}
 use Rattle.std.specs.Int.{bit_at}
 use Rattle.net_model.specs.declared.hardware.Netlist.{Netlist}
-use Rattle.net_model.specs.Nets.{IsRegister, memory_id}
+use Rattle.net_model.specs.declared.hardware.Space.TheVariants.{File as InFile}
+use Rattle.net_model.specs.Nets.{IsRegister, memory_id, place_in}
 use Rattle.net_model.specs.Patterns.{IsWordOf, Pattern}
 use Rattle.net_model.specs.declared.states.State.{State}
 use Rattle.net_model.specs.Meaning.{mean}
 use Rattle.net_model.specs.Terms.{Term, keep, term_width}
 use Rattle.sym_expr.specs.Pools.{TermFits}
-use Rattle.net_model.specs.Transfers.{Steps, memory_move, move_at}
+use Rattle.net_model.specs.Transfers.{Steps, memory_move, move_at, space_move}
 use Rattle.net_model.specs.Fields.{move_fields}
 use Rattle.form_model.specs.Rules.{Kind as GoalKind, Rule, jumps, branches}
 use Rattle.form_set.specs.Listing.{IsBranch, IsJump, IsPlain, branch_rule, jump_rule, plain_rule}
@@ -35,12 +36,13 @@ pub record IsForm (netlist : Netlist) (reach first : ℕ) (patterns : List Patte
   pub at : slice_get patterns place ≡ Some pattern
   pub of : IsFormOf netlist reach (first + place) pattern rule
 
--- the word does a pattern's transfer, steps, keeps the data memory unless that is the pattern's
--- storage, and keeps each register that isn't among these
+-- the word does a pattern's transfer, steps, keeps the data memory and the register file unless that
+-- one is the pattern's storage, and keeps each register that isn't among these
 pub record KeepsBut (netlist : Netlist) (pattern : Pattern) (clobbers : ℕ) (word : ℕ) : Type 0 where
   pub given : IsWordOf netlist pattern word
   pub steps : Steps netlist word
   pub memory : pattern.storage ≢ memory_id netlist.storages → memory_move netlist word ≡ keep
+  pub file : pattern.storage ≢ place_in InFile netlist.storages → space_move netlist InFile word ≡ keep
   pub registers : (r : ℕ) → IsRegister (slice_get netlist.storages r) → bit_at clobbers r ≡ 0 →
       move_at netlist word r ≡ keep
 

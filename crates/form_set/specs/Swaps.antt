@@ -1,12 +1,13 @@
 -- The operators whose operands can change places, their order, and the expressions with some of
 -- them swapped.
-use Rattle.std.specs.Prelude.{ℕ, zero, suc, ◌+◌, ◌-◌, ◌/◌, ◌==◌, ◌&&◌, ◌||◌, Bool, true, false, if◌then◌else◌, ◌≤◌, max, option_map, Option, Some, None, List, [], ◌∷◌, ◌++◌, map, take, length}
+use Rattle.std.specs.Prelude.{ℕ, zero, suc, ◌+◌, ◌-◌, ◌/◌, ◌==◌, ◌&&◌, ◌||◌, not, Bool, true, false, if◌then◌else◌, ◌≤◌, max, option_map, Option, Some, None, List, [], ◌∷◌, ◌++◌, map, take, length}
 use Rattle.std.specs.Int.{bit_at}
 use Rattle.rec_bits.specs.declared.operator.Op2.{Op2}
 use Rattle.rec_bits.specs.declared.operator.Op2.TheVariants.{Add, Mul, And, Or, Xor, Eq}
 use Rattle.net_model.specs.Terms.{Term, read, un, bin, slice, cat, zext, sext, select}
+use Rattle.form_model.specs.Shapes.{is_plain_sum, sum_of}
 
--- an operator that has one value in either order of its operands. No field shape has one in it
+-- an operator that has one value in either order of its operands
 abbrev pub can_swap : Op2 → Bool
 can_swap Add = true
 can_swap Mul = true
@@ -15,6 +16,10 @@ can_swap Or = true
 can_swap Xor = true
 can_swap Eq = true
 can_swap _ = false
+
+-- so it is of these operands; that of a field shape stays as it is
+abbrev pub swaps_here : Op2 → Term → Term → Bool
+swaps_here o a b = can_swap o && not (is_plain_sum (sum_of o a b))
 
 -- ---- the operators, by levels from the root and from left to right in a level
 
@@ -35,7 +40,7 @@ abbrev pub level_paths : ℕ → Term → List Path
 level_paths level (read space a w) = at_level level [] (under 0 (level_paths (level - 1) a))
 level_paths level (un o a) = at_level level [] (under 0 (level_paths (level - 1) a))
 level_paths level (bin o a b) =
-    at_level level (if can_swap o then [] ∷ [] else [])
+    at_level level (if swaps_here o a b then [] ∷ [] else [])
     (under 0 (level_paths (level - 1) a) ++ under 1 (level_paths (level - 1) b))
 level_paths level (slice a hi lo) = at_level level [] (under 0 (level_paths (level - 1) a))
 level_paths level (cat a b) =
@@ -80,7 +85,7 @@ abbrev pub swap_at : (Path → Bool) → Term → Term
 swap_at chosen (read space a w) = read space (swap_at (λ path. chosen (0 ∷ path)) a) w
 swap_at chosen (un o a) = un o (swap_at (λ path. chosen (0 ∷ path)) a)
 swap_at chosen (bin o a b) =
-    ordered (can_swap o && chosen []) o (swap_at (λ path. chosen (0 ∷ path)) a) (swap_at (λ path. chosen (1 ∷ path)) b)
+    ordered (swaps_here o a b && chosen []) o (swap_at (λ path. chosen (0 ∷ path)) a) (swap_at (λ path. chosen (1 ∷ path)) b)
 swap_at chosen (slice a hi lo) = slice (swap_at (λ path. chosen (0 ∷ path)) a) hi lo
 swap_at chosen (cat a b) = cat (swap_at (λ path. chosen (0 ∷ path)) a) (swap_at (λ path. chosen (1 ∷ path)) b)
 swap_at chosen (zext a w) = zext (swap_at (λ path. chosen (0 ∷ path)) a) w

@@ -1,42 +1,38 @@
 -- What jumps and branches consist of.
 use Rattle.std.specs.Prelude.{ℕ, ◌&&◌, Bool, true, false, if◌then◌else◌, nat_le, Option, Some, None}
-use Rattle.net_model.specs.Terms.{Term, bin, const, select}
+use Rattle.net_model.specs.Terms.{Term, bin, select}
 use Rattle.rec_bits.specs.declared.operator.Op2.TheVariants.{Add}
-use Rattle.form_model.specs.Shapes.{is_shape, reach_of, shows}
+use Rattle.form_model.specs.Shapes.{is_shape_in, reach_of, shows}
 use Rattle.form_model.specs.Rules.{BranchTarget, absolute, relative}
 use Rattle.transfer_set.specs.Stepping.{is_next, is_reg}
 use Rattle.transfer_set.specs.declared.stepping.Counter.{Counter}
 
--- ---- targets
+-- ---- targets, in texts of an edition
 
 -- an address that the word tells, which reaches as far as jumps do
-abbrev pub is_absolute : ℕ → Term → Bool
-is_absolute reach t = is_shape t && nat_le reach (reach_of t)
+abbrev pub is_absolute : ℕ → ℕ → Term → Bool
+is_absolute edition reach t = is_shape_in edition t && nat_le reach (reach_of t)
 
-abbrev pub absolute_target : ℕ → Term → Option BranchTarget
-absolute_target reach t = if is_absolute reach t then Some (absolute t) else None
+abbrev pub absolute_target : ℕ → ℕ → Term → Option BranchTarget
+absolute_target edition reach t = if is_absolute edition reach t then Some (absolute t) else None
 
-abbrev pub distance_if : Bool → Term → Option BranchTarget
-distance_if b t = if b && (is_shape t && shows t 2) then Some (relative t) else None
+abbrev pub distance_if : ℕ → Bool → Term → Option BranchTarget
+distance_if edition b t = if b && (is_shape_in edition t && shows t 2) then Some (relative t) else None
 
 abbrev pub first_of : {A : Type 0} → Option A → Option A → Option A
 first_of (Some x) later = Some x
 first_of None later = later
 
 -- so many words on, where the word tells how many, among them two
-abbrev pub relative_target : Counter → Term → Option BranchTarget
-relative_target pc (bin Add a b) = first_of (distance_if (is_reg pc a) b) (distance_if (is_reg pc b) a)
-relative_target pc _ = None
+abbrev pub relative_target : ℕ → Counter → Term → Option BranchTarget
+relative_target edition pc (bin Add a b) =
+    first_of (distance_if edition (is_reg pc a) b) (distance_if edition (is_reg pc b) a)
+relative_target edition pc _ = None
 
 -- the targets that are used: absolute ones that reach as far as jumps do, and distances among which
 -- is two
-abbrev pub allowed_target : Counter → ℕ → Term → Option BranchTarget
-allowed_target pc reach t = first_of (absolute_target reach t) (relative_target pc t)
-
--- the value of a constant
-abbrev pub const_value : Term → Option ℕ
-const_value (const w v) = Some v
-const_value _ = None
+abbrev pub allowed_target : ℕ → Counter → ℕ → Term → Option BranchTarget
+allowed_target edition pc reach t = first_of (absolute_target edition reach t) (relative_target edition pc t)
 
 -- ---- branches
 
@@ -54,11 +50,11 @@ abbrev pub branch_if : Bool → Bool → Term → Option BranchTarget → Option
 branch_if b when_one test to = if b then branch_to when_one test to else None
 
 -- one of the two is the step, and the other an allowed target
-abbrev pub select_branch : Counter → ℕ → Term → Term → Term → Option Branch
-select_branch pc reach c a b =
-    first_of (branch_if (is_next pc b) true c (allowed_target pc reach a))
-    (branch_if (is_next pc a) false c (allowed_target pc reach b))
+abbrev pub select_branch : ℕ → Counter → ℕ → Term → Term → Term → Option Branch
+select_branch edition pc reach c a b =
+    first_of (branch_if (is_next pc b) true c (allowed_target edition pc reach a))
+    (branch_if (is_next pc a) false c (allowed_target edition pc reach b))
 
-abbrev pub term_branch : Counter → ℕ → Term → Option Branch
-term_branch pc reach (select c a b) = select_branch pc reach c a b
-term_branch pc reach _ = None
+abbrev pub term_branch : ℕ → Counter → ℕ → Term → Option Branch
+term_branch edition pc reach (select c a b) = select_branch edition pc reach c a b
+term_branch edition pc reach _ = None

@@ -3,13 +3,15 @@ use Rattle.std.specs.Prelude.{◌≡◌, ◌≢◌, ◌↔◌, ℕ, zero, suc, �
 use Rattle.std.specs.Int.{bit_at}
 use Rattle.bit_bdd.specs.Diagrams.{Diagrams, has_word}
 use Rattle.net_model.specs.declared.hardware.Netlist.{Netlist}
+use Rattle.net_model.specs.declared.hardware.Space.TheVariants.{File as InFile}
 use Rattle.net_model.specs.declared.hardware.Storage.{Storage}
 use Rattle.net_model.specs.declared.hardware.Storage.TheVariants.{Register, Memory, File}
-use Rattle.net_model.specs.Nets.{IsRegister, memory_id}
+use Rattle.net_model.specs.Nets.{IsRegister, memory_id, place_in}
 use Rattle.net_model.specs.Patterns.{IsWordOf, Pattern}
 use Rattle.net_model.specs.Terms.{keep}
-use Rattle.net_model.specs.Transfers.{Steps, memory_move, move_at}
+use Rattle.net_model.specs.Transfers.{Steps, memory_move, move_at, space_move}
 use Rattle.net_model.specs.Fields.{move_fields}
+use Rattle.form_set.specs.Static.{is_file_at}
 
 -- ---- settings
 
@@ -24,12 +26,13 @@ ForEachSetting fields P =
 
 -- ---- words that keep
 
--- the word is in the pattern's set, steps, keeps the data memory unless that is the pattern's
--- storage, and keeps each register of a set
+-- the word is in the pattern's set, steps, keeps the data memory and the register file unless that
+-- one is the pattern's storage, and keeps each register of a set
 pub record KeepsOthers (netlist : Netlist) (pattern : Pattern) (kept : ℕ) (word : ℕ) : Type 0 where
   pub given : IsWordOf netlist pattern word
   pub steps : Steps netlist word
   pub memory : pattern.storage ≢ memory_id netlist.storages → memory_move netlist word ≡ keep
+  pub file : pattern.storage ≢ place_in InFile netlist.storages → space_move netlist InFile word ≡ keep
   pub registers : (r : ℕ) → bit_at kept r ≡ 1 → move_at netlist word r ≡ keep
 
 -- for every setting there is such a word
@@ -69,7 +72,7 @@ abbrev pub all_registers : List Storage → ℕ
 all_registers storages = registers_below storages (length storages)
 
 -- a register joins those that must be kept where every setting still has a word that keeps them
--- all; a memory doesn't
+-- all; a memory and a file don't
 pub data Joins (netlist : Netlist) (pattern : Pattern) (id before after : ℕ) : Type 0 where
   joins : IsRegister (slice_get netlist.storages id) → CanKeep netlist pattern (with before id) →
       after ≡ with before id → Joins netlist pattern id before after
@@ -84,11 +87,15 @@ AreKept netlist pattern zero kept = kept ≡ 0
 AreKept netlist pattern (suc n) kept =
     (before : ℕ) × AreKept netlist pattern n before × Joins netlist pattern n before kept
 
--- the pattern's storage, and the registers that didn't join
+-- the set of a pattern's storage; the file is in no set of registers
+abbrev pub own_storage : Netlist → ℕ → ℕ
+own_storage netlist storage = if is_file_at netlist storage then 0 else 2 ^ storage
+
+-- the pattern's storage unless it is the file, and the registers that didn't join
 pub record AreClobbers (netlist : Netlist) (pattern : Pattern) (clobbers : ℕ) : Type 0 where
   pub kept : ℕ
   pub are : AreKept netlist pattern (length netlist.storages) kept
-  pub is : clobbers ≡ bit_or (2 ^ pattern.storage) (bit_xor (all_registers netlist.storages) kept)
+  pub is : clobbers ≡ bit_or (own_storage netlist pattern.storage) (bit_xor (all_registers netlist.storages) kept)
 
 -- ---- decided by diagrams
 

@@ -1,14 +1,15 @@
 -- The forms of two small processors, as far as they are computed from expressions alone.
 use Rattle.std.specs.Prelude.{◌≡◌, refl, true, false, [], ◌∷◌, Some, None}
 use Rattle.rec_bits.specs.declared.operator.Op2.TheVariants.{Add, Sub, Mul, And, Or, Xor, Eq, Ltu}
-use Rattle.net_model.specs.declared.hardware.Space.TheVariants.{Memory as InMemory}
+use Rattle.net_model.specs.declared.hardware.Space.TheVariants.{Memory as InMemory, File as InFile}
 use Rattle.net_model.specs.Terms.{Term, word, reg, const, read, bin, slice, zext, select, write, write_at}
 use Rattle.net_model.specs.Worked.{a16, z16}
 use Rattle.form_model.specs.Rules.{absolute, branches, into_memory, into_reg}
 use Rattle.form_set.specs.Inner.Linear.{move_linear}
-use Rattle.form_set.specs.Static.{move_shaped}
+use Rattle.form_set.specs.Static.{move_shaped, move_shown}
 use Rattle.form_set.specs.Swaps.{operator_paths, same_path, swap_at, swap_count, swap_paths, swapped, Sides}
 use Rattle.form_set.specs.Targets.{term_branch}
+use Rattle.form_set.specs.Tied.{counted, tied_of}
 use Rattle.form_set.specs.Words.{all_registers}
 use Rattle.form_set.specs.Listing.{branch_rules, counter_at, greatest_reach, jump_rule, plain_rules}
 
@@ -44,26 +45,26 @@ a16_branch = refl
 a16_branch_bits : move_linear 1 (write (select (bin Eq acc (zext f 16)) f step)) ≡ false
 a16_branch_bits = refl
 
-a16_shaped : move_shaped (write_at f acc) ≡ true
+a16_shaped : move_shaped 1 (write_at f acc) ≡ true
 a16_shaped = refl
 
 -- an operator over instruction bits is no field shape
-a16_unshaped : move_shaped (write (bin Add acc (bin Add (zext f 16) (const 16 1)))) ≡ false
+a16_unshaped : move_shaped 1 (write (bin Add acc (bin Add (zext f 16) (const 16 1)))) ≡ false
 a16_unshaped = refl
 
 a16_reach : greatest_reach (jump_rule a16 2 f 255 ∷ []) ≡ 256
 a16_reach = refl
 
-a16_test : term_branch (counter_at a16) 256 branch_value
+a16_test : term_branch 1 (counter_at a16) 256 branch_value
     ≡ Some (record { when_one = true; test = bin Eq acc (const 16 0); to = absolute f })
 a16_test = refl
 
 -- a target that reaches less
-a16_near : term_branch (counter_at a16) 257 branch_value ≡ None
+a16_near : term_branch 1 (counter_at a16) 257 branch_value ≡ None
 a16_near = refl
 
 -- the other way round
-a16_other : term_branch (counter_at a16) 256 (select (bin Eq acc (const 16 0)) step f)
+a16_other : term_branch 1 (counter_at a16) 256 (select (bin Eq acc (const 16 0)) step f)
     ≡ Some (record { when_one = false; test = bin Eq acc (const 16 0); to = absolute f })
 a16_other = refl
 
@@ -82,6 +83,7 @@ a16_sums : plain_rules a16 3 (record { storage = 1; move = write (bin Add acc (r
       value = bin Add acc (read InMemory f 16);
       fields = 255;
       clobbers = 3;
+      tied = None;
     }
     ∷ record {
       pattern = 3;
@@ -90,12 +92,13 @@ a16_sums : plain_rules a16 3 (record { storage = 1; move = write (bin Add acc (r
       value = bin Add (read InMemory f 16) acc;
       fields = 255;
       clobbers = 3;
+      tied = None;
     }
     ∷ []
 a16_sums = refl
 
 a16_store : plain_rules a16 7 (record { storage = 2; move = write_at f acc }) 5
-    ≡ record { pattern = 7; goal = into_memory; addr = Some f; value = acc; fields = 255; clobbers = 5 } ∷ []
+    ≡ record { pattern = 7; goal = into_memory; addr = Some f; value = acc; fields = 255; clobbers = 5; tied = None } ∷ []
 a16_store = refl
 
 -- pattern 1 of A16 has two forms, and its step stays as it is
@@ -108,6 +111,7 @@ a16_branches : branch_rules a16 1 (record { storage = 0; move = write branch_val
       value = bin Eq acc (const 16 0);
       fields = 255;
       clobbers = 3;
+      tied = None;
     }
     ∷ record {
       pattern = 1;
@@ -116,6 +120,7 @@ a16_branches : branch_rules a16 1 (record { storage = 0; move = write branch_val
       value = bin Eq (const 16 0) acc;
       fields = 255;
       clobbers = 3;
+      tied = None;
     }
     ∷ []
 a16_branches = refl
@@ -201,3 +206,69 @@ nine_swapped = refl
 -- by its path alone
 ninth_swapped : swap_at (λ path. same_path (0 ∷ 0 ∷ []) path) (sum (sum (sum (reg 2 4)))) ≡ sum (sum (turned (reg 2 4)))
 ninth_swapped = refl
+
+-- ---- transfers of a register file of four cells, in words of 17 bits
+
+abbrev d : Term
+d = slice (word 17) 9 8
+
+abbrev a : Term
+a = slice (word 17) 11 10
+
+abbrev b : Term
+b = slice (word 17) 13 12
+
+abbrev cell_at : Term → Term
+cell_at at = read InFile at 16
+
+abbrev sum_at : Term → Sides
+sum_at at = record { addr = Some at; value = bin Add (cell_at a) (cell_at b) }
+
+-- three addresses of their own
+sum_apart : move_linear 0 (counted true (write_at d (bin Add (cell_at a) (cell_at b)))) ≡ true
+sum_apart = refl
+
+sum_untied : tied_of true (sum_at d) ≡ None
+sum_untied = refl
+
+-- the first operand is read where the sum is written
+sum_first : tied_of true (sum_at a) ≡ Some 0
+sum_first = refl
+
+sum_linear : move_linear 0 (counted true (write_at a (bin Add (cell_at a) (cell_at b)))) ≡ true
+sum_linear = refl
+
+-- with its operands swapped it is the second one
+sum_swapped : tied_of true (swapped 1 (sum_at a)) ≡ Some 1
+sum_swapped = refl
+
+-- both can't be
+both_tied : move_linear 0 (counted true (write_at a (bin Add (cell_at a) (cell_at a)))) ≡ false
+both_tied = refl
+
+-- what writes the memory has no tied read
+stored_at : move_linear 0 (counted false (write_at a (cell_at a))) ≡ false
+stored_at = refl
+
+-- addresses of two bits show four cells, and not five
+sum_shown : move_shown true 4 (write_at d (bin Add (cell_at a) (cell_at b))) ≡ true
+sum_shown = refl
+
+sum_hidden : move_shown true 5 (write_at d (bin Add (cell_at a) (cell_at b))) ≡ false
+sum_hidden = refl
+
+-- ---- sums as field shapes
+
+abbrev next_cell : Term
+next_cell = bin Add d (const 2 1)
+
+-- from edition 2 on
+next_shaped : move_shaped 2 (write_at d (cell_at next_cell)) ≡ true
+next_shaped = refl
+
+next_unshaped : move_shaped 1 (write_at d (cell_at next_cell)) ≡ false
+next_unshaped = refl
+
+-- its operator isn't swapped
+next_stays : swap_count (record { addr = Some d; value = bin Add (cell_at next_cell) (cell_at a) }) ≡ 1
+next_stays = refl

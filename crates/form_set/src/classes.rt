@@ -2,20 +2,22 @@
 
 ghost use Rattle.std.specs.Prelude.{◌≡◌, ◌↔◌, ◌<◌, length, IfOk, IfSome, IsTrue};
 ghost use Rattle.bit_bdd.specs.Diagrams.{Extends};
-ghost use Rattle.form_set.specs.Inner.Adding.{IsBranchOr, IsClass, IsPlainOr, IsReachOf};
+ghost use Rattle.form_set.specs.Inner.Adding.{IsApt, IsBranchOr, IsClass, IsPlainOr, IsReachOf};
 ghost use Rattle.form_set.specs.Inner.Copies.{AreBranchIds};
 ghost use Rattle.form_set.specs.Listing.{IsJump, IsPlain};
 ghost use Rattle.form_set.specs.Inner.PatternIds.{ArePatternIds, ids_pattern};
 ghost use Rattle.transfer_set.specs.Ready.{IsReady};
 ghost use Rattle.form_set.specs.Words.{AreClobbers};
+ghost use Rattle.transfer_set.specs.Entries.{IsAddrKnown, ids_move};
+ghost use Rattle.transfer_set.specs.TextMarks.{IsMoveOf};
 
 use crate::branches::{BranchIds, branch_at};
 use crate::linear::{move_linear, one};
 use crate::pattern_ids::PatternIds;
-use crate::shapes::{has_shapes, is_shape, move_shaped, shape_reach};
-use crate::words::{Kept, can_jump, can_keep, clobbers, step_words};
+use crate::shapes::{has_shapes, is_shape_in, move_shaped, move_shown, reads_shown, shape_reach};
+use crate::words::{Kept, can_jump, can_keep, clobbers, is_file, step_words};
 use bit_bdd::Book;
-use net_model::Checked;
+use net_model::{Checked, Space};
 use rec_bits::NoMemory;
 use std::alloc::Global;
 use sym_expr::Pool;
@@ -28,6 +30,22 @@ pub(crate) enum Class {
     Jump,
     Branch(BranchIds),
     Other,
+}
+
+// Whether the expressions of a pattern are those of a plain one: linear, with field shapes, and with
+// addresses of the register file that show every cell.
+fn is_apt(checked: &Checked, pool: &Pool, ids: PatternIds) -> bool
+    requires addr { IsAddrKnown (length pool.now) ids.addr }
+    requires value { ids.value < length pool.now }
+    requires terms { IsMoveOf checked.now.netlist (ids_move pool.now ids.addr ids.value) }
+    ensures { IsTrue result ↔ IsApt checked.now.netlist (ids_pattern pool.now ids) }
+{
+    let filed = is_file(checked, ids.storage);
+    let edition = checked.netlist().edition;
+    let size = checked.size(Space::File);
+    move_linear(checked, pool, 0, filed, ids.addr, ids.value)
+        && move_shaped(pool, edition, ids.addr, ids.value)
+        && move_shown(pool, filed, size, ids.addr, ids.value)
 }
 
 // The clobbers of a plain pattern; `None` where it isn't plain.
@@ -44,10 +62,7 @@ fn plain(
     ensures grows { Extends book.old book.new }
     ensures plain { IfOk result (IsPlainOr checked.now.netlist (ids_pattern pool.now ids)) }
 {
-    if !move_linear(checked, pool, 0, ids.addr, ids.value) {
-        return Ok(None);
-    }
-    if !move_shaped(pool, ids.addr, ids.value) {
+    if !is_apt(checked, pool, ids) {
         return Ok(None);
     }
     let words = step_words(alloc, checked, pool, patterns, book, ids)?;
@@ -83,7 +98,7 @@ fn is_jump(
     if let Some(_) = ids.addr {
         return Ok(false);
     }
-    if !is_shape(pool, ids.value) {
+    if !is_shape_in(pool, checked.netlist().edition, ids.value) {
         return Ok(false);
     }
     let can = can_jump(alloc, checked, pool, patterns, book, ids)?;
@@ -112,13 +127,16 @@ fn branch(
     if let Some(_) = ids.addr {
         return Ok(None);
     }
-    if !move_linear(checked, pool, one(ids.storage), ids.addr, ids.value) {
+    if !move_linear(checked, pool, one(ids.storage), false, ids.addr, ids.value) {
         return Ok(None);
     }
     match branch_at(checked, pool, reach, ids.value) {
         None => Ok(None),
         Some(parts) => {
-            if !has_shapes(pool, parts.test) {
+            if !has_shapes(pool, checked.netlist().edition, parts.test) {
+                return Ok(None);
+            }
+            if !reads_shown(pool, checked.size(Space::File), parts.test) {
                 return Ok(None);
             }
             let can = can_jump(alloc, checked, pool, patterns, book, ids)?;

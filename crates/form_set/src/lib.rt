@@ -1,8 +1,9 @@
 //! The forms of a netlist: the transfers that code is made of, and what they may change beside.
 //!
 //! Promise: `forms` gives exactly the forms of a netlist with these patterns, in their order, each
-//! with its clobbers, and the greatest reach of its jumps (`forms`: `AreForms`); the table of
-//! patterns stays right in the grown book (`ready`: `IsReady`). The laws, each a statement of
+//! with its clobbers and its tied read, and the greatest reach of its jumps (`forms`: `AreForms`), and
+//! the size of the register file (`file`); the table of patterns stays right in the grown book
+//! (`ready`: `IsReady`). The laws, each a statement of
 //! `specs/Laws`: there is one such list (`law_of_lists`), each form is one of its pattern
 //! (`law_of_forms`), every setting of a plain form has a word that does it, steps, and keeps what
 //! is no clobber (`law_of_words`), swaps change nothing (`law_of_swaps`), when forms of a kind are
@@ -21,12 +22,13 @@
 //! - `linear`, `shapes`, `branches`: what has to hold of a pattern's expressions.
 //! - `classes`: from these, what a pattern is: plain, a jump, a branch, or nothing.
 //! - `copies`, `swaps`: expressions of the pool as values of their own, and with operators swapped.
+//! - `tied`: the place of a form's tied read.
 //! - `making`: the forms of a pattern of which it is known what it is; it knows no book.
 //! - `listing`: `forms`: over the patterns once for the reach of jumps and once for the forms.
 //! - `laws`: the laws above.
 //! - `specs/`, cited by public contracts: `Laws`, `Listing`, `Promises`, `Static`, `Swaps`,
-//!   `Targets` and `Words`; `Worked` is computed. `specs/Inner/`: `PatternIds`, `Copies`,
-//!   `LevelSwaps`, `Linear` and `Adding`, which go with the code.
+//!   `Targets`, `Tied` and `Words`; `Worked` is computed. `specs/Inner/`: `PatternIds`, `Copies`,
+//!   `LevelSwaps`, `Linear`, `Holds` and `Adding`, which go with the code.
 //! - `proofs/`: `Chosen` and `Deciding` for words, `Classifying`, `RuleLists`, `OneList` for the
 //!   list, `Swapping` for swaps level by level, `FormLaws`, `Registers`, `SwapLaws`, `NoForms`,
 //!   `ShapeBits` for the laws.
@@ -43,6 +45,7 @@ mod making;
 mod pattern_ids;
 mod shapes;
 mod swaps;
+mod tied;
 mod words;
 
 pub use laws::{

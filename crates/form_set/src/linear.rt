@@ -1,7 +1,8 @@
 //! Whether a register or an instruction bit occurs twice in an expression.
 
-ghost use Rattle.std.specs.Prelude.{◌≡◌, ◌↔◌, ◌^◌, ◌<◌, IsTrue, length};
+ghost use Rattle.std.specs.Prelude.{◌≡◌, ◌↔◌, ◌^◌, ◌<◌, IsTrue, is_some, length};
 ghost use Rattle.form_set.specs.Inner.Linear.{are_apart as are_apart_of, is_linear as is_linear_of, meet_in as meet_in_of, move_linear as move_linear_of};
+ghost use Rattle.form_set.specs.Tied.{counted, tied_place};
 ghost use Rattle.net_model.specs.Occurs.{IsLinear, registers as registers_in};
 ghost use Rattle.sym_expr.specs.Pools.{term_at};
 ghost use Rattle.transfer_set.specs.Entries.{IsAddrKnown, ids_move};
@@ -92,41 +93,74 @@ fn is_linear(checked: &Checked, pool: &Pool, free: u16, expr: ExprId) -> bool
     }
 }
 
-// Whether address and value of a transfer are so, and have nothing in common.
+// Whether an expression reads the register file at an address.
+fn reads_at(pool: &Pool, addr: ExprId, expr: ExprId) -> bool
+    requires addr { addr < length pool.now }
+    requires expr { expr < length pool.now }
+    ensures { result ≡ is_some (tied_place (term_at pool.now addr) (term_at pool.now expr)) }
+{
+    // of what is in a pool, expressions are equal exactly where their ids are
+    let _len = pool.len();
+    match pool.node(expr) {
+        Node::Word(..) | Node::Reg(..) | Node::Const { .. } => false,
+        Node::Cell(a, _) => a == addr,
+        Node::Read(a, _)
+        | Node::Un(_, a)
+        | Node::Slice(a, _, _)
+        | Node::Zext(a, _)
+        | Node::Sext(a, _) => reads_at(pool, addr, a),
+        Node::Bin(_, a, b) | Node::Cat(a, b) => {
+            reads_at(pool, addr, a) || reads_at(pool, addr, b)
+        }
+        Node::Select(c, a, b) => {
+            reads_at(pool, addr, c) || (reads_at(pool, addr, a) || reads_at(pool, addr, b))
+        }
+    }
+}
+
+// Whether address and value of a transfer are so, and have nothing in common but a tied read's
+// address.
 fn are_linear(
     checked: &Checked,
     pool: &Pool,
     free: u16,
+    filed: bool,
     addr: Option<ExprId>,
     value: ExprId,
 ) -> bool
     requires addr { IsAddrKnown (length pool.now) addr }
     requires value { value < length pool.now }
     requires terms { IsMoveOf checked.now.netlist (ids_move pool.now addr value) }
-    ensures { result ≡ move_linear_of free (ids_move pool.now addr value) }
+    ensures { result ≡ move_linear_of free (counted filed (ids_move pool.now addr value)) }
 {
     match addr {
         None => is_linear(checked, pool, free, value),
         Some(addr) => {
+            if filed && reads_at(pool, addr, value) {
+                return is_linear(checked, pool, free, value);
+            }
             are_apart(checked, pool, free, addr, value)
                 && (is_linear(checked, pool, free, addr) && is_linear(checked, pool, free, value))
         }
     }
 }
 
-// Whether no register but the free ones and no instruction bit occurs twice in a transfer.
+// Whether no register but the free ones and no instruction bit occurs twice in a transfer, where a
+// tied read's address isn't counted again; `filed` tells whether the transfer writes the register
+// file.
 pub(crate) fn move_linear(
     checked: &Checked,
     pool: &Pool,
     free: u16,
+    filed: bool,
     addr: Option<ExprId>,
     value: ExprId,
 ) -> bool
     requires addr { IsAddrKnown (length pool.now) addr }
     requires value { value < length pool.now }
     requires terms { IsMoveOf checked.now.netlist (ids_move pool.now addr value) }
-    ensures { IsTrue result ↔ IsLinear free (ids_move pool.now addr value) }
+    ensures { IsTrue result ↔ IsLinear free (counted filed (ids_move pool.now addr value)) }
 {
-    let linear = are_linear(checked, pool, free, addr, value);
+    let linear = are_linear(checked, pool, free, filed, addr, value);
     linear
 }

@@ -7,6 +7,8 @@ ghost use Rattle.form_set.specs.Inner.Adding.{HasAdded, IsGreatestReach, IsReach
 ghost use Rattle.form_set.specs.Listing.{AreForms, AreRules};
 ghost use Rattle.form_set.specs.Inner.PatternIds.{ArePatternIds, ids_pattern};
 ghost use Rattle.transfer_set.specs.Ready.{IsReady};
+ghost use Rattle.net_model.specs.declared.hardware.Space.TheVariants.{File as InFile};
+ghost use Rattle.net_model.specs.Nets.{size_in};
 ghost use Rattle.net_model.specs.Patterns.{Pattern as ThePattern};
 ghost use Rattle.transfer_set.specs.Rows.{row_patterns};
 
@@ -15,7 +17,7 @@ use crate::making::add_class;
 use crate::pattern_ids::{PatternIds, known_ids};
 use bit_bdd::Book;
 use form_model::{Form, Forms};
-use net_model::Checked;
+use net_model::{Checked, Space};
 use rec_bits::NoMemory;
 use std::alloc::Global;
 use sym_expr::Pool;
@@ -146,14 +148,17 @@ fn list_of(
     Ok(list)
 }
 
-/// The forms of a netlist with these patterns, and the greatest reach of its jump forms, 0 where
-/// there is none.
+/// The forms of a netlist with these patterns, the greatest reach of its jump forms, 0 where there is
+/// none, and the number of the register file's cells, 0 where there is no file.
 ///
 /// A pattern gives a form where no register and no instruction bit occurs twice in it, each part of
-/// it that the instruction word settles is a field shape, and for every setting of its instruction
-/// bits some word of its set steps and keeps the data memory unless that is what it writes. What
-/// such a word may change beside are the form's clobbers: the registers are taken in order of
-/// declaration, and each that still leaves a word for every setting is kept from then on. A pattern
+/// it that the instruction word settles is a field shape, each address of the register file in it
+/// shows every cell, and for every setting of its instruction bits some word of its set steps and
+/// keeps the data memory and the file unless that one is what it writes. Where it writes the file,
+/// one read of the file may have the address that is written as its own: it is the form's tied read,
+/// and its bits aren't counted again. What such a word may change beside are the form's clobbers: the
+/// registers are taken in order of declaration, and each that still leaves a word for every setting
+/// is kept from then on. A pattern
 /// that jumps, or branches to a target that reaches as far as any jump, gives a form where every
 /// setting has a word that keeps the data memory. The forms stand by the numbers of their patterns,
 /// and those of one pattern by its choices of swaps, of which at most eight operators have part.
@@ -172,10 +177,15 @@ pub fn forms(
     ensures ready { IsReady checked.now.netlist book.new pool.now patterns.now }
     ensures forms { IfOk result (λ forms. AreForms checked.now.netlist
         (row_patterns pool.now patterns.now.rows) (rules_of forms.list.items) forms.reach) }
+    ensures file { IfOk result (λ forms. forms.file ≡ size_in InFile checked.now.netlist.storages) }
 {
     // the rules of the netlist say which registers its expressions name
     let _netlist = checked.netlist();
     let reach = reach_of(alloc, checked, pool, patterns, book)?;
     let list = list_of(alloc, checked, pool, patterns, book, reach)?;
-    Ok(Forms { list, reach })
+    Ok(Forms {
+        list,
+        reach,
+        file: checked.size(Space::File),
+    })
 }

@@ -1,6 +1,6 @@
 //! Forms, made of patterns.
 
-ghost use Rattle.std.specs.Prelude.{◌≡◌, ◌<◌, ◌≤◌, ◌++◌, ◌==◌, None, length, IfOk, OnOk};
+ghost use Rattle.std.specs.Prelude.{◌≡◌, ◌<◌, ◌≤◌, ◌++◌, ◌==◌, true, None, length, IfOk, OnOk};
 ghost use Rattle.form_model.specs.Rules.{branch_target_of, kind_of, rule_of, rules_of};
 ghost use Rattle.form_model.specs.Shapes.{is_shape as is_shape_of};
 ghost use Rattle.form_set.specs.Inner.Adding.{HasAdded, IsClass};
@@ -17,7 +17,8 @@ use crate::classes::Class;
 use crate::copies::{count_at, expr_at, swapped_at};
 use crate::pattern_ids::PatternIds;
 use crate::shapes::shape_reach;
-use crate::words::all_registers;
+use crate::tied::tied_of;
+use crate::words::{all_registers, is_file};
 use bit_bdd::Book;
 use form_model::{Form, Goal, Target};
 use net_model::Checked;
@@ -31,6 +32,8 @@ fn goal_at(checked: &Checked, storage: u32) -> Goal
 {
     if storage == checked.memory() {
         Goal::Memory
+    } else if is_file(checked, storage) {
+        Goal::File
     } else {
         Goal::Reg(storage)
     }
@@ -53,6 +56,7 @@ fn plain_form(
         ≡ plain_rule checked.now.netlist number (ids_pattern pool.now ids) clobbers choice) }
 {
     let sides = swapped_at(alloc, pool, ids.addr, ids.value, choice)?;
+    let tied = tied_of(is_file(checked, ids.storage), &sides)?;
     Ok(Form {
         pattern: number,
         goal: goal_at(checked, ids.storage),
@@ -60,6 +64,7 @@ fn plain_form(
         value: sides.value,
         fields: ids.fields,
         clobbers,
+        tied,
     })
 }
 
@@ -98,6 +103,7 @@ fn jump_form(
 ) -> Result<Form, NoMemory>
     requires value { ids.value < length pool.now }
     requires narrow { term_width (term_at pool.now ids.value) ≤ 16 }
+    requires shape { is_shape_of (term_at pool.now ids.value) ≡ true }
     ensures { IfOk result (λ form.
         rule_of form ≡ jump_rule checked.now.netlist number (term_at pool.now ids.value) ids.fields) }
 {
@@ -111,6 +117,7 @@ fn jump_form(
         value,
         fields: ids.fields,
         clobbers: all_registers(checked),
+        tied: None,
     })
 }
 
@@ -154,6 +161,7 @@ fn branch_form(
         value: sides.value,
         fields: ids.fields,
         clobbers: all_registers(checked),
+        tied: None,
     })
 }
 

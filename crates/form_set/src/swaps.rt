@@ -1,10 +1,11 @@
 //! The operators of an expression that can be swapped, by their numbers.
 
-ghost use Rattle.std.specs.Prelude.{◌≡◌, ◌+◌, ◌-◌, ◌^◌, ◌<◌, ◌≤◌, min, option_map};
+ghost use Rattle.std.specs.Prelude.{◌≡◌, ◌+◌, ◌-◌, ◌^◌, ◌<◌, ◌≤◌, true, min, option_map};
 ghost use Rattle.form_set.specs.Inner.Copies.{copied_sides};
-ghost use Rattle.form_set.specs.Swaps.{SidesWithin, IsAddrWithin, addr_paths, can_swap as can_swap_of, levels as levels_of, operator_paths, picks, swap_at, swap_count as swap_count_of, swapped};
+ghost use Rattle.form_set.specs.Swaps.{SidesWithin, IsAddrWithin, addr_paths, can_swap as can_swap_of, levels as levels_of, operator_paths, picks, swap_at, swap_count as swap_count_of, swapped, swaps_here as swaps_here_of};
 ghost use Rattle.form_set.specs.Inner.LevelSwaps.{addr_swaps as addr_swaps_of, left_behind, left_levels, left_of as left_of_term, swap_level as swap_level_of, swap_levels as swap_levels_of, swaps_of as swaps_of_term};
-ghost use Rattle.net_model.specs.Terms.{term_of};
+ghost use Rattle.form_model.specs.Shapes.{is_field as is_field_of, is_plain as is_plain_of, is_plain_sum, sum_with, summands};
+ghost use Rattle.net_model.specs.Terms.{term_of, term_width};
 
 use net_model::Expr;
 use rec_bits::Op2;
@@ -16,6 +17,77 @@ fn can_swap(op: Op2) -> bool
     match op {
         Op2::Add | Op2::Mul | Op2::And | Op2::Or | Op2::Xor | Op2::Eq => true,
         Op2::Sub | Op2::Shl | Op2::Shr | Op2::Sar | Op2::Ltu | Op2::Lts => false,
+    }
+}
+
+// Whether an expression is the instruction word or a slice of it.
+fn is_field(expr: &Expr) -> bool
+    ensures { result ≡ is_field_of (term_of expr.now) }
+{
+    match expr {
+        Expr::Word(_) => true,
+        Expr::Slice(a, _, _) => match &**a {
+            Expr::Word(_) => true,
+            _ => false,
+        },
+        _ => false,
+    }
+}
+
+// Whether an expression is one of these, one of these extended, or a constant.
+fn is_plain(expr: &Expr) -> bool
+    ensures { result ≡ is_plain_of (term_of expr.now) }
+{
+    match expr {
+        Expr::Const { .. } => true,
+        Expr::Zext(a, _) | Expr::Sext(a, _) => is_field(a),
+        _ => is_field(expr),
+    }
+}
+
+// The width of such an expression.
+fn plain_width(expr: &Expr) -> u16
+    requires { is_plain_of (term_of expr.now) ≡ true }
+    ensures { result ≡ term_width (term_of expr.now) }
+{
+    match expr {
+        Expr::Word(width) | Expr::Zext(_, width) | Expr::Sext(_, width) => u16::from(*width),
+        Expr::Const { width, .. } => u16::from(*width),
+        Expr::Slice(_, hi, lo) => (u16::from(*hi) + 1).saturating_sub(u16::from(*lo)),
+        _ => 0,
+    }
+}
+
+// Whether the sum of a constant and an expression is a field shape: the constant has at most 64 bits
+// and is of its width, and so is the expression.
+fn is_sum_with(width: u8, value: u64, to: &Expr) -> bool
+    ensures { result ≡ is_plain_sum (sum_with width value (term_of to.now)) }
+{
+    width <= 64
+        && u128::from(value) < 1u128 << width
+        && is_plain(to)
+        && plain_width(to) == u16::from(width)
+}
+
+// Whether the sum of two expressions is a field shape: one is a constant.
+fn is_shape_sum(a: &Expr, b: &Expr) -> bool
+    ensures { result ≡ is_plain_sum (summands (term_of a.now) (term_of b.now)) }
+{
+    match (a, b) {
+        (Expr::Const { width, value }, _) => is_sum_with(*width, *value, b),
+        (_, Expr::Const { width, value }) => is_sum_with(*width, *value, a),
+        _ => false,
+    }
+}
+
+// Whether an operator has one value in either order of these operands, and isn't that of a field
+// shape.
+fn swaps_here(op: Op2, a: &Expr, b: &Expr) -> bool
+    ensures { result ≡ swaps_here_of op (term_of a.now) (term_of b.now) }
+{
+    match op {
+        Op2::Add => !is_shape_sum(a, b),
+        _ => can_swap(op),
     }
 }
 
@@ -41,7 +113,7 @@ fn left_of(expr: &Expr, level: u64, choice: u16) -> u16
             if level > 0 {
                 let rest = left_of(a, level - 1, choice);
                 left_of(b, level - 1, rest)
-            } else if can_swap(*op) {
+            } else if swaps_here(*op, a, b) {
                 choice / 2
             } else {
                 choice
@@ -80,7 +152,7 @@ fn swaps_of(expr: &Expr) -> u8
         | Expr::Zext(a, _)
         | Expr::Sext(a, _) => swaps_of(a),
         Expr::Bin(op, a, b) => {
-            let here = if can_swap(*op) { 1 } else { 0 };
+            let here = if swaps_here(*op, a, b) { 1 } else { 0 };
             (here + (swaps_of(a) + swaps_of(b))).min(8)
         }
         Expr::Cat(a, b) => (swaps_of(a) + swaps_of(b)).min(8),
@@ -97,7 +169,7 @@ fn swap_root(expr: &mut Expr, choice: u16) -> u16
     let Expr::Bin(op, a, b) = expr else {
         return choice;
     };
-    if !can_swap(*op) {
+    if !swaps_here(*op, a, b) {
         return choice;
     }
     if choice % 2 == 1 {

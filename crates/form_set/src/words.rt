@@ -4,19 +4,22 @@ ghost use Rattle.std.specs.Prelude.{◌≡◌, ◌↔◌, ◌<◌, ◌^◌, IfOk
 ghost use Rattle.bit_bdd.specs.Diagrams.{Extends};
 ghost use Rattle.form_set.specs.Inner.PatternIds.{ArePatternIds, ids_pattern};
 ghost use Rattle.transfer_set.specs.Ready.{IsReady};
-ghost use Rattle.form_set.specs.Words.{AreClobbers, AreKept, CanJump, CanKeep, IsSetOf, Joins, WordKeepsMemory, KeepsOthers, all_registers as all_registers_of, is_register_storage as is_register_of, with};
+ghost use Rattle.form_set.specs.Inner.Holds.{KeepsMemory, StepsTo};
+ghost use Rattle.form_set.specs.Static.{is_file_at};
+ghost use Rattle.form_set.specs.Words.{AreClobbers, AreKept, CanJump, CanKeep, IsSetOf, Joins, WordKeepsMemory, KeepsOthers, all_registers as all_registers_of, is_register_storage as is_register_of, own_storage as own_storage_of, with};
 
 use crate::decide::has_all;
 use crate::linear::one;
 use crate::pattern_ids::{PatternIds, keep_of};
 use bit_bdd::{Book, SetId};
-use net_model::{Checked, Storage};
+use net_model::{Checked, Space, Storage};
 use rec_bits::NoMemory;
 use std::alloc::Global;
 use sym_expr::Pool;
 use transfer_set::Patterns;
 
-// Registers, and the words of a pattern that step and keep them and the data memory.
+// Registers, and the words of a pattern that step and keep them, the data memory and the register
+// file.
 #[derive(Clone, Copy)]
 pub(crate) struct Kept {
     pub(crate) words: SetId,
@@ -33,6 +36,13 @@ fn is_register(checked: &Checked, id: u32) -> bool
     }
 }
 
+// Whether the storage of this number is the register file.
+pub(crate) fn is_file(checked: &Checked, id: u32) -> bool
+    ensures { result ≡ is_file_at checked.now.netlist id }
+{
+    id == checked.place(Space::File)
+}
+
 // All registers of a netlist.
 pub(crate) fn all_registers(checked: &Checked) -> u16
     ensures { result ≡ all_registers_of checked.now.netlist.storages }
@@ -47,25 +57,75 @@ pub(crate) fn all_registers(checked: &Checked) -> u16
     registers
 }
 
-// The words of a pattern that step, and keep the data memory unless that is its storage.
-pub(crate) fn step_words(
+// Those of a pattern's words that keep the data memory, unless that is its storage.
+fn memory_words(
     alloc: Global,
     _checked: &Checked,
     _pool: &Pool,
     patterns: &Patterns,
     book: &mut Book,
     ids: PatternIds,
+    words: SetId,
 ) -> Result<SetId, NoMemory>
     requires ready { IsReady _checked.now.netlist book.old _pool.now patterns.now }
     requires ids { ArePatternIds _checked.now.netlist book.old _pool.now ids }
+    requires words { IsSetOf book.old (StepsTo _checked.now.netlist (ids_pattern _pool.now ids)) words }
     ensures grows { Extends book.old book.new }
-    ensures words { IfOk result (IsSetOf book.new (KeepsOthers _checked.now.netlist (ids_pattern _pool.now ids) 0)) }
+    ensures words { IfOk result (IsSetOf book.new (KeepsMemory _checked.now.netlist (ids_pattern _pool.now ids))) }
 {
-    let words = book.and(alloc, ids.set, patterns.step_set())?;
     if ids.storage == patterns.memory() {
         return Ok(words);
     }
     let kept = book.and(alloc, words, keep_of(patterns, patterns.memory()))?;
+    Ok(kept)
+}
+
+// And those of them that keep the register file, unless that is its storage.
+fn file_words(
+    alloc: Global,
+    _checked: &Checked,
+    _pool: &Pool,
+    patterns: &Patterns,
+    book: &mut Book,
+    ids: PatternIds,
+    words: SetId,
+) -> Result<SetId, NoMemory>
+    requires ready { IsReady _checked.now.netlist book.old _pool.now patterns.now }
+    requires ids { ArePatternIds _checked.now.netlist book.old _pool.now ids }
+    requires words { IsSetOf book.old (KeepsMemory _checked.now.netlist (ids_pattern _pool.now ids)) words }
+    ensures grows { Extends book.old book.new }
+    ensures words { IfOk result (IsSetOf book.new (KeepsOthers _checked.now.netlist (ids_pattern _pool.now ids) 0)) }
+{
+    match patterns.file() {
+        None => Ok(words),
+        Some(file) => {
+            if ids.storage == file {
+                return Ok(words);
+            }
+            let kept = book.and(alloc, words, keep_of(patterns, file))?;
+            Ok(kept)
+        }
+    }
+}
+
+// The words of a pattern that step, and keep the data memory and the register file unless that one
+// is its storage.
+pub(crate) fn step_words(
+    alloc: Global,
+    checked: &Checked,
+    pool: &Pool,
+    patterns: &Patterns,
+    book: &mut Book,
+    ids: PatternIds,
+) -> Result<SetId, NoMemory>
+    requires ready { IsReady checked.now.netlist book.old pool.now patterns.now }
+    requires ids { ArePatternIds checked.now.netlist book.old pool.now ids }
+    ensures grows { Extends book.old book.new }
+    ensures words { IfOk result (IsSetOf book.new (KeepsOthers checked.now.netlist (ids_pattern pool.now ids) 0)) }
+{
+    let steps = book.and(alloc, ids.set, patterns.step_set())?;
+    let words = memory_words(alloc, checked, pool, patterns, book, ids, steps)?;
+    let kept = file_words(alloc, checked, pool, patterns, book, ids, words)?;
     Ok(kept)
 }
 
@@ -215,8 +275,16 @@ fn kept_registers(
     Ok(kept.registers)
 }
 
-// The storages that a pattern's words may change: its own, and the registers that can't all be
-// kept.
+// The set of a pattern's storage; the register file is in no set of registers.
+fn own_storage(checked: &Checked, id: u32) -> u16
+    requires { id < 16 }
+    ensures { result ≡ own_storage_of checked.now.netlist id }
+{
+    if is_file(checked, id) { 0 } else { one(id) }
+}
+
+// The storages that a pattern's words may change: its own unless it is the register file, and the
+// registers that can't all be kept.
 pub(crate) fn clobbers(
     alloc: Global,
     checked: &Checked,
@@ -234,5 +302,6 @@ pub(crate) fn clobbers(
 {
     let kept = kept_registers(alloc, checked, pool, patterns, book, ids, words)?;
     let others = all_registers(checked) ^ kept;
-    Ok(one(ids.storage) | others)
+    let own = own_storage(checked, ids.storage);
+    Ok(own | others)
 }

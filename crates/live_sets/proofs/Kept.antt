@@ -35,7 +35,7 @@ module _ (netlist : Netlist) (order : List ℕ) (keeps : KeepsRules netlist orde
       some : (o : Option Row) → o ≡ Some row → elim o as (λ _. Option Pattern) [ None ↦ None | Some x ↦ Some (row_pattern pool x) ] ≡ Some (row_pattern pool row)
       some o h = ap (λ (z : Option Row). elim z as (λ _. Option Pattern) [ None ↦ None | Some x ↦ Some (row_pattern pool x) ]) h
 
-  row_far : (i setting r : ℕ) (o : Option Row) → slice_get table.rows i ≡ o → 16 ≤ r → reads (row_operation pool o setting) (register r) ≡ false
+  row_far : (i setting r : ℕ) (o : Option Row) → slice_get table.rows i ≡ o → 16 ≤ r → reads (row_operation table.file pool o setting) (register r) ≡ false
   row_far i setting r None e h = refl
   row_far i setting r (Some row) e h =
       let p : IsPattern netlist (row_pattern pool row) = pattern_at i row e in

@@ -1,3 +1,4 @@
 pub mod Bits
 pub mod Slices
+pub mod Shared
 pub mod Kept

@@ -24,5 +24,5 @@ AreSeen pool setting location flags =
 -- a location as the code tells it
 abbrev pub read_location : CodeLocation → Location
 read_location (Register id) = register id
-read_location (Cell address) = cell_at address
-read_location Cells = some_cell
+read_location (Cell space address) = cell_at space address
+read_location (Cells space) = some_cell space

@@ -3,7 +3,8 @@
 //! Promise: `live`, `live_with` and `live_between` give for each group, or before one, exactly the
 //! registers that are live (`lives_of`, `live_before`). `touches` tells whether a step may read
 //! what another writes, where addresses that their settings settle to different numbers are apart
-//! (`reads`), and `shares` whether two have one destination. `law_of_lists`: a table of a netlist's
+//! (`reads`), and `shares` whether two have one destination: a register, the memory, or a cell of the
+//! file. `law_of_lists`: a table of a netlist's
 //! patterns lists patterns of the netlist, with ids of the pool (`TablesAreListed`).
 //!
 //! Invariant: what expressions read is found once for a pool, parts before wholes, and handed on as

@@ -10,6 +10,7 @@ ghost use Rattle.live_sets.specs.Reading.{AreReads, AreSeen, read_location};
 use crate::locations::{Location, cell_at, may_see};
 use crate::regs::{none, one, union};
 use form_model::RegSet;
+use net_model::Space;
 use rec_bits::{Items, NoMemory};
 use std::alloc::Global;
 use sym_expr::{ExprId, Node, Pool};
@@ -78,12 +79,15 @@ fn node_sees(pool: &Pool, setting: u64, location: Location, flags: &[bool], id: 
     match pool.node(id) {
         Node::Word(_) | Node::Const { .. } => false,
         Node::Reg(register, _) => location == Location::Register(register),
-        Node::Read(a, _) => may_see(cell_at(pool, a, setting), location) || flag_at(flags, a),
-        Node::Cell(a, _)
-        | Node::Un(_, a)
-        | Node::Slice(a, ..)
-        | Node::Zext(a, _)
-        | Node::Sext(a, _) => { flag_at(flags, a) }
+        Node::Read(a, _) => {
+            may_see(cell_at(pool, Space::Memory, a, setting), location) || flag_at(flags, a)
+        }
+        Node::Cell(a, _) => {
+            may_see(cell_at(pool, Space::File, a, setting), location) || flag_at(flags, a)
+        }
+        Node::Un(_, a) | Node::Slice(a, ..) | Node::Zext(a, _) | Node::Sext(a, _) => {
+            flag_at(flags, a)
+        }
         Node::Bin(_, a, b) | Node::Cat(a, b) => flag_at(flags, a) || flag_at(flags, b),
         Node::Select(c, a, b) => { flag_at(flags, c) || (flag_at(flags, a) || flag_at(flags, b)) }
     }

@@ -8,16 +8,16 @@ ghost use Rattle.word_fit.specs.Steps.{step_operation};
 ghost use Rattle.live_sets.specs.Listed.{IsListed, HasRowIds};
 ghost use Rattle.live_sets.specs.Reading.{AreReads, read_location};
 
-use crate::locations::{Location, cell_at};
+use crate::locations::{Location, cell_at, may_see};
 use crate::reads::{flag_at, seen_table, set_at};
 use crate::regs::{has, none, one, union};
 use form_model::{RegSet, Step};
-use net_model::Checked;
+use net_model::{Checked, Space};
 use rec_bits::NoMemory;
 use std::alloc::Global;
 use sym_expr::Pool;
 use transfer_set::Patterns;
-use word_fit::{Written, stores_memory, written_by};
+use word_fit::{Written, space_in, stores_cells, stores_in, written_by};
 
 // The registers that a step reads.
 fn step_reads(patterns: &Patterns, _pool: &Pool, sets: &[RegSet], step: Step) -> RegSet
@@ -40,7 +40,7 @@ fn step_writes(patterns: &Patterns, step: Step) -> RegSet
 {
     match written_by(patterns, step) {
         Written::Register(register) => one(register),
-        Written::Memory | Written::Nothing => none(),
+        Written::Cells(_) | Written::Nothing => none(),
     }
 }
 
@@ -80,13 +80,15 @@ fn location_of_step(patterns: &Patterns, pool: &Pool, step: Step) -> Location
     match patterns.storage_of(step.pattern) {
         None => Location::Register(0),
         Some(storage) => match patterns.expr_of(step.pattern) {
-            Some((Some(addr), _)) => cell_at(pool, addr, step.setting),
+            Some((Some(addr), _)) => {
+                cell_at(pool, space_in(patterns, storage), addr, step.setting)
+            }
             _ => Location::Register(storage),
         },
     }
 }
 
-// Whether a step may see a write of the memory.
+// Whether a step may see a write of the memory or of the file.
 fn sees(
     alloc: Global,
     patterns: &Patterns,
@@ -108,8 +110,9 @@ fn sees(
     }
 }
 
-/// Whether the first step may read what the second one writes. A read and a write of the memory at
-/// addresses that their settings settle, to two different numbers, don't count. `sets` has the
+/// Whether the first step may read what the second one writes. A read and a write of the memory, or
+/// of the file, at addresses that their settings settle, to two different numbers, don't count, nor do
+/// a read of the one and a write of the other. `sets` has the
 /// registers that the pool's expressions read, as `reads_table` gives them.
 pub fn touches(
     alloc: Global,
@@ -148,14 +151,23 @@ fn storage_of(patterns: &Patterns, step: Step) -> u32
     }
 }
 
-/// Whether two steps have one destination: a register, or the memory.
-pub fn shares(patterns: &Patterns, left: Step, right: Step) -> bool
-    ensures { (pool : List Node) →
-        result ≡ same_destination (step_operation pool patterns.now left) (step_operation pool patterns.now right) }
+/// Whether two steps have one destination: a register, the memory, or a cell of the file.
+#[tactic(auto, using(crate::proofs::Shared::file_shares, crate::proofs::Shared::memory_shares, crate::proofs::Shared::register_shares))]
+pub fn shares(checked: &Checked, patterns: &Patterns, pool: &Pool, left: Step, right: Step) -> bool
+    requires { IsListed checked.now.netlist pool.now patterns.now }
+    ensures { result ≡ same_destination (step_operation pool.now patterns.now left)
+        (step_operation pool.now patterns.now right) }
 {
-    if stores_memory(patterns, left) {
-        stores_memory(patterns, right)
-    } else {
-        !stores_memory(patterns, right) && storage_of(patterns, left) == storage_of(patterns, right)
+    let _netlist = checked.netlist();
+    if stores_in(patterns, Space::File, left) {
+        return stores_cells(patterns, right)
+            && may_see(
+                location_of_step(patterns, pool, left),
+                location_of_step(patterns, pool, right),
+            );
     }
+    if stores_in(patterns, Space::Memory, left) {
+        return stores_in(patterns, Space::Memory, right);
+    }
+    !stores_cells(patterns, right) && storage_of(patterns, left) == storage_of(patterns, right)
 }

@@ -21,13 +21,16 @@ pub enum Difference<'a> {
     Number { shape: &'a Expr, value: u64 },
     /// Nothing loads the register of this number with the tree.
     Register { id: u32, tree: &'a Tree },
+    /// Nothing loads the register file with the tree.
+    File { tree: &'a Tree },
     /// Nothing fills a temporary cell with the tree, which the form would read there.
     Cell { tree: &'a Tree },
     /// The field shape doesn't show the addresses of all temporary cells.
     Addresses { shape: &'a Expr },
     /// The form writes at this address, and the tree goes to a cell of a known one.
     Indirect { address: &'a Expr },
-    /// Each operand comes into its register, but in every order one overwrites another.
+    /// Each operand comes into its register or the file, but in every order one overwrites another,
+    /// or the file is too small for all.
     Clash,
     /// The tree comes where the form puts it, but goes on from there nowhere.
     Made { form: &'a Form },
@@ -70,6 +73,26 @@ fn register_difference<'a>(
     match least_cost(alloc, means.forms, destination, tree, whole, means.temps)? {
         Some(_) => Ok(None),
         None => Ok(Some(Difference::Register { id, tree })),
+    }
+}
+
+// A read of the file and a tree of its width, which has to come into one of its cells.
+fn file_difference<'a>(
+    alloc: Global,
+    means: Means<'a>,
+    tree: &'a Tree,
+    whole: bool,
+) -> Result<Option<Difference<'a>>, NoMemory> {
+    match least_cost(
+        alloc,
+        means.forms,
+        Destination::File,
+        tree,
+        whole,
+        means.temps,
+    )? {
+        Some(_) => Ok(None),
+        None => Ok(Some(Difference::File { tree })),
     }
 }
 
@@ -133,6 +156,7 @@ fn expr_difference<'a>(
     }
     match (expr, tree) {
         (Expr::Reg(id, _), _) => register_difference(alloc, means, *id, tree, whole),
+        (Expr::Cell(_, _), _) => file_difference(alloc, means, tree, whole),
         (Expr::Read(a, _), _) if is_field_shape(a) => {
             cell_difference(alloc, means, expr, a, tree, whole)
         }

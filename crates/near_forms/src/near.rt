@@ -45,7 +45,7 @@ fn goes_to(form: &Form, destination: Destination) -> bool {
 // Whether the form moves a value as it is.
 fn is_move(form: &Form) -> bool {
     match &form.value {
-        Expr::Reg(_, _) => true,
+        Expr::Reg(_, _) | Expr::Cell(_, _) => true,
         Expr::Read(a, _) => is_field_shape(a),
         _ => false,
     }
@@ -62,7 +62,7 @@ fn is_of_job(job: &Job, tree: &Tree) -> bool {
 }
 
 // Where the form is to put the tree, if it comes near to it: where the job's tree goes, or else into
-// the form's register or a temporary cell.
+// the form's register, the file or a temporary cell.
 fn destination_near<'a>(form: &Form, job: &'a Job, tree: &Tree) -> Option<Destination<'a>> {
     let root = Destination::of(&job.aim);
     let near = has_root(&form.value, tree);

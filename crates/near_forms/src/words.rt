@@ -2,11 +2,11 @@
 
 use crate::differences::Difference;
 use crate::exprs::add_expr;
-use crate::text::{Names, put, put_memory, put_number, put_storage};
+use crate::text::{Names, put, put_memory, put_number, put_space, put_storage};
 use crate::trees::add_tree;
 use cover_lacks::is_same;
 use form_model::{Form, Goal, Tree};
-use net_model::Expr;
+use net_model::{Expr, Space};
 use rec_bits::NoMemory;
 use tree_grammar::{expr_width, low_bits, tree_width};
 
@@ -47,7 +47,8 @@ fn put_shown(text: &mut Vec<u8>, shape: &Expr) -> Result<(), NoMemory> {
     match shape {
         Expr::Sext(a, _) => put_signed_range(text, expr_width(a)),
         Expr::Zext(a, _) => put_range(text, expr_width(a)),
-        Expr::Const { .. } => Ok(()),
+        // a sum's numbers are no range from 0 on, and a constant is itself the one
+        Expr::Const { .. } | Expr::Bin(..) => Ok(()),
         _ => put_range(text, expr_width(shape)),
     }
 }
@@ -93,8 +94,19 @@ fn put_widths(
 fn put_goal(text: &mut Vec<u8>, names: Names, form: &Form) -> Result<(), NoMemory> {
     match &form.goal {
         Goal::Reg(id) => put_storage(text, names, *id),
+        Goal::File => put_space(text, names, Space::File),
         _ => put_memory(text, names),
     }
+}
+
+// Adds what else may be too little where each operand comes into its place: the register file.
+fn put_small_file(text: &mut Vec<u8>, names: Names) -> Result<(), NoMemory> {
+    if names.checked.size(Space::File) == 0 {
+        return Ok(());
+    }
+    put(text, b" or ")?;
+    put_space(text, names, Space::File)?;
+    put(text, b" is too small")
 }
 
 /// Adds what is between a form and a tree, in words that call this tree `it`.
@@ -119,6 +131,12 @@ pub fn add_difference(
             put(text, b" with ")?;
             put_tree(text, names, it, tree)
         }
+        Difference::File { tree } => {
+            put(text, b"nothing loads ")?;
+            put_space(text, names, Space::File)?;
+            put(text, b" with ")?;
+            put_tree(text, names, it, tree)
+        }
         Difference::Cell { tree } => {
             put(text, b"nothing puts ")?;
             put_tree(text, names, it, tree)?;
@@ -133,7 +151,10 @@ pub fn add_difference(
             add_expr(text, names, address)?;
             put(text, b" is written at")
         }
-        Difference::Clash => put(text, b"in every order an operand overwrites another"),
+        Difference::Clash => {
+            put(text, b"in every order an operand overwrites another")?;
+            put_small_file(text, names)
+        }
         Difference::Made { form } => {
             put(text, b"it comes into ")?;
             put_goal(text, names, form)?;

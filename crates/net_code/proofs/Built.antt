@@ -3,6 +3,8 @@ use Rattle.std.proofs.Common.{◌≡◌, ℕ, suc, ◌+◌, ◌<◌, ◌≤◌, 
 use Rattle.std.specs.List.{AllByRecursion}
 use Rattle.std.proofs.lemmas.List.{length-map}
 use Rattle.net_model.specs.declared.hardware.Netlist.{Netlist}
+use Rattle.net_model.specs.declared.hardware.Space.TheVariants.{File as InFile}
+use Rattle.net_model.specs.Nets.{size_in}
 use Rattle.net_model.specs.CheckedRules.{code_size}
 use Rattle.net_model.specs.Nets.{memory_size, word_width}
 use Rattle.net_model.specs.Patterns.{ArePatterns, Pattern}
@@ -18,7 +20,7 @@ use Rattle.code_model.specs.Places.{Apart, places_from, words_of}
 use Rattle.cover.specs.Best.{choice_of}
 use Rattle.cover.specs.declared.covers.JobCover.{JobCover}
 use Rattle.form_model.specs.Covers.{Choice, Stock}
-use Rattle.form_model.specs.Effects.{operation_of}
+use Rattle.block_words.specs.Laws.{operation_in}
 use Rattle.form_model.specs.Rules.{Rule}
 use Rattle.form_model.specs.declared.flow.Flow.{Flow}
 use Rattle.form_model.specs.declared.forms.Step.{Step}
@@ -71,7 +73,7 @@ costs_long stock (w ∷ works) (c ∷ choices) h = ap suc (costs_long stock work
 
 -- items whose jumps have words
 all_have : (netlist : Netlist) (patterns : List Pattern) (items : List Item)
-    → ((k : ℕ) (step : Step) → slice_get items k ≡ Some (Jump step) → (word : ℕ) × FitsJump netlist word (operation_of patterns step)) → AllByRecursion (HasWord netlist patterns) items
+    → ((k : ℕ) (step : Step) → slice_get items k ≡ Some (Jump step) → (word : ℕ) × FitsJump netlist word (operation_in netlist patterns step)) → AllByRecursion (HasWord netlist patterns) items
 all_have netlist patterns [] h = tt
 all_have netlist patterns (Group block at ∷ items) h = (tt, all_have netlist patterns items (λ k. h (suc k)))
 all_have netlist patterns (Jump step ∷ items) h = (h 0 step refl, all_have netlist patterns items (λ k. h (suc k)))
@@ -96,7 +98,7 @@ module _ (machine : Machine) (program : CoveredProgram) (task : Task) (c : IsCov
 
   covered_there : (number : ℕ) (job : Work) (choice : Choice) → slice_get (works_in program) number ≡ Some job → slice_get (choices_in program) number ≡ Some choice → IsCovered (stock_of program) job choice
   covered_there number job choice =
-      of_program machine program task c (λ nt t f w. slice_get w number ≡ Some job → slice_get (choices_in program) number ≡ Some choice → IsCovered (record { rules = rules; temps = t }) job choice)
+      of_program machine program task c (λ nt t s f w. slice_get w number ≡ Some job → slice_get (choices_in program) number ≡ Some choice → IsCovered (record { rules = rules; temps = t; file = s }) job choice)
       (covered machine program task c number job choice)
 
   -- the costs of the task's jobs
@@ -127,9 +129,9 @@ module _ (machine : Machine) (program : CoveredProgram) (task : Task) (c : IsCov
       laid_there = subst (λ f. IsLaid (flow_outline rules reach (sizes blocks) branches most bound f) laid) c.flow is
 
       code_there : IsBlockCode task.netlist patterns (task_stock rules task) (program_flow task.listing) (task_works task) (choices_in program) (length (program_flow task.listing)) blocks branches
-      code_there = of_task machine program task c (λ nt t f w. IsBlockCode nt patterns (record { rules = rules; temps = t }) f w (choices_in program) (length f) blocks branches) code
+      code_there = of_task machine program task c (λ nt t s f w. IsBlockCode nt patterns (record { rules = rules; temps = t; file = s }) f w (choices_in program) (length f) blocks branches) code
 
-      items_there : (k : ℕ) (step : Step) → slice_get laid.items k ≡ Some (Jump step) → (word : ℕ) × FitsJump task.netlist word (operation_of patterns step)
+      items_there : (k : ℕ) (step : Step) → slice_get laid.items k ≡ Some (Jump step) → (word : ℕ) × FitsJump task.netlist word (operation_in task.netlist patterns step)
       items_there k step e =
           let most_words = laid_there.most in
           let reaches = laid_there.reached in
@@ -238,14 +240,15 @@ few_places order task checked =
 -- what was made of a checked task's jobs covers the task
 pub task_covering : (machine : Machine) (program : CoveredProgram) (task : Task) (jobs : List Job) (covers : List JobCover)
     → task.netlist ≡ machine_netlist machine → IsChecked machine.checked.now.order task → ArePatterns (machine_netlist machine) (machine_patterns machine)
-    → AreForms (machine_netlist machine) (machine_patterns machine) (stock_of program).rules program.forms.now.reach → program.temps ≡ temp_count task.width task.listing
+    → AreForms (machine_netlist machine) (machine_patterns machine) (stock_of program).rules program.forms.now.reach → program.forms.now.file ≡ size_in InFile (machine_netlist machine).storages → program.temps ≡ temp_count task.width task.listing
     → program.flow.now ≡ program_flow task.listing → program.jobs.now ≡ jobs → works_of jobs ≡ task_works task → program.covers.now ≡ covers
     → AllChosen (stock_of program) (works_of jobs) (map choice_of covers) → map (λ (j : JobCover). j.cost) covers ≡ job_costs (works_of jobs) (map choice_of covers) → IsCovering machine program task
-task_covering machine program task jobs covers netlist checked patterns forms temps flow jobs_are works covers_are chosen costs = record {
+task_covering machine program task jobs covers netlist checked patterns forms file temps flow jobs_are works covers_are chosen costs = record {
   netlist = netlist;
   checked = checked;
   patterns = patterns;
   forms = forms;
+  file = file;
   temps = temps;
   flow = flow;
   works = ap works_of jobs_are ∙ works;
@@ -273,22 +276,24 @@ module _ (task : Task) (patterns : List Pattern) (are : ArePatterns task.netlist
   }
 
   -- a tree that has no cover
-  pub uncovered : (IsStepless task.netlist → ⊥) → (IsJumpless task.netlist → ⊥) → (temps : ℕ) → temps ≡ temp_count task.width task.listing → (works : List Work) → works ≡ task_works task
-      → (fault : CodeFault) → IsUncovered (record { rules = rules; temps = temps }) works fault → IsCodeFault task fault
-  uncovered steps jumps temps cells works same (NoCover number) h = (
+  pub uncovered : (IsStepless task.netlist → ⊥) → (IsJumpless task.netlist → ⊥) → (temps file : ℕ) → temps ≡ temp_count task.width task.listing → file ≡ size_in InFile task.netlist.storages → (works : List Work) → works ≡ task_works task
+      → (fault : CodeFault) → IsUncovered (record { rules = rules; temps = temps; file = file }) works fault → IsCodeFault task fault
+  uncovered steps jumps temps file cells filed works same (NoCover number) h = (
     has_jumps steps jumps,
     record {
       rules = rules;
       reach = reach;
       forms = record { patterns = patterns; are = are; forms = forms };
-      bare = subst (λ t. IsFirstBare (record { rules = rules; temps = t }) (task_works task) number) cells (subst (λ ws. IsFirstBare (record { rules = rules; temps = temps }) ws number) same h);
+      bare = subst (λ k. IsFirstBare (record { rules = rules; temps = temp_count task.width task.listing; file = k }) (task_works task) number) filed
+          (subst (λ t. IsFirstBare (record { rules = rules; temps = t; file = file }) (task_works task) number) cells
+          (subst (λ ws. IsFirstBare (record { rules = rules; temps = temps; file = file }) ws number) same h));
     },
   )
-  uncovered steps jumps temps cells works same Memory h = tt
-  uncovered steps jumps temps cells works same NoStep h = absurd h
-  uncovered steps jumps temps cells works same NoJump h = absurd h
-  uncovered steps jumps temps cells works same (NoReach b r) h = absurd h
-  uncovered steps jumps temps cells works same (ImageFull l s b) h = absurd h
+  uncovered steps jumps temps file cells filed works same Memory h = tt
+  uncovered steps jumps temps file cells filed works same NoStep h = absurd h
+  uncovered steps jumps temps file cells filed works same NoJump h = absurd h
+  uncovered steps jumps temps file cells filed works same (NoReach b r) h = absurd h
+  uncovered steps jumps temps file cells filed works same (ImageFull l s b) h = absurd h
 
 -- a covered program's trees are covered
 covered_task : (machine : Machine) (program : CoveredProgram) (task : Task) → IsCovering machine program task → (IsStepless (machine_netlist machine) → ⊥) → (IsJumpless (machine_netlist machine) → ⊥) → IsCoverable task

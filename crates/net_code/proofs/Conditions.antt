@@ -19,7 +19,6 @@ use Rattle.form_set.specs.Listing.{AreForms}
 use Rattle.emit_seq.specs.Spares.{wanted}
 use Rattle.emit_seq.proofs.Opened.{opened_plan}
 use Rattle.live_sets.proofs.Bits.{regs_of_none, regs_of_one, regs_of_or, regs_of_past}
-use Rattle.word_fit.proofs.Plain.{no_file}
 use Rattle.right_code.specs.Forks.{plan_rule}
 use Rattle.right_code.specs.Inner.Forks.{IsBranchForm}
 use Rattle.right_code.specs.Tasks.{IsChecked, Task, task_stock}
@@ -110,7 +109,7 @@ module _ (order : List ℕ) (task : Task) (checked : IsChecked order task) (patt
       goal = plan_goal (task_stock rules task) tree (use_form k ps cs) orderly
 
       form : IsBranchForm task.netlist patterns rule goal.0 goal.1
-      form = fork_form task.netlist order checked.netlist (no_file task.netlist order checked.netlist checked.first) (has_bits task.netlist order checked.netlist) patterns (known_of task.netlist order checked.netlist patterns are) reach rules forms k rule goal.0 goal.1
+      form = fork_form task.netlist order checked.netlist (has_bits task.netlist order checked.netlist) patterns (known_of task.netlist order checked.netlist patterns are) reach rules forms k rule goal.0 goal.1
           (opened_plan (task_stock rules task) k ps cs tested tree true orderly).listed goal.2
 
       terms : IsTermOf task.netlist form.condition

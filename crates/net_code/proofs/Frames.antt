@@ -1,12 +1,14 @@
 -- What is known of a task is known of its covered program.
 use Rattle.std.proofs.Common.{◌≡◌, ℕ, ◌<◌, ◌^◌, true, List, [], ◌∷◌, Some, zero, suc, slice_get, refl, sym, ◌∙◌, ap, subst}
 use Rattle.net_model.specs.declared.hardware.Netlist.{Netlist}
+use Rattle.net_model.specs.declared.hardware.Space.TheVariants.{File as InFile}
+use Rattle.net_model.specs.Nets.{size_in}
 use Rattle.net_model.specs.Patterns.{ArePatterns, Pattern}
 use Rattle.src_model.specs.Rules.{temp_count}
 use Rattle.form_model.specs.declared.flow.Flow.{Flow}
 use Rattle.form_model.specs.declared.flow.Flow.TheVariants.{Test}
 use Rattle.form_model.specs.Covers.{Choice, IsChosen, IsOrderly, Stock}
-use Rattle.form_model.specs.Effects.{operation_of}
+use Rattle.block_words.specs.Laws.{operation_in}
 use Rattle.form_model.specs.Live.{regs_of, singles}
 use Rattle.form_model.specs.Plans.{Plan, use_form}
 use Rattle.form_model.specs.Rules.{Destination, Rule, tested}
@@ -34,9 +36,9 @@ use Rattle.net_code.specs.Inner.Registers.{form_registers}
 use Rattle.net_code.specs.Inner.Views.{choices_in, stock_of, works_in}
 use Rattle.net_code.proofs.Conditions.{wanted_registers}
 
--- a netlist, the number of temporary cells, a flow and its jobs
+-- a netlist, the number of temporary cells, that of the file's cells, a flow and its jobs
 abbrev Framed : Type 1
-Framed = Netlist → ℕ → List Flow → List Work → Type 0
+Framed = Netlist → ℕ → ℕ → List Flow → List Work → Type 0
 
 -- the chosen cover of the job of a number
 pub chosen_at : (stock : Stock) (works : List Work) (choices : List Choice) → AllChosen stock works choices → (k : ℕ) (job : Work) (choice : Choice) → slice_get works k ≡ Some job → slice_get choices k ≡ Some choice
@@ -60,19 +62,24 @@ listed_root : (stock : Stock) (destination : Destination) (tree : Term) (plan : 
 listed_root stock destination tree (use_form k ps cs) o = (opened_plan stock k ps cs destination tree true o).listed
 
 module _ (machine : Machine) (program : CoveredProgram) (task : Task) (c : IsCovering machine program task) where
-  pub of_program : (P : Framed) → P task.netlist (temp_count task.width task.listing) (program_flow task.listing) (task_works task) → P (machine_netlist machine) program.temps program.flow.now (works_in program)
-  of_program P h =
-      subst (λ n. P n program.temps program.flow.now (works_in program)) c.netlist
-      (subst (λ t. P task.netlist t program.flow.now (works_in program)) (sym c.temps)
-      (subst (λ f. P task.netlist (temp_count task.width task.listing) f (works_in program)) (sym c.flow)
-      (subst (λ w. P task.netlist (temp_count task.width task.listing) (program_flow task.listing) w) (sym c.works) h)))
+  file_same : program.forms.now.file ≡ size_in InFile task.netlist.storages
+  file_same = c.file ∙ ap (λ (n : Netlist). size_in InFile n.storages) (sym c.netlist)
 
-  pub of_task : (P : Framed) → P (machine_netlist machine) program.temps program.flow.now (works_in program) → P task.netlist (temp_count task.width task.listing) (program_flow task.listing) (task_works task)
+  pub of_program : (P : Framed) → P task.netlist (temp_count task.width task.listing) (size_in InFile task.netlist.storages) (program_flow task.listing) (task_works task) → P (machine_netlist machine) program.temps program.forms.now.file program.flow.now (works_in program)
+  of_program P h =
+      subst (λ n. P n program.temps program.forms.now.file program.flow.now (works_in program)) c.netlist
+      (subst (λ t. P task.netlist t program.forms.now.file program.flow.now (works_in program)) (sym c.temps)
+      (subst (λ k. P task.netlist (temp_count task.width task.listing) k program.flow.now (works_in program)) (sym file_same)
+      (subst (λ f. P task.netlist (temp_count task.width task.listing) (size_in InFile task.netlist.storages) f (works_in program)) (sym c.flow)
+      (subst (λ w. P task.netlist (temp_count task.width task.listing) (size_in InFile task.netlist.storages) (program_flow task.listing) w) (sym c.works) h))))
+
+  pub of_task : (P : Framed) → P (machine_netlist machine) program.temps program.forms.now.file program.flow.now (works_in program) → P task.netlist (temp_count task.width task.listing) (size_in InFile task.netlist.storages) (program_flow task.listing) (task_works task)
   of_task P h =
-      subst (λ w. P task.netlist (temp_count task.width task.listing) (program_flow task.listing) w) c.works
-      (subst (λ f. P task.netlist (temp_count task.width task.listing) f (works_in program)) c.flow
-      (subst (λ t. P task.netlist t program.flow.now (works_in program)) c.temps
-      (subst (λ n. P n program.temps program.flow.now (works_in program)) (sym c.netlist) h)))
+      subst (λ w. P task.netlist (temp_count task.width task.listing) (size_in InFile task.netlist.storages) (program_flow task.listing) w) c.works
+      (subst (λ f. P task.netlist (temp_count task.width task.listing) (size_in InFile task.netlist.storages) f (works_in program)) c.flow
+      (subst (λ k. P task.netlist (temp_count task.width task.listing) k program.flow.now (works_in program)) file_same
+      (subst (λ t. P task.netlist t program.forms.now.file program.flow.now (works_in program)) c.temps
+      (subst (λ n. P n program.temps program.forms.now.file program.flow.now (works_in program)) (sym c.netlist) h))))
 
   abbrev patterns : List Pattern
   patterns = machine_patterns machine
@@ -93,18 +100,18 @@ module _ (machine : Machine) (program : CoveredProgram) (task : Task) (c : IsCov
   forms = subst (λ n. AreForms n patterns rules reach) (sym c.netlist) c.forms
 
   pub chosen : AllChosen (task_stock rules task) (task_works task) (choices_in program)
-  chosen = of_task (λ n t f w. AllChosen (record { rules = rules; temps = t }) w (choices_in program)) c.chosen
+  chosen = of_task (λ n t s f w. AllChosen (record { rules = rules; temps = t; file = s }) w (choices_in program)) c.chosen
 
   pub covered : (number : ℕ) (job : Work) (choice : Choice) → slice_get (task_works task) number ≡ Some job → slice_get (choices_in program) number ≡ Some choice → IsCovered (task_stock rules task) job choice
   covered number job choice at there =
       job_covered order task c.checked patterns are rules reach forms number job at choice (chosen_at (task_stock rules task) (task_works task) (choices_in program) chosen number job choice at there)
 
   -- each step of a block has a word
-  pub run_have : (at n : ℕ) → AllHaveWords (operation_of patterns) (fits_over (machine_netlist machine) (operation_of patterns))
+  pub run_have : (at n : ℕ) → AllHaveWords (operation_in (machine_netlist machine) patterns) (fits_over (machine_netlist machine) (operation_in (machine_netlist machine) patterns))
       (singles (jobs_steps (stock_of program) (jobs_at program.flow.now (works_in program) at n) (choices_at program.flow.now (choices_in program) at n))) (regs_of 0)
   run_have at n =
-      of_program (λ nt t f w. AllHaveWords (operation_of patterns) (fits_over nt (operation_of patterns))
-      (singles (jobs_steps (record { rules = rules; temps = t }) (jobs_at f w at n) (choices_at f (choices_in program) at n))) (regs_of 0))
+      of_program (λ nt t s f w. AllHaveWords (operation_in nt patterns) (fits_over nt (operation_in nt patterns))
+      (singles (jobs_steps (record { rules = rules; temps = t; file = s }) (jobs_at f w at n) (choices_at f (choices_in program) at n))) (regs_of 0))
       (block_words_of order task c.checked patterns are rules reach forms (choices_in program) chosen at n)
 
   root_there : (number : ℕ) (job : Work) (choice : Choice) → slice_get (task_works task) number ≡ Some job → slice_get (choices_in program) number ≡ Some choice → slice_get rules (root_of choice.plan) ≡ Some (plan_rule (task_stock rules task) choice.plan)
@@ -115,7 +122,7 @@ module _ (machine : Machine) (program : CoveredProgram) (task : Task) (c : IsCov
   -- the form at the root of a cover is one of the list
   pub root_form : (number : ℕ) (job : Work) (choice : Choice) → slice_get (works_in program) number ≡ Some job → slice_get (choices_in program) number ≡ Some choice → slice_get rules (root_of choice.plan) ≡ Some (plan_rule (stock_of program) choice.plan)
   root_form number job choice =
-      of_program (λ nt t f w. slice_get w number ≡ Some job → slice_get (choices_in program) number ≡ Some choice → slice_get rules (root_of choice.plan) ≡ Some (plan_rule (record { rules = rules; temps = t }) choice.plan))
+      of_program (λ nt t s f w. slice_get w number ≡ Some job → slice_get (choices_in program) number ≡ Some choice → slice_get rules (root_of choice.plan) ≡ Some (plan_rule (record { rules = rules; temps = t; file = s }) choice.plan))
       (root_there number job choice)
 
   -- the registers that are wanted behind a test
@@ -130,24 +137,24 @@ module _ (machine : Machine) (program : CoveredProgram) (task : Task) (c : IsCov
   pub wanted_is : (number : ℕ) (job : Work) (choice : Choice) → slice_get (works_in program) number ≡ Some job → slice_get (choices_in program) number ≡ Some choice → job.destination ≡ tested
       → (n : ℕ) → n < 2 ^ 16 → n ≡ form_registers (slice_get rules (root_of choice.plan)) → wanted (stock_of program) tested (tree_used job choice) choice.plan ≡ regs_of n
   wanted_is number job choice =
-      of_program (λ nt t f w. slice_get w number ≡ Some job → slice_get (choices_in program) number ≡ Some choice → job.destination ≡ tested
+      of_program (λ nt t s f w. slice_get w number ≡ Some job → slice_get (choices_in program) number ≡ Some choice → job.destination ≡ tested
       → (n : ℕ) → n < 2 ^ 16 → n ≡ form_registers (slice_get rules (root_of choice.plan))
-      → wanted (record { rules = rules; temps = t }) tested (tree_used job choice) choice.plan ≡ regs_of n)
+      → wanted (record { rules = rules; temps = t; file = s }) tested (tree_used job choice) choice.plan ≡ regs_of n)
       (wanted_there number job choice)
 
   -- each step of a test has a word
   pub test_have : (number : ℕ) (job : Work) (choice : Choice) → slice_get (works_in program) number ≡ Some job → slice_get (choices_in program) number ≡ Some choice → job.destination ≡ tested
       → (n : ℕ) → wanted (stock_of program) tested (tree_used job choice) choice.plan ≡ regs_of n
-      → AllHaveWords (operation_of patterns) (fits_over (machine_netlist machine) (operation_of patterns)) (singles (job_steps (stock_of program) job choice)) (regs_of n)
+      → AllHaveWords (operation_in (machine_netlist machine) patterns) (fits_over (machine_netlist machine) (operation_in (machine_netlist machine) patterns)) (singles (job_steps (stock_of program) job choice)) (regs_of n)
   test_have number job choice =
-      of_program (λ nt t f w. slice_get w number ≡ Some job → slice_get (choices_in program) number ≡ Some choice → job.destination ≡ tested
-      → (n : ℕ) → wanted (record { rules = rules; temps = t }) tested (tree_used job choice) choice.plan ≡ regs_of n
-      → AllHaveWords (operation_of patterns) (fits_over nt (operation_of patterns)) (singles (job_steps (record { rules = rules; temps = t }) job choice)) (regs_of n))
+      of_program (λ nt t s f w. slice_get w number ≡ Some job → slice_get (choices_in program) number ≡ Some choice → job.destination ≡ tested
+      → (n : ℕ) → wanted (record { rules = rules; temps = t; file = s }) tested (tree_used job choice) choice.plan ≡ regs_of n
+      → AllHaveWords (operation_in nt patterns) (fits_over nt (operation_in nt patterns)) (singles (job_steps (record { rules = rules; temps = t; file = s }) job choice)) (regs_of n))
       (λ at there e n is. test_words_of order task c.checked patterns are rules reach forms (choices_in program) chosen number job choice at there e (regs_of n) (λ r live. ap (λ g. g r) is ∙ live))
 
   -- each test of the flow has a job, with its cover
   pub tests : AreTests (works_in program) program.flow.now
-  tests = of_program (λ nt t f w. AreTests w f) (program_tests (task_memory task) task.listing)
+  tests = of_program (λ nt t s f w. AreTests w f) (program_tests (task_memory task) task.listing)
 
   pub test_job : (at tree when_one when_zero : ℕ) → slice_get program.flow.now at ≡ Some (Test tree when_one when_zero) → IsTestWork (works_in program) tree
   test_job at tree when_one when_zero e = tests_get (works_in program) program.flow.now at tree when_one when_zero tests e

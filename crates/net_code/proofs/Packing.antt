@@ -1,14 +1,21 @@
 -- Each group of a packing has a step, so there are no more groups than steps; and its words' lists
 -- ascend. The empty set of bits is that of no registers.
-use Rattle.std.proofs.Common.{◌≡◌, ℕ, suc, ◌-◌, ◌≤◌, List, [], ◌∷◌, ◌++◌, length, arith, length-append, subst, sym}
+use Rattle.std.proofs.Common.{◌≡◌, ℕ, suc, ◌-◌, ◌≤◌, List, [], ◌∷◌, ◌++◌, Option, length, arith, length-append, subst, sym}
 use Rattle.std.proofs.lemmas.List.Sorted.{length_permutation}
 use Rattle.std.specs.List.{AllByRecursion}
 use Rattle.net_model.specs.declared.hardware.Netlist.{Netlist}
 use Rattle.net_model.specs.Patterns.{Pattern}
+use Rattle.sym_expr.specs.declared.pool.Node.{Node}
+use Rattle.transfer_set.specs.Rows.{row_patterns}
+use Rattle.transfer_set.specs.Tables.{Table, file_place}
+use Rattle.word_fit.specs.Fits.{fits_over}
+use Rattle.word_fit.specs.Groups.{AllHaveWords}
+use Rattle.block_words.specs.Laws.{operation_in}
+use Rattle.block_words.specs.Words.{HaveWords}
 use Rattle.code_model.specs.declared.image.Word.{Word}
 use Rattle.code_model.specs.ImageFits.{AscendFrom}
 use Rattle.form_model.specs.declared.forms.Step.{Step}
-use Rattle.form_model.specs.Effects.{Operation}
+use Rattle.form_model.specs.Effects.{Operation, operation_of}
 use Rattle.form_model.specs.Live.{Regs, no_regs, regs_of, singles}
 use Rattle.branch_fix.specs.declared.laid.Item.{Item}
 use Rattle.live_sets.proofs.Bits.{regs_of_none}
@@ -55,3 +62,10 @@ lists_ascend groups [] [] h = tt
 lists_ascend groups [] (w ∷ words) h = absurd h
 lists_ascend groups (i ∷ items) [] h = absurd h
 lists_ascend groups (i ∷ items) (w ∷ words) h = (h.0.ascends, lists_ascend groups items words h.1)
+
+-- groups that have words by the netlist have them by a table that tells its register file
+pub told_words : (netlist : Netlist) (pool : List Node) (table : Table) (groups : List (List Step)) (after : Regs) → table.file ≡ file_place netlist.storages →
+    AllHaveWords (operation_in netlist (row_patterns pool table.rows)) (fits_over netlist (operation_in netlist (row_patterns pool table.rows))) groups after →
+    HaveWords netlist pool table groups after
+told_words netlist pool table groups after told have =
+    subst (λ (f : Option ℕ). AllHaveWords (operation_of f (row_patterns pool table.rows)) (fits_over netlist (operation_of f (row_patterns pool table.rows))) groups after) (sym told) have

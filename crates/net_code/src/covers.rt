@@ -3,7 +3,8 @@
 ghost use Rattle.std.specs.Prelude.{◌≡◌, ◌<◌, ◌^◌, IfOk, IfErr, IfSome, length, map, option_map};
 ghost use Rattle.std.specs.List.{AllByRecursion};
 ghost use Rattle.code_model.specs.ImageFits.{CostFits};
-ghost use Rattle.cover.specs.Best.{choice_of, stock_with};
+ghost use Rattle.cover.specs.Best.{choice_of};
+ghost use Rattle.form_model.specs.Covers.{stock_with};
 ghost use Rattle.cover.specs.declared.covers.JobCover.{JobCover as TheCover};
 ghost use Rattle.form_model.specs.Covers.{IsChosen, job_cost};
 ghost use Rattle.src_trees.specs.Jobs.{work_of, works_of};
@@ -26,7 +27,7 @@ pub fn chosen_cover(
     temps: u32,
 ) -> Result<Option<JobCover>, NoMemory>
     ensures tried { IfOk result (λ chosen.
-        IsTried (stock_with forms.now.list.items temps) (work_of job.now) (option_map choice_of chosen)) }
+        IsTried (stock_with forms.now.list.items temps forms.now.file) (work_of job.now) (option_map choice_of chosen)) }
     ensures cost { IfOk result (λ chosen. IfSome chosen (λ c.
         c.cost ≡ job_cost (work_of job.now).destination (choice_of c).plan)) }
 {
@@ -45,10 +46,10 @@ fn cover_one(
     temps: u32,
     number: u32,
 ) -> Result<JobCover, CodeFault>
-    ensures chosen { IfOk result (λ c. IsChosen (stock_with forms.now.list.items temps)
+    ensures chosen { IfOk result (λ c. IsChosen (stock_with forms.now.list.items temps forms.now.file)
         (work_of job.now).destination (work_of job.now).trees (choice_of c)) }
     ensures cost { IfOk result (λ c. c.cost ≡ job_cost (work_of job.now).destination (choice_of c).plan) }
-    ensures refused { IfErr result (IsOneBare (stock_with forms.now.list.items temps) (work_of job.now) number) }
+    ensures refused { IfErr result (IsOneBare (stock_with forms.now.list.items temps forms.now.file) (work_of job.now) number) }
 {
     match chosen_cover(alloc, forms, job, temps)? {
         Some(chosen) => Ok(chosen),
@@ -67,10 +68,10 @@ pub(crate) fn covers_of(
 ) -> Result<Vec<JobCover>, CodeFault>
     requires { length jobs.now < 2 ^ 32 }
     ensures chosen { IfOk result (λ covers.
-        AllChosen (stock_with forms.now.list.items temps) (works_of jobs.now) (map choice_of covers.items)) }
+        AllChosen (stock_with forms.now.list.items temps forms.now.file) (works_of jobs.now) (map choice_of covers.items)) }
     ensures costs { IfOk result (λ covers.
         map (λ (c : TheCover). c.cost) covers.items ≡ job_costs (works_of jobs.now) (map choice_of covers.items)) }
-    ensures refused { IfErr result (IsUncovered (stock_with forms.now.list.items temps) (works_of jobs.now)) }
+    ensures refused { IfErr result (IsUncovered (stock_with forms.now.list.items temps forms.now.file) (works_of jobs.now)) }
 {
     let mut covers = Vec::new(alloc);
     for job in jobs {

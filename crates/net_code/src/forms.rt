@@ -7,6 +7,8 @@ ghost use Rattle.net_model.specs.Patterns.{ArePatterns};
 ghost use Rattle.form_model.specs.declared.forms.Form.{Form as TheForm};
 ghost use Rattle.form_model.specs.Rules.{kind_of, rules_of};
 ghost use Rattle.form_set.specs.Listing.{AreForms};
+ghost use Rattle.net_model.specs.declared.hardware.Space.TheVariants.{File as InFile};
+ghost use Rattle.net_model.specs.Nets.{size_in};
 ghost use Rattle.form_set.specs.Promises.{is_control_goal, is_no_jump};
 ghost use Rattle.transfer_set.specs.Ready.{IsReady};
 ghost use Rattle.transfer_set.specs.Rows.{row_patterns};
@@ -62,8 +64,8 @@ fn check_kinds(list: &[Form]) -> Result<(), CodeFault>
     Ok(())
 }
 
-/// The forms of the netlist, of which one steps and one jumps; `NoStep` or `NoJump` comes exactly
-/// where none does, and `Memory` is want of memory.
+/// The forms of the netlist, of which one steps and one jumps, and the size of its register file;
+/// `NoStep` or `NoJump` comes exactly where none does, and `Memory` is want of memory.
 pub fn usable_forms(
     alloc: Global,
     checked: &Checked,
@@ -77,6 +79,7 @@ pub fn usable_forms(
     ensures ready { IsReady checked.now.netlist book.new pool.now patterns.now }
     ensures forms { IfOk result (λ forms. AreForms checked.now.netlist
         (row_patterns pool.now patterns.now.rows) (rules_of forms.list.items) forms.reach) }
+    ensures file { IfOk result (λ forms. forms.file ≡ size_in InFile checked.now.netlist.storages) }
     ensures steps { IfOk result (λ _. ¬ IsStepless checked.now.netlist) }
     ensures jumps { IfOk result (λ _. ¬ IsJumpless checked.now.netlist) }
     ensures refused { IfErr result (IsFormless checked.now.netlist) }

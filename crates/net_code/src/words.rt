@@ -3,7 +3,7 @@
 ghost use Rattle.std.specs.Prelude.{◌≡◌, ℕ, [], IfOk, slice_index};
 ghost use Rattle.std.specs.List.{AllByRecursion, slice_index_or};
 ghost use Rattle.bit_bdd.specs.Diagrams.{Extends};
-ghost use Rattle.form_model.specs.Effects.{operation_of};
+ghost use Rattle.block_words.specs.Laws.{operation_in};
 ghost use Rattle.transfer_set.specs.Ready.{IsReady};
 ghost use Rattle.word_fit.specs.Fits.{FitsJump, IsLeastFit};
 ghost use Rattle.net_code.specs.Blocks.{IsOnce};
@@ -30,11 +30,11 @@ fn word_of_jump(
 ) -> Result<u64, NoMemory>
     requires ready { IsReady (machine_netlist machine.now) book.old machine.now.pool.now machine.now.patterns.now }
     requires word { (w : ℕ)
-        × FitsJump (machine_netlist machine.now) w (operation_of (machine_patterns machine.now) step) }
+        × FitsJump (machine_netlist machine.now) w (operation_in (machine_netlist machine.now) (machine_patterns machine.now) step) }
     ensures grows { Extends book.old book.new }
     ensures ready { IsReady (machine_netlist machine.now) book.new machine.now.pool.now machine.now.patterns.now }
     ensures least { IfOk result (IsLeastFit (λ word.
-        FitsJump (machine_netlist machine.now) word (operation_of (machine_patterns machine.now) step))) }
+        FitsJump (machine_netlist machine.now) word (operation_in (machine_netlist machine.now) (machine_patterns machine.now) step))) }
 {
     let found = jump_word(
         alloc,

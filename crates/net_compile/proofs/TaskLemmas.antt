@@ -4,8 +4,7 @@ use Rattle.net_model.specs.declared.hardware.Netlist.{Netlist}
 use Rattle.net_model.specs.CheckedRules.{Ordered}
 use Rattle.net_model.specs.Elaborated.{netlist_of}
 use Rattle.net_model.specs.Nets.{memory_width}
-use Rattle.net_model.specs.Written.{Text}
-use Rattle.net_front.specs.Fronts.{IsNetFile}
+use Rattle.net_extract.specs.Extracts.{IsRoutedNet}
 use Rattle.src_model.specs.declared.fault.SrcFault.{SrcFault}
 use Rattle.src_model.specs.declared.typed.Typed.{Typed}
 use Rattle.src_model.specs.Written.{Listing, listing_of}
@@ -20,11 +19,10 @@ use Rattle.net_code.specs.declared.fault.CodeFault.{CodeFault}
 use Rattle.net_code.specs.declared.fault.CodeFault.TheVariants.{NoStep as Stepless, NoJump as Jumpless, NoCover as Uncovered, NoReach as Beyond, ImageFull as Overlong, Memory as CodeMemory}
 use Rattle.net_compile.specs.Code.{IsDataFull, IsCode, IsPlaceFault, IsTaskFault, IsWithin, HasRoom, FailsWith}
 use Rattle.net_compile.specs.Compiled.{HasNet, IsCompiled, BreaksSrc, IsCompileFault, IsSrcFault}
-use Rattle.net_compile.specs.Nets.{IsLater, IsPlainNet}
 use Rattle.net_compile.specs.Tasks.{IsTask, TaskHolds, data_width}
 use Rattle.net_compile.specs.Inner.Faults.{code_fault}
 use Rattle.net_compile.specs.declared.fault.CompileFault.{CompileFault}
-use Rattle.net_compile.specs.declared.fault.CompileFault.TheVariants.{NetText, Net, Later, SrcText, Src, DataFull, NoStep, NoJump, NoCover, NoReach, ImageFull, Memory}
+use Rattle.net_compile.specs.declared.fault.CompileFault.TheVariants.{NetText, Net, SrcText, Src, DataFull, NoStep, NoJump, NoCover, NoReach, ImageFull, Memory}
 
 -- why there is no image of a task that has room
 pub fault_of_image : (task : Task) → HasRoom task → (fault : CodeFault) → IsCodeFault task fault → IsTaskFault task (code_fault fault)
@@ -39,7 +37,6 @@ fault_of_image task room CodeMemory h = tt
 pub fault_of_places : (task : Task) (fault : CompileFault) → IsPlaceFault task fault → IsTaskFault task fault
 fault_of_places task (NetText at) h = absurd h
 fault_of_places task (Net fault) h = absurd h
-fault_of_places task Later h = absurd h
 fault_of_places task (SrcText at) h = absurd h
 fault_of_places task (Src fault) h = absurd h
 fault_of_places task (DataFull need have) h = h
@@ -51,11 +48,10 @@ fault_of_places task (ImageFull len size bound) h = absurd h
 fault_of_places task Memory h = tt
 
 -- why the program's bytes were not taken for a netlist that was read
-pub fault_of_program : (net src : List ℕ) (checked : Ordered) (width : ℕ) → IsPlainNet net checked → width ≡ memory_width checked.netlist.storages → (fault : CompileFault) →
+pub fault_of_program : (net src : List ℕ) (checked : Ordered) (width : ℕ) → IsRoutedNet net checked → width ≡ memory_width checked.netlist.storages → (fault : CompileFault) →
     IsSrcFault src width fault → IsCompileFault net src fault
 fault_of_program net src checked width read wide (NetText at) h = absurd h
 fault_of_program net src checked width read wide (Net fault) h = absurd h
-fault_of_program net src checked width read wide Later h = absurd h
 fault_of_program net src checked width read wide (SrcText at) h = (record { entries = read.entries; file = read.file }, h)
 fault_of_program net src checked width read wide (Src fault) h = record {
   entries = read.entries;
@@ -69,10 +65,6 @@ fault_of_program net src checked width read wide (NoCover number) h = absurd h
 fault_of_program net src checked width read wide (NoReach bound reach) h = absurd h
 fault_of_program net src checked width read wide (ImageFull len size bound) h = absurd h
 fault_of_program net src checked width read wide Memory h = tt
-
--- a text of the first edition is of no later one
-pub not_later : (net : List ℕ) (entries : Text) → IsNetFile net entries → entries.edition ≡ 1 → IsLater net → ⊥
-not_later net entries file first l = l.later (ap (λ (t : Text). t.edition) (l.file.file.says.only entries file.says.text) ∙ first)
 
 -- ---- two texts say one task
 
@@ -161,7 +153,7 @@ module _ (net src : List ℕ) where
 
 -- ---- from what was read to the texts
 
-module _ (net src : List ℕ) (checked : Ordered) (typed : Typed) (read : IsPlainNet net checked) (wide : typed.width ≡ memory_width checked.netlist.storages)
+module _ (net src : List ℕ) (checked : Ordered) (typed : Typed) (read : IsRoutedNet net checked) (wide : typed.width ≡ memory_width checked.netlist.storages)
     (file : IsSrcFile src typed.width (listing_of typed.program)) where
   -- the task of what was read is that of the two texts
   is_task : IsTask net src (read_task checked typed)
@@ -181,7 +173,6 @@ module _ (net src : List ℕ) (checked : Ordered) (typed : Typed) (read : IsPlai
   pub fault_of_code : (fault : CompileFault) → IsTaskFault (read_task checked typed) fault → IsCompileFault net src fault
   fault_of_code (NetText at) h = absurd h
   fault_of_code (Net fault) h = absurd h
-  fault_of_code Later h = absurd h
   fault_of_code (SrcText at) h = absurd h
   fault_of_code (Src fault) h = absurd h
   fault_of_code (DataFull need have) h = holds_of_read (FailsWith (DataFull need have)) h

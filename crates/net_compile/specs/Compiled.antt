@@ -2,22 +2,21 @@
 use Rattle.std.specs.Prelude.{ℕ, List}
 use Rattle.net_model.specs.Written.{Text}
 use Rattle.net_parser.specs.Texts.{IsNoNetText}
-use Rattle.net_extract.specs.Extracts.{BreaksAnyRule}
+use Rattle.net_extract.specs.Extracts.{IsRoutedFile, BreaksAnyRule}
 use Rattle.src_model.specs.declared.fault.SrcFault.{SrcFault}
 use Rattle.src_parser.specs.Texts.{IsNoSrcText}
 use Rattle.src_front.specs.Fronts.{BreaksSrcRule}
 use Rattle.net_compile.specs.Code.{IsCode, FailsWith}
-use Rattle.net_compile.specs.Nets.{IsLater, IsPlainFile}
 use Rattle.net_compile.specs.Tasks.{TaskHolds, data_width}
 use Rattle.net_compile.specs.declared.fault.CompileFault.{CompileFault}
-use Rattle.net_compile.specs.declared.fault.CompileFault.TheVariants.{NetText, Net, Later, SrcText, Src, Memory}
+use Rattle.net_compile.specs.declared.fault.CompileFault.TheVariants.{NetText, Net, SrcText, Src, Memory}
 
 -- ---- texts
 
--- the bytes are a netlist's of the first edition that keeps all rules
+-- the bytes are a netlist's that keeps all rules
 pub record HasNet (net : List ℕ) : Type 0 where
   pub entries : Text
-  pub file : IsPlainFile net entries
+  pub file : IsRoutedFile net entries
 
 -- the third bytes are read as an image that is right code for the program of the second on the
 -- netlist of the first
@@ -30,14 +29,13 @@ IsCompiled net src out = TaskHolds net src (IsCode out)
 -- for its words
 pub record BreaksSrc (net src : List ℕ) (fault : SrcFault) : Type 0 where
   pub entries : Text
-  pub net_file : IsPlainFile net entries
+  pub net_file : IsRoutedFile net entries
   pub breaks : BreaksSrcRule src (data_width entries) fault
 
 -- why the netlist's bytes were not taken
 abbrev pub IsNetFault : List ℕ → CompileFault → Type 0
 IsNetFault net (NetText at) = IsNoNetText net at
 IsNetFault net (Net fault) = BreaksAnyRule net fault
-IsNetFault net Later = IsLater net
 IsNetFault net Memory = Unit {0}
 IsNetFault net _ = ⊥
 
@@ -52,7 +50,6 @@ IsSrcFault src width _ = ⊥
 abbrev pub IsCompileFault : List ℕ → List ℕ → CompileFault → Type 0
 IsCompileFault net src (NetText at) = IsNoNetText net at
 IsCompileFault net src (Net fault) = BreaksAnyRule net fault
-IsCompileFault net src Later = IsLater net
 IsCompileFault net src (SrcText at) = HasNet net × IsNoSrcText src at
 IsCompileFault net src (Src fault) = BreaksSrc net src fault
 IsCompileFault net src Memory = Unit {0}

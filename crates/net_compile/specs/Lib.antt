@@ -1,4 +1,3 @@
-pub mod Nets
 pub mod Tasks
 pub mod Code
 pub mod Compiled

@@ -6,6 +6,7 @@ ghost use Rattle.net_model.specs.CheckedRules.{KeepsRules};
 ghost use Rattle.net_model.specs.Nets.{memory_size, memory_width};
 ghost use Rattle.net_model.specs.Patterns.{ArePatterns};
 ghost use Rattle.net_extract.specs.Extraction.{IsExtractedFrom};
+ghost use Rattle.net_extract.specs.Extracts.{IsRoutedNet};
 ghost use Rattle.transfer_set.specs.Ready.{IsReady};
 ghost use Rattle.transfer_set.specs.Rows.{row_patterns};
 ghost use Rattle.src_model.specs.Rules.{first_fault};
@@ -19,7 +20,6 @@ ghost use Rattle.right_code.specs.Images.{IsRightImage};
 ghost use Rattle.right_code.specs.Tasks.{IsChecked, read_task};
 ghost use Rattle.net_code.specs.Refusals.{IsReached};
 ghost use Rattle.net_compile.specs.Code.{HasRoom, IsPlaceFault, IsRightFor, IsTaskFault};
-ghost use Rattle.net_compile.specs.Nets.{IsPlainNet};
 ghost use Rattle.net_compile.specs.Read.{IsCompiledTo};
 ghost use Rattle.net_compile.specs.Compiled.{IsCompiled, IsCompileFault, IsNetFault, IsSrcFault};
 ghost use Rattle.net_compile.specs.declared.fault.CompileFault.{CompileFault};
@@ -35,24 +35,17 @@ use src_front::read_src;
 use src_model::Typed;
 use std::alloc::Global;
 
-// The edition whose programs are compiled.
-const FIRST: u8 = 1;
-
-/// The netlist that `net` is, of the first edition, which keeps all rules, and what is extracted
-/// from it. The refusals are the first three, and want of memory.
+/// The netlist that `net` is, which keeps all rules, and what is extracted from it. The refusals are
+/// the first two, and want of memory.
 pub fn netlist(alloc: Global, net: &[u8]) -> Result<(Checked, Extracted), CompileFault>
     requires { length net.now < 2 ^ 32 }
-    ensures found { IfOk result (λ both. IsPlainNet net.now both.0) }
+    ensures found { IfOk result (λ both. IsRoutedNet net.now both.0) }
     ensures extracted { IfOk result (λ both. IsExtractedFrom both.0.netlist both.1) }
     ensures patterns { IfOk result (λ both.
         ArePatterns both.0.netlist (row_patterns both.1.pool both.1.patterns.rows)) }
     ensures refused { IfErr result (IsNetFault net.now) }
 {
     let both = read_extracted(alloc, net)?;
-    let edition = both.0.netlist().edition;
-    if edition != FIRST {
-        return Err(CompileFault::Later);
-    }
     Ok(both)
 }
 
@@ -143,7 +136,6 @@ pub fn image_for(
     typed: &Typed,
 ) -> Result<Image, CompileFault>
     requires rules { KeepsRules checked.now.netlist checked.now.order }
-    requires first { checked.now.netlist.edition ≡ 1 }
     requires ready { IsReady checked.now.netlist extracted.old.book extracted.old.pool extracted.old.patterns }
     requires patterns { ArePatterns checked.now.netlist (row_patterns extracted.old.pool extracted.old.patterns.rows) }
     requires width { typed.now.width ≡ memory_width checked.now.netlist.storages }

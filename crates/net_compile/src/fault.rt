@@ -18,10 +18,8 @@ pub enum CompileFault {
     /// They are one, and this is the first rule that it breaks: N10, and then N12 or N13, come
     /// after all others.
     Net(NetFault),
-    /// They are one that keeps all rules, of an edition for which nothing is compiled yet.
-    Later,
-    /// The first bytes are such a netlist's of the first edition, and the second are no program
-    /// text; the offset at which that shows.
+    /// The first bytes are a netlist's that keeps all rules, and the second are no program text;
+    /// the offset at which that shows.
     SrcText(u64),
     /// They are one, and this is the first rule that it breaks for the words of the netlist.
     Src(SrcFault),

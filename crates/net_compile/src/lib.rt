@@ -5,8 +5,7 @@
 //! (`right`: `IsCompiled`); so none of the refusals applies there, unless another image made for
 //! the task is too long. `read_compiled` gives that image with the netlist and the program
 //! (`compiled`: `IsCompiledTo`). Each refusal comes only where it is the first that applies
-//! (`refused`: `IsCompileFault`); a netlist text of a later edition is refused once it keeps all
-//! rules. `netlist`, `program`, `places` and `image_for` are the parts of
+//! (`refused`: `IsCompileFault`). `netlist`, `program`, `places` and `image_for` are the parts of
 //! these two, each with its own refusals, for whoever asks more of what was read.
 //!
 //! Files:
@@ -14,9 +13,8 @@
 //! - `fault`: why nothing was compiled, and what the fault of a part is told as.
 //! - `compiler`: the parts in their order: the netlist with what is extracted from it, the program,
 //!   its places, the image, the text.
-//! - `specs/`, cited by public contracts: `Nets` (the netlists that programs are compiled for),
-//!   `Tasks` (what two texts say together), `Code`, `Read`, `Compiled`. `specs/Inner/`: `Faults`,
-//!   for the proof.
+//! - `specs/`, cited by public contracts: `Tasks` (what two texts say together), `Code`, `Read`,
+//!   `Compiled`. `specs/Inner/`: `Faults`, for the proof.
 //! - `proofs/`: `TaskLemmas`: two texts say one task, and it is that of what was read;
 //!   `FittingLemmas`: the places fit an image's text.
 #![tactic(auto)]

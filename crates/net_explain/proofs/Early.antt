@@ -7,7 +7,7 @@ use Rattle.net_compile.specs.Code.{HasRoom, IsDataFull, IsPlaceFault, IsTaskFaul
 use Rattle.net_compile.specs.Compiled.{IsCompileFault, IsNetFault, IsSrcFault}
 use Rattle.net_compile.specs.Inner.Faults.{code_fault}
 use Rattle.net_compile.specs.declared.fault.CompileFault.{CompileFault}
-use Rattle.net_compile.specs.declared.fault.CompileFault.TheVariants.{NetText, Net, Later, SrcText, Src, DataFull, NoStep, NoJump, NoCover, NoReach, ImageFull, Memory}
+use Rattle.net_compile.specs.declared.fault.CompileFault.TheVariants.{NetText, Net, SrcText, Src, DataFull, NoStep, NoJump, NoCover, NoReach, ImageFull, Memory}
 use Rattle.right_code.specs.Tasks.{Task}
 use Rattle.net_explain.specs.Explained.{IsExplainFault, IsLateFault}
 use Rattle.net_explain.specs.Inner.Telling.{IsEarlyFault}
@@ -25,7 +25,6 @@ early_of_forms task room CodeMemory h = tt
 pub early_of_places : (task : Task) (fault : CompileFault) → IsPlaceFault task fault → IsEarlyFault task fault
 early_of_places task (NetText at) h = absurd h
 early_of_places task (Net fault) h = absurd h
-early_of_places task Later h = absurd h
 early_of_places task (SrcText at) h = absurd h
 early_of_places task (Src fault) h = absurd h
 early_of_places task (DataFull need have) h = h
@@ -45,7 +44,6 @@ too_few task need have room full =
 pub late : (task : Task) → HasRoom task → HasJumps task → (fault : CompileFault) → fault ≢ Memory → IsTaskFault task fault → IsLateFault task fault
 late task room jumps (NetText at) some h = absurd h
 late task room jumps (Net fault) some h = absurd h
-late task room jumps Later some h = absurd h
 late task room jumps (SrcText at) some h = absurd h
 late task room jumps (Src fault) some h = absurd h
 late task room jumps (DataFull need have) some h = absurd (too_few task need have room h)
@@ -62,7 +60,6 @@ module _ (net src : List ℕ) where
   pub of_netlist : (fault : CompileFault) → IsNetFault net fault → IsExplainFault net src fault
   of_netlist (NetText at) h = h
   of_netlist (Net fault) h = h
-  of_netlist Later h = h
   of_netlist (SrcText at) h = absurd h
   of_netlist (Src fault) h = absurd h
   of_netlist (DataFull need have) h = absurd h
@@ -76,7 +73,6 @@ module _ (net src : List ℕ) where
   pub of_program : (width : ℕ) (fault : CompileFault) → IsSrcFault src width fault → IsCompileFault net src fault → IsExplainFault net src fault
   of_program width (NetText at) h k = k
   of_program width (Net fault) h k = k
-  of_program width Later h k = k
   of_program width (SrcText at) h k = k
   of_program width (Src fault) h k = k
   of_program width (DataFull need have) h k = k
@@ -90,7 +86,6 @@ module _ (net src : List ℕ) where
   pub of_task : (task : Task) (fault : CompileFault) → (IsTaskFault task fault → IsCompileFault net src fault) → IsEarlyFault task fault → IsExplainFault net src fault
   of_task task (NetText at) f h = f h
   of_task task (Net fault) f h = f h
-  of_task task Later f h = f h
   of_task task (SrcText at) f h = f h
   of_task task (Src fault) f h = f h
   of_task task (DataFull need have) f h = f h

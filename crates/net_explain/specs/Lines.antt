@@ -5,7 +5,7 @@ use Rattle.std.specs.Fmt.{decimal}
 use Rattle.net_model.specs.declared.hardware.Netlist.{Netlist}
 use Rattle.net_model.specs.Terms.{Term}
 use Rattle.net_model.specs.Texts.{term_text}
-use Rattle.form_model.specs.Rules.{Destination, cell, stored, into, temporary, tested}
+use Rattle.form_model.specs.Rules.{Destination, cell, stored, into, filed, temporary, tested}
 use Rattle.src_trees.specs.Lowered.{Work}
 use Rattle.job_places.specs.Places.{Duty, assigned, chosen, repeated, started, counted, stepped, Spot}
 use Rattle.text_places.specs.Places.{column_at, line_at}
@@ -42,6 +42,7 @@ abbrev pub aim_lines : Netlist → Destination → List ℕ
 aim_lines netlist (cell address) = []
 aim_lines netlist (stored address) = tree_line netlist (codes "at") address
 aim_lines netlist (into id) = []
+aim_lines netlist filed = []
 aim_lines netlist temporary = []
 aim_lines netlist tested = []
 

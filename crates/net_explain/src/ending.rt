@@ -66,7 +66,6 @@ fn add_refusal(text: &mut Vec<u8>, fault: CompileFault) -> Result<(), NoMemory>
         CompileFault::Memory => Err(NoMemory),
         CompileFault::NetText(_)
         | CompileFault::Net(_)
-        | CompileFault::Later
         | CompileFault::SrcText(_)
         | CompileFault::Src(_)
         | CompileFault::DataFull { .. }
@@ -83,7 +82,6 @@ fn verdict(
     typed: &Typed,
 ) -> Result<(), CompileFault>
     requires rules { KeepsRules checked.now.netlist checked.now.order }
-    requires first { checked.now.netlist.edition ≡ 1 }
     requires ready { IsReady checked.now.netlist extracted.old.book extracted.old.pool extracted.old.patterns }
     requires patterns { ArePatterns checked.now.netlist (row_patterns extracted.old.pool extracted.old.patterns.rows) }
     requires width { typed.now.width ≡ memory_width checked.now.netlist.storages }
@@ -108,7 +106,6 @@ pub(crate) fn add_ending(
     typed: &Typed,
 ) -> Result<(), NoMemory>
     requires rules { KeepsRules checked.now.netlist checked.now.order }
-    requires first { checked.now.netlist.edition ≡ 1 }
     requires ready { IsReady checked.now.netlist extracted.old.book extracted.old.pool extracted.old.patterns }
     requires patterns { ArePatterns checked.now.netlist (row_patterns extracted.old.pool extracted.old.patterns.rows) }
     requires width { typed.now.width ≡ memory_width checked.now.netlist.storages }

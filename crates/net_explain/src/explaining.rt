@@ -5,7 +5,7 @@ ghost use Rattle.code_model.specs.Layout.{layout_of};
 ghost use Rattle.form_model.specs.Rules.{rules_of};
 ghost use Rattle.form_model.specs.Covers.{stock_with};
 ghost use Rattle.job_places.specs.Places.{program_spots};
-ghost use Rattle.net_compile.specs.Nets.{IsPlainNet};
+ghost use Rattle.net_extract.specs.Extracts.{IsRoutedNet};
 ghost use Rattle.net_model.specs.CheckedRules.{KeepsRules};
 ghost use Rattle.net_model.specs.Nets.{memory_width};
 ghost use Rattle.net_model.specs.Patterns.{ArePatterns};
@@ -43,7 +43,7 @@ fn told_jobs(
     requires checked { IsChecked checked.now.order (read_task checked.now typed.now) }
     requires places { places.now ≡ layout_of typed.now.width (listing_of typed.now.program) }
     ensures { IfOk result (λ text. AreJobTexts checked.now.netlist
-        (stock_with forms.now.list.items places.now.temps) src.now 0
+        (stock_with forms.now.list.items places.now.temps forms.now.file) src.now 0
         (program_spots (listing_of typed.now.program)) (task_works (read_task checked.now typed.now)) text.items) }
 {
     let blocks = blocks_of(alloc, checked, typed, places)?;
@@ -69,7 +69,6 @@ fn jobs_text(
     typed: &Typed,
 ) -> Result<Vec<u8>, CompileFault>
     requires rules { KeepsRules checked.now.netlist checked.now.order }
-    requires first { checked.now.netlist.edition ≡ 1 }
     requires ready { IsReady checked.now.netlist extracted.old.book extracted.old.pool extracted.old.patterns }
     requires patterns { ArePatterns checked.now.netlist (row_patterns extracted.old.pool extracted.old.patterns.rows) }
     requires width { typed.now.width ≡ memory_width checked.now.netlist.storages }
@@ -104,7 +103,6 @@ fn task_text(
     typed: &Typed,
 ) -> Result<Vec<u8>, CompileFault>
     requires rules { KeepsRules checked.now.netlist checked.now.order }
-    requires first { checked.now.netlist.edition ≡ 1 }
     requires ready { IsReady checked.now.netlist extracted.old.book extracted.old.pool extracted.old.patterns }
     requires patterns { ArePatterns checked.now.netlist (row_patterns extracted.old.pool extracted.old.patterns.rows) }
     requires width { typed.now.width ≡ memory_width checked.now.netlist.storages }
@@ -127,13 +125,12 @@ fn explain_on(
     src: &[u8],
 ) -> Result<Vec<u8>, CompileFault>
     requires rules { KeepsRules checked.now.netlist checked.now.order }
-    requires first { checked.now.netlist.edition ≡ 1 }
     requires ready { IsReady checked.now.netlist extracted.old.book extracted.old.pool extracted.old.patterns }
     requires patterns { ArePatterns checked.now.netlist (row_patterns extracted.old.pool extracted.old.patterns.rows) }
     requires src { length src.now < 2 ^ 32 }
-    ensures explained { (net : List ℕ) → IsPlainNet net checked.now →
+    ensures explained { (net : List ℕ) → IsRoutedNet net checked.now →
         IfOk result (λ text. IsExplained net src.now text.items) }
-    ensures refused { (net : List ℕ) → IsPlainNet net checked.now → IfErr result (IsExplainFault net src.now) }
+    ensures refused { (net : List ℕ) → IsRoutedNet net checked.now → IfErr result (IsExplainFault net src.now) }
 {
     let typed = net_compile::program(alloc, src, checked.memory_width())?;
     let text = task_text(alloc, src, checked, extracted, &typed);

@@ -3,7 +3,7 @@ use Rattle.std.proofs.Common.{◌≡◌, ℕ, zero, suc, ◌*◌, ◌-◌, ◌<�
 use Rattle.std.specs.List.{AllByRecursion}
 use Rattle.std.proofs.Math.Nat.{mul-le-mul_left, mul-le-mul_right}
 use Rattle.rec_bits.specs.Counts.{capped}
-use Rattle.net_model.specs.CheckedRules.{KeepsRules, code_size, files_of}
+use Rattle.net_model.specs.CheckedRules.{KeepsRules, code_size}
 use Rattle.net_model.specs.Clock.{Reached, Run, run}
 use Rattle.net_model.specs.declared.hardware.Code.{Code}
 use Rattle.net_model.specs.declared.hardware.Netlist.{Netlist}
@@ -16,7 +16,6 @@ use Rattle.fault_sim.specs.Reports.{bits_of, faults_of}
 use Rattle.fault_sim.proofs.Counting.{faults_counted}
 use Rattle.net_code.specs.Refusals.{IsStepless}
 use Rattle.self_test.specs.Cells.{test_need, test_works}
-use Rattle.word_fit.specs.Fits.{HasNoFile}
 use Rattle.test_code.specs.Codes.{IsCodeOf}
 use Rattle.test_code.specs.declared.code.TestCode.{TestCode}
 use Rattle.test_code.specs.Tried.{test_stock}
@@ -108,9 +107,9 @@ module _ (netlist : Netlist) (code : TestCode) (c : IsTestCode netlist code) whe
 
   -- ---- the run
 
-  module _ (order : List ℕ) (keeps : KeepsRules netlist order) (bare : HasNoFile netlist) (room : length code.words.items ≤ code_size netlist.codes) where
+  module _ (order : List ℕ) (keeps : KeepsRules netlist order) (room : length code.words.items ≤ code_size netlist.codes) where
     right : (good : List ℕ) × IsRightTest netlist c.tried code.words.items good
-    right = right_test netlist order keeps bare c.tried code.words.items c.made c.cells room
+    right = right_test netlist order keeps c.tried code.words.items c.made c.cells room
 
     abbrev ran : Run
     ran = run netlist code.words.items (test_start netlist) (length code.words.items)
@@ -131,15 +130,6 @@ module _ (netlist : Netlist) (code : TestCode) (c : IsTestCode netlist code) whe
         record { testable = testable; tried = c.tried; words = code.words.items; good = right.0; right = right.1; room = room; few = few; is = cc (f, cells, tested, skipped) }
 
 -- ---- bytes
-
--- a netlist whose text's edition is tested has no register file
-pub without_file : (netlist : Netlist) (order : List ℕ) → KeepsRules netlist order → netlist.edition ≤ tested_edition → HasNoFile netlist
-without_file netlist order keeps taken = keeps.roles.file.0 ∙ by netlist.edition taken
-  where
-    by : (edition : ℕ) → edition ≤ 1 → files_of edition ≡ 0
-    by zero le = refl
-    by (suc zero) le = refl
-    by (suc (suc edition)) le = absurd (omega (arith, le))
 
 module _ (net : List ℕ) (checked : Ordered) (is : IsTakenNet tested_edition net checked) where
   holds : (P : Netlist → Type 0) → P checked.netlist → NetHolds net P

@@ -1,24 +1,28 @@
 -- The words of jobs, clocked in order, leave what the jobs leave one after the other.
 use Rattle.std.proofs.Common.{◌≡◌, ℕ, ◌+◌, ◌≤◌, ◌^◌, List, [], ◌∷◌, Option, Some, None, drop, length, length-append, refl, sym, ◌∙◌, ap, arith, subst}
+use Rattle.transfer_set.specs.Tables.{file_place}
 use Rattle.net_model.specs.declared.hardware.Netlist.{Netlist}
+use Rattle.net_model.specs.declared.hardware.Space.TheVariants.{File as InFile}
 use Rattle.net_model.specs.declared.states.State.{State}
 use Rattle.net_model.specs.Clock.{Reached, counter_in, run_from}
-use Rattle.net_model.specs.Nets.{counter_of, counter_width}
+use Rattle.net_model.specs.Nets.{counter_of, counter_width, size_in}
 use Rattle.net_model.specs.Patterns.{Pattern}
 use Rattle.net_model.specs.Widths.{IsState}
 use Rattle.emit_seq.specs.Formed.{AreFormed}
 use Rattle.form_model.specs.Covers.{Choice, Stock}
-use Rattle.form_model.specs.Effects.{operation_of, steps_effect}
+use Rattle.block_words.specs.Laws.{operation_in}
+use Rattle.form_model.specs.Effects.{steps_effect}
 use Rattle.form_model.specs.Live.{no_regs}
 use Rattle.src_trees.specs.Doing.{AllLie, all_done, done}
 use Rattle.src_trees.specs.Lowered.{Work}
 use Rattle.src_trees.proofs.Behind.{Alike, all_done_behind, all_lie_behind}
-use Rattle.word_fit.specs.Fits.{HasNoFile, fits_over}
+use Rattle.word_fit.specs.Fits.{fits_over}
 use Rattle.word_fit.specs.Runs.{RunsTo, StandAt}
 use Rattle.word_fit.proofs.Least.{all_fit}
 use Rattle.right_code.specs.Jobs.{IsCovered, job_steps}
 use Rattle.right_code.specs.Inner.Jobs.{HasOne, LeavesDone}
 use Rattle.right_code.proofs.Jobs.{job_left}
+use Rattle.right_code.proofs.Walked.{filed}
 use Rattle.test_code.specs.Tried.{AreJobWords, AreWordsOf}
 use Rattle.net_test.proofs.Runs.{any_cycle, run_on, stand_on, stand_parts}
 
@@ -47,16 +51,16 @@ pub record LeavesAll (netlist : Netlist) (code : List ℕ) (temps : ℕ) (jobs :
 alike_on : (at : ℕ) (xs ys zs : List ℕ) → Alike at xs ys → Alike at ys zs → Alike at xs zs
 alike_on at xs ys zs a b = record { same = a.same ∙ b.same; long = a.long ∙ b.long }
 
-module _ (netlist : Netlist) (bare : HasNoFile netlist) (code : List ℕ) (patterns : List Pattern) (stock : Stock) (formed : AreFormed patterns (length netlist.storages) stock.rules) where
+module _ (netlist : Netlist) (code : List ℕ) (patterns : List Pattern) (stock : Stock) (sized : stock.file ≡ size_in InFile netlist.storages) (formed : AreFormed (file_place netlist.storages) patterns (length netlist.storages) stock.file stock.rules) where
   -- the words of one job
   one_left : (job : Work) (choice : Choice) (words : List ℕ) (s : State) → AreJobWords netlist patterns stock job choice words → IsCovered stock job choice → HasOne job.destination job.trees
       → AllLie stock.temps s.cells (job ∷ []) → IsState netlist s → StandAt code (counter_in netlist s) words → counter_in netlist s + length words ≤ 2 ^ counter_width netlist
-      → (r : RunsTo netlist code s (length words) no_regs (steps_effect (operation_of patterns) (job_steps stock job choice) s)) × Alike stock.temps (done job s.cells) r.last.cells
+      → (r : RunsTo netlist code s (length words) no_regs (steps_effect (operation_in netlist patterns) (job_steps stock job choice) s)) × Alike stock.temps (done job s.cells) r.last.cells
   one_left job choice words s made covered one lies state stands room =
-      let r : RunsTo netlist code s (length words) no_regs (steps_effect (operation_of patterns) (job_steps stock job choice) s) =
-      made.packing.means bare code words s (all_fit (operation_of patterns) (fits_over netlist (operation_of patterns)) no_regs words made.groups made.least) state stands room in
-      let l : LeavesDone stock.temps (job ∷ []) s (steps_effect (operation_of patterns) (job_steps stock job choice) s) =
-      job_left stock patterns (length netlist.storages) formed job choice s covered one state.regs lies.0 in
+      let r : RunsTo netlist code s (length words) no_regs (steps_effect (operation_in netlist patterns) (job_steps stock job choice) s) =
+      made.packing.means code words s (all_fit (operation_in netlist patterns) (fits_over netlist (operation_in netlist patterns)) no_regs words made.groups made.least) state stands room in
+      let l : LeavesDone stock.temps (job ∷ []) s (steps_effect (operation_in netlist patterns) (job_steps stock job choice) s) =
+      job_left stock (file_place netlist.storages) patterns (length netlist.storages) formed job choice s covered one state.regs (filed netlist stock.file s sized state) lies.0 in
       (r, record { same = l.same ∙ ap (drop stock.temps) (sym r.agree.cells); long = l.long ∙ ap length (sym r.agree.cells) })
 
   -- and those of all of them
@@ -78,7 +82,7 @@ module _ (netlist : Netlist) (bare : HasNoFile netlist) (code : List ℕ) (patte
       let long : length words ≡ length first + length rest = ap length is ∙ length-append first rest in
       let parts = stand_parts code first rest at (subst (StandAt code at) is stands) in
       let one = one_left job choice first s own c.0 c.1 (lies.0, tt) state parts.0 (omega (arith, room, long)) in
-      let r : RunsTo netlist code s (length first) no_regs (steps_effect (operation_of patterns) (job_steps stock job choice) s) = one.0 in
+      let r : RunsTo netlist code s (length first) no_regs (steps_effect (operation_in netlist patterns) (job_steps stock job choice) s) = one.0 in
       let alike : Alike stock.temps (done job s.cells) r.last.cells = one.1 in
       let on = stand_on code rest (at + length first) (counter_in netlist r.last) (2 ^ counter_width netlist) r.counter (r.state.fits.regs (counter_of netlist.codes)) (omega (arith, room, long)) parts.1 in
       let k : LeavesAll netlist code stock.temps works r.last (length rest) =

@@ -2,19 +2,20 @@
 -- the code has room for its words.
 use Rattle.std.proofs.Common.{◌≡◌, ℕ, zero, suc, ◌+◌, ◌<◌, ◌≤◌, List, [], ◌∷◌, Option, Some, None, length, refl, replicate, sym, arith, slice_index, subst}
 use Rattle.std.specs.List.{AllByRecursion}
+use Rattle.transfer_set.specs.Tables.{file_place}
 use Rattle.net_model.specs.declared.hardware.Netlist.{Netlist}
+use Rattle.net_model.specs.declared.hardware.Space.TheVariants.{Memory as InMemory, File as InFile}
 use Rattle.net_model.specs.declared.hardware.Space.TheVariants.{Memory as InMemory}
 use Rattle.net_model.specs.declared.states.State.{State}
 use Rattle.net_model.specs.CheckedRules.{KeepsRules, code_size}
 use Rattle.net_model.specs.Clock.{counter_in}
-use Rattle.net_model.specs.Nets.{counter_of, memory_size, memory_width, word_width}
+use Rattle.net_model.specs.Nets.{counter_of, memory_size, memory_width, size_in, word_width}
 use Rattle.net_model.specs.Terms.{Term}
 use Rattle.net_model.proofs.WordWidths.{has_bits}
 use Rattle.emit_seq.specs.Formed.{AreFormed}
 use Rattle.form_model.specs.Covers.{Choice, Stock}
 use Rattle.src_trees.specs.Doing.{all_done}
 use Rattle.src_trees.specs.Lowered.{Work}
-use Rattle.word_fit.specs.Fits.{HasNoFile}
 use Rattle.word_fit.specs.Runs.{StandAt}
 use Rattle.right_code.specs.Inner.Jobs.{HasOne}
 use Rattle.right_code.specs.Inner.Known.{AreKnown}
@@ -44,15 +45,15 @@ tried_long netlist stock [] (choice ∷ tried) at out c = absurd c
 tried_long netlist stock (t ∷ values) [] at out c = absurd c
 tried_long netlist stock (t ∷ values) (choice ∷ tried) at out c = let e = tried_long netlist stock values tried (at + operands t) (out + 1) c.1 in omega (arith, e)
 
-module _ (netlist : Netlist) (order : List ℕ) (keeps : KeepsRules netlist order) (bare : HasNoFile netlist) (tried : List (Option Choice)) (words : List ℕ) (made : IsMadeFor netlist tried words) where
+module _ (netlist : Netlist) (order : List ℕ) (keeps : KeepsRules netlist order) (tried : List (Option Choice)) (words : List ℕ) (made : IsMadeFor netlist tried words) where
   some : 0 < word_width netlist
   some = has_bits netlist order keeps
 
   known : AreKnown netlist made.patterns
   known = known_of netlist order keeps made.patterns made.are
 
-  formed : AreFormed made.patterns (length netlist.storages) made.rules
-  formed = are_formed netlist order keeps bare some made.patterns known made.reach made.rules made.forms.list
+  formed : AreFormed (file_place netlist.storages) made.patterns (length netlist.storages) (size_in InFile netlist.storages) made.rules
+  formed = are_formed netlist order keeps some made.patterns known made.reach made.rules made.forms.list
 
   abbrev values : List Term
   values = test_values netlist made.rules made.patterns
@@ -79,7 +80,7 @@ module _ (netlist : Netlist) (order : List ℕ) (keeps : KeepsRules netlist orde
   covers (job ∷ jobs) [] j c = absurd c
   covers (job ∷ jobs) (None ∷ others) j c = covers jobs others j.1 c.1
   covers (job ∷ jobs) (Some choice ∷ others) j c = (
-    job_covered netlist order keeps bare made.patterns made.are made.rules made.reach made.forms temps job choice j.0 c.0,
+    job_covered netlist order keeps made.patterns made.are made.rules made.reach made.forms temps (size_in InFile netlist.storages) job choice j.0 c.0,
     subst (λ (x : Work). HasOne x.destination x.trees) (sym j.0.is) (j.0.tree, refl),
     covers jobs others j.1 c.1,
   )
@@ -92,7 +93,7 @@ module _ (netlist : Netlist) (order : List ℕ) (keeps : KeepsRules netlist orde
         let at : counter_in netlist start ≡ 0 = zero_at (length netlist.storages) (counter_of netlist.codes) in
         let size = keeps.roles.sizes.0.1 in
         let long = state.cells InMemory in
-        all_left netlist bare words made.patterns stock formed works tried words start
+        all_left netlist words made.patterns stock refl formed works tried words start
         (covers works tried (test_plain netlist made.rules made.patterns) made.trials) made.code
         (lie netlist temps values tried temps outputs start.cells (omega arith) (omega arith) (omega (arith, cells, long))) state
         (subst (λ n. StandAt words n words) (sym at) (stand_whole words)) (omega (arith, at, room, size))

@@ -5,16 +5,14 @@ use Rattle.net_model.specs.CheckedRules.{KeepsRules, code_size}
 use Rattle.net_model.specs.Nets.{memory_size}
 use Rattle.form_model.specs.Covers.{Choice}
 use Rattle.self_test.specs.Cells.{test_need}
-use Rattle.word_fit.specs.Fits.{HasNoFile}
 use Rattle.test_code.specs.Tried.{IsMadeFor}
 use Rattle.net_test.specs.Refusals.{IsTestText}
 use Rattle.net_test.specs.Tested.{IsRightTest}
 
--- where there are cells and room for it, a self-test that is made for a netlist without a register
--- file is right
+-- where there are cells and room for it, a self-test that is made for a netlist is right
 abbrev pub MadeIsRight : Type 0
 MadeIsRight =
-    (netlist : Netlist) (order : List ℕ) → KeepsRules netlist order → HasNoFile netlist →
+    (netlist : Netlist) (order : List ℕ) → KeepsRules netlist order →
     (tried : List (Option Choice)) (words : List ℕ) (made : IsMadeFor netlist tried words) →
     test_need netlist made.rules made.patterns ≤ memory_size netlist.storages →
     length words ≤ code_size netlist.codes →

@@ -2,7 +2,7 @@
 
 ghost use Rattle.net_test.specs.Laws.{MadeIsRight, WordsHaveOneText};
 
-/// A self-test that is made for a netlist without a register file is right where the memory has the cells that it needs and
+/// A self-test that is made for a netlist is right where the memory has the cells that it needs and
 /// the code has room for its words: the run without a fault doesn't clash, and leaves the value of
 /// each tested candidate's tree in its cell.
 pub fn law_of_words()

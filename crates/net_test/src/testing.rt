@@ -4,14 +4,15 @@ ghost use Rattle.std.specs.Prelude.{◌≡◌, ◌*◌, ◌-◌, ◌<◌, ◌≤
 ghost use Rattle.fault_sim.specs.Reports.{bits_of};
 ghost use Rattle.form_model.specs.Rules.{rules_of};
 ghost use Rattle.form_set.specs.Listing.{AreForms};
+ghost use Rattle.net_model.specs.declared.hardware.Space.TheVariants.{File as InFile};
 ghost use Rattle.net_model.specs.CheckedRules.{KeepsRules, code_size};
+ghost use Rattle.net_model.specs.Nets.{size_in};
 ghost use Rattle.net_model.specs.Patterns.{ArePatterns};
 ghost use Rattle.net_extract.specs.Extraction.{IsExtractedFrom};
 ghost use Rattle.transfer_set.specs.Ready.{IsReady};
 ghost use Rattle.transfer_set.specs.Rows.{row_patterns};
 ghost use Rattle.net_code.specs.Machines.{machine_netlist, machine_patterns};
 ghost use Rattle.self_test.specs.Told.{IsTold};
-ghost use Rattle.word_fit.specs.Fits.{HasNoFile};
 ghost use Rattle.net_test.specs.Inner.Codes.{AreTestJobs, IsTestCode};
 ghost use Rattle.net_test.specs.Refusals.{HasForms, IsTestText, test_count, test_limit};
 ghost use Rattle.net_test.specs.Texts.{IsTestFault, IsTested, LacksTest};
@@ -78,11 +79,11 @@ fn code(
     book: &mut Book,
     forms: &Forms,
 ) -> Result<TestCode, TestFault>
-    requires bare { HasNoFile (machine_netlist machine.now) }
     requires ready { IsReady (machine_netlist machine.now) book.old machine.now.pool.now machine.now.patterns.now }
     requires patterns { ArePatterns (machine_netlist machine.now) (machine_patterns machine.now) }
     requires forms { AreForms (machine_netlist machine.now) (machine_patterns machine.now)
         (rules_of forms.now.list.items) forms.now.reach }
+    requires file { forms.now.file ≡ size_in InFile (machine_netlist machine.now).storages }
     ensures code { IfOk result (IsTestCode (machine_netlist machine.now)) }
     ensures refused { IfErr result (LacksTest (machine_netlist machine.now)) }
 {
@@ -145,7 +146,6 @@ fn check_words(checked: &Checked, code: &TestCode) -> Result<(), TestFault>
 // The text of what the code's words show.
 fn text(alloc: Global, checked: &Checked, code: &TestCode) -> Result<Items<u8>, TestFault>
     requires rules { KeepsRules checked.now.netlist checked.now.order }
-    requires bare { HasNoFile checked.now.netlist }
     requires code { IsTestCode checked.now.netlist code.now }
     ensures text { IfOk result (IsTestText checked.now.netlist) }
     ensures refused { IfErr result (LacksTest checked.now.netlist) }
@@ -165,7 +165,6 @@ fn text_of(
     extracted: &mut Extracted,
 ) -> Result<Items<u8>, TestFault>
     requires rules { KeepsRules checked.now.netlist checked.now.order }
-    requires bare { HasNoFile checked.now.netlist }
     requires extracted { IsExtractedFrom checked.now.netlist extracted.old }
     requires patterns { ArePatterns checked.now.netlist (row_patterns extracted.old.pool extracted.old.patterns.rows) }
     ensures text { IfOk result (IsTestText checked.now.netlist) }

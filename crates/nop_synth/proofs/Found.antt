@@ -3,6 +3,7 @@ use Rattle.std.proofs.Common.{◌≡◌, ℕ, ◌<◌, ◌≤◌, ◌^◌, ◌&&
 use Rattle.std.proofs.lemmas.Bool.{true≢false, and_parts, and_from}
 use Rattle.bit_bdd.specs.Diagrams.{Diagrams, Extends, has_word}
 use Rattle.net_model.specs.declared.hardware.Netlist.{Netlist}
+use Rattle.net_model.specs.declared.hardware.Space.TheVariants.{Memory as InMemory}
 use Rattle.net_model.specs.CheckedRules.{KeepsRules}
 use Rattle.sym_expr.specs.declared.pool.Node.{Node}
 use Rattle.transfer_set.specs.Tables.{Table}
@@ -13,7 +14,7 @@ use Rattle.transfer_set.specs.Ready.{IsReady}
 use Rattle.word_fit.specs.Steps.{step_operation}
 use Rattle.net_model.proofs.WordWidths.{clean_below}
 use Rattle.nop_synth.specs.declared.meet.FieldValue.{FieldValue}
-use Rattle.nop_synth.specs.Wanted.{all_hold, has_fields, group_sets, memory_sets, step_field, step_set}
+use Rattle.nop_synth.specs.Wanted.{all_hold, has_fields, group_sets, space_sets, step_field, step_set}
 use Rattle.nop_synth.proofs.Asked.{held_fits, fits_held, held_jumps, jumps_held}
 
 -- what is told of the least word of a set
@@ -33,7 +34,7 @@ module _ (netlist : Netlist) (order : List ℕ) (keeps : KeepsRules netlist orde
 
   -- the least word of the set of those that are held is the least that fits the group
   pub group_found : (g : List Step) (live : Regs) (start id width : ℕ) (sets : List ℕ) (fields : List FieldValue) (o : Option ℕ)
-      → old.bits ≡ width → start ≡ table.step → sets ≡ group_sets table g live (group_stores (step_operation pool table) g) (group_writes (step_operation pool table) g) → fields ≡ map (step_field table) g
+      → old.bits ≡ width → start ≡ table.step → sets ≡ group_sets table g live (λ space. group_stores space (step_operation pool table) g) (group_writes (step_operation pool table) g) → fields ≡ map (step_field table) g
       → ((word : ℕ) → word < 2 ^ width → has_word new id word ≡ (has_word old start word && (all_hold old sets word && has_fields fields word)))
       → IsLeastOf new id o
       → MatchOption o ((word : ℕ) → FitsGroup netlist (step_operation pool table) word g live → ⊥) (IsLeastFit (λ word. FitsGroup netlist (step_operation pool table) word g live))
@@ -55,7 +56,7 @@ module _ (netlist : Netlist) (order : List ℕ) (keeps : KeepsRules netlist orde
           (and_from _ _ (subst (λ k. all_hold old k word ≡ true) (sym el) p.1) (subst (λ k. has_fields k word ≡ true) (sym ef) p.2))
 
   pub jump_found : (step : Step) (start id width : ℕ) (sets : List ℕ) (fields : List FieldValue) (o : Option ℕ)
-      → old.bits ≡ width → start ≡ step_set table step → sets ≡ memory_sets table false → fields ≡ step_field table step ∷ []
+      → old.bits ≡ width → start ≡ step_set table step → sets ≡ space_sets table InMemory false → fields ≡ step_field table step ∷ []
       → ((word : ℕ) → word < 2 ^ width → has_word new id word ≡ (has_word old start word && (all_hold old sets word && has_fields fields word)))
       → IsLeastOf new id o
       → MatchOption o ((word : ℕ) → FitsJump netlist word (step_operation pool table step) → ⊥) (IsLeastFit (λ word. FitsJump netlist word (step_operation pool table step)))

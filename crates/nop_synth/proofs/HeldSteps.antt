@@ -14,6 +14,7 @@ use Rattle.transfer_set.specs.Tables.{Table, IsRow}
 use Rattle.transfer_set.specs.declared.row.Row.{Row}
 use Rattle.transfer_set.proofs.ReadyLaws.{row_at}
 use Rattle.form_model.specs.declared.forms.Step.{Step}
+use Rattle.form_model.specs.Effects.{space_in}
 use Rattle.word_fit.specs.Fits.{Does, DoesAll}
 use Rattle.word_fit.specs.Steps.{step_operation}
 use Rattle.word_fit.proofs.StepRows.{row_operation, operation_is}
@@ -48,7 +49,7 @@ module _ (netlist : Netlist) (book : Diagrams) (pool : List Node) (table : Table
   changes None value e = cc
   changes (Some addr) value e = cc
 
-  row_does : (i setting word : ℕ) (o : Option Row) → slice_get table.rows i ≡ o → word < 2 ^ book.bits → has_word book (row_set o) word ≡ true → has_field (row_fields o) setting word ≡ true → Does netlist word (row_operation pool o setting)
+  row_does : (i setting word : ℕ) (o : Option Row) → slice_get table.rows i ≡ o → word < 2 ^ book.bits → has_word book (row_set o) word ≡ true → has_field (row_fields o) setting word ≡ true → Does netlist word (row_operation table.file pool o setting)
   row_does i setting word None e lt h f = false_not (has_word book 0 word) (empty word) h
   row_does i setting word (Some row) e lt h f =
       let r : IsRow netlist book pool row = row_at netlist book pool table ready i row e in
@@ -56,10 +57,11 @@ module _ (netlist : Netlist) (book : Diagrams) (pool : List Node) (table : Table
       record {
         changes = changes row.addr row.value;
         gives = w.gives;
+        space = ap (λ file. space_in file row.storage) ready.patterns.file;
         setting = ap (λ k. bit_and word k) (sym r.told.fields) ∙ eqb-true (bit_and word row.fields) setting f;
       }
 
-  row_held : (i setting word : ℕ) (o : Option Row) → slice_get table.rows i ≡ o → word < 2 ^ book.bits → IsClean netlist word → Does netlist word (row_operation pool o setting) → (has_word book (row_set o) word ≡ true) × (has_field (row_fields o) setting word ≡ true)
+  row_held : (i setting word : ℕ) (o : Option Row) → slice_get table.rows i ≡ o → word < 2 ^ book.bits → IsClean netlist word → Does netlist word (row_operation table.file pool o setting) → (has_word book (row_set o) word ≡ true) × (has_field (row_fields o) setting word ≡ true)
   row_held i setting word None e lt clean d = absurd (d.changes refl)
   row_held i setting word (Some row) e lt clean d =
       let r : IsRow netlist book pool row = row_at netlist book pool table ready i row e in (

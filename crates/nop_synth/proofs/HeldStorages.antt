@@ -1,19 +1,23 @@
 -- Words that the sets of kept storages hold keep these storages.
-use Rattle.std.proofs.Common.{◌≡◌, ℕ, zero, suc, ◌<◌, ◌^◌, inl, inr, Bool, true, false, List, [], ◌∷◌, length, if◌then◌else◌, Option, Some, None, refl, sym, arith, subst}
+use Rattle.std.proofs.Common.{◌≡◌, ℕ, zero, suc, ◌<◌, ◌^◌, inl, inr, ◌⊎◌, Bool, true, false, List, [], ◌∷◌, length, if◌then◌else◌, Option, Some, None, refl, sym, ◌∙◌, ap, arith, subst}
 use Rattle.std.specs.List.{slice_get}
 use Rattle.std.proofs.lemmas.Bool.{true≢false, and_from, cases_lt}
 use Rattle.std.proofs.lemmas.Option.{slice_get_within}
 use Rattle.bit_bdd.specs.Diagrams.{Diagrams}
 use Rattle.net_model.specs.declared.hardware.Netlist.{Netlist}
 use Rattle.net_model.specs.Terms.{keep}
-use Rattle.net_model.specs.Transfers.{IsClean, move_at, memory_move}
+use Rattle.net_model.specs.declared.hardware.Space.{Space}
+use Rattle.net_model.specs.declared.hardware.Space.TheVariants.{Memory as InMemory, File as InFile}
+use Rattle.net_model.specs.Nets.{place_in}
+use Rattle.net_model.specs.Transfers.{IsClean, move_at, space_move}
 use Rattle.sym_expr.specs.declared.pool.Node.{Node}
 use Rattle.transfer_set.specs.Ready.{IsReady}
 use Rattle.transfer_set.specs.Sets.{IsKeepSet}
 use Rattle.transfer_set.specs.Tables.{Table}
 use Rattle.transfer_set.proofs.ReadyLaws.{keep_set_at}
 use Rattle.form_model.specs.Live.{Regs}
-use Rattle.nop_synth.specs.Wanted.{all_hold, AllBelow, option_list, memory_sets, is_wanted, register_sets}
+use Rattle.nop_synth.specs.Wanted.{all_hold, AllBelow, keep_at, option_list, place_of, space_sets, is_wanted, register_sets}
+use Rattle.word_fit.proofs.FilePlaces.{file_at, file_told, past_keeps}
 use Rattle.nop_synth.proofs.HeldSteps.{below-append, hold_both, hold_parts, one_hold}
 
 module _ (netlist : Netlist) (book : Diagrams) (pool : List Node) (table : Table) (ready : IsReady netlist book pool table) where
@@ -47,21 +51,53 @@ module _ (netlist : Netlist) (book : Diagrams) (pool : List Node) (table : Table
   below_by id None e = tt
   below_by id (Some set) e = ((keep_is id set e).within, tt)
 
-  -- ---- the memory
+  -- ---- the memory and the file
 
-  pub memory_below : (stored : Bool) → AllBelow book (memory_sets table stored)
-  memory_below true = tt
-  memory_below false = below_by table.memory (slice_get table.keeps table.memory) refl
+  -- the words that keep a storage, where it is there
+  at_below : (o : Option ℕ) → AllBelow book (keep_at table o)
+  at_below None = tt
+  at_below (Some id) = below_by id (slice_get table.keeps id) refl
 
-  pub memory_kept : (stored : Bool) (word : ℕ) → word < 2 ^ book.bits → table.memory < length netlist.storages → all_hold book (memory_sets table stored) word ≡ true → stored ≡ false → memory_move netlist word ≡ keep
-  memory_kept true word lt n h e = absurd (true≢false e)
-  memory_kept false word lt n h e =
-      subst (λ k. move_at netlist word k ≡ keep) ready.patterns.memory (kept_by table.memory word (slice_get table.keeps table.memory) refl lt n h)
+  at_kept : (o : Option ℕ) (id word : ℕ) → o ≡ Some id → word < 2 ^ book.bits → id < length netlist.storages → all_hold book (keep_at table o) word ≡ true → move_at netlist word id ≡ keep
+  at_kept None id word e lt n h = absurd (cc)
+  at_kept (Some k) id word e lt n h =
+      let same : k ≡ id = cc in
+      kept_by id word (slice_get table.keeps id) refl lt n (subst (λ j. all_hold book (option_list (slice_get table.keeps j)) word ≡ true) same h)
 
-  pub memory_held : (stored : Bool) (word : ℕ) → word < 2 ^ book.bits → IsClean netlist word → (stored ≡ false → memory_move netlist word ≡ keep) → all_hold book (memory_sets table stored) word ≡ true
-  memory_held true word lt clean h = refl
-  memory_held false word lt clean h =
-      held_by table.memory word (slice_get table.keeps table.memory) refl lt clean (λ n. subst (λ k. move_at netlist word k ≡ keep) (sym ready.patterns.memory) (h refl))
+  at_held : (o : Option ℕ) (word : ℕ) → word < 2 ^ book.bits → IsClean netlist word → ((id : ℕ) → o ≡ Some id → id < length netlist.storages → move_at netlist word id ≡ keep) → all_hold book (keep_at table o) word ≡ true
+  at_held None word lt clean h = refl
+  at_held (Some id) word lt clean h = held_by id word (slice_get table.keeps id) refl lt clean (h id refl)
+
+  pub space_below : (space : Space) (stored : Bool) → AllBelow book (space_sets table space stored)
+  space_below space true = tt
+  space_below space false = at_below (place_of table space)
+
+  -- where a space's storage is told to be
+  placed : (space : Space) (id : ℕ) → place_of table space ≡ Some id → id ≡ place_in space netlist.storages
+  placed InMemory id e = (let same : table.memory ≡ id = cc in sym same ∙ ready.patterns.memory)
+  placed InFile id e = file_at netlist.storages id (sym ready.patterns.file ∙ e)
+
+  -- a space's storage that is there is told, and one that isn't keeps
+  told_or_kept : (space : Space) (word : ℕ) → table.memory < length netlist.storages → (place_of table space ≡ Some (place_in space netlist.storages)) × (place_in space netlist.storages < length netlist.storages) ⊎ (space_move netlist space word ≡ keep)
+  told_or_kept InMemory word n = inl (ap Some ready.patterns.memory, subst (λ k. k < length netlist.storages) ready.patterns.memory n)
+  told_or_kept InFile word n =
+      elim (cases_lt (place_in InFile netlist.storages) (length netlist.storages)) as (λ _. (table.file ≡ Some (place_in InFile netlist.storages)) × (place_in InFile netlist.storages < length netlist.storages) ⊎ (space_move netlist InFile word ≡ keep)) [
+        | inl lt ↦ inl (ready.patterns.file ∙ file_told netlist.storages lt, lt)
+        | inr ge ↦ inr (past_keeps netlist word (place_in InFile netlist.storages) ge)
+      ]
+
+  pub space_kept : (space : Space) (stored : Bool) (word : ℕ) → word < 2 ^ book.bits → table.memory < length netlist.storages → all_hold book (space_sets table space stored) word ≡ true → stored ≡ false → space_move netlist space word ≡ keep
+  space_kept space true word lt n h e = absurd (true≢false e)
+  space_kept space false word lt n h e =
+      elim (told_or_kept space word n) as (λ _. space_move netlist space word ≡ keep) [
+        | inl p ↦ at_kept (place_of table space) (place_in space netlist.storages) word p.0 lt p.1 h
+        | inr k ↦ k
+      ]
+
+  pub space_held : (space : Space) (stored : Bool) (word : ℕ) → word < 2 ^ book.bits → IsClean netlist word → (stored ≡ false → space_move netlist space word ≡ keep) → all_hold book (space_sets table space stored) word ≡ true
+  space_held space true word lt clean h = refl
+  space_held space false word lt clean h =
+      at_held (place_of table space) word lt clean (λ id e n. subst (λ k. move_at netlist word k ≡ keep) (sym (placed space id e)) (h refl))
 
   -- ---- registers
 

@@ -5,6 +5,8 @@ use Rattle.std.specs.Option.{option_eq}
 use Rattle.bit_bdd.specs.Diagrams.{Diagrams, has_word}
 use Rattle.transfer_set.specs.declared.row.Row.{Row}
 use Rattle.transfer_set.specs.Tables.{Table}
+use Rattle.net_model.specs.declared.hardware.Space.{Space}
+use Rattle.net_model.specs.declared.hardware.Space.TheVariants.{Memory as InMemory, File as InFile}
 use Rattle.form_model.specs.declared.forms.Step.{Step}
 use Rattle.form_model.specs.Live.{Regs}
 use Rattle.nop_synth.specs.declared.meet.FieldValue.{FieldValue}
@@ -65,9 +67,18 @@ abbrev pub option_list : Option ℕ → List ℕ
 option_list None = []
 option_list (Some set) = set ∷ []
 
--- words that keep the memory, unless a step writes it
-abbrev pub memory_sets : Table → Bool → List ℕ
-memory_sets table stored = if stored then [] else option_list (slice_get table.keeps table.memory)
+-- the number of a space's storage, where it is there
+abbrev pub place_of : Table → Space → Option ℕ
+place_of table InMemory = Some table.memory
+place_of table InFile = table.file
+
+abbrev pub keep_at : Table → Option ℕ → List ℕ
+keep_at table None = []
+keep_at table (Some storage) = option_list (slice_get table.keeps storage)
+
+-- words that keep the memory, or the file, unless a step writes it
+abbrev pub space_sets : Table → Space → Bool → List ℕ
+space_sets table space stored = if stored then [] else keep_at table (place_of table space)
 
 -- a storage with cells: the memory's or the file's
 abbrev pub has_cells : Table → ℕ → Bool
@@ -84,7 +95,11 @@ register_sets table live written (suc r) =
     register_sets table live written r
     ++ (if is_wanted table live written r then option_list (slice_get table.keeps r) else [])
 
+-- those of the memory and of the file
+abbrev pub cell_sets : Table → (Space → Bool) → List ℕ
+cell_sets table stored = space_sets table InMemory (stored InMemory) ++ space_sets table InFile (stored InFile)
+
 -- all sets that are to hold a word of the group
-abbrev pub group_sets : Table → List Step → Regs → Bool → Regs → List ℕ
+abbrev pub group_sets : Table → List Step → Regs → (Space → Bool) → Regs → List ℕ
 group_sets table group live stored written =
-    (map (step_set table) group ++ memory_sets table stored) ++ register_sets table live written 16
+    (map (step_set table) group ++ cell_sets table stored) ++ register_sets table live written 16

@@ -2,13 +2,15 @@
 
 ghost use Rattle.std.specs.Prelude.{◌≡◌, false, ◌<◌, [], ◌++◌, if◌then◌else◌, map, slice_get, IfOk, OnOk};
 ghost use Rattle.form_model.specs.Live.{group_writes, regs_of};
+ghost use Rattle.net_model.specs.declared.hardware.Space.TheVariants.{Memory as InMemory};
 ghost use Rattle.word_fit.specs.Fits.{group_stores};
 ghost use Rattle.word_fit.specs.Steps.{step_operation};
-ghost use Rattle.nop_synth.specs.Wanted.{group_sets, has_cells, is_wanted, memory_sets, option_list, register_sets, row_fields, row_set, step_field, step_set};
+ghost use Rattle.nop_synth.specs.Wanted.{cell_sets, group_sets, has_cells, is_wanted, keep_at, option_list, place_of, register_sets, row_fields, row_set, space_sets, step_field, step_set};
 
 use crate::meet::FieldValue;
 use bit_bdd::SetId;
 use form_model::{RegSet, Step};
+use net_model::Space;
 use rec_bits::{Items, NoMemory};
 use std::alloc::Global;
 use sym_expr::Pool;
@@ -71,17 +73,64 @@ pub(crate) fn step_fields(
     Ok(fields)
 }
 
-// Adds the words that keep the memory, unless it is written.
-fn add_memory(patterns: &Patterns, sets: &mut Items<SetId>, stored: bool) -> Result<(), NoMemory>
-    ensures { OnOk result (sets.new ≡ sets.old ++ memory_sets patterns.now stored) }
+// The number of the storage with the cells of a space, where it is there.
+fn place_of(patterns: &Patterns, space: Space) -> Option<u32>
+    ensures { result ≡ place_of patterns.now space }
+{
+    match space {
+        Space::Memory => Some(patterns.memory()),
+        Space::File => patterns.file(),
+    }
+}
+
+// The words that keep the memory, or the file, where they are asked for.
+fn kept_in(patterns: &Patterns, space: Space) -> Option<SetId>
+    ensures { option_list result ≡ keep_at patterns.now (place_of patterns.now space) }
+{
+    let storage = place_of(patterns, space)?;
+    patterns.keep_set(storage)
+}
+
+// Adds the words that keep the memory, or the file, unless it is written.
+fn add_space(
+    patterns: &Patterns,
+    sets: &mut Items<SetId>,
+    space: Space,
+    stored: bool,
+) -> Result<(), NoMemory>
+    ensures { OnOk result (sets.new ≡ sets.old ++ space_sets patterns.now space stored) }
 {
     if stored {
         return Ok(());
     }
-    if let Some(set) = patterns.keep_set(patterns.memory()) {
+    if let Some(set) = kept_in(patterns, space) {
         sets.push(set)?;
     }
     Ok(())
+}
+
+// Adds the words that keep the memory and those that keep the file, each unless a step writes it.
+fn add_cells(
+    patterns: &Patterns,
+    _pool: &Pool,
+    sets: &mut Items<SetId>,
+    group: &[Step],
+) -> Result<(), NoMemory>
+    ensures { OnOk result (sets.new ≡ sets.old
+        ++ cell_sets patterns.now (λ space. group_stores space (step_operation _pool.now patterns.now) group.now)) }
+{
+    add_space(
+        patterns,
+        sets,
+        Space::Memory,
+        stores(patterns, Space::Memory, group),
+    )?;
+    add_space(
+        patterns,
+        sets,
+        Space::File,
+        stores(patterns, Space::File, group),
+    )
 }
 
 // Whether a storage has cells: those of the memory or of the file.
@@ -151,20 +200,20 @@ pub(crate) fn wanted_sets(
 ) -> Result<Items<SetId>, NoMemory>
     ensures { IfOk result (λ sets. sets
         ≡ group_sets patterns.now group.now (regs_of live)
-        (group_stores (step_operation pool.now patterns.now) group.now)
+        (λ space. group_stores space (step_operation pool.now patterns.now) group.now)
         (group_writes (step_operation pool.now patterns.now) group.now)) }
 {
     let mut sets = step_sets(alloc, patterns, group)?;
-    add_memory(patterns, &mut sets, stores(patterns, group))?;
+    add_cells(patterns, pool, &mut sets, group)?;
     add_registers(patterns, pool, &mut sets, group, live)?;
     Ok(sets)
 }
 
 // The words that keep the memory.
 pub(crate) fn kept_memory(alloc: Global, patterns: &Patterns) -> Result<Items<SetId>, NoMemory>
-    ensures { IfOk result (λ sets. sets ≡ memory_sets patterns.now false) }
+    ensures { IfOk result (λ sets. sets ≡ space_sets patterns.now InMemory false) }
 {
     let mut sets = Items::new(alloc);
-    add_memory(patterns, &mut sets, false)?;
+    add_space(patterns, &mut sets, Space::Memory, false)?;
     Ok(sets)
 }

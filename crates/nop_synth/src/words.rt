@@ -19,8 +19,8 @@ use transfer_set::Patterns;
 
 /// The least word that fits a group of steps with a set of live registers, and `None` exactly where
 /// no word fits. A word fits where it does each step's transfer with its setting, steps, keeps the
-/// data memory unless a step writes it, keeps each live register that no step writes, and doesn't
-/// clash. `live` has bit `r` for the register of number `r`. No word does a step whose number is
+/// data memory unless a step writes it, keeps the register file unless a step writes it, keeps each
+/// live register that no step writes, and doesn't clash. `live` has bit `r` for the register of number `r`. No word does a step whose number is
 /// past the last pattern's.
 ///
 /// The patterns' sets are those of the book, and their expressions those of the pool; the book
@@ -60,8 +60,8 @@ pub fn word_for(
 }
 
 /// The least word without clash that does the transfer of a jump or branch with its setting and
-/// keeps the data memory, and `None` exactly where there is none. Registers needn't keep what they
-/// hold.
+/// keeps the data memory, and `None` exactly where there is none. Registers and the register file
+/// needn't keep what they hold.
 ///
 /// The patterns' sets are those of the book, and their expressions those of the pool, which isn't
 /// read; the book grows, and what it held means what it meant. Want of memory is the only refusal.

@@ -4,17 +4,17 @@ use Rattle.right_code.specs.Covered.{HasBareTree}
 use Rattle.net_code.specs.Refusals.{HasJumps, IsBeyondReach, IsCoverable, IsReached, IsImageTooLong as HasLongImage}
 use Rattle.net_compile.proofs.TaskLemmas.{weaker, no_uncovered, no_beyond, no_long, room_of_code, reached_of_code}
 use Rattle.net_compile.specs.declared.fault.CompileFault.{CompileFault}
-use Rattle.net_compile.specs.declared.fault.CompileFault.TheVariants.{NetText as CompileNetText, Net as CompileNet, Later as CompileLater, SrcText as CompileSrcText, Src as CompileSrc, DataFull as NoRoom, NoStep as Stepless, NoJump as Jumpless, NoCover as Uncovered, NoReach as Beyond, ImageFull as Overlong, Memory as CompileMemory}
+use Rattle.net_compile.specs.declared.fault.CompileFault.TheVariants.{NetText as CompileNetText, Net as CompileNet, SrcText as CompileSrcText, Src as CompileSrc, DataFull as NoRoom, NoStep as Stepless, NoJump as Jumpless, NoCover as Uncovered, NoReach as Beyond, ImageFull as Overlong, Memory as CompileMemory}
 use Rattle.net_compile.specs.Code.{IsWithin, FailsWith, HasRoom}
 use Rattle.net_compile.specs.Compiled.{IsCompiled, IsCompileFault}
 use Rattle.net_compile.specs.Tasks.{TaskHolds}
-use Rattle.record_core.proofs.FormLemmas.{answers_no_net_text, answers_broken, answers_not_yet, answers_no_src_text, answers_broken_src, answers_full, answers_stepless, answers_jumpless, behind_jumps, later_of_forms, past_jumps}
+use Rattle.record_core.proofs.FormLemmas.{answers_no_net_text, answers_broken, answers_no_src_text, answers_broken_src, answers_full, answers_stepless, answers_jumpless, behind_jumps, later_of_forms, past_jumps}
 use Rattle.record_core.proofs.StageLemmas.{By-none, Then-behind, Then-past}
 use Rattle.record_core.specs.Answers.{CodeAnswers, CodeEnds, CompileAnswers}
 use Rattle.record_core.specs.Stages.{By, Then}
 use Rattle.record_core.specs.Inner.Statuses.{compile_status}
 use Rattle.record_core.specs.declared.status.Status.{Status}
-use Rattle.record_core.specs.declared.status.Status.TheVariants.{Done, NetText, Net, Later as NotYet, SrcText, Src, NoStep, NoJump, NoCover, DataFull, NoReach, ImageFull, Memory}
+use Rattle.record_core.specs.declared.status.Status.TheVariants.{Done, NetText, Net, SrcText, Src, NoStep, NoJump, NoCover, DataFull, NoReach, ImageFull, Memory}
 
 module _ (line : Status → List ℕ) (net src : List ℕ) (Later : Status → List ℕ → Type 0) where
   -- ---- the stages behind those of the forms
@@ -88,7 +88,6 @@ module _ (line : Status → List ℕ) (net src : List ℕ) (Later : Status → L
       (compile_status fault ≡ Memory) ⊎ CodeAnswers line net src Later (compile_status fault) (line (compile_status fault))
   answers_fault (CompileNetText at) is = inr (answers_no_net_text line net src cover_answers at is)
   answers_fault (CompileNet fault) is = inr (answers_broken line net src cover_answers fault is)
-  answers_fault CompileLater is = inr (answers_not_yet line net src cover_answers is)
   answers_fault (CompileSrcText at) is = inr (answers_no_src_text line net src cover_answers at is)
   answers_fault (CompileSrc fault) is = inr (answers_broken_src line net src cover_answers fault is)
   answers_fault (NoRoom need have) is = inr (answers_full line net src cover_answers need have is)

@@ -6,7 +6,7 @@ use Rattle.net_compile.specs.Code.{HasRoom}
 use Rattle.net_compile.specs.declared.fault.CompileFault.{CompileFault}
 use Rattle.net_compile.specs.declared.fault.CompileFault.TheVariants as compiling
 use Rattle.net_explain.specs.Explained.{IsExplained, IsExplainedTask, IsExplainFault}
-use Rattle.record_core.proofs.FormLemmas.{answers_no_net_text, answers_broken, answers_not_yet, answers_no_src_text, answers_broken_src, answers_full, answers_stepless, answers_jumpless, later_of_forms, past_jumps}
+use Rattle.record_core.proofs.FormLemmas.{answers_no_net_text, answers_broken, answers_no_src_text, answers_broken_src, answers_full, answers_stepless, answers_jumpless, later_of_forms, past_jumps}
 use Rattle.record_core.specs.Answers.{ExplainAnswers}
 use Rattle.record_core.specs.Inner.Statuses.{compile_status}
 use Rattle.record_core.specs.declared.status.Status.{Status}
@@ -26,7 +26,6 @@ module _ (line : Status → List ℕ) (net src : List ℕ) where
       (compile_status fault ≡ Memory) ⊎ ExplainAnswers line net src (compile_status fault) (line (compile_status fault))
   answers_explain_fault (compiling.NetText at) is = inr (answers_no_net_text line net src explained at is)
   answers_explain_fault (compiling.Net broken) is = inr (answers_broken line net src explained broken is)
-  answers_explain_fault compiling.Later is = inr (answers_not_yet line net src explained is)
   answers_explain_fault (compiling.SrcText at) is = inr (answers_no_src_text line net src explained at is)
   answers_explain_fault (compiling.Src broken) is = inr (answers_broken_src line net src explained broken is)
   answers_explain_fault (compiling.DataFull need have) is = inr (answers_full line net src explained need have is)

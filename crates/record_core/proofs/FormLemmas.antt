@@ -8,10 +8,9 @@ use Rattle.src_model.specs.declared.fault.SrcFault.{SrcFault}
 use Rattle.src_parser.specs.Texts.{IsNoSrcText}
 use Rattle.right_code.specs.Tasks.{Property}
 use Rattle.net_code.specs.Refusals.{HasJumps, HasSteps, IsJumpless, IsStepless}
-use Rattle.net_compile.proofs.TaskLemmas.{has_net, none_broken, not_later, weaker, no_full, no_stepless, no_jumpless}
+use Rattle.net_compile.proofs.TaskLemmas.{has_net, none_broken, weaker, no_full, no_stepless, no_jumpless}
 use Rattle.net_compile.specs.Code.{FailsWith, IsDataFull, HasRoom}
 use Rattle.net_compile.specs.Compiled.{HasNet, BreaksSrc}
-use Rattle.net_compile.specs.Nets.{IsLater}
 use Rattle.net_compile.specs.Tasks.{TaskHolds}
 use Rattle.net_compile.specs.declared.fault.CompileFault.TheVariants.{NoStep as Stepless, NoJump as Jumpless}
 use Rattle.record_core.proofs.NetLemmas.{behind_rules, past_rules, stops_at_text, stops_at_rule}
@@ -19,13 +18,10 @@ use Rattle.record_core.proofs.StageLemmas.{By-none, Just-none, Then-behind, Then
 use Rattle.record_core.specs.Answers.{FormAnswers}
 use Rattle.record_core.specs.Stages.{By, Just, Then}
 use Rattle.record_core.specs.declared.status.Status.{Status}
-use Rattle.record_core.specs.declared.status.Status.TheVariants.{NetText, Net, Later as NotYet, SrcText, Src, Done, NoStep, NoJump, DataFull}
+use Rattle.record_core.specs.declared.status.Status.TheVariants.{NetText, Net, SrcText, Src, Done, NoStep, NoJump, DataFull}
 
 module _ (line : Status → List ℕ) (net src : List ℕ) (Later : Status → List ℕ → Type 0) where
   -- ---- the stages behind those of the netlist
-
-  abbrev not_yet : Status → Type 0
-  not_yet = Just (NotYet 0) (IsLater net)
 
   abbrev no_text : Status → Type 0
   no_text = By SrcText (IsNoSrcText src)
@@ -59,13 +55,7 @@ module _ (line : Status → List ℕ) (net src : List ℕ) (Later : Status → L
   abbrev source_answers : Status → List ℕ → Type 0
   source_answers = Then line no_text rule_answers
 
-  abbrev edition_answers : Status → List ℕ → Type 0
-  edition_answers = Then line not_yet source_answers
-
   -- ---- no stage refuses where there is nothing to refuse
-
-  not_later_yet : HasNet net → (other : Status) → not_yet other → ⊥
-  not_later_yet h = Just-none (NotYet 0) (IsLater net) (not_later net h.entries h.file.file h.file.first)
 
   not_text : (P : Property) → TaskHolds net src P → (other : Status) → no_text other → ⊥
   not_text P h = By-none SrcText (IsNoSrcText src) (λ at faulty. no_src_fault src h.task.listing at h.is.src_file.says faulty)
@@ -88,9 +78,7 @@ module _ (line : Status → List ℕ) (net src : List ℕ) (Later : Status → L
   -- ---- what each refusal that doesn't come leaves to the later stages
 
   past_net : HasNet net → (status : Status) (text : List ℕ) → source_answers status text → FormAnswers line net src Later status text
-  past_net h status text later =
-      past_rules line net edition_answers h.entries (record { file = h.file.file; routed = h.file.routed }) status text
-      (Then-past line not_yet source_answers (not_later_yet h) status text later)
+  past_net h = past_rules line net source_answers h.entries h.file
 
   past_program : (P : Property) → TaskHolds net src P → (status : Status) (text : List ℕ) → room_answers status text → FormAnswers line net src Later status text
   past_program P h status text later = past_net (has_net net src P h) status text
@@ -109,10 +97,7 @@ module _ (line : Status → List ℕ) (net src : List ℕ) (Later : Status → L
   -- and nothing else does
   pub behind_jumps : TaskHolds net src HasRoom → TaskHolds net src HasJumps → (status : Status) (text : List ℕ) → FormAnswers line net src Later status text → Later status text
   behind_jumps roomy h status text answers =
-      let has : HasNet net = has_net net src HasRoom roomy in
-      let early : edition_answers status text =
-      behind_rules line net edition_answers has.entries (record { file = has.file.file; routed = has.file.routed }) status text answers in
-      let a : source_answers status text = Then-behind line not_yet source_answers (not_later_yet has) status text early in
+      let a : source_answers status text = behind_rules line net source_answers (has_net net src HasRoom roomy).entries (has_net net src HasRoom roomy).file status text answers in
       let b : rule_answers status text = Then-behind line no_text rule_answers (not_text HasRoom roomy) status text a in
       let c : room_answers status text = Then-behind line broken room_answers (not_broken HasRoom roomy) status text b in
       let d : step_answers status text = Then-behind line full step_answers (not_full roomy) status text c in
@@ -122,13 +107,10 @@ module _ (line : Status → List ℕ) (net src : List ℕ) (Later : Status → L
   -- ---- each refusal is answered
 
   pub answers_no_net_text : (at : ℕ) → IsNoNetText net at → FormAnswers line net src Later (NetText at) (line (NetText at))
-  answers_no_net_text = stops_at_text line net edition_answers
+  answers_no_net_text = stops_at_text line net source_answers
 
   pub answers_broken : (fault : NetFault) → BreaksAnyRule net fault → FormAnswers line net src Later (Net fault) (line (Net fault))
-  answers_broken = stops_at_rule line net edition_answers
-
-  pub answers_not_yet : IsLater net → FormAnswers line net src Later (NotYet 0) (line (NotYet 0))
-  answers_not_yet later = past_rules line net edition_answers later.entries later.file (NotYet 0) (line (NotYet 0)) (inl ((later, refl), refl))
+  answers_broken = stops_at_rule line net source_answers
 
   pub answers_no_src_text : (at : ℕ) → HasNet net × IsNoSrcText src at → FormAnswers line net src Later (SrcText at) (line (SrcText at))
   answers_no_src_text at (has, none) = past_net has (SrcText at) (line (SrcText at)) (inl ((at, none, refl), refl))
@@ -158,10 +140,9 @@ module _ (line : Status → List ℕ) (net src : List ℕ) (Later : Status → L
   pub later_of_forms : (text : List ℕ) → FormAnswers line net src Later Done text → Later Done text
   later_of_forms text (inl ((at, reason, e), same)) = absurd cc
   later_of_forms text (inr (net_text, inl ((fault, reason, e), same))) = absurd cc
-  later_of_forms text (inr (net_text, inr (rules, inl ((reason, e), same)))) = absurd cc
-  later_of_forms text (inr (net_text, inr (rules, inr (first, inl ((at, reason, e), same))))) = absurd cc
-  later_of_forms text (inr (net_text, inr (rules, inr (first, inr (src_text, inl ((fault, reason, e), same)))))) = absurd cc
-  later_of_forms text (inr (net_text, inr (rules, inr (first, inr (src_text, inr (src_rules, inl ((p, reason, e), same))))))) = absurd cc
-  later_of_forms text (inr (net_text, inr (rules, inr (first, inr (src_text, inr (src_rules, inr (room, inl ((reason, e), same)))))))) = absurd cc
-  later_of_forms text (inr (net_text, inr (rules, inr (first, inr (src_text, inr (src_rules, inr (room, inr (steps, inl ((reason, e), same))))))))) = absurd cc
-  later_of_forms text (inr (net_text, inr (rules, inr (first, inr (src_text, inr (src_rules, inr (room, inr (steps, inr (jumps, later))))))))) = later
+  later_of_forms text (inr (net_text, inr (rules, inl ((at, reason, e), same)))) = absurd cc
+  later_of_forms text (inr (net_text, inr (rules, inr (src_text, inl ((fault, reason, e), same))))) = absurd cc
+  later_of_forms text (inr (net_text, inr (rules, inr (src_text, inr (src_rules, inl ((p, reason, e), same)))))) = absurd cc
+  later_of_forms text (inr (net_text, inr (rules, inr (src_text, inr (src_rules, inr (room, inl ((reason, e), same))))))) = absurd cc
+  later_of_forms text (inr (net_text, inr (rules, inr (src_text, inr (src_rules, inr (room, inr (steps, inl ((reason, e), same)))))))) = absurd cc
+  later_of_forms text (inr (net_text, inr (rules, inr (src_text, inr (src_rules, inr (room, inr (steps, inr (jumps, later)))))))) = later

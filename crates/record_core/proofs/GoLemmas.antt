@@ -18,7 +18,7 @@ use Rattle.record_core.specs.Stages.{By}
 use Rattle.record_core.specs.Inner.Statuses.{compile_status}
 use Rattle.record_core.specs.Watching.{IsWatched, LacksMemory}
 use Rattle.record_core.specs.declared.status.Status.{Status}
-use Rattle.record_core.specs.declared.status.Status.TheVariants.{Done, Usage, ReadFault, TooLong, WriteFault, NetText, Net, Later as NotYet, SrcText, Src, NoStep, NoJump, NoCover, DataFull, NoReach, ImageFull, Memory, ImageText, MemText, Clash, AsmText, AsmWord, TestLimit}
+use Rattle.record_core.specs.declared.status.Status.TheVariants.{Done, Usage, ReadFault, TooLong, WriteFault, NetText, Net, SrcText, Src, NoStep, NoJump, NoCover, DataFull, NoReach, ImageFull, Memory, ImageText, MemText, Clash, AsmText, AsmWord, TestLimit}
 
 module _ (net src memory : List ℕ) where
   -- a memory text that is none shows that at one offset, and one that is read shows it at none
@@ -75,7 +75,6 @@ module _ (line : Status → List ℕ) (net src memory : List ℕ) (clocks : ℕ)
     memory_fault WriteFault is = absurd is
     memory_fault (NetText at) is = absurd is
     memory_fault (Net fault) is = absurd is
-    memory_fault (NotYet file) is = absurd is
     memory_fault (SrcText at) is = absurd is
     memory_fault (Src fault) is = absurd is
     memory_fault NoStep is = absurd is

@@ -38,7 +38,7 @@ use Rattle.record_core.specs.Words.{command_of, names_of}
 use Rattle.record_core.specs.declared.words.Command.{Command}
 use Rattle.record_core.specs.declared.words.Command.TheVariants.{Compile, Extract, Run, Go, Make, Asm, Dis, Test, Explain}
 use Rattle.record_core.specs.declared.status.Status.{Status}
-use Rattle.record_core.specs.declared.status.Status.TheVariants.{Done, Usage, ReadFault, TooLong, NetText, Net, Later as NotYet, SrcText, Src, NoStep, NoJump, NoCover, DataFull, NoReach, ImageFull, ImageText, MemText, Clash, AsmText, AsmWord, TestLimit, Memory}
+use Rattle.record_core.specs.declared.status.Status.TheVariants.{Done, Usage, ReadFault, TooLong, NetText, Net, SrcText, Src, NoStep, NoJump, NoCover, DataFull, NoReach, ImageFull, ImageText, MemText, Clash, AsmText, AsmWord, TestLimit, Memory}
 
 one_read : (names : List (List ℕ)) (before now : ShelfState) (x y : ℕ) → IsFileReadFault names before now x → IsFileReadFault names before now y → x ≡ y
 one_read names before now x y p q = let a = p.place in let b = q.place in cc
@@ -73,12 +73,11 @@ module _ (Alike : Status → Status → Type 0) (same : (s t : Status) → s ≡
   FormAnswers-alike : (net src : List ℕ) (Later : Status → List ℕ → Type 0) → AllAlike Alike Later → AllAlike Alike (FormAnswers line net src Later)
   FormAnswers-alike net src Later later =
       NetStages-alike line net _ Alike same (
-      stage _ _ (Just-unique (NotYet 0) _) (
       stage _ _ (By-unique SrcText _ (one_src_fault src)) (
       stage _ _ (By-unique Src _ (one_broken net src)) (
       stage _ _ (By-unique (λ (p : ℕ × ℕ). DataFull p.0 p.1) _ (one_full net src)) (
       stage _ _ (Just-unique NoStep _) (
-      stage _ _ (Just-unique NoJump _) later))))))
+      stage _ _ (Just-unique NoJump _) later)))))
 
 -- ---- commands that make code
 

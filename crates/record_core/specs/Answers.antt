@@ -11,7 +11,6 @@ use Rattle.right_code.specs.Covered.{HasBareTree}
 use Rattle.net_code.specs.Refusals.{IsBeyondReach, IsJumpless, IsStepless, IsImageTooLong as HasLongImage}
 use Rattle.net_compile.specs.Code.{HasRightCode, IsDataFull, IsWithin}
 use Rattle.net_compile.specs.Compiled.{IsCompiled, BreaksSrc}
-use Rattle.net_compile.specs.Nets.{IsLater}
 use Rattle.net_compile.specs.Tasks.{TaskHolds}
 use Rattle.job_gen.specs.NetText.{net_text as job_netlist}
 use Rattle.job_gen.specs.SrcText.{src_text as job_program}
@@ -35,7 +34,7 @@ use Rattle.record_core.specs.Words.{command_of, names_of}
 use Rattle.record_core.specs.declared.words.Command.{Command}
 use Rattle.record_core.specs.declared.words.Command.TheVariants.{Compile, Extract, Run, Go, Make, Asm, Dis, Test, Explain}
 use Rattle.record_core.specs.declared.status.Status.{Status}
-use Rattle.record_core.specs.declared.status.Status.TheVariants.{Done, Usage, ReadFault, TooLong, WriteFault, NetText, Net, Later as NotYet, SrcText, Src, NoStep, NoJump, NoCover, DataFull, NoReach, ImageFull, Memory, ImageText, MemText, Clash, AsmText, AsmWord, TestLimit}
+use Rattle.record_core.specs.declared.status.Status.TheVariants.{Done, Usage, ReadFault, TooLong, WriteFault, NetText, Net, SrcText, Src, NoStep, NoJump, NoCover, DataFull, NoReach, ImageFull, Memory, ImageText, MemText, Clash, AsmText, AsmWord, TestLimit}
 
 -- the most bytes of a file
 abbrev pub file_limit : ℕ
@@ -92,12 +91,11 @@ abbrev pub FormAnswers : (Status → List ℕ) → List ℕ → List ℕ → (St
 FormAnswers line net src Later =
     Then line (By NetText (IsNoNetText net)) (
     Then line (By Net (BreaksAnyRule net)) (
-    Then line (Just (NotYet 0) (IsLater net)) (
     Then line (By SrcText (IsNoSrcText src)) (
     Then line (By Src (BreaksSrc net src)) (
     Then line (By (λ (p : ℕ × ℕ). DataFull p.0 p.1) (λ (p : ℕ × ℕ). TaskHolds net src (IsDataFull p.0 p.1))) (
     Then line (Just NoStep (TaskHolds net src (λ task. IsStepless task.netlist))) (
-    Then line (Just NoJump (TaskHolds net src (λ task. IsJumpless task.netlist))) Later)))))))
+    Then line (Just NoJump (TaskHolds net src (λ task. IsJumpless task.netlist))) Later))))))
 
 -- what a command answers that makes code of these two texts, and what the later stages answer once
 -- there is an image

@@ -7,7 +7,7 @@ use Rattle.net_explain.specs.Lines.{end_line}
 use Rattle.record_core.specs.NetLines.{net_line, name_place, name_from}
 use Rattle.record_core.specs.SrcLines.{src_line}
 use Rattle.record_core.specs.declared.status.Status.{Status}
-use Rattle.record_core.specs.declared.status.Status.TheVariants.{Done, Usage, ReadFault, TooLong, WriteFault, NetText, Net, Later, SrcText, Src, NoStep, NoJump, NoCover, DataFull, NoReach, ImageFull, Memory, ImageText, MemText, Clash, AsmText, AsmWord, TestLimit}
+use Rattle.record_core.specs.declared.status.Status.TheVariants.{Done, Usage, ReadFault, TooLong, WriteFault, NetText, Net, SrcText, Src, NoStep, NoJump, NoCover, DataFull, NoReach, ImageFull, Memory, ImageText, MemText, Clash, AsmText, AsmWord, TestLimit}
 
 -- the word that names this file
 abbrev pub name_of_file : List (List ℕ) → ℕ → List ℕ
@@ -24,7 +24,6 @@ status_line words name (TooLong file limit) =
 status_line words name WriteFault = []
 status_line words name (NetText at) = concat (codes "error net text " ∷ decimal at ∷ codes "\n" ∷ [])
 status_line words name (Net fault) = net_line name fault
-status_line words name (Later file) = concat (codes "error later " ∷ decimal file ∷ codes "\n" ∷ [])
 status_line words name (SrcText at) = concat (codes "error source text " ∷ decimal at ∷ codes "\n" ∷ [])
 status_line words name (Src fault) = src_line fault
 status_line words name NoStep = codes "error no step\n"

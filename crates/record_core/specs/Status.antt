@@ -1,7 +1,7 @@
 -- The exit status of each answer.
 use Rattle.std.specs.Prelude.{ℕ}
 use Rattle.record_core.specs.declared.status.Status.{Status}
-use Rattle.record_core.specs.declared.status.Status.TheVariants.{Done, Usage, ReadFault, TooLong, WriteFault, NetText, Net, Later, SrcText, Src, NoStep, NoJump, NoCover, DataFull, NoReach, ImageFull, Memory, ImageText, MemText, Clash, AsmText, AsmWord, TestLimit}
+use Rattle.record_core.specs.declared.status.Status.TheVariants.{Done, Usage, ReadFault, TooLong, WriteFault, NetText, Net, SrcText, Src, NoStep, NoJump, NoCover, DataFull, NoReach, ImageFull, Memory, ImageText, MemText, Clash, AsmText, AsmWord, TestLimit}
 
 -- the exit status of the program
 abbrev pub code_of : Status → ℕ
@@ -24,7 +24,6 @@ code_of Memory = 11
 code_of (ImageText at) = 12
 code_of (MemText at) = 12
 code_of (Clash cycle bus) = 13
-code_of (Later file) = 14
 code_of (AsmText at) = 16
 code_of (AsmWord line) = 17
 code_of (TestLimit count bound) = 18

@@ -25,8 +25,8 @@
 //! - `refusal`: why nothing else is written, with its line, and how that is put.
 //! - `call`: `record_call`.
 //! - `specs/`, cited by public contracts: `Answers` (what is answered, and what is written),
-//!   `Stages`, `Words`, `Watching`, `Showing`, `Status`, `Lines`, `NetLines` and `SrcLines`. `specs/Inner/`:
-//!   `Fetch`, `Putting`, `Refusals`, `Statuses`, for the functions here.
+//!   `Stages`, `Words`, `Watching`, `Showing`, `Status`, `Lines`, `NetLines` and `SrcLines`.
+//!   `specs/Inner/`: `Fetch`, `Putting`, `Refusals`, `Statuses`, for the functions here.
 //! - `proofs/`: `WroteLemmas`, `AnswerLemmas`, `UniqueLemmas` and `StageLemmas` for the call, one
 //!   file a command, `FetchLemmas`, `NameLemmas`.
 #![tactic(auto)]

@@ -210,7 +210,6 @@ pub fn fault_line(
         }
         Status::NetText(at) => format!(in alloc; "error net text {at}\n"),
         Status::Net(fault) => net_fault_line(alloc, name, fault),
-        Status::Later(file) => format!(in alloc; "error later {file}\n"),
         Status::SrcText(at) => format!(in alloc; "error source text {at}\n"),
         Status::Src(fault) => src_fault_line(alloc, fault),
         Status::NoStep => String::from_str(alloc, "error no step\n"),

@@ -29,8 +29,6 @@ pub enum Status {
     NetText(u64),
     /// The netlist breaks a rule.
     Net(NetFault),
-    /// The file at this place is a netlist text of an edition for which nothing is compiled yet.
-    Later(u8),
     /// The second file is no source text; the offset at which that shows.
     SrcText(u64),
     /// The program breaks a rule.
@@ -87,7 +85,6 @@ impl Status {
             Status::Memory => 11,
             Status::ImageText(_) | Status::MemText(_) => 12,
             Status::Clash { .. } => 13,
-            Status::Later(_) => 14,
             Status::AsmText(_) => 16,
             Status::AsmWord(_) => 17,
             Status::TestLimit { .. } => 18,
@@ -129,7 +126,6 @@ impl From<CompileFault> for Status {
         match fault {
             CompileFault::NetText(at) => Status::NetText(at),
             CompileFault::Net(fault) => Status::Net(fault),
-            CompileFault::Later => Status::Later(0),
             CompileFault::SrcText(at) => Status::SrcText(at),
             CompileFault::Src(fault) => Status::Src(fault),
             CompileFault::DataFull { need, have } => Status::DataFull { need, have },

@@ -1,11 +1,12 @@
 -- What branch and jump words do.
-use Rattle.std.proofs.Common.{ℕ, ◌≡◌, ◌≤◌, ◌<◌, ◌+◌, ◌%◌, ◌^◌, inl, inr, Bool, true, false, if◌then◌else◌, bit_and, bit_or, List, Some, None, slice_get, refl, ◌∙◌, ap, arith, subst}
+use Rattle.std.proofs.Common.{ℕ, ◌≡◌, ◌≤◌, ◌<◌, ◌+◌, ◌%◌, ◌^◌, inl, inr, Bool, true, false, if◌then◌else◌, bit_and, bit_or, nat_lt, List, Option, Some, None, slice_get, refl, ◌∙◌, ap, arith, subst}
 use Rattle.std.proofs.Math.Nat.{mod-eq_of_lt}
 use Rattle.std.proofs.lemmas.Nat.{and_le_l}
+use Rattle.transfer_set.specs.Tables.{file_place}
 use Rattle.net_model.specs.declared.hardware.Netlist.{Netlist}
 use Rattle.net_model.specs.declared.states.State.{State}
 use Rattle.net_model.specs.CheckedRules.{KeepsRules}
-use Rattle.net_model.specs.Terms.{Term, word, const, slice, zext, sext, select, write}
+use Rattle.net_model.specs.Terms.{Term, word, reg, const, read, un, bin, slice, cat, zext, sext, select, term_width, write}
 use Rattle.net_model.specs.Meaning.{mean}
 use Rattle.net_model.specs.Symbolic.{no_state}
 use Rattle.net_model.specs.Nets.{counter_of, counter_width}
@@ -16,15 +17,20 @@ use Rattle.net_model.proofs.KeptRules.{sound_of}
 use Rattle.code_model.specs.Machine.{IsAt}
 use Rattle.code_model.specs.Words.{is_fixed, DoesGoto}
 use Rattle.net_model.specs.Fields.{fields, WordFitsMove, WordFitsTerm}
-use Rattle.form_model.specs.Shapes.{field_setting, shape_setting}
+use Rattle.rec_bits.specs.declared.operator.Op2.{Op2}
+use Rattle.rec_bits.specs.declared.operator.Op2.TheVariants.{Add}
+use Rattle.std.proofs.lemmas.Bool.{and_from}
+use Rattle.form_model.specs.Shapes.{Sum, field_setting, less_by, plain_setting, shape_setting, sum_of, sum_setting, sum_with, summands}
+use Rattle.form_model.proofs.SumNumbers.{sum_is_with}
 use Rattle.form_model.specs.Rules.{Rule, BranchTarget}
-use Rattle.form_model.specs.Effects.{operation_or_none, operation_of}
+use Rattle.block_words.specs.Laws.{operation_in}
+use Rattle.form_model.specs.Effects.{space_in, operation_or_none}
 use Rattle.word_fit.specs.Fits.{FitsJump}
 use Rattle.net_model.proofs.Masks.{masked_self, both_left, both_right}
 use Rattle.net_model.proofs.WordWidths.{less_fits, move_fits}
 use Rattle.net_model.proofs.TermLaws.{mean_fields}
 use Rattle.branch_fix.specs.Made.{DoesBranch}
-use Rattle.branch_fix.proofs.Settings.{setting_means}
+use Rattle.form_model.proofs.SettingLaws.{setting_means}
 use Rattle.right_code.specs.Inner.Forks.{one_side, IsNextTerm, IsBranchForm, IsJumpMade}
 use Rattle.right_code.proofs.Masks.{mask_first, mask_second}
 
@@ -40,23 +46,60 @@ field_fixed (word w) v b e = refl
 field_fixed (slice (word w) hi lo) v b e = refl
 field_fixed a v b e = absurd (cc)
 
-pub shape_fixed : (t : Term) (v b : ℕ) → shape_setting t v ≡ Some b → is_fixed t ≡ true
-shape_fixed (const w c) v b e = refl
-shape_fixed (zext a w) v b e = field_fixed a v b e
-shape_fixed (sext a w) v b e = by _ _ e
+plain_fixed : (t : Term) (v b : ℕ) → plain_setting t v ≡ Some b → is_fixed t ≡ true
+plain_fixed (const w c) v b e = refl
+plain_fixed (zext a w) v b e = field_fixed a v b e
+plain_fixed (sext a w) v b e = by _ _ e
   where
     by : (t : Bool) (n : ℕ) → (if t then field_setting a n else None) ≡ Some b → is_fixed a ≡ true
     by true n e = field_fixed a n b e
     by false n e = absurd (cc e)
-shape_fixed (word w) v b e = refl
-shape_fixed (slice a hi lo) v b e = field_fixed (slice a hi lo) v b e
-shape_fixed t v b e = absurd (cc)
+plain_fixed (word w) v b e = refl
+plain_fixed (slice a hi lo) v b e = field_fixed (slice a hi lo) v b e
+plain_fixed t v b e = absurd (cc)
+
+-- a sum of a constant and a shape without them has none
+part_fixed : (z : Sum) (v b : ℕ) → sum_setting (Some z) v ≡ Some b → is_fixed z.to ≡ true
+part_fixed z v b e = by (nat_lt v (2 ^ z.width)) e
+  where
+    by : (t : Bool) → (if t then plain_setting z.to (less_by z.width v z.added) else None) ≡ Some b → is_fixed z.to ≡ true
+    by true e = plain_fixed z.to (less_by z.width v z.added) b e
+    by false e = absurd (cc e)
+
+with_fixed : (w c : ℕ) (t : Term) (v b : ℕ) → sum_setting (sum_with w c t) v ≡ Some b → is_fixed t ≡ true
+with_fixed w c t v b e = by (sum_with w c t) refl e
+  where
+    by : (o : Option Sum) → sum_with w c t ≡ o → sum_setting o v ≡ Some b → is_fixed t ≡ true
+    by None q e = absurd (cc e)
+    by (Some z) q e = ap (λ (y : Sum). is_fixed y.to) (sum_is_with w c t z q).is ∙ part_fixed z v b e
+
+summands_fixed : (x y : Term) (v b : ℕ) → sum_setting (summands x y) v ≡ Some b → is_fixed (bin Add x y) ≡ true
+summands_fixed (const w c) y v b e = with_fixed w c y v b e
+summands_fixed x (const w c) v b e = and_from (is_fixed x) true (with_fixed w c x v b e) refl
+summands_fixed x y v b e = absurd (cc e)
+
+sum_fixed : (o : Op2) (x y : Term) (v b : ℕ) → sum_setting (sum_of o x y) v ≡ Some b → is_fixed (bin o x y) ≡ true
+sum_fixed Add x y v b e = summands_fixed x y v b e
+sum_fixed _ x y v b e = absurd (cc e)
+
+pub shape_fixed : (t : Term) (v b : ℕ) → shape_setting t v ≡ Some b → is_fixed t ≡ true
+shape_fixed (bin o x y) v b e = sum_fixed o x y v b e
+shape_fixed (const w c) v b e = plain_fixed (const w c) v b e
+shape_fixed (zext a w) v b e = plain_fixed (zext a w) v b e
+shape_fixed (sext a w) v b e = plain_fixed (sext a w) v b e
+shape_fixed (word w) v b e = plain_fixed (word w) v b e
+shape_fixed (slice a hi lo) v b e = plain_fixed (slice a hi lo) v b e
+shape_fixed (reg r w) v b e = plain_fixed (reg r w) v b e
+shape_fixed (read space a w) v b e = plain_fixed (read space a w) v b e
+shape_fixed (un o a) v b e = plain_fixed (un o a) v b e
+shape_fixed (cat x y) v b e = plain_fixed (cat x y) v b e
+shape_fixed (select c x y) v b e = plain_fixed (select c x y) v b e
 
 -- ---- a jump or branch word of a pattern
 
-pub jump_opened : (netlist : Netlist) (patterns : List Pattern) (i k j : ℕ) (p : Pattern) → slice_get patterns k ≡ Some p → FitsJump netlist i (operation_of patterns (record { pattern = k; setting = j }))
-    → FitsJump netlist i (record { storage = p.storage; move = p.move; setting = j })
-jump_opened netlist patterns i k j p e f = subst (λ o. FitsJump netlist i (operation_or_none o j)) e f
+pub jump_opened : (netlist : Netlist) (patterns : List Pattern) (i k j : ℕ) (p : Pattern) → slice_get patterns k ≡ Some p → FitsJump netlist i (operation_in netlist patterns (record { pattern = k; setting = j }))
+    → FitsJump netlist i (record { storage = p.storage; space = space_in (file_place netlist.storages) p.storage; move = p.move; setting = j })
+jump_opened netlist patterns i k j p e f = subst (λ o. FitsJump netlist i (operation_or_none (file_place netlist.storages) o j)) e f
 
 module _ (netlist : Netlist) (order : List ℕ) (keeps : KeepsRules netlist order) where
   -- the words of what the program counter takes have the code's width
@@ -67,7 +110,7 @@ module _ (netlist : Netlist) (order : List ℕ) (keeps : KeepsRules netlist orde
 
   pub jump_does : (patterns : List Pattern) (i to : ℕ) → IsJumpMade netlist patterns i to → DoesGoto netlist i to
   jump_does patterns i to h =
-      let f : FitsJump netlist i (record { storage = counter_of netlist.codes; move = write h.rule.value; setting = h.bits }) =
+      let f : FitsJump netlist i (record { storage = counter_of netlist.codes; space = space_in (file_place netlist.storages) (counter_of netlist.codes); move = write h.rule.value; setting = h.bits }) =
       jump_opened netlist patterns i h.rule.pattern h.bits _ h.form.is h.word in
       let fit : WordFitsTerm h.rule.value i = value_fits i h.rule.value f.clean f.does.gives in
       record {
@@ -117,17 +160,17 @@ module _ (netlist : Netlist) (order : List ℕ) (keeps : KeepsRules netlist orde
   -- what a branch word's bits mean: those of the condition and those of the target
   pub record BranchParts (patterns : List Pattern) (rule : Rule) (when_one : Bool) (way : BranchTarget) (form : IsBranchForm netlist patterns rule when_one way) (i setting bits : ℕ) : Type 0 where
     pub clean : IsClean netlist i
-    pub jump : FitsJump netlist i (record { storage = counter_of netlist.codes; move = write (select form.condition (one_side when_one form.target form.step) (one_side when_one form.step form.target)); setting = bit_or setting bits })
+    pub jump : FitsJump netlist i (record { storage = counter_of netlist.codes; space = space_in (file_place netlist.storages) (counter_of netlist.codes); move = write (select form.condition (one_side when_one form.target form.step) (one_side when_one form.step form.target)); setting = bit_or setting bits })
     pub test_fits : WordFitsTerm form.condition i
     pub target_fits : WordFitsTerm form.target i
     pub test : bit_and i (fields form.condition) ≡ setting
     pub target : bit_and i (fields form.target) ≡ bits
 
   pub branch_parts : (patterns : List Pattern) (rule : Rule) (when_one : Bool) (way : BranchTarget) (form : IsBranchForm netlist patterns rule when_one way) (i setting bits : ℕ)
-      → bit_and setting (fields form.condition) ≡ setting → bit_and bits (fields form.target) ≡ bits → FitsJump netlist i (operation_of patterns (record { pattern = rule.pattern; setting = bit_or setting bits }))
+      → bit_and setting (fields form.condition) ≡ setting → bit_and bits (fields form.target) ≡ bits → FitsJump netlist i (operation_in netlist patterns (record { pattern = rule.pattern; setting = bit_or setting bits }))
       → BranchParts patterns rule when_one way form i setting bits
   branch_parts patterns rule when_one way form i setting bits e g h =
-      let f : FitsJump netlist i (record { storage = counter_of netlist.codes; move = write (select form.condition (one_side when_one form.target form.step) (one_side when_one form.step form.target)); setting = bit_or setting bits }) =
+      let f : FitsJump netlist i (record { storage = counter_of netlist.codes; space = space_in (file_place netlist.storages) (counter_of netlist.codes); move = write (select form.condition (one_side when_one form.target form.step) (one_side when_one form.step form.target)); setting = bit_or setting bits }) =
       jump_opened netlist patterns i rule.pattern (bit_or setting bits) _ form.is h in
       let w : WordFitsTerm form.condition i × WordFitsTerm form.target i = sides_fit when_one i form.condition form.target form.step (value_fits i _ f.clean f.does.gives) in
       let p : Sides i (bit_or setting bits) form.condition form.target = sides_of when_one i (bit_or setting bits) form.condition form.target form.step f.does.setting in

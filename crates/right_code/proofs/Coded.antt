@@ -2,11 +2,13 @@
 use Rattle.std.proofs.Common.{ℕ, zero, suc, ◌≡◌, ◌≤◌, ◌<◌, ◌+◌, ◌^◌, inl, inr, Bool, true, false, List, [], ◌∷◌, length, Option, Some, None, slice_get, slice_index, refl, sym, ◌∙◌, ap, arith}
 use Rattle.std.proofs.lemmas.Bool.{cases_eq}
 use Rattle.std.proofs.Math.Nat.{pow-le-pow_right}
+use Rattle.transfer_set.specs.Tables.{file_place}
 use Rattle.net_model.specs.declared.hardware.Netlist.{Netlist}
+use Rattle.net_model.specs.declared.hardware.Space.TheVariants.{File as InFile}
 use Rattle.net_model.specs.declared.hardware.Storage.{Storage}
 use Rattle.net_model.specs.declared.hardware.Storage.TheVariants.{Register, Memory, File}
 use Rattle.net_model.specs.CheckedRules.{KeepsRules, IsCounter, code_size}
-use Rattle.net_model.specs.Nets.{storage_bits, counter_of, counter_width, memory_size, memory_width}
+use Rattle.net_model.specs.Nets.{storage_bits, counter_of, counter_width, memory_size, memory_width, size_in}
 use Rattle.net_model.specs.Widths.{WordFits}
 use Rattle.net_model.specs.Patterns.{Pattern}
 use Rattle.net_model.proofs.KeptRules.{sound_of}
@@ -35,7 +37,6 @@ use Rattle.branch_fix.proofs.Addresses.{address_next, address_rises, part_at, fi
 use Rattle.branch_fix.proofs.Laying.{address_total}
 use Rattle.branch_fix.proofs.Shapes.{program_is_flow}
 use Rattle.branch_fix.proofs.LaidRight.{laid_right}
-use Rattle.word_fit.specs.Fits.{HasNoFile}
 use Rattle.right_code.specs.Inner.Code.{IsMadeCode}
 use Rattle.right_code.proofs.Walked.{block_does}
 use Rattle.right_code.proofs.Branching.{jump_does}
@@ -110,7 +111,7 @@ three_words : (next long : Bool) → long ≡ true → 3 ≤ branch_words next l
 three_words next true e = omega arith
 three_words next false e = absurd (cc e)
 
-module _ (netlist : Netlist) (order : List ℕ) (keeps : KeepsRules netlist order) (plain : HasNoFile netlist) (image : Image) (patterns : List Pattern) (stock : Stock) (formed : AreFormed patterns (length netlist.storages) stock.rules) where
+module _ (netlist : Netlist) (order : List ℕ) (keeps : KeepsRules netlist order) (image : Image) (patterns : List Pattern) (stock : Stock) (sized : stock.file ≡ size_in InFile netlist.storages) (formed : AreFormed (file_place netlist.storages) patterns (length netlist.storages) stock.file stock.rules) where
   -- code that is made of its parts is made as the flow wants it
   pub made_is : (flow : List Flow) (jobs : List Work) (parts : List Part) (end : ℕ) → IsFlow flow end → IsMadeCode netlist patterns stock image flow jobs parts
       → IsMade netlist image stock.temps stock.rules flow jobs parts
@@ -124,12 +125,12 @@ module _ (netlist : Netlist) (order : List ℕ) (keeps : KeepsRules netlist orde
         marks = made.marks;
         blocks = λ at n block words b e.
             (let l : address parts at + words < total parts = before_end stock.rules flow end parts at (Block block words) f made.fit e refl in
-            block_does netlist order keeps plain image patterns stock formed _ (address parts at) words (made.blocks at n block words b e) (omega (arith, l, big)));
+            block_does netlist order keeps image patterns stock sized formed _ (address parts at) words (made.blocks at n block words b e) (omega (arith, l, big)));
         forks = λ at fork e job has.
             (let l : address parts at + (fork.words + branch_words fork.next fork.long) < total parts = before_end stock.rules flow end parts at (Test fork) f made.fit e refl in
             let one : 1 ≤ branch_words fork.next fork.long = one_word fork.next fork.long in
             let wide : 2 ^ counter_width netlist ≤ 2 ^ 64 = powers (counter_width netlist) few in
-            fork_does netlist order keeps plain image patterns stock formed job _ fork (address parts at) (address parts fork.to) (address parts fork.other) (made.forks at fork e job has) few
+            fork_does netlist order keeps image patterns stock sized formed job _ fork (address parts at) (address parts fork.to) (address parts fork.other) (made.forks at fork e job has) few
             (omega (arith, l, one, big)) (omega (arith, l, one, big, wide)) (λ z. let three : 3 ≤ branch_words fork.next fork.long = three_words fork.next fork.long z in omega (arith, l, three, big)));
         jumps = λ at to e. jump_does netlist order keeps patterns _ (address parts to) (made.jumps at to e);
         ends = λ at e. jump_does netlist order keeps patterns _ (address parts at) (made.ends at e);

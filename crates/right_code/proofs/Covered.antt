@@ -4,7 +4,7 @@ use Rattle.net_model.specs.declared.hardware.Space.{Space}
 use Rattle.net_model.specs.Terms.{Term, word, reg, const, read, un, bin, slice, cat, zext, sext, select, term_width}
 use Rattle.src_model.specs.Sizes.{is_word}
 use Rattle.form_model.specs.Trees.{is_number}
-use Rattle.form_model.specs.Rules.{Destination, into, cell, stored, temporary, tested}
+use Rattle.form_model.specs.Rules.{Destination, into, cell, filed, stored, temporary, tested}
 use Rattle.form_model.specs.Covers.{Stock, Choice, IsChosen}
 use Rattle.form_model.specs.Steps.{cut_count}
 use Rattle.emit_seq.specs.Cells.{AllReadWords, one_if, is_cuttable, cuttable_below, cuttable_count}
@@ -76,6 +76,7 @@ places_le bits tested t j = let k = (nodes bits t).below in omega (arith, k)
 places_le bits (stored a) t j = let k = (nodes bits a).all in let l = (nodes bits t).all in omega (arith, k, l)
 places_le bits (into id) t j = absurd j
 places_le bits temporary t j = absurd j
+places_le bits filed t j = absurd j
 
 of_job : (destination : Destination) → IsTreeGoal destination → IsOfJob destination
 of_job (cell a) h = tt
@@ -83,6 +84,7 @@ of_job (stored a) h = tt
 of_job tested h = tt
 of_job (into id) h = absurd h
 of_job temporary h = absurd h
+of_job filed h = absurd h
 
 tree_destination : (destination : Destination) → IsTreeGoal destination → IsTreeDestination destination
 tree_destination (cell a) h = tt
@@ -90,6 +92,7 @@ tree_destination (stored a) h = h
 tree_destination tested h = tt
 tree_destination (into id) h = absurd h
 tree_destination temporary h = absurd h
+tree_destination filed h = absurd h
 
 all_trees : (bits temps most : ℕ) (destination : Destination) (trees : List Term) → TreesAre bits temps most destination trees → AreTrees trees
 all_trees bits temps most destination [] h = tt

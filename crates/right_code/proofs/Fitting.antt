@@ -2,11 +2,13 @@
 use Rattle.std.proofs.Common.{ℕ, zero, suc, ◌≡◌, ◌≤◌, ◌<◌, ◌+◌, ◌-◌, ◌&&◌, inl, inr, Bool, true, false, nat_lt, not, List, [], ◌∷◌, ◌++◌, length, Option, Some, None, refl, sym, ◌∙◌, ap, subst, arith, slice_get, slice_index}
 use Rattle.std.proofs.lemmas.Bool.{and_parts, cases_lt, cases_eq}
 use Rattle.std.proofs.lemmas.List.{get_or_past}
+use Rattle.transfer_set.specs.Tables.{file_place}
 use Rattle.net_model.specs.declared.hardware.Netlist.{Netlist}
+use Rattle.net_model.specs.declared.hardware.Space.TheVariants.{File as InFile}
 use Rattle.net_model.specs.Widths.{WordFits}
 use Rattle.net_model.specs.Patterns.{Pattern}
 use Rattle.net_model.specs.CheckedRules.{KeepsRules}
-use Rattle.net_model.specs.Nets.{memory_size, memory_width}
+use Rattle.net_model.specs.Nets.{memory_size, memory_width, size_in}
 use Rattle.src_model.specs.Written.{Listing, acts_of}
 use Rattle.src_model.specs.Meaning.{cell_count}
 use Rattle.src_model.specs.Rules.{first_fault}
@@ -22,7 +24,6 @@ use Rattle.branch_fix.specs.Parts.{address}
 use Rattle.branch_fix.specs.Inner.Flowing.{IsFlow}
 use Rattle.branch_fix.proofs.Shapes.{program_is_flow}
 use Rattle.branch_fix.proofs.Words.{items_length}
-use Rattle.word_fit.specs.Fits.{HasNoFile}
 use Rattle.right_code.specs.Inner.Laid.{AreTurns}
 use Rattle.right_code.proofs.Tasks.{program_tests}
 use Rattle.right_code.proofs.Layouts.{within_code}
@@ -198,11 +199,11 @@ code_fits netlist patterns stock image flow jobs parts reach tests laid some =
     by fit k End e = tt
 
 -- code as the layout orders it traces the program
-pub laid_traces : (netlist : Netlist) (order : List ℕ) → KeepsRules netlist order → HasNoFile netlist → (image : Image) (patterns : List Pattern) (stock : Stock) → AreFormed patterns (length netlist.storages) stock.rules → (reach : ℕ)
+pub laid_traces : (netlist : Netlist) (order : List ℕ) → KeepsRules netlist order → (image : Image) (patterns : List Pattern) (stock : Stock) → stock.file ≡ size_in InFile netlist.storages → AreFormed (file_place netlist.storages) patterns (length netlist.storages) stock.file stock.rules → (reach : ℕ)
     → AreTurns netlist patterns stock.rules reach → (bits addr : ℕ) (l : Listing) (parts : List Part) → first_fault bits l ≡ None → memory_width netlist.storages ≡ bits → InReach bits addr stock.temps l.vars
     → stock.temps + cell_count l.vars ≤ memory_size netlist.storages → image.places ≡ places_from stock.temps (variables_of l.vars)
     → IsLaidCode netlist patterns stock image (program_flow l) (program_works (memory_map bits addr stock.temps l.vars) l) parts reach → TracesRight netlist image (strace bits l)
-laid_traces netlist order keeps plain image patterns stock formed reach turns bits addr l parts kept wide inreach room places laid =
+laid_traces netlist order keeps image patterns stock sized formed reach turns bits addr l parts kept wide inreach room places laid =
     let m : MemoryMap = memory_map bits addr stock.temps l.vars in
     let f : IsFlow (program_flow l) (places_in (acts_of l.body)) = program_is_flow l in
     let fit : PartsFit stock.rules (program_flow l) 0 (program_flow l) parts = settled_fit stock.rules (program_flow l) laid.layout.sizes laid.layout.settings parts laid.layout.settled in
@@ -210,5 +211,5 @@ laid_traces netlist order keeps plain image patterns stock formed reach turns bi
     let long = f.long in
     let some : address parts 0 < total parts = within_code stock.rules (program_flow l) (places_in (acts_of l.body)) parts 0 f fit (omega (arith, n, long)) in
     let words = laid.long in
-    ordered_right netlist order keeps plain image patterns stock formed reach turns bits addr l parts kept wide inreach room places laid
+    ordered_right netlist order keeps image patterns stock sized formed reach turns bits addr l parts kept wide inreach room places laid
     (code_fits netlist patterns stock image (program_flow l) (program_works m l) parts reach (program_tests m l) laid (omega (arith, some, words)))

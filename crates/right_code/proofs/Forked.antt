@@ -1,12 +1,14 @@
 -- The words of a test do what the flow says.
 use Rattle.std.proofs.Common.{ℕ, ◌≡◌, ◌≤◌, ◌<◌, ◌+◌, ◌^◌, Bool, true, false, if◌then◌else◌, bit_and, List, length, drop, Some, refl, sym, ◌∙◌, ap, arith, subst}
+use Rattle.transfer_set.specs.Tables.{file_place}
 use Rattle.net_model.proofs.Spaces.{by_space}
 use Rattle.net_model.specs.declared.hardware.Netlist.{Netlist}
+use Rattle.net_model.specs.declared.hardware.Space.TheVariants.{File as InFile}
 use Rattle.net_model.specs.declared.states.State.{State}
 use Rattle.net_model.specs.CheckedRules.{KeepsRules}
 use Rattle.net_model.specs.Terms.{Term}
 use Rattle.net_model.specs.Meaning.{mean}
-use Rattle.net_model.specs.Nets.{counter_width, held}
+use Rattle.net_model.specs.Nets.{counter_width, held, size_in}
 use Rattle.net_model.specs.Patterns.{Pattern}
 use Rattle.code_model.specs.declared.image.Image.{Image}
 use Rattle.net_model.specs.Fields.{fields}
@@ -14,7 +16,8 @@ use Rattle.form_model.specs.Trees.{is_tree}
 use Rattle.form_model.specs.Rules.{BranchTarget, tested}
 use Rattle.form_model.specs.Plans.{Plan, use_form}
 use Rattle.form_model.specs.Covers.{Stock, Choice, IsOrderly}
-use Rattle.form_model.specs.Effects.{operation_of, steps_effect}
+use Rattle.block_words.specs.Laws.{operation_in}
+use Rattle.form_model.specs.Effects.{steps_effect}
 use Rattle.form_model.specs.Steps.{branch_setting}
 use Rattle.emit_seq.specs.Formed.{AreFormed}
 use Rattle.emit_seq.specs.Leaves.{LeaveValue, condition_of}
@@ -25,14 +28,13 @@ use Rattle.net_model.proofs.TermLaws.{mean_alike}
 use Rattle.src_trees.specs.Lowered.{Work}
 use Rattle.branch_fix.specs.Made.{Walks, DoesOperands, DoesFork, TailGoes, image_word}
 use Rattle.branch_fix.specs.declared.part.Fork.{Fork}
-use Rattle.word_fit.specs.Fits.{HasNoFile}
 use Rattle.right_code.specs.Jobs.{tree_or_none, tree_used, job_steps}
 use Rattle.right_code.specs.Inner.Blocks.{WalksTo}
 use Rattle.right_code.specs.Forks.{plan_rule}
 use Rattle.right_code.specs.Inner.Forks.{IsBranchForm, test_of, BehindMade, IsTestMade, IsForkMade}
 use Rattle.right_code.proofs.Meant.{tree_mean, same_behind}
 use Rattle.right_code.proofs.Jobs.{used_tree, leaves}
-use Rattle.right_code.proofs.Walked.{walked}
+use Rattle.right_code.proofs.Walked.{filed, walked}
 use Rattle.right_code.proofs.Branching.{mean_under, BranchParts, branch_parts, branch_does, jump_does}
 use Rattle.right_code.proofs.Ways.{way_bits, way_leads}
 
@@ -45,7 +47,7 @@ pub setting_within : (stock : Stock) (tree : Term) (plan : Plan) → IsOrderly s
 setting_within stock tree plan o =
     subst (λ c. bit_and (branch_setting stock tree plan) (fields c) ≡ branch_setting stock tree plan) (condition_is stock plan) (branch_in stock tree plan o)
 
-module _ (netlist : Netlist) (order : List ℕ) (keeps : KeepsRules netlist order) (plain : HasNoFile netlist) (image : Image) (patterns : List Pattern) (stock : Stock) (formed : AreFormed patterns (length netlist.storages) stock.rules) where
+module _ (netlist : Netlist) (order : List ℕ) (keeps : KeepsRules netlist order) (image : Image) (patterns : List Pattern) (stock : Stock) (sized : stock.file ≡ size_in InFile netlist.storages) (formed : AreFormed (file_place netlist.storages) patterns (length netlist.storages) stock.file stock.rules) where
   -- behind a test's words the condition has the value of its tree
   pub operands_do : (job : Work) (choice : Choice) (at n : ℕ) (when_one : Bool) (way : BranchTarget) (form : IsBranchForm netlist patterns (plan_rule stock choice.plan) when_one way) (i bits : ℕ)
       → IsTestMade netlist patterns stock image job choice at n
@@ -61,12 +63,12 @@ module _ (netlist : Netlist) (order : List ℕ) (keeps : KeepsRules netlist orde
         used = used;
         among = made.covered.covers.used ∙ ap Some (sym is);
         walks = λ s here lie.
-            (let u : State = steps_effect (operation_of patterns) (job_steps stock (test_of job) choice) s in
+            (let u : State = steps_effect (operation_in netlist patterns) (job_steps stock (test_of job) choice) s in
             let w : WalksTo netlist image at (length made.words) made.live s u =
-            walked netlist order keeps plain image (operation_of patterns) made.live (job_steps stock (test_of job) choice) made.groups made.words at s made.means made.fit here made.stand (subst (λ k. at + k < 2 ^ counter_width netlist) made.long b) in
-            let h : LeaveValue stock patterns tested used choice.plan s =
-            subst (λ x. LeaveValue stock patterns tested x choice.plan s) (sym is)
-            (leaves stock patterns (length netlist.storages) formed (test_of job) choice s made.covered here.state.regs (record { reads = lie.reads; destination = tt; below = lie.below })) in
+            walked netlist order keeps image (operation_in netlist patterns) made.live (job_steps stock (test_of job) choice) made.groups made.words at s made.means made.fit here made.stand (subst (λ k. at + k < 2 ^ counter_width netlist) made.long b) in
+            let h : LeaveValue stock (file_place netlist.storages) patterns tested used choice.plan s =
+            subst (λ x. LeaveValue stock (file_place netlist.storages) patterns tested x choice.plan s) (sym is)
+            (leaves stock (file_place netlist.storages) patterns (length netlist.storages) formed (test_of job) choice s made.covered here.state.regs (filed netlist stock.file s sized here.state) (record { reads = lie.reads; destination = tt; below = lie.below })) in
             let c : Term = condition_of stock choice.plan in
             let a : AgreeOn (λ r. occurs r c) (has_read c) w.last u = record { cells = λ e. by_space (λ space. held w.last space ≡ held u space) w.agree.cells w.agree.file; regs = λ r e. w.agree.regs r (made.wants r (reads_occurs c setting r ∙ e)) } in (
               w.last,

@@ -1,5 +1,5 @@
 -- The steps of jobs' covers leave what the jobs leave.
-use Rattle.std.proofs.Common.{ℕ, zero, suc, ◌≡◌, ◌≤◌, ◌<◌, true, List, [], ◌∷◌, length, inl, inr, Some, refl, sym, ◌∙◌, ap, arith, subst, slice_get, slice_index, slice_set}
+use Rattle.std.proofs.Common.{ℕ, zero, suc, ◌≡◌, ◌≤◌, ◌<◌, true, List, [], ◌∷◌, Option, length, inl, inr, Some, refl, sym, ◌∙◌, ap, arith, subst, slice_get, slice_index, slice_set}
 use Rattle.std.proofs.lemmas.Bool.{cases_eq}
 use Rattle.std.proofs.lemmas.List.{get_or-set_same, get_or-set_other, length-set}
 use Rattle.net_model.specs.declared.states.State.{State}
@@ -7,7 +7,7 @@ use Rattle.net_model.specs.Terms.{Term}
 use Rattle.net_model.specs.Meaning.{mean}
 use Rattle.net_model.specs.Patterns.{Pattern}
 use Rattle.form_model.specs.Trees.{is_tree}
-use Rattle.form_model.specs.Rules.{Destination, into, cell, stored, temporary, tested}
+use Rattle.form_model.specs.Rules.{Destination, into, cell, filed, stored, temporary, tested}
 use Rattle.form_model.specs.Covers.{Stock, Choice}
 use Rattle.form_model.specs.Plans.{Plan}
 use Rattle.form_model.specs.Effects.{operation_of, steps_effect}
@@ -42,19 +42,21 @@ used_reads at cells (x ∷ trees) zero t a e = subst (ReadsCells at cells) (some
 used_reads at cells (x ∷ trees) (suc k) t a e = used_reads at cells trees k t a.1 e
 
 -- what a job's cells ask, its steps' state gives
-pub start_at : (stock : Stock) (count : ℕ) (work : Work) (choice : Choice) (s : State) (c : IsCovered stock work choice) → length s.regs ≡ count → Lies stock.temps s.cells work → IsCoverStart stock count work.destination c.covers.tree s
-start_at stock count work choice s c n l = record {
+pub start_at : (stock : Stock) (count : ℕ) (work : Work) (choice : Choice) (s : State) (c : IsCovered stock work choice) → length s.regs ≡ count → stock.file ≤ length s.file → Lies stock.temps s.cells work → IsCoverStart stock count work.destination c.covers.tree s
+start_at stock count work choice s c n f l = record {
   regs = n;
   reads = tree_reads stock.temps c.covers.tree s (used_tree work.trees choice.which c.covers.tree c.trees c.covers.used) (used_reads stock.temps s.cells work.trees choice.which c.covers.tree l.reads c.covers.used);
   aim_reads = aim_reads work.destination c.destination l.destination;
   aim = aim_within work.destination c.destination l.destination;
   temps = l.below;
+  file = f;
 }
   where
     aim_reads : (destination : Destination) → IsTreeDestination destination → DestinationLies stock.temps s.cells destination → DestinationReads stock.temps s destination
     aim_reads (cell a) t h = tt
     aim_reads (stored a) t h = tree_reads stock.temps a s t h.0
     aim_reads (into id) t h = tt
+    aim_reads filed t h = tt
     aim_reads temporary t h = tt
     aim_reads tested t h = tt
 
@@ -62,6 +64,7 @@ start_at stock count work choice s c n l = record {
     aim_within (cell a) t h = h.1
     aim_within (stored a) t h = let e = tree_mean a s t in let b = h.2 in omega (arith, e, b)
     aim_within (into id) t h = tt
+    aim_within filed t h = tt
     aim_within temporary t h = tt
     aim_within tested t h = tt
 
@@ -79,7 +82,7 @@ put_same at a b v w xs ys n e f lt put others = record {
       | inr k ↦ get_or-set_other xs a c w 0 k ∙ sym (others c le (λ z. k (z ∙ e)))
     ]
 
-module _ (stock : Stock) (patterns : List Pattern) (count : ℕ) (formed : AreFormed patterns count stock.rules) where
+module _ (stock : Stock) (file : Option ℕ) (patterns : List Pattern) (count : ℕ) (formed : AreFormed file patterns count stock.file stock.rules) where
   -- what a job that stores something needs
   abbrev Needs : Destination → Type 0 → Type 0
   Needs tested x = Unit {0}
@@ -90,21 +93,23 @@ module _ (stock : Stock) (patterns : List Pattern) (count : ℕ) (formed : AreFo
   given (stored a) trees x j o f = f o
   given tested trees x j o f = tt
   given (into id) trees x j o f = absurd j
+  given filed trees x j o f = absurd j
   given temporary trees x j o f = absurd j
 
   -- a job's steps, where the job's value is that of this tree
-  left : (destination : Destination) (tree : Term) (plan : Plan) (v : ℕ) (s : State) → IsOfJob destination → IsTreeDestination destination → DestinationLies stock.temps s.cells destination → LeaveValue stock patterns destination tree plan s → Needs destination (mean tree s 0 ≡ v)
-      → Alike stock.temps (put_at destination v s.cells) (steps_effect (operation_of patterns) (cover_steps stock destination tree plan) s).cells
+  left : (destination : Destination) (tree : Term) (plan : Plan) (v : ℕ) (s : State) → IsOfJob destination → IsTreeDestination destination → DestinationLies stock.temps s.cells destination → LeaveValue stock file patterns destination tree plan s → Needs destination (mean tree s 0 ≡ v)
+      → Alike stock.temps (put_at destination v s.cells) (steps_effect (operation_of file patterns) (cover_steps stock destination tree plan) s).cells
   left (cell a) tree plan v s j t l h e = put_same stock.temps a a (mean tree s 0) v s.cells _ h.cells refl e l.1 h.value h.others
   left (stored a) tree plan v s j t l h e =
       put_same stock.temps (tree_value s.cells a) (mean a s 0) (mean tree s 0) v s.cells _ h.cells (tree_mean a s t) e l.2 h.value h.others
   left tested tree plan v s j t l h e = record { same = sym (same_behind stock.temps _ s.cells h.cells (λ c b. h.others c b (λ z. z))); long = sym h.cells }
   left (into id) tree plan v s j t l h e = absurd j
+  left filed tree plan v s j t l h e = absurd j
   left temporary tree plan v s j t l h e = absurd j
 
-  pub leaves : (work : Work) (choice : Choice) (s : State) (c : IsCovered stock work choice) → length s.regs ≡ count → Lies stock.temps s.cells work
-      → LeaveValue stock patterns work.destination c.covers.tree choice.plan s
-  leaves work choice s c n l = leave_value stock patterns count formed work.destination c.covers.tree choice.plan s c.goes c.covers.orderly c.few (start_at stock count work choice s c n l)
+  pub leaves : (work : Work) (choice : Choice) (s : State) (c : IsCovered stock work choice) → length s.regs ≡ count → stock.file ≤ length s.file → Lies stock.temps s.cells work
+      → LeaveValue stock file patterns work.destination c.covers.tree choice.plan s
+  leaves work choice s c n f l = leave_value stock file patterns count formed work.destination c.covers.tree choice.plan s c.goes c.covers.orderly c.covers.enough c.few (start_at stock count work choice s c n f l)
 
   used_is : (work : Work) (choice : Choice) (c : IsCovered stock work choice) → tree_used work choice ≡ c.covers.tree
   used_is work choice c = ap tree_or_none c.covers.used
@@ -116,28 +121,28 @@ module _ (stock : Stock) (patterns : List Pattern) (count : ℕ) (formed : AreFo
       by zero e = cc
       by (suc k) e = absurd (cc e)
 
-  pub job_left : (work : Work) (choice : Choice) (s : State) → IsCovered stock work choice → HasOne work.destination work.trees → length s.regs ≡ count → Lies stock.temps s.cells work
-      → LeavesDone stock.temps (work ∷ []) s (steps_effect (operation_of patterns) (job_steps stock work choice) s)
-  job_left work choice s c o n l =
-      let h : LeaveValue stock patterns work.destination c.covers.tree choice.plan s = leaves work choice s c n l in
+  pub job_left : (work : Work) (choice : Choice) (s : State) → IsCovered stock work choice → HasOne work.destination work.trees → length s.regs ≡ count → stock.file ≤ length s.file → Lies stock.temps s.cells work
+      → LeavesDone stock.temps (work ∷ []) s (steps_effect (operation_of file patterns) (job_steps stock work choice) s)
+  job_left work choice s c o n f l =
+      let h : LeaveValue stock file patterns work.destination c.covers.tree choice.plan s = leaves work choice s c n f l in
       let t : is_tree c.covers.tree ≡ true = used_tree work.trees choice.which c.covers.tree c.trees c.covers.used in
-      let a : Alike stock.temps (done work s.cells) (steps_effect (operation_of patterns) (cover_steps stock work.destination c.covers.tree choice.plan) s).cells =
+      let a : Alike stock.temps (done work s.cells) (steps_effect (operation_of file patterns) (cover_steps stock work.destination c.covers.tree choice.plan) s).cells =
       left work.destination c.covers.tree choice.plan (job_value s.cells work.trees) s c.goes c.destination l.destination h
       (given work.destination work.trees _ c.goes o (λ z. tree_mean c.covers.tree s t ∙ value_is s.cells work.trees choice.which c.covers.tree z c.covers.used)) in
-      subst (λ x. LeavesDone stock.temps (work ∷ []) s (steps_effect (operation_of patterns) (cover_steps stock work.destination x choice.plan) s)) (sym (used_is work choice c))
-      (record { same = a.same; long = a.long; regs = h.regs })
+      subst (λ x. LeavesDone stock.temps (work ∷ []) s (steps_effect (operation_of file patterns) (cover_steps stock work.destination x choice.plan) s)) (sym (used_is work choice c))
+      (record { same = a.same; long = a.long; regs = h.regs; file = h.file })
 
-  pub jobs_left : (jobs : List Work) (choices : List Choice) (s : State) → AreCovered stock jobs choices → length s.regs ≡ count → AllLie stock.temps s.cells jobs
-      → LeavesDone stock.temps jobs s (steps_effect (operation_of patterns) (jobs_steps stock jobs choices) s)
-  jobs_left [] [] s c n l = record { same = refl; long = refl; regs = refl }
-  jobs_left [] (choice ∷ choices) s c n l = absurd c
-  jobs_left (work ∷ jobs) [] s c n l = absurd c
-  jobs_left (work ∷ jobs) (choice ∷ choices) s c n l =
-      let u : State = steps_effect (operation_of patterns) (job_steps stock work choice) s in
-      let one : LeavesDone stock.temps (work ∷ []) s u = job_left work choice s c.0 c.1 n l.0 in
+  pub jobs_left : (jobs : List Work) (choices : List Choice) (s : State) → AreCovered stock jobs choices → length s.regs ≡ count → stock.file ≤ length s.file → AllLie stock.temps s.cells jobs
+      → LeavesDone stock.temps jobs s (steps_effect (operation_of file patterns) (jobs_steps stock jobs choices) s)
+  jobs_left [] [] s c n f l = record { same = refl; long = refl; regs = refl; file = refl }
+  jobs_left [] (choice ∷ choices) s c n f l = absurd c
+  jobs_left (work ∷ jobs) [] s c n f l = absurd c
+  jobs_left (work ∷ jobs) (choice ∷ choices) s c n f l =
+      let u : State = steps_effect (operation_of file patterns) (job_steps stock work choice) s in
+      let one : LeavesDone stock.temps (work ∷ []) s u = job_left work choice s c.0 c.1 n f l.0 in
       let a : Alike stock.temps (done work s.cells) u.cells = record { same = one.same; long = one.long } in
       let b : Alike stock.temps (all_done jobs (done work s.cells)) (all_done jobs u.cells) = all_done_behind stock.temps (done work s.cells) u.cells jobs a l.1 in
-      let r : LeavesDone stock.temps jobs u (steps_effect (operation_of patterns) (jobs_steps stock jobs choices) u) =
-      jobs_left jobs choices u c.2 (one.regs ∙ n) (all_lie_behind stock.temps (done work s.cells) u.cells jobs a l.1) in
-      subst (LeavesDone stock.temps (work ∷ jobs) s) (sym (effect-steps (operation_of patterns) (job_steps stock work choice) (jobs_steps stock jobs choices) s))
-      (record { same = b.same ∙ r.same; long = b.long ∙ r.long; regs = r.regs ∙ one.regs })
+      let r : LeavesDone stock.temps jobs u (steps_effect (operation_of file patterns) (jobs_steps stock jobs choices) u) =
+      jobs_left jobs choices u c.2 (one.regs ∙ n) (subst (λ k. stock.file ≤ k) (sym one.file) f) (all_lie_behind stock.temps (done work s.cells) u.cells jobs a l.1) in
+      subst (LeavesDone stock.temps (work ∷ jobs) s) (sym (effect-steps (operation_of file patterns) (job_steps stock work choice) (jobs_steps stock jobs choices) s))
+      (record { same = b.same ∙ r.same; long = b.long ∙ r.long; regs = r.regs ∙ one.regs; file = r.file ∙ one.file })

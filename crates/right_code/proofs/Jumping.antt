@@ -11,7 +11,7 @@ use Rattle.net_model.specs.Terms.{Term, select}
 use Rattle.form_model.specs.declared.flow.Flow.{Flow}
 use Rattle.form_model.specs.declared.forms.Step.{Step}
 use Rattle.form_model.specs.Covers.{IsOrderly, Stock}
-use Rattle.form_model.specs.Effects.{operation_of}
+use Rattle.block_words.specs.Laws.{operation_in}
 use Rattle.form_model.specs.Plans.{Plan}
 use Rattle.form_model.specs.Rules.{Rule, tested}
 use Rattle.form_model.specs.Shapes.{shape_setting}
@@ -19,7 +19,7 @@ use Rattle.form_model.specs.Steps.{branch_setting}
 use Rattle.form_set.specs.Listing.{AreForms}
 use Rattle.form_set.specs.Promises.{is_control_goal}
 use Rattle.form_set.specs.Words.{IsSetting}
-use Rattle.word_fit.specs.Fits.{FitsJump, HasNoFile}
+use Rattle.word_fit.specs.Fits.{FitsJump}
 use Rattle.block_words.proofs.Worded.{jump_has_word}
 use Rattle.branch_fix.specs.Inner.Flowing.{IsFlow}
 use Rattle.branch_fix.specs.Items.{behind, branch_step, groups, items_from, jump_form, jump_step, part_items}
@@ -73,17 +73,17 @@ branch_fields false c x y s b p q = within_mask (bit_or s b) (bit_or (bit_or (fi
         let n = in_mask b (fields x) k q (omega (arith, u, z)) in
         omega (arith, bit_at_or s b k, m, n)
 
-module _ (netlist : Netlist) (order : List ℕ) (keeps : KeepsRules netlist order) (bare : HasNoFile netlist) (some : 0 < word_width netlist) (patterns : List Pattern) (known : AreKnown netlist patterns) (reach : ℕ) (stock : Stock)
+module _ (netlist : Netlist) (order : List ℕ) (keeps : KeepsRules netlist order) (some : 0 < word_width netlist) (patterns : List Pattern) (known : AreKnown netlist patterns) (reach : ℕ) (stock : Stock)
     (forms : AreForms netlist patterns stock.rules reach) (turns : AreTurns netlist patterns stock.rules reach) where
   -- a step has a word that does its jump
   abbrev pub HasWord : Step → Type 0
-  HasWord step = (word : ℕ) × FitsJump netlist word (operation_of patterns step)
+  HasWord step = (word : ℕ) × FitsJump netlist word (operation_in netlist patterns step)
 
   same_pattern : (p q : Pattern) → Some p ≡ Some q → p ≡ q
   same_pattern p q e = cc
 
   -- a step of such a form with bits of its pattern
-  turn_word : (rule : Rule) (p : Pattern) (setting : ℕ) → CanTurn netlist order keeps bare some patterns known reach stock.rules forms rule → slice_get patterns rule.pattern ≡ Some p → IsSetting (move_fields p.move) setting
+  turn_word : (rule : Rule) (p : Pattern) (setting : ℕ) → CanTurn netlist order keeps some patterns known reach stock.rules forms rule → slice_get patterns rule.pattern ≡ Some p → IsSetting (move_fields p.move) setting
       → HasWord (record { pattern = rule.pattern; setting = setting })
   turn_word rule p setting can at within =
       jump_has_word netlist patterns (record { pattern = rule.pattern; setting = setting })
@@ -98,7 +98,7 @@ module _ (netlist : Netlist) (order : List ℕ) (keeps : KeepsRules netlist orde
       let bits : ℕ = unwrap_or (shape_setting turns.rule.value to) 0 in
       let shown : shape_setting turns.rule.value to ≡ Some bits = shown_some (shape_setting turns.rule.value to) (turns.shown to lt) in
       subst (λ o. HasWord (jump_step o to)) (sym turns.first)
-      (turn_word turns.rule _ bits (jump_can netlist order keeps bare some patterns known reach stock.rules forms (omega (arith, lt)) turns.rule turns.first) turns.jump.is (shape_bits turns.rule.value to bits shown))
+      (turn_word turns.rule _ bits (jump_can netlist order keeps some patterns known reach stock.rules forms (omega (arith, lt)) turns.rule turns.first) turns.jump.is (shape_bits turns.rule.value to bits shown))
 
   -- ---- the words of items
 
@@ -162,7 +162,7 @@ module _ (netlist : Netlist) (order : List ℕ) (keeps : KeepsRules netlist orde
         let own : bit_and setting (fields form.condition) ≡ setting = subst (λ k. bit_and setting k ≡ setting) form.same_fields (setting_within stock asked.tree asked.plan asked.orderly) in
         let bits : bit_and s.bits (fields form.target) ≡ s.bits = way_bits netlist s.way form.target (address parts at + g.words) (address parts g.to) g.long s.bits form.goes s.shown in
         subst HasWord (sym s.step)
-        (turn_word rule _ (bit_or setting s.bits) (turn_can netlist order keeps bare some patterns known reach stock.rules forms g.form rule asked.form (ap is_control_goal s.goal)) form.is
+        (turn_word rule _ (bit_or setting s.bits) (turn_can netlist order keeps some patterns known reach stock.rules forms g.form rule asked.form (ap is_control_goal s.goal)) form.is
         (branch_fields s.when_one form.condition form.target form.step setting s.bits own bits))
 
     part_have : ((at : ℕ) (g : Fork) → slice_get parts at ≡ Some (Test g) → IsAsked g) → (k : ℕ) (p : Part) → slice_get parts k ≡ Some p

@@ -8,7 +8,7 @@ use Rattle.net_model.specs.Terms.{Term, term_width}
 use Rattle.form_model.specs.declared.flow.Flow.{Flow}
 use Rattle.form_model.specs.declared.flow.Flow.TheVariants.{End as Ended}
 use Rattle.form_model.specs.Shapes.{shape_setting}
-use Rattle.form_model.specs.Rules.{Rule, Kind, into_reg, into_memory, jumps, branches, BranchTarget, absolute, relative, tested}
+use Rattle.form_model.specs.Rules.{Rule, Kind, into_reg, into_file, into_memory, jumps, branches, BranchTarget, absolute, relative, tested}
 use Rattle.form_model.specs.Plans.{Plan, use_form}
 use Rattle.form_model.specs.Covers.{Stock, IsOrderly}
 use Rattle.form_model.specs.Matches.{goal_match}
@@ -40,6 +40,7 @@ plan_goal stock tree (use_form k ps cs) o = by (rule_at stock k).goal refl (open
     by (branches b way) e h = (b, way, e)
     by (into_reg id) e h = absurd (cc h)
     by into_memory e h = absurd (cc h)
+    by into_file e h = absurd (cc h)
     by (jumps reach) e h = absurd (cc h)
 
 -- a part stands in the code

@@ -4,6 +4,7 @@ pub mod Chosen
 pub mod Coded
 pub mod Covered
 pub mod Covering
+pub mod Filed
 pub mod Fitting
 pub mod Forked
 pub mod Inside

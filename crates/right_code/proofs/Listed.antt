@@ -2,19 +2,21 @@
 use Rattle.std.proofs.Common.{◌≡◌, ℕ, ◌+◌, ◌<◌, ◌==◌, ◌⊎◌, inl, inr, Bool, true, false, if◌then◌else◌, List, Option, Some, None, length, slice_get, refl, sym, ◌∙◌, ap, subst, arith}
 use Rattle.std.proofs.lemmas.Bool.{eq-eqb}
 use Rattle.std.proofs.lemmas.Nat.{and_le_l}
+use Rattle.transfer_set.specs.Tables.{file_place}
 use Rattle.net_model.specs.declared.hardware.Space.TheVariants.{Memory as InMemory, File as InFile}
 use Rattle.net_model.specs.declared.hardware.Netlist.{Netlist}
 use Rattle.net_model.specs.CheckedRules.{KeepsRules}
 use Rattle.net_model.specs.Fields.{move_fields}
-use Rattle.net_model.specs.Nets.{counter_of, counter_width, memory_id, memory_width, word_width}
+use Rattle.net_model.specs.Nets.{counter_of, counter_width, memory_id, memory_width, size_in, word_width}
 use Rattle.net_model.specs.Patterns.{Pattern}
 use Rattle.net_model.specs.Terms.{Term, word, reg, const, read, un, bin, slice, cat, zext, sext, select, Move, keep, write, write_at, next_of, swapped_next_of}
 use Rattle.net_model.specs.Transfers.{move_at}
 use Rattle.transfer_set.specs.TextMarks.{IsMoveOf, IsTermOf}
-use Rattle.form_model.specs.Rules.{Rule, into_memory, into_reg, jumps, branches}
+use Rattle.form_model.specs.Rules.{Rule, into_file, into_memory, into_reg, jumps, branches}
 use Rattle.form_model.specs.Effects.{register, term_reads}
 use Rattle.form_set.specs.Listing.{AreRules, sides_of}
 use Rattle.form_set.specs.Promises.{IsForm, IsFormOf, of_branch, of_jump, of_plain}
+use Rattle.form_set.specs.Static.{is_file_at}
 use Rattle.form_set.specs.Swaps.{Sides, swapped}
 use Rattle.form_set.proofs.FormLaws.{form_at}
 use Rattle.form_set.proofs.NoForms.{plain_not_branch}
@@ -23,23 +25,23 @@ use Rattle.form_set.proofs.RuleLists.{plain_not_jump}
 use Rattle.emit_seq.specs.Cells.{AddressReadsWords, AllReadWords, ReadsWords}
 use Rattle.emit_seq.specs.Formed.{AreFormed, IsFormed}
 use Rattle.emit_seq.specs.Spares.{AreShared, ReadsCounter}
-use Rattle.word_fit.specs.Fits.{HasNoFile}
 use Rattle.right_code.specs.Inner.Known.{AreKnown}
 use Rattle.right_code.proofs.Plain.{plain_formed}
 use Rattle.right_code.proofs.Swapping.{AddrSwapped, AreSwapped, swapped_sides}
-use Rattle.right_code.proofs.Turning.{test_once, test_swapped, test_terms}
+use Rattle.right_code.proofs.Turning.{test_once, test_shown, test_swapped, test_terms}
 
-module _ (netlist : Netlist) (order : List ℕ) (keeps : KeepsRules netlist order) (bare : HasNoFile netlist) (some : 0 < word_width netlist) (patterns : List Pattern) (known : AreKnown netlist patterns) where
+module _ (netlist : Netlist) (order : List ℕ) (keeps : KeepsRules netlist order) (some : 0 < word_width netlist) (patterns : List Pattern) (known : AreKnown netlist patterns) where
   zero_plus : (n : ℕ) → 0 + n ≡ n
   zero_plus n = omega arith
 
-  of_formed : (reach number : ℕ) (p : Pattern) (rule : Rule) → slice_get patterns number ≡ Some p → IsFormOf netlist reach number p rule → IsFormed patterns (length netlist.storages) rule rule.goal
+  of_formed : (reach number : ℕ) (p : Pattern) (rule : Rule) → slice_get patterns number ≡ Some p → IsFormOf netlist reach number p rule → IsFormed (file_place netlist.storages) patterns (length netlist.storages) (size_in InFile netlist.storages) rule rule.goal
   of_formed reach number p rule at (of_plain choice clobbers plain are e) =
-      subst (λ (r : Rule). IsFormed patterns (length netlist.storages) r r.goal) (sym e) (plain_formed netlist order keeps bare some patterns known p number choice clobbers at plain are)
+      subst (λ (r : Rule). IsFormed (file_place netlist.storages) patterns (length netlist.storages) (size_in InFile netlist.storages) r r.goal) (sym e) (plain_formed netlist order keeps some patterns known p number choice clobbers at plain are)
   of_formed reach number p rule at (of_jump h e) =
-      subst (λ (r : Rule). IsFormed patterns (length netlist.storages) r r.goal) (sym e) tt
+      subst (λ (r : Rule). IsFormed (file_place netlist.storages) patterns (length netlist.storages) (size_in InFile netlist.storages) r r.goal) (sym e) tt
   of_formed reach number p rule at (of_branch choice parts b e) =
-      subst (λ (r : Rule). IsFormed patterns (length netlist.storages) r r.goal) (sym e) (test_once netlist some patterns known reach number p at parts b choice)
+      subst (λ (r : Rule). IsFormed (file_place netlist.storages) patterns (length netlist.storages) (size_in InFile netlist.storages) r r.goal) (sym e)
+      (test_once netlist some patterns known reach number p at parts b choice, test_shown netlist some patterns known reach number p at parts b choice)
 
   module _ (reach : ℕ) (rules : List Rule) (list : AreRules netlist reach 0 patterns rules) where
     -- a form of the list, with the number of its pattern
@@ -54,7 +56,7 @@ module _ (netlist : Netlist) (order : List ℕ) (keeps : KeepsRules netlist orde
         let f : IsForm netlist reach 0 patterns rule = form_at netlist reach 0 patterns rules list k rule h in
         record { number = f.place; pattern = f.pattern; at = f.at; of = subst (λ n. IsFormOf netlist reach n f.pattern rule) (zero_plus f.place) f.of }
 
-    pub are_formed : AreFormed patterns (length netlist.storages) rules
+    pub are_formed : AreFormed (file_place netlist.storages) patterns (length netlist.storages) (size_in InFile netlist.storages) rules
     are_formed k rule h = let f = placed k rule h in of_formed reach f.number f.pattern rule f.at f.of
 
     number_is : (number : ℕ) (p : Pattern) (rule : Rule) → IsFormOf netlist reach number p rule → rule.pattern ≡ number
@@ -99,16 +101,17 @@ module _ (netlist : Netlist) (order : List ℕ) (keeps : KeepsRules netlist orde
         let sw : AreSwapped (record { addr = None; value = n }) (swapped choice (record { addr = None; value = n })) = swapped_sides choice (record { addr = None; value = n }) in
         ap (λ x. term_reads 0 (swapped choice (sides_of x)).value (register pc)) e ∙ sym (sw.value.reads 0 pc) ∙ h
 
-    register_goal : (storage pc : ℕ) (b : Bool) → (if b then into_memory else into_reg storage) ≡ into_reg pc → storage ≡ pc
-    register_goal storage pc true e = absurd (cc)
-    register_goal storage pc false e = cc
+    register_goal : (storage pc : ℕ) (b c : Bool) → (if b then into_memory else if c then into_file else into_reg storage) ≡ into_reg pc → storage ≡ pc
+    register_goal storage pc true c e = absurd (cc)
+    register_goal storage pc false true e = absurd (cc)
+    register_goal storage pc false false e = cc
 
     counter_read : (number : ℕ) (p : Pattern) (rule : Rule) → IsFormOf netlist reach number p rule → rule.goal ≡ into_reg (counter_of netlist.codes) → term_reads 0 rule.value (register (counter_of netlist.codes)) ≡ true
     counter_read number p rule (of_jump h e) g = let x : jumps _ ≡ into_reg (counter_of netlist.codes) = sym (ap (λ (r : Rule). r.goal) e) ∙ g in absurd (cc)
     counter_read number p rule (of_branch choice parts h e) g = let x : branches _ _ ≡ into_reg (counter_of netlist.codes) = sym (ap (λ (r : Rule). r.goal) e) ∙ g in absurd (cc)
     counter_read number p rule (of_plain choice clobbers plain are e) g =
         let pc : ℕ = counter_of netlist.codes in
-        let s : p.storage ≡ pc = register_goal p.storage pc (p.storage == memory_id netlist.storages) (sym (ap (λ (r : Rule). r.goal) e) ∙ g) in
+        let s : p.storage ≡ pc = register_goal p.storage pc (p.storage == memory_id netlist.storages) (is_file_at netlist p.storage) (sym (ap (λ (r : Rule). r.goal) e) ∙ g) in
         let w = plain.ok 0 (let le = and_le_l 0 (move_fields p.move) in omega (arith, le)) in
         let to : move_at netlist w.0 pc ≡ p.move = sym (ap (λ n. move_at netlist w.0 n) s) ∙ w.2.given.gives in
         ap (λ (r : Rule). term_reads 0 r.value (register pc)) e ∙ by w.0 to w.2.steps.step

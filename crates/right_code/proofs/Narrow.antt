@@ -1,5 +1,5 @@
 -- Jumps reach no further than the program counter counts.
-use Rattle.std.proofs.Common.{◌≡◌, ℕ, zero, suc, ◌≤◌, ◌^◌, ◌==◌, Bool, true, false, if◌then◌else◌, List, [], ◌∷◌, length, Option, Some, None, slice_get, refl, sym, ap, subst, ◌∙◌, arith}
+use Rattle.std.proofs.Common.{◌≡◌, ℕ, zero, suc, ◌≤◌, ◌<◌, ◌+◌, ◌-◌, ◌*◌, ◌%◌, ◌^◌, ◌==◌, nat_le, Bool, true, false, if◌then◌else◌, List, [], ◌∷◌, length, Option, Some, None, slice_get, refl, sym, ap, subst, ◌∙◌, arith}
 use Rattle.std.specs.List.{AllByRecursion}
 use Rattle.net_model.specs.declared.hardware.Netlist.{Netlist}
 use Rattle.net_model.specs.declared.hardware.Cells.{Cells}
@@ -18,9 +18,56 @@ use Rattle.net_model.specs.Transfers.{array_move, move_at, same_reg, transfer_of
 use Rattle.net_model.specs.Widths.{StorageFits}
 use Rattle.net_model.proofs.KeptRules.{sound_of}
 use Rattle.net_model.proofs.Meanings.{width_is}
-use Rattle.form_model.specs.Shapes.{ShapeFits, reach_of}
+use Rattle.rec_bits.specs.declared.operator.Op2.TheVariants.{Add}
+use Rattle.form_model.specs.Shapes.{ShapeFits, Sum, SummandFits, moved_reach, reach_of, sum_reach, sum_with, summands}
+use Rattle.form_model.proofs.SumNumbers.{IsSumWith, sum_is_with}
+use Rattle.std.proofs.Math.Nat.{pow-suc}
 
 -- ---- a field shape shows no more than its width has room for
+
+moved_within : (bits c : ℕ) (t : Term) → SummandFits bits t → c < 2 ^ term_width t → moved_reach c t ≤ 2 ^ term_width t
+moved_within bits c (const w v) fits lt = by ((c + v) % 2 ^ w == 0)
+  where
+    by : (b : Bool) → (if b then 1 else 0) ≤ 2 ^ w
+    by true = let p = pow_pos w in omega (arith, p)
+    by false = omega arith
+moved_within bits c (sext a w) fits lt =
+    let p : 2 ^ (term_width a - 1) ≤ 2 ^ (w - 1) = pow_mono (let f = fits.2 in omega (arith, f)) in
+    let q : 2 ^ w ≡ 2 ^ (w - 1) * 2 = ap (λ n. 2 ^ n) (let z : w ≡ suc (w - 1) = (let f = fits.2 in omega (arith, f)) in z) ∙ pow-suc 2 (w - 1) in
+    by (nat_le c (2 ^ (term_width a - 1))) refl p q
+  where
+    by : (b : Bool) → nat_le c (2 ^ (term_width a - 1)) ≡ b → 2 ^ (term_width a - 1) ≤ 2 ^ (w - 1) → 2 ^ w ≡ 2 ^ (w - 1) * 2
+        → (if b then 2 ^ (term_width a - 1) + c else 2 ^ (term_width a - 1) + c - 2 ^ w) ≤ 2 ^ w
+    by true e p q = grind (arith, e, p, q, lt)
+    by false e p q = omega (arith, p, q, lt)
+moved_within bits c (zext a w) fits lt = by (c == 0) (pow_mono (let f = fits.1 in omega (arith, f)))
+  where
+    by : (b : Bool) → 2 ^ term_width a ≤ 2 ^ w → (if b then 2 ^ term_width a else 2 ^ term_width a + c - 2 ^ w) ≤ 2 ^ w
+    by true p = p
+    by false p = omega (arith, p, lt)
+moved_within bits c (word w) fits lt = omega arith
+moved_within bits c (reg r w) fits lt = omega arith
+moved_within bits c (read space a w) fits lt = omega arith
+moved_within bits c (un o a) fits lt = omega arith
+moved_within bits c (bin o a b) fits lt = omega arith
+moved_within bits c (slice a hi lo) fits lt = omega arith
+moved_within bits c (cat a b) fits lt = omega arith
+moved_within bits c (select d a b) fits lt = omega arith
+
+sum_within : (bits w c : ℕ) (t : Term) → SummandFits bits t → sum_reach (sum_with w c t) ≤ 2 ^ w
+sum_within bits w c t fits = by (sum_with w c t) refl
+  where
+    by : (o : Option Sum) → sum_with w c t ≡ o → sum_reach o ≤ 2 ^ w
+    by None e = omega arith
+    by (Some z) e =
+        let h : IsSumWith w c t z = sum_is_with w c t z e in
+        subst (λ (y : Sum). sum_reach (Some y) ≤ 2 ^ w) h.is
+        (subst (λ n. moved_reach c t ≤ 2 ^ n) h.wide (moved_within bits c t fits (subst (λ n. c < 2 ^ n) (sym h.wide) h.small)))
+
+summands_within : (bits : ℕ) (x y : Term) → ShapeFits bits (bin Add x y) → sum_reach (summands x y) ≤ 2 ^ term_width x
+summands_within bits (const w c) y fits = sum_within bits w c y fits.2
+summands_within bits x (const w c) fits = subst (λ n. sum_reach (sum_with w c x) ≤ 2 ^ n) (sym fits.0) (sum_within bits w c x fits.1)
+summands_within bits x y fits = omega arith
 
 reach_within : (bits : ℕ) (t : Term) → ShapeFits bits t → reach_of t ≤ 2 ^ term_width t
 reach_within bits (word w) fits = omega arith
@@ -32,6 +79,7 @@ reach_within bits (const w v) fits = by (v == 0)
     by false = omega arith
 reach_within bits (read space a w) fits = omega arith
 reach_within bits (un o a) fits = omega arith
+reach_within bits (bin Add a b) fits = summands_within bits a b fits
 reach_within bits (bin o a b) fits = omega arith
 reach_within bits (slice a hi lo) fits = omega arith
 reach_within bits (cat a b) fits = omega arith

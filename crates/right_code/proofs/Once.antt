@@ -8,8 +8,9 @@ use Rattle.net_model.specs.Fields.{fields}
 use Rattle.net_model.specs.Occurs.{registers}
 use Rattle.net_model.specs.Terms.{Term, word, reg, const, read, un, bin, slice, cat, zext, sext, select}
 use Rattle.form_set.specs.Inner.Linear.{are_apart, is_linear, meet_in}
-use Rattle.emit_seq.specs.Formed.{BitsApart, IsOnce, uses}
-use Rattle.emit_seq.proofs.Fields.{zero_left}
+use Rattle.form_model.specs.Bits.{uses}
+use Rattle.emit_seq.specs.Formed.{BitsApart, IsOnce}
+use Rattle.emit_seq.proofs.BitUnions.{zero_left}
 use Rattle.right_code.proofs.Swapping.{is_word}
 
 -- instruction words have this many bits, and slices of them lie in it

@@ -4,7 +4,7 @@ use Rattle.code_model.specs.declared.image.Image.{Image}
 use Rattle.code_model.specs.Places.{words_of}
 use Rattle.form_model.specs.Covers.{Choice, ChoiceBefore, IsChosen, Stock, job_cost, parts_cost}
 use Rattle.form_model.specs.Plans.{Plan, use_form, cost}
-use Rattle.form_model.specs.Rules.{Destination, Rule, into, cell, stored, temporary, tested}
+use Rattle.form_model.specs.Rules.{Destination, Rule, into, cell, filed, stored, temporary, tested}
 use Rattle.src_trees.specs.Lowered.{Work}
 use Rattle.branch_fix.specs.Bounds.{program_bound}
 use Rattle.right_code.specs.Bounded.{HasBound}
@@ -31,6 +31,7 @@ same_cost (into id) p q e = e
 same_cost (cell address) p q e = e
 same_cost (stored address) p q e = e
 same_cost temporary p q e = e
+same_cost filed p q e = e
 
 pub costs_one : (stock : Stock) (jobs : List Work) (a b : List Choice) → AllChosen stock jobs a → AllChosen stock jobs b → job_costs jobs a ≡ job_costs jobs b
 costs_one stock [] [] [] h k = refl

@@ -1,8 +1,10 @@
 -- Code as the layout orders it is made of its parts.
 use Rattle.std.proofs.Common.{ℕ, ◌≡◌, ◌≤◌, ◌<◌, ◌+◌, unwrap_or, Bool, true, false, List, length, Some, None, slice_get, slice_index, sym, ◌∙◌, ap, arith, subst}
+use Rattle.transfer_set.specs.Tables.{file_place}
 use Rattle.net_model.specs.declared.hardware.Netlist.{Netlist}
+use Rattle.net_model.specs.declared.hardware.Space.TheVariants.{File as InFile}
 use Rattle.net_model.specs.CheckedRules.{KeepsRules}
-use Rattle.net_model.specs.Nets.{memory_size, memory_width}
+use Rattle.net_model.specs.Nets.{memory_size, memory_width, size_in}
 use Rattle.net_model.specs.Widths.{WordFits}
 use Rattle.net_model.specs.Patterns.{Pattern}
 use Rattle.src_model.specs.Written.{Listing, acts_of}
@@ -17,10 +19,10 @@ use Rattle.form_model.specs.declared.flow.Flow.{Flow}
 use Rattle.form_model.specs.Shapes.{shape_setting}
 use Rattle.form_model.specs.Rules.{Rule}
 use Rattle.form_model.specs.Covers.{Stock}
-use Rattle.form_model.specs.Effects.{operation_of}
+use Rattle.block_words.specs.Laws.{operation_in}
 use Rattle.form_model.specs.Steps.{branch_setting}
 use Rattle.emit_seq.specs.Formed.{AreFormed}
-use Rattle.word_fit.specs.Fits.{fits_over, FitsJump, HasNoFile}
+use Rattle.word_fit.specs.Fits.{fits_over, FitsJump}
 use Rattle.word_fit.proofs.Least.{all_fit}
 use Rattle.src_trees.specs.Lowered.{Work}
 use Rattle.src_trees.specs.Flows.{places_in, program_flow, program_works}
@@ -48,20 +50,20 @@ use Rattle.branch_fix.proofs.Addresses.{address_is}
 use Rattle.right_code.proofs.Layouts.{IsBranchStep, branch_step_is, fit, goals, near, ways}
 
 module _ (netlist : Netlist) (order : List ℕ) (keeps : KeepsRules netlist order) (image : Image) (patterns : List Pattern) (stock : Stock) (reach : ℕ) (turns : AreTurns netlist patterns stock.rules reach) where
-  jump_made : (i to : ℕ) → FitsJump netlist i (operation_of patterns (jump_step (jump_form stock.rules reach) to)) → to < reach → IsJumpMade netlist patterns i to
+  jump_made : (i to : ℕ) → FitsJump netlist i (operation_in netlist patterns (jump_step (jump_form stock.rules reach) to)) → to < reach → IsJumpMade netlist patterns i to
   jump_made i to w lt = record {
     rule = turns.rule;
     form = turns.jump;
     bits = unwrap_or (shape_setting turns.rule.value to) 0;
     shown = shown_some (shape_setting turns.rule.value to) (turns.shown to lt);
-    word = subst (λ o. FitsJump netlist i (operation_of patterns (jump_step o to))) turns.first w;
+    word = subst (λ o. FitsJump netlist i (operation_in netlist patterns (jump_step o to))) turns.first w;
   }
 
   behind_made : (words : ℕ → List ℕ) (next long : Bool) (at to other : ℕ) → to < reach → other < reach
       → StandItems netlist patterns words (words_of image) (at + 1) (behind (jump_form stock.rules reach) next long to other) → BehindMade netlist patterns image next long at to other
   behind_made words next true at to other lt low h =
       let z : at + 1 + 1 ≡ at + 2 = omega arith in
-      (jump_made _ other h.0.is low, jump_made _ to (subst (λ k. FitsJump netlist (image_word image k) (operation_of patterns (jump_step (jump_form stock.rules reach) to))) z h.1.0.is) lt)
+      (jump_made _ other h.0.is low, jump_made _ to (subst (λ k. FitsJump netlist (image_word image k) (operation_in netlist patterns (jump_step (jump_form stock.rules reach) to))) z h.1.0.is) lt)
   behind_made words true false at to other lt low h = tt
   behind_made words false false at to other lt low h = jump_made _ other h.0.is low
 
@@ -86,7 +88,7 @@ module _ (netlist : Netlist) (order : List ℕ) (keeps : KeepsRules netlist orde
         let to_is : slice_index (starts parts) g.to ≡ address parts g.to = address_is parts g.to (omega (arith, in_to)) in
         let other_is : slice_index (starts parts) g.other ≡ address parts g.other = address_is parts g.other (omega (arith, in_other)) in
         let s = stand_split netlist patterns laid.words (words_of image) (groups g.block 0 g.words) _ a from (ap (λ n. a + n) (sym (groups_length g.block 0 g.words))) (stands at (Test g) e) in
-        let word : FitsJump netlist (image_word image from) (operation_of patterns (branch_step (slice_get stock.rules g.form) g.setting from (slice_index (starts parts) g.to) g.long)) = s.1.0.is in
+        let word : FitsJump netlist (image_word image from) (operation_in netlist patterns (branch_step (slice_get stock.rules g.form) g.setting from (slice_index (starts parts) g.to) g.long)) = s.1.0.is in
         subst (λ b. IsForkMade netlist patterns stock image job b g a (address parts g.to) (address parts g.other)) (sym (ap rule_at_one r.form ∙ ap kind_at_one step.goal)) (record {
           choice = r.choice;
           operands = record {
@@ -95,7 +97,7 @@ module _ (netlist : Netlist) (order : List ℕ) (keeps : KeepsRules netlist orde
             groups = r.groups;
             means = r.means;
             words = laid.words g.block;
-            fit = all_fit (operation_of patterns) (fits_over netlist (operation_of patterns)) r.live (laid.words g.block) r.groups r.least;
+            fit = all_fit (operation_in netlist patterns) (fits_over netlist (operation_in netlist patterns)) r.live (laid.words g.block) r.groups r.least;
             long = r.long;
             stand = groups_stand netlist patterns laid.words (words_of image) g.block (laid.words g.block) 0 a (λ j. let z : 0 + j ≡ j = omega arith in ap (slice_index (laid.words g.block)) z)
                 (subst (λ n. StandItems netlist patterns laid.words (words_of image) a (groups g.block 0 n)) r.long s.0);
@@ -105,7 +107,7 @@ module _ (netlist : Netlist) (order : List ℕ) (keeps : KeepsRules netlist orde
           form = turns.forks g.form rule step.when_one step.way r.form step.goal;
           bits = step.bits;
           shown = step.shown;
-          word = subst (λ x. FitsJump netlist (image_word image from) (operation_of patterns x)) step.step word;
+          word = subst (λ x. FitsJump netlist (image_word image from) (operation_in netlist patterns x)) step.step word;
           behind = behind_made laid.words g.next g.long from (address parts g.to) (address parts g.other) (near netlist order keeps patterns stock reach turns flow parts end f upto laid.layout g.to in_to) (near netlist order keeps patterns stock reach turns flow parts end f upto laid.layout g.other in_other)
               (subst (λ n. StandItems netlist patterns laid.words (words_of image) (from + 1) (behind (jump_form stock.rules reach) g.next g.long (address parts g.to) n)) other_is
               (subst (λ n. StandItems netlist patterns laid.words (words_of image) (from + 1) (behind (jump_form stock.rules reach) g.next g.long n (slice_index (starts parts) g.other))) to_is s.1.1));
@@ -120,7 +122,7 @@ module _ (netlist : Netlist) (order : List ℕ) (keeps : KeepsRules netlist orde
       groups = r.groups;
       means = r.means;
       words = laid.words block;
-      fit = all_fit (operation_of patterns) (fits_over netlist (operation_of patterns)) r.live (laid.words block) r.groups r.least;
+      fit = all_fit (operation_in netlist patterns) (fits_over netlist (operation_in netlist patterns)) r.live (laid.words block) r.groups r.least;
       long = r.long;
       stand = groups_stand netlist patterns laid.words (words_of image) block (laid.words block) 0 (address parts at) (λ j. let z : 0 + j ≡ j = omega arith in ap (slice_index (laid.words block)) z)
           (subst (λ n. StandItems netlist patterns laid.words (words_of image) (address parts at) (groups block 0 n)) r.long (stands at (Block block size) e));
@@ -136,18 +138,18 @@ module _ (netlist : Netlist) (order : List ℕ) (keeps : KeepsRules netlist orde
       forks = λ at g e job has. fork_made at g e job (laid.forks at g e job has);
       jumps = λ at to e.
           jump_made _ (address parts to)
-          (subst (λ n. FitsJump netlist (image_word image (address parts at)) (operation_of patterns (jump_step (jump_form stock.rules reach) n))) (let lt = goals netlist order keeps patterns stock reach turns flow parts end f upto laid.layout at to e in address_is parts to (omega (arith, lt))) (stands at (Jump to) e).0.is)
+          (subst (λ n. FitsJump netlist (image_word image (address parts at)) (operation_in netlist patterns (jump_step (jump_form stock.rules reach) n))) (let lt = goals netlist order keeps patterns stock reach turns flow parts end f upto laid.layout at to e in address_is parts to (omega (arith, lt))) (stands at (Jump to) e).0.is)
           (near netlist order keeps patterns stock reach turns flow parts end f upto laid.layout to (goals netlist order keeps patterns stock reach turns flow parts end f upto laid.layout at to e));
       ends = λ at e. jump_made _ (address parts at) (stands at End e).0.is (near netlist order keeps patterns stock reach turns flow parts end f upto laid.layout at (there parts at End e));
     }
 
 -- and traces the program
-pub ordered_right : (netlist : Netlist) (order : List ℕ) → KeepsRules netlist order → HasNoFile netlist → (image : Image) (patterns : List Pattern) (stock : Stock) → AreFormed patterns (length netlist.storages) stock.rules → (reach : ℕ)
+pub ordered_right : (netlist : Netlist) (order : List ℕ) → KeepsRules netlist order → (image : Image) (patterns : List Pattern) (stock : Stock) → stock.file ≡ size_in InFile netlist.storages → AreFormed (file_place netlist.storages) patterns (length netlist.storages) stock.file stock.rules → (reach : ℕ)
     → AreTurns netlist patterns stock.rules reach → (bits addr : ℕ) (l : Listing) (parts : List Part) → first_fault bits l ≡ None → memory_width netlist.storages ≡ bits → InReach bits addr stock.temps l.vars
     → stock.temps + cell_count l.vars ≤ memory_size netlist.storages → image.places ≡ places_from stock.temps (variables_of l.vars)
     → IsLaidCode netlist patterns stock image (program_flow l) (program_works (memory_map bits addr stock.temps l.vars) l) parts reach
     → ((a : ℕ) → WordFits netlist (slice_index (words_of image) a)) → TracesRight netlist image (strace bits l)
-ordered_right netlist order keeps plain image patterns stock formed reach turns bits addr l parts kept wide inreach room places laid fits =
-    code_right netlist order keeps plain image patterns stock formed bits addr l parts kept wide inreach room places
+ordered_right netlist order keeps image patterns stock sized formed reach turns bits addr l parts kept wide inreach room places laid fits =
+    code_right netlist order keeps image patterns stock sized formed bits addr l parts kept wide inreach room places
     (laid_made netlist order keeps image patterns stock reach turns (program_flow l) (program_works (memory_map bits addr stock.temps l.vars) l) parts (places_in (acts_of l.body)) (program_is_flow l) (program_upto l) laid)
     laid.long fits

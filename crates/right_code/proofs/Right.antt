@@ -1,7 +1,9 @@
 -- An image that is made for a task traces its program.
-use Rattle.std.proofs.Common.{◌≡◌, zero, suc, [], ◌∷◌, Some, slice_get, true, ℕ, ◌≤◌, ◌<◌, List, length, slice_index, ◌∙◌, ap, arith, subst}
+use Rattle.std.proofs.Common.{◌≡◌, zero, suc, [], ◌∷◌, Some, slice_get, true, ℕ, ◌≤◌, ◌<◌, List, length, slice_index, refl, ◌∙◌, ap, arith, subst}
+use Rattle.transfer_set.specs.Tables.{file_place}
+use Rattle.net_model.specs.declared.hardware.Space.TheVariants.{Memory as InMemory, File as InFile}
 use Rattle.net_model.specs.CheckedRules.{code_size, memory_addr_width}
-use Rattle.net_model.specs.Nets.{word_width}
+use Rattle.net_model.specs.Nets.{size_in, word_width}
 use Rattle.net_model.specs.Patterns.{ArePatterns, Pattern}
 use Rattle.net_model.specs.Widths.{WordFits}
 use Rattle.net_model.proofs.WordWidths.{has_bits}
@@ -25,17 +27,16 @@ use Rattle.branch_fix.specs.Parts.{PartsFit, address, starts, total}
 use Rattle.branch_fix.proofs.Addresses.{fit_length}
 use Rattle.branch_fix.proofs.Laying.{settled_fit}
 use Rattle.branch_fix.proofs.Shapes.{program_is_flow}
-use Rattle.word_fit.proofs.Plain.{no_file}
 use Rattle.right_code.specs.Images.{IsBranchOf, IsMadeFor, IsRightImage, choices_at}
 use Rattle.form_model.specs.declared.forms.Step.{Step}
 use Rattle.form_model.specs.Covers.{Choice, IsChosen}
-use Rattle.form_model.specs.Effects.{operation_of}
+use Rattle.block_words.specs.Laws.{operation_in}
 use Rattle.form_model.specs.Live.{Regs, regs_of, singles}
 use Rattle.form_model.specs.Steps.{branch_setting}
 use Rattle.emit_seq.specs.Spares.{wanted}
 use Rattle.src_trees.specs.Blocks.{jobs_at}
 use Rattle.src_trees.specs.Lowered.{Work}
-use Rattle.word_fit.specs.Fits.{FitsJump, fits_over, HasNoFile}
+use Rattle.word_fit.specs.Fits.{FitsJump, fits_over}
 use Rattle.word_fit.specs.Groups.{AllHaveWords}
 use Rattle.branch_fix.specs.Items.{items_from, jump_form}
 use Rattle.branch_fix.specs.declared.laid.Item.TheVariants.{Jump}
@@ -73,9 +74,6 @@ small_at bits temps most (w ∷ works) zero job h e = subst (IsSmall bits temps 
 small_at bits temps most (w ∷ works) (suc k) job h e = small_at bits temps most works k job h.1 e
 
 module _ (order : List ℕ) (task : Task) (checked : IsChecked order task) where
-  bare : HasNoFile task.netlist
-  bare = no_file task.netlist order checked.netlist checked.first
-
   -- the variables are in reach of addresses, and the trees are small
   pub near : InReach task.width (memory_addr_width task.netlist.storages) (temp_count task.width task.listing) task.listing.vars
   near = in_reach task.netlist order checked.netlist task.width task.listing checked.words checked.cells
@@ -101,11 +99,11 @@ module _ (order : List ℕ) (task : Task) (checked : IsChecked order task) where
     pub known : AreKnown task.netlist patterns
     known = known_of task.netlist order checked.netlist patterns are
 
-    pub formed : AreFormed patterns (length task.netlist.storages) rules
-    formed = are_formed task.netlist order checked.netlist bare some patterns known reach rules forms.list
+    pub formed : AreFormed (file_place task.netlist.storages) patterns (length task.netlist.storages) (size_in InFile task.netlist.storages) rules
+    formed = are_formed task.netlist order checked.netlist some patterns known reach rules forms.list
 
     pub reads : AllReadWords task.width rules
-    reads = subst (λ n. AllReadWords n rules) checked.words (all_read task.netlist order checked.netlist bare some patterns known reach rules forms.list)
+    reads = subst (λ n. AllReadWords n rules) checked.words (all_read task.netlist order checked.netlist some patterns known reach rules forms.list)
 
     -- a layout has words
     some_reach : (parts : List Part) → IsLayout rules (program_flow task.listing) parts reach → 1 ≤ reach
@@ -116,7 +114,7 @@ module _ (order : List ℕ) (task : Task) (checked : IsChecked order task) where
         omega (arith, a, r)
 
     pub turns : 1 ≤ reach → AreTurns task.netlist patterns rules reach
-    turns = are_turns task.netlist order checked.netlist bare some patterns known reach rules forms
+    turns = are_turns task.netlist order checked.netlist some patterns known reach rules forms
 
     -- ---- the covers
 
@@ -128,34 +126,34 @@ module _ (order : List ℕ) (task : Task) (checked : IsChecked order task) where
       one = works_one (task_memory task) (acts_of task.listing.body)
 
       -- each step of a block has a word
-      pub block_words_of : (at n : ℕ) → AllHaveWords (operation_of patterns) (fits_over task.netlist (operation_of patterns))
+      pub block_words_of : (at n : ℕ) → AllHaveWords (operation_in task.netlist patterns) (fits_over task.netlist (operation_in task.netlist patterns))
           (singles (jobs_steps (task_stock rules task) (jobs_at (program_flow task.listing) (task_works task) at n) (choices_at (program_flow task.listing) choices at n))) (regs_of 0)
       block_words_of at n =
-          block_words task.netlist order checked.netlist bare some patterns known reach (task_stock rules task) forms.list (jobs_at (program_flow task.listing) (task_works task) at n) (choices_at (program_flow task.listing) choices at n)
+          block_words task.netlist order checked.netlist some patterns known reach (task_stock rules task) refl forms.list (jobs_at (program_flow task.listing) (task_works task) at n) (choices_at (program_flow task.listing) choices at n)
           (covered_block task.width (task_stock rules task) reads 510 (task_works task) choices small one chosen (program_flow task.listing) at n)
 
       -- and each step of a test
       pub test_words_of : (number : ℕ) (job : Work) (choice : Choice) → slice_get (task_works task) number ≡ Some job → slice_get choices number ≡ Some choice → job.destination ≡ tested
           → (live : Regs) → ((r : ℕ) → live r ≡ true → wanted (task_stock rules task) tested (tree_used job choice) choice.plan r ≡ true)
-          → AllHaveWords (operation_of patterns) (fits_over task.netlist (operation_of patterns)) (singles (job_steps (task_stock rules task) job choice)) live
+          → AllHaveWords (operation_in task.netlist patterns) (fits_over task.netlist (operation_in task.netlist patterns)) (singles (job_steps (task_stock rules task) job choice)) live
       test_words_of number job choice at there e live less =
-          subst (λ (x : Work). AllHaveWords (operation_of patterns) (fits_over task.netlist (operation_of patterns)) (singles (job_steps (task_stock rules task) x choice)) live) (as_test job e)
-          (test_words task.netlist order checked.netlist bare some patterns known reach (task_stock rules task) forms.list job choice live
+          subst (λ (x : Work). AllHaveWords (operation_in task.netlist patterns) (fits_over task.netlist (operation_in task.netlist patterns)) (singles (job_steps (task_stock rules task) x choice)) live) (as_test job e)
+          (test_words task.netlist order checked.netlist some patterns known reach (task_stock rules task) refl forms.list job choice live
           (covered_test task.width (task_stock rules task) reads 510 (task_works task) choices small one chosen number job choice at there e) less)
 
       -- and each jump and branch of a layout
       pub jump_words_of : (parts : List Part) → IsLayout rules (program_flow task.listing) parts reach
           → ((at : ℕ) (f : Fork) → slice_get parts at ≡ Some (Test f) → (job : Work) → slice_get (task_works task) f.tree ≡ Some job → (choice : Choice) → slice_get choices f.tree ≡ Some choice → IsBranchOf (task_stock rules task) job choice f)
-          → (k : ℕ) (step : Step) → slice_get (items_from rules (jump_form rules reach) (starts parts) 0 parts) k ≡ Some (Jump step) → (word : ℕ) × FitsJump task.netlist word (operation_of patterns step)
+          → (k : ℕ) (step : Step) → slice_get (items_from rules (jump_form rules reach) (starts parts) 0 parts) k ≡ Some (Jump step) → (word : ℕ) × FitsJump task.netlist word (operation_in task.netlist patterns step)
       jump_words_of parts layout branch k step e =
-          layout_words task.netlist order checked.netlist bare some patterns known reach (task_stock rules task) forms (turns (some_reach parts layout)) (program_flow task.listing) parts (places_in (acts_of task.listing.body))
+          layout_words task.netlist order checked.netlist some patterns known reach (task_stock rules task) forms (turns (some_reach parts layout)) (program_flow task.listing) parts (places_in (acts_of task.listing.body))
           (program_is_flow task.listing) (program_upto task.listing) layout asked k step e
         where
           fits : PartsFit rules (program_flow task.listing) 0 (program_flow task.listing) parts
           fits = settled_fit rules (program_flow task.listing) layout.sizes layout.settings parts layout.settled
 
           asked : (at : ℕ) (f : Fork) → slice_get parts at ≡ Some (Test f)
-              → IsAsked task.netlist order checked.netlist bare some patterns known reach (task_stock rules task) forms (turns (some_reach parts layout)) (program_flow task.listing) parts (places_in (acts_of task.listing.body)) (program_is_flow task.listing) (program_upto task.listing) layout f
+              → IsAsked task.netlist order checked.netlist some patterns known reach (task_stock rules task) forms (turns (some_reach parts layout)) (program_flow task.listing) parts (places_in (acts_of task.listing.body)) (program_is_flow task.listing) (program_upto task.listing) layout f
           asked at f e =
               let t : IsTestWork (task_works task) f.tree = test_work_of (task_works task) rules (program_flow task.listing) parts at f fits (program_tests (task_memory task) task.listing) e in
               let d = choice_there task.width (task_stock rules task) reads (task_works task) choices f.tree t.work chosen t.at in
@@ -174,7 +172,7 @@ module _ (order : List ℕ) (task : Task) (checked : IsChecked order task) where
     made_traces room reached =
         let s = some_total made.rules made.parts fit in
         let m = made.long in
-        laid_traces task.netlist order checked.netlist bare image made.patterns (task_stock made.rules task) (formed made.patterns made.are made.rules made.reach made.forms) made.reach
+        laid_traces task.netlist order checked.netlist image made.patterns (task_stock made.rules task) refl (formed made.patterns made.are made.rules made.reach made.forms) made.reach
         (turns made.patterns made.are made.rules made.reach made.forms (omega (arith, s, m, reached))) task.width (memory_addr_width task.netlist.storages) task.listing made.parts checked.program
         checked.words near checked.cells (made.layout.places ∙ ap (λ n. places_from n (variables_of task.listing.vars)) made.layout.temps)
         (made_laid task image made 510 (reads made.patterns made.are made.rules made.reach made.forms) small (works_one (task_memory task) (acts_of task.listing.body)) (program_tests (task_memory task) task.listing) room reached)

@@ -10,9 +10,10 @@ use Rattle.net_model.specs.declared.hardware.Space.TheVariants.{Memory as InMemo
 use Rattle.net_model.specs.Fields.{fields}
 use Rattle.net_model.specs.Terms.{Term, word, reg, const, read, un, bin, slice, cat, zext, sext, select}
 use Rattle.form_model.specs.Effects.{register, term_reads}
-use Rattle.form_set.specs.Swaps.{Path, Sides, can_swap, ordered, picks, swap_at, swap_paths, swapped}
+use Rattle.form_set.specs.Swaps.{Path, Sides, ordered, picks, swap_at, swap_paths, swapped, swaps_here}
 use Rattle.emit_seq.specs.Cells.{ReadsWords}
-use Rattle.emit_seq.specs.Formed.{BitsApart, IsOnce, uses}
+use Rattle.form_model.specs.Bits.{uses}
+use Rattle.emit_seq.specs.Formed.{BitsApart, IsOnce}
 
 abbrev pub is_word : Term → Bool
 is_word (word w) = true
@@ -163,7 +164,7 @@ swap_at_swapped chosen (const w v) = unswapped (const w v)
 swap_at_swapped chosen (read space a w) = in_read space w a (swap_at (λ path. chosen (0 ∷ path)) a) (swap_at_swapped (λ path. chosen (0 ∷ path)) a)
 swap_at_swapped chosen (un o a) = in_un o a (swap_at (λ path. chosen (0 ∷ path)) a) (swap_at_swapped (λ path. chosen (0 ∷ path)) a)
 swap_at_swapped chosen (bin o a b) =
-    by (can_swap o && chosen []) (in_bin o a b c d (swap_at_swapped (λ path. chosen (0 ∷ path)) a) (swap_at_swapped (λ path. chosen (1 ∷ path)) b))
+    by (swaps_here o a b && chosen []) (in_bin o a b c d (swap_at_swapped (λ path. chosen (0 ∷ path)) a) (swap_at_swapped (λ path. chosen (1 ∷ path)) b))
   where
     c : Term
     c = swap_at (λ path. chosen (0 ∷ path)) a

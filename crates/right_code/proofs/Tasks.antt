@@ -8,7 +8,7 @@ use Rattle.src_model.specs.Written.{Act, assign, choice, while, count, Acts, no_
 use Rattle.src_model.specs.Sizes.{statements, statements_in}
 use Rattle.form_model.specs.declared.flow.Flow.{Flow}
 use Rattle.form_model.specs.declared.flow.Flow.TheVariants.{Assign, Test as Tested, Jump as Jumped, End as Ended}
-use Rattle.form_model.specs.Rules.{Rule, Destination, into, cell, stored, temporary, tested}
+use Rattle.form_model.specs.Rules.{Rule, Destination, into, cell, filed, stored, temporary, tested}
 use Rattle.src_trees.specs.Lowered.{MemoryMap, Work, holds_at_one, start_work, step_work, works, works_in, works_else}
 use Rattle.src_trees.specs.Flows.{places_for, places_in, else_entry, asked, flow_of, flow_in, flow_else, program_flow, program_works}
 use Rattle.src_trees.proofs.Parts.{Stand, stand_left, stand_right, stand_all, works_length, works_in_length}
@@ -36,6 +36,7 @@ one_any (into id) t = (t, refl)
 one_any (cell a) t = (t, refl)
 one_any (stored a) t = (t, refl)
 one_any temporary t = (t, refl)
+one_any filed t = (t, refl)
 one_any tested t = tt
 
 mutual

@@ -1,11 +1,12 @@
 -- Jump and branch forms are made of their patterns, and show the addresses that the code has.
-use Rattle.std.proofs.Common.{◌≡◌, ℕ, ◌^◌, ◌<◌, ◌≤◌, ◌==◌, ◌&&◌, ◌||◌, ◌⊎◌, inl, inr, Bool, true, false, bit_and, if◌then◌else◌, List, Option, Some, None, slice_get, refl, sym, ◌∙◌, ap, subst, arith, eqb-true}
+use Rattle.std.proofs.Common.{◌≡◌, ℕ, ◌^◌, ◌<◌, ◌≤◌, ◌==◌, ◌&&◌, ◌||◌, ◌⊎◌, inl, inr, Bool, true, false, bit_and, if◌then◌else◌, List, ◌∷◌, Option, Some, None, slice_get, refl, sym, ◌∙◌, ap, subst, arith, eqb-true}
 use Rattle.std.proofs.lemmas.Bool.{leb-true, and_parts}
 use Rattle.rec_bits.specs.declared.operator.Op2.TheVariants.{Add}
 use Rattle.net_model.specs.declared.hardware.Netlist.{Netlist}
 use Rattle.net_model.specs.Fields.{fields}
 use Rattle.net_model.specs.CheckedRules.{KeepsRules}
-use Rattle.net_model.specs.Nets.{counter_of, counter_width, word_width}
+use Rattle.net_model.specs.declared.hardware.Space.TheVariants.{File as InFile}
+use Rattle.net_model.specs.Nets.{counter_of, counter_width, size_in, word_width}
 use Rattle.net_model.specs.Patterns.{Pattern}
 use Rattle.net_model.specs.Terms.{Term, reg, const, bin, select, write, next_of, swapped_next_of, term_width}
 use Rattle.sym_expr.specs.Pools.{TermFits}
@@ -14,16 +15,18 @@ use Rattle.transfer_set.specs.Stepping.{is_next, is_one, is_reg}
 use Rattle.transfer_set.specs.TextMarks.{IsMoveOf, IsTermOf}
 use Rattle.transfer_set.specs.declared.stepping.Counter.{Counter}
 use Rattle.form_model.specs.Rules.{BranchTarget, absolute, relative}
-use Rattle.form_model.specs.Shapes.{is_shape, reach_of, shows}
+use Rattle.form_model.specs.Shapes.{is_shape, is_shape_in, reach_of, shows}
+use Rattle.form_set.proofs.Editions.{shape_from}
 use Rattle.form_model.proofs.ShapeLaws.{exact_shape}
 use Rattle.form_set.specs.Inner.Linear.{are_apart, is_linear, move_linear}
 use Rattle.form_set.specs.Listing.{IsBranch, IsJump, branch_rule, counter_at, jump_rule, test_sides}
-use Rattle.form_set.specs.Swaps.{swapped}
+use Rattle.form_set.specs.Swaps.{picks, swap_paths, swapped}
 use Rattle.form_set.specs.Targets.{Branch, allowed_target, branch_if, distance_if, first_of, is_absolute, relative_target, term_branch}
 use Rattle.form_set.proofs.LinearLaws.{linear_is}
 use Rattle.form_set.proofs.ShapeBits.{shape_fits}
 use Rattle.form_set.proofs.SwapLaws.{swapped_alike}
-use Rattle.emit_seq.specs.Formed.{IsOnce}
+use Rattle.emit_seq.specs.Formed.{CellsShown, IsOnce}
+use Rattle.right_code.proofs.Filed.{shown_of, swapped_shown}
 use Rattle.right_code.specs.Inner.Forks.{IsBranchForm, IsJumpForm, IsTargetTerm, one_side}
 use Rattle.right_code.specs.Inner.Known.{AreKnown}
 use Rattle.right_code.specs.Inner.Laid.{TargetReaches}
@@ -56,35 +59,35 @@ next_is pc _ h = absurd (cc)
 -- ---- the parts of a branch
 
 -- a branch of a select, whose sides are the target and the step
-record IsOpened (pc : Counter) (reach : ℕ) (value : Term) (branch : Branch) : Type 0 where
+record IsOpened (edition : ℕ) (pc : Counter) (reach : ℕ) (value : Term) (branch : Branch) : Type 0 where
   target : Term
   step : Term
   is : value ≡ select branch.test (one_side branch.when_one target step) (one_side branch.when_one step target)
   next : is_next pc step ≡ true
-  allowed : allowed_target pc reach target ≡ Some branch.to
+  allowed : allowed_target edition pc reach target ≡ Some branch.to
 
 some_same : {A : Type 0} (x y : A) → Some x ≡ Some y → x ≡ y
 some_same x y e = cc
 
-opened : (pc : Counter) (reach : ℕ) (value : Term) (branch : Branch) → term_branch pc reach value ≡ Some branch → IsOpened pc reach value branch
-opened pc reach (select c a b) branch e = go (is_next pc b) (is_next pc a) (allowed_target pc reach a) (allowed_target pc reach b) refl refl refl refl e
+opened : (edition : ℕ) (pc : Counter) (reach : ℕ) (value : Term) (branch : Branch) → term_branch edition pc reach value ≡ Some branch → IsOpened edition pc reach value branch
+opened edition pc reach (select c a b) branch e = go (is_next pc b) (is_next pc a) (allowed_target edition pc reach a) (allowed_target edition pc reach b) refl refl refl refl e
   where
-    at_one : (to : BranchTarget) → is_next pc b ≡ true → allowed_target pc reach a ≡ Some to → IsOpened pc reach (select c a b) (record { when_one = true; test = c; to = to })
+    at_one : (to : BranchTarget) → is_next pc b ≡ true → allowed_target edition pc reach a ≡ Some to → IsOpened edition pc reach (select c a b) (record { when_one = true; test = c; to = to })
     at_one to n t = record { target = a; step = b; is = refl; next = n; allowed = t }
 
-    at_zero : (to : BranchTarget) → is_next pc a ≡ true → allowed_target pc reach b ≡ Some to → IsOpened pc reach (select c a b) (record { when_one = false; test = c; to = to })
+    at_zero : (to : BranchTarget) → is_next pc a ≡ true → allowed_target edition pc reach b ≡ Some to → IsOpened edition pc reach (select c a b) (record { when_one = false; test = c; to = to })
     at_zero to n t = record { target = b; step = a; is = refl; next = n; allowed = t }
 
-    go : (p r : Bool) (o q : Option BranchTarget) → is_next pc b ≡ p → is_next pc a ≡ r → allowed_target pc reach a ≡ o → allowed_target pc reach b ≡ q
-        → first_of (branch_if p true c o) (branch_if r false c q) ≡ Some branch → IsOpened pc reach (select c a b) branch
-    go true r (Some to) q ep er eo eq h = subst (IsOpened pc reach (select c a b)) (some_same _ branch h) (at_one to ep eo)
-    go true true None (Some to) ep er eo eq h = subst (IsOpened pc reach (select c a b)) (some_same _ branch h) (at_zero to er eq)
+    go : (p r : Bool) (o q : Option BranchTarget) → is_next pc b ≡ p → is_next pc a ≡ r → allowed_target edition pc reach a ≡ o → allowed_target edition pc reach b ≡ q
+        → first_of (branch_if p true c o) (branch_if r false c q) ≡ Some branch → IsOpened edition pc reach (select c a b) branch
+    go true r (Some to) q ep er eo eq h = subst (IsOpened edition pc reach (select c a b)) (some_same _ branch h) (at_one to ep eo)
+    go true true None (Some to) ep er eo eq h = subst (IsOpened edition pc reach (select c a b)) (some_same _ branch h) (at_zero to er eq)
     go true true None None ep er eo eq h = absurd (cc)
     go true false None q ep er eo eq h = absurd (cc)
-    go false true o (Some to) ep er eo eq h = subst (IsOpened pc reach (select c a b)) (some_same _ branch h) (at_zero to er eq)
+    go false true o (Some to) ep er eo eq h = subst (IsOpened edition pc reach (select c a b)) (some_same _ branch h) (at_zero to er eq)
     go false true o None ep er eo eq h = absurd (cc)
     go false false o q ep er eo eq h = absurd (cc)
-opened pc reach _ branch e = absurd (cc)
+opened edition pc reach _ branch e = absurd (cc)
 
 -- what is known of the select is known of its parts
 record Parts (netlist : Netlist) (free : ℕ) (c x : Term) : Type 0 where
@@ -126,38 +129,38 @@ module _ (netlist : Netlist) where
   below_shown t shape fits terms v lt = let x = exact_shape (word_width netlist) t shape (shape_fits netlist t shape terms fits) in (x.shown v).1 (x.reach.below v lt)
 
   -- a target so many words on
-  distance_goes : (reach : ℕ) (t : Term) (way : BranchTarget) → TermFits t → relative_target (counter_at netlist) t ≡ Some way → IsTargetTerm netlist way t × TargetReaches reach way
-  distance_goes reach (bin Add a b) way fits e = by (is_reg (counter_at netlist) a && (is_shape b && shows b 2)) refl e
+  distance_goes : (reach : ℕ) (t : Term) (way : BranchTarget) → TermFits t → relative_target netlist.edition (counter_at netlist) t ≡ Some way → IsTargetTerm netlist way t × TargetReaches reach way
+  distance_goes reach (bin Add a b) way fits e = by (is_reg (counter_at netlist) a && (is_shape_in netlist.edition b && shows b 2)) refl e
     where
-      last : (p : Bool) → (is_reg (counter_at netlist) b && (is_shape a && shows a 2)) ≡ p → (if p then Some (relative a) else None) ≡ Some way
+      last : (p : Bool) → (is_reg (counter_at netlist) b && (is_shape_in netlist.edition a && shows a 2)) ≡ p → (if p then Some (relative a) else None) ≡ Some way
           → IsTargetTerm netlist way (bin Add a b) × TargetReaches reach way
       last true k h =
-          (let x = and_parts (is_reg (counter_at netlist) b) (is_shape a && shows a 2) k in
-          let y = and_parts (is_shape a) (shows a 2) x.1 in
+          (let x = and_parts (is_reg (counter_at netlist) b) (is_shape_in netlist.edition a && shows a 2) k in
+          let y = and_parts (is_shape_in netlist.edition a) (shows a 2) x.1 in
           let r = reg_is (counter_at netlist) b x.0 in
           subst (λ w. IsTargetTerm netlist w (bin Add a b) × TargetReaches reach w) (some_same (relative a) way h)
-          ((y.0, sym fits.2 ∙ ap term_width r, inr (ap (λ n. bin Add a n) r)), y.1))
+          ((shape_from netlist.edition _ y.0, sym fits.2 ∙ ap term_width r, inr (ap (λ n. bin Add a n) r)), y.1))
       last false k h = absurd (cc)
 
-      by : (p : Bool) → (is_reg (counter_at netlist) a && (is_shape b && shows b 2)) ≡ p
-          → first_of (if p then Some (relative b) else None) (distance_if (is_reg (counter_at netlist) b) a) ≡ Some way → IsTargetTerm netlist way (bin Add a b) × TargetReaches reach way
+      by : (p : Bool) → (is_reg (counter_at netlist) a && (is_shape_in netlist.edition b && shows b 2)) ≡ p
+          → first_of (if p then Some (relative b) else None) (distance_if netlist.edition (is_reg (counter_at netlist) b) a) ≡ Some way → IsTargetTerm netlist way (bin Add a b) × TargetReaches reach way
       by true k h =
-          (let x = and_parts (is_reg (counter_at netlist) a) (is_shape b && shows b 2) k in
-          let y = and_parts (is_shape b) (shows b 2) x.1 in
+          (let x = and_parts (is_reg (counter_at netlist) a) (is_shape_in netlist.edition b && shows b 2) k in
+          let y = and_parts (is_shape_in netlist.edition b) (shows b 2) x.1 in
           let r = reg_is (counter_at netlist) a x.0 in
           subst (λ w. IsTargetTerm netlist w (bin Add a b) × TargetReaches reach w) (some_same (relative b) way h)
-          ((y.0, fits.2 ∙ ap term_width r, inl (ap (λ n. bin Add n b) r)), y.1))
-      by false k h = last (is_reg (counter_at netlist) b && (is_shape a && shows a 2)) refl h
+          ((shape_from netlist.edition _ y.0, fits.2 ∙ ap term_width r, inl (ap (λ n. bin Add n b) r)), y.1))
+      by false k h = last (is_reg (counter_at netlist) b && (is_shape_in netlist.edition a && shows a 2)) refl h
   distance_goes reach _ way fits e = absurd (cc)
 
-  target_goes : (reach : ℕ) (t : Term) (way : BranchTarget) → TermFits t → IsTermOf netlist t → allowed_target (counter_at netlist) reach t ≡ Some way → IsTargetTerm netlist way t × TargetReaches reach way
-  target_goes reach t way fits terms e = by (is_absolute reach t) refl e
+  target_goes : (reach : ℕ) (t : Term) (way : BranchTarget) → TermFits t → IsTermOf netlist t → allowed_target netlist.edition (counter_at netlist) reach t ≡ Some way → IsTargetTerm netlist way t × TargetReaches reach way
+  target_goes reach t way fits terms e = by (is_absolute netlist.edition reach t) refl e
     where
-      by : (b : Bool) → is_absolute reach t ≡ b → first_of (if b then Some (absolute t) else None) (relative_target (counter_at netlist) t) ≡ Some way → IsTargetTerm netlist way t × TargetReaches reach way
+      by : (b : Bool) → is_absolute netlist.edition reach t ≡ b → first_of (if b then Some (absolute t) else None) (relative_target netlist.edition (counter_at netlist) t) ≡ Some way → IsTargetTerm netlist way t × TargetReaches reach way
       by true a h =
-          (let k = and_parts (is_shape t) _ a in
+          (let k = and_parts (is_shape_in netlist.edition t) _ a in
           let le : reach ≤ reach_of t = leb-true reach (reach_of t) k.1 in
-          subst (λ w. IsTargetTerm netlist w t × TargetReaches reach w) (some_same (absolute t) way h) (refl, λ v lt. below_shown t k.0 fits terms v (omega (arith, le, lt))))
+          subst (λ w. IsTargetTerm netlist w t × TargetReaches reach w) (some_same (absolute t) way h) (refl, λ v lt. below_shown t (shape_from netlist.edition t k.0) fits terms v (omega (arith, le, lt))))
       by false a h = distance_goes reach t way fits h
 
   module _ (some : 0 < word_width netlist) (patterns : List Pattern) (known : AreKnown netlist patterns) where
@@ -167,7 +170,7 @@ module _ (netlist : Netlist) where
     jump_made number p at h fields = record { is = at ∙ ap Some (λ j. record { storage = h.storage j; move = h.move j }) }
 
     pub jump_shows : (number : ℕ) (p : Pattern) → slice_get patterns number ≡ Some p → (h : IsJump netlist p) (v : ℕ) → v < reach_of h.target → shows h.target v ≡ true
-    jump_shows number p at h = below_shown h.target h.shape (subst MoveFits h.move (known number p at).fits) (subst (IsMoveOf netlist) h.move (known number p at).terms)
+    jump_shows number p at h = below_shown h.target (shape_from netlist.edition h.target h.shape) (subst MoveFits h.move (known number p at).fits) (subst (IsMoveOf netlist) h.move (known number p at).terms)
 
     -- ---- branch forms
 
@@ -175,8 +178,8 @@ module _ (netlist : Netlist) where
       abbrev free : ℕ
       free = 2 ^ counter_of netlist.codes
 
-      o : IsOpened (counter_at netlist) reach h.value parts
-      o = opened (counter_at netlist) reach h.value parts h.parts
+      o : IsOpened netlist.edition (counter_at netlist) reach h.value parts
+      o = opened netlist.edition (counter_at netlist) reach h.value parts h.parts
 
       known_parts : Parts netlist free parts.test o.target
       known_parts =
@@ -192,6 +195,12 @@ module _ (netlist : Netlist) where
 
       pub test_once : (choice : ℕ) → IsOnce (swapped choice (test_sides parts)).value
       test_once choice = (test_swapped choice).once (once_of (word_width netlist) free parts.test some (words_in netlist parts.test test_terms known_parts.test_fits) known_parts.test_linear)
+
+      -- its reads of the file show every cell
+      pub test_shown : (choice : ℕ) → CellsShown (size_in InFile netlist.storages) (swapped choice (test_sides parts)).value
+      test_shown choice =
+          swapped_shown (size_in InFile netlist.storages) (λ path. picks choice (swap_paths (test_sides parts)) (1 ∷ path)) parts.test
+          (shown_of (size_in InFile netlist.storages) parts.test h.cells)
 
       pub branch_made : (choice : ℕ) → IsBranchForm netlist patterns (branch_rule netlist number p parts choice) parts.when_one parts.to
       branch_made choice = record {
@@ -214,4 +223,4 @@ module _ (netlist : Netlist) where
   pub jump_narrow : (order : List ℕ) (keeps : KeepsRules netlist order) (some : 0 < word_width netlist) (patterns : List Pattern) (known : AreKnown netlist patterns) (number : ℕ) (p : Pattern) → slice_get patterns number ≡ Some p → (h : IsJump netlist p) → reach_of h.target ≤ 2 ^ counter_width netlist
   jump_narrow order keeps some patterns known number p at h =
       jump_within netlist order keeps (word_width netlist) p (known number p at).is h.storage h.target h.move
-      (shape_fits netlist h.target h.shape (subst (IsMoveOf netlist) h.move (known number p at).terms) (subst MoveFits h.move (known number p at).fits))
+      (shape_fits netlist h.target (shape_from netlist.edition h.target h.shape) (subst (IsMoveOf netlist) h.move (known number p at).terms) (subst MoveFits h.move (known number p at).fits))

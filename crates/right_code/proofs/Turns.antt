@@ -5,13 +5,13 @@ use Rattle.net_model.specs.declared.hardware.Netlist.{Netlist}
 use Rattle.net_model.specs.CheckedRules.{KeepsRules}
 use Rattle.net_model.specs.Nets.{counter_width, memory_id, word_width}
 use Rattle.net_model.specs.Patterns.{IsPattern, Pattern}
-use Rattle.form_model.specs.Rules.{BranchTarget, Kind, Rule, into_memory, into_reg, jumps, branches}
+use Rattle.form_model.specs.Rules.{BranchTarget, Kind, Rule, into_file, into_memory, into_reg, jumps, branches}
+use Rattle.form_set.specs.Static.{is_file_at}
 use Rattle.form_model.specs.Shapes.{reach_of, shows}
 use Rattle.form_set.specs.Listing.{AreForms, goal_at, goal_reach, greatest_reach}
 use Rattle.form_set.specs.Words.{CanJump}
 use Rattle.form_set.specs.Promises.{IsFormOf, is_control_goal, of_branch, of_jump, of_plain}
 use Rattle.branch_fix.specs.Items.{jump_form, reaches}
-use Rattle.word_fit.specs.Fits.{HasNoFile}
 use Rattle.right_code.specs.Inner.Forks.{IsBranchForm, IsJumpForm}
 use Rattle.right_code.specs.Inner.Known.{AreKnown}
 use Rattle.right_code.specs.Inner.Laid.{AreTurns, TargetReaches}
@@ -30,12 +30,14 @@ reached : (k : Kind) (reach : ℕ) → reaches k reach ≡ true → k ≡ jumps 
 reached (jumps r) reach e = ap jumps (eqb-true r reach e)
 reached (into_reg id) reach e = absurd (cc)
 reached into_memory reach e = absurd (cc)
+reached into_file reach e = absurd (cc)
 reached (branches b to) reach e = absurd (cc)
 
 unreached : (k : Kind) (reach : ℕ) → 1 ≤ reach → reaches k reach ≡ false → goal_reach k ≡ reach → ⊥
 unreached (jumps r) reach l e g = eqb-false r reach e g
 unreached (into_reg id) reach l e g = omega (arith, l, g)
 unreached into_memory reach l e g = omega (arith, l, g)
+unreached into_file reach l e g = omega (arith, l, g)
 unreached (branches b to) reach l e g = omega (arith, l, g)
 
 first_jump : (rules : List Rule) (reach : ℕ) → 1 ≤ reach → reach ≡ greatest_reach rules → IsFirstJump rules reach
@@ -57,13 +59,14 @@ first_jump (rule ∷ rules) reach l e = by (reaches rule.goal reach) refl (first
 
 -- a plain form is none of the two
 plain_goal : (netlist : Netlist) (storage : ℕ) (k : Kind) → k ≡ goal_at netlist storage → is_control_goal k ≡ true → ⊥
-plain_goal netlist storage k e h = true≢false (sym h ∙ ap is_control_goal e ∙ by (storage == memory_id netlist.storages))
+plain_goal netlist storage k e h = true≢false (sym h ∙ ap is_control_goal e ∙ by (storage == memory_id netlist.storages) (is_file_at netlist storage))
   where
-    by : (b : Bool) → is_control_goal (if b then into_memory else into_reg storage) ≡ false
-    by true = refl
-    by false = refl
+    by : (b c : Bool) → is_control_goal (if b then into_memory else if c then into_file else into_reg storage) ≡ false
+    by true c = refl
+    by false true = refl
+    by false false = refl
 
-module _ (netlist : Netlist) (order : List ℕ) (keeps : KeepsRules netlist order) (bare : HasNoFile netlist) (some : 0 < word_width netlist) (patterns : List Pattern) (known : AreKnown netlist patterns) (reach : ℕ) (rules : List Rule) (forms : AreForms netlist patterns rules reach) where
+module _ (netlist : Netlist) (order : List ℕ) (keeps : KeepsRules netlist order) (some : 0 < word_width netlist) (patterns : List Pattern) (known : AreKnown netlist patterns) (reach : ℕ) (rules : List Rule) (forms : AreForms netlist patterns rules reach) where
   record IsJumping (rule : Rule) : Type 0 where
     form : IsJumpForm netlist patterns rule
     shown : (v : ℕ) → v < reach → shows rule.value v ≡ true
@@ -108,14 +111,14 @@ module _ (netlist : Netlist) (order : List ℕ) (keeps : KeepsRules netlist orde
   -- a form that branches is made of its pattern
   pub fork_form : (k : ℕ) (turn : Rule) (when_one : Bool) (way : BranchTarget) → slice_get rules k ≡ Some turn → turn.goal ≡ branches when_one way → IsBranchForm netlist patterns turn when_one way
   fork_form k turn when_one way at g =
-      let r = placed netlist order keeps bare some patterns known reach rules forms.list k turn at in
+      let r = placed netlist order keeps some patterns known reach rules forms.list k turn at in
       (turning r.number r.pattern turn when_one way r.at r.of g).form
 
   -- where there is a jump form
   pub are_turns : 1 ≤ reach → AreTurns netlist patterns rules reach
   are_turns l =
       let f = first_jump rules reach l forms.greatest_is in
-      let q = placed netlist order keeps bare some patterns known reach rules forms.list f.place f.rule f.at in
+      let q = placed netlist order keeps some patterns known reach rules forms.list f.place f.rule f.at in
       let j = jumping q.number q.pattern f.rule q.at q.of f.goal in
       record {
         rule = f.rule;
@@ -124,7 +127,7 @@ module _ (netlist : Netlist) (order : List ℕ) (keeps : KeepsRules netlist orde
         shown = j.shown;
         narrow = j.narrow;
         forks = fork_form;
-        reaches = λ k turn when_one way at g. (let r = placed netlist order keeps bare some patterns known reach rules forms.list k turn at in (turning r.number r.pattern turn when_one way r.at r.of g).reached);
+        reaches = λ k turn when_one way at g. (let r = placed netlist order keeps some patterns known reach rules forms.list k turn at in (turning r.number r.pattern turn when_one way r.at r.of g).reached);
       }
 
   -- ---- words of jumps and branches
@@ -142,7 +145,7 @@ module _ (netlist : Netlist) (order : List ℕ) (keeps : KeepsRules netlist orde
   can_turn number p rule at (of_branch choice parts b e) g = record { pattern = p; at = ap (λ (r : Rule). slice_get patterns r.pattern) e ∙ at; is = (known number p at).is; can = b.can }
 
   pub turn_can : (k : ℕ) (rule : Rule) → slice_get rules k ≡ Some rule → is_control_goal rule.goal ≡ true → CanTurn rule
-  turn_can k rule at g = let r = placed netlist order keeps bare some patterns known reach rules forms.list k rule at in can_turn r.number r.pattern rule r.at r.of g
+  turn_can k rule at g = let r = placed netlist order keeps some patterns known reach rules forms.list k rule at in can_turn r.number r.pattern rule r.at r.of g
 
   pub jump_can : 1 ≤ reach → (rule : Rule) → jump_form rules reach ≡ Some rule → CanTurn rule
   jump_can l rule e =

@@ -13,7 +13,8 @@ use Rattle.net_model.specs.Fields.{fields, WordFitsTerm}
 use Rattle.form_model.specs.Shapes.{shape_setting}
 use Rattle.form_model.specs.Rules.{BranchTarget, absolute, relative}
 use Rattle.branch_fix.specs.Rounds.{distance}
-use Rattle.branch_fix.proofs.Settings.{setting_means, distance_leads}
+use Rattle.form_model.proofs.SettingLaws.{setting_means}
+use Rattle.branch_fix.proofs.Settings.{distance_leads}
 use Rattle.right_code.specs.Inner.Forks.{IsTargetTerm, IsTargetShown}
 use Rattle.right_code.proofs.Masks.{none_or, or_none, shape_bits}
 use Rattle.right_code.proofs.Branching.{mean_under}

@@ -3,6 +3,10 @@ use Rattle.std.proofs.Common.{ℕ, ◌≡◌, ◌≢◌, ◌<◌, true, List, []
 use Rattle.std.specs.Int.Bits.{or_add_and}
 use Rattle.std.proofs.lemmas.Nat.{and_le_l}
 use Rattle.std.proofs.lemmas.Nat.Bits.{bit_at-zero}
+use Rattle.net_model.specs.declared.hardware.Space.TheVariants.{File as InFile}
+use Rattle.net_model.specs.Nets.{size_in}
+use Rattle.emit_seq.specs.Formed.{AreFormed}
+use Rattle.transfer_set.specs.Tables.{file_place}
 use Rattle.net_model.specs.declared.hardware.Netlist.{Netlist}
 use Rattle.net_model.specs.CheckedRules.{KeepsRules}
 use Rattle.net_model.specs.Fields.{fields, move_fields}
@@ -12,7 +16,7 @@ use Rattle.net_model.specs.Terms.{Term, Move, keep, write, write_at}
 use Rattle.form_model.specs.declared.forms.Step.{Step}
 use Rattle.form_model.specs.Rules.{Kind, Rule, tested}
 use Rattle.form_model.specs.Covers.{Stock, Choice}
-use Rattle.form_model.specs.Effects.{operation_of}
+use Rattle.block_words.specs.Laws.{operation_in}
 use Rattle.form_model.specs.Live.{Regs, no_regs, regs_of, singles}
 use Rattle.form_model.specs.Steps.{cover_steps}
 use Rattle.form_set.specs.Listing.{AreRules, sides_of}
@@ -24,7 +28,7 @@ use Rattle.emit_seq.specs.Spares.{AreSpare, step_clobbers, wanted}
 use Rattle.emit_seq.proofs.Settled.{steps_of_forms}
 use Rattle.emit_seq.proofs.Spared.{clobbers_at, steps_spare}
 use Rattle.src_trees.specs.Lowered.{Work}
-use Rattle.word_fit.specs.Fits.{fits_over, HasNoFile}
+use Rattle.word_fit.specs.Fits.{fits_over}
 use Rattle.word_fit.specs.Groups.{AllHaveWords}
 use Rattle.block_words.specs.Formed.{AreWorded, IsWorded}
 use Rattle.block_words.proofs.Worded.{have_words}
@@ -55,7 +59,8 @@ swapped_fields choice (write_at a v) n =
     let x : Sides = record { addr = Some a; value = v } in
     sides_fields (Some a) (swapped choice x).addr v (swapped choice x).value (swapped_sides choice x)
 
-module _ (netlist : Netlist) (order : List ℕ) (keeps : KeepsRules netlist order) (bare : HasNoFile netlist) (some : 0 < word_width netlist) (patterns : List Pattern) (known : AreKnown netlist patterns) (reach : ℕ) (stock : Stock) (list : AreRules netlist reach 0 patterns stock.rules) where
+module _ (netlist : Netlist) (order : List ℕ) (keeps : KeepsRules netlist order) (some : 0 < word_width netlist) (patterns : List Pattern) (known : AreKnown netlist patterns) (reach : ℕ) (stock : Stock) (sized : stock.file ≡ size_in InFile netlist.storages)
+    (list : AreRules netlist reach 0 patterns stock.rules) where
   no_step : (goal other : Kind) → goal ≡ other → IsStepping goal → (IsStepping other → ⊥) → ⊥
   no_step goal other e h n = n (subst IsStepping e h)
 
@@ -76,7 +81,7 @@ module _ (netlist : Netlist) (order : List ℕ) (keeps : KeepsRules netlist orde
         };
         mask = clobbers;
         same = ap (λ n. step_clobbers stock.rules (record { pattern = n; setting = x.setting })) same
-            ∙ ap (λ n. regs_of n) (clobbers_at stock.rules (are_shared netlist order keeps bare some patterns known reach stock.rules list) k rule listed ∙ ap (λ (r : Rule). r.clobbers) e);
+            ∙ ap (λ n. regs_of n) (clobbers_at stock.rules (are_shared netlist order keeps some patterns known reach stock.rules list) k rule listed ∙ ap (λ (r : Rule). r.clobbers) e);
         words = plain_words netlist p clobbers plain are;
       }
 
@@ -84,7 +89,7 @@ module _ (netlist : Netlist) (order : List ℕ) (keeps : KeepsRules netlist orde
   all_worded [] h = tt
   all_worded (x ∷ xs) h =
       let o : IsOfForm stock.rules x = h.0 in
-      let f : Placed netlist order keeps bare some patterns known reach stock.rules list o.rule = placed netlist order keeps bare some patterns known reach stock.rules list o.destination o.rule o.listed in
+      let f : Placed netlist order keeps some patterns known reach stock.rules list o.rule = placed netlist order keeps some patterns known reach stock.rules list o.destination o.rule o.listed in
       (of_form x o.rule o.destination o.listed o.goal o.pattern o.within f.number f.pattern f.at f.of, all_worded xs h.1)
 
   forms_on : (xs ys : List Step) → AreOfForms stock.rules xs → AreOfForms stock.rules ys → AreOfForms stock.rules (xs ++ ys)
@@ -101,25 +106,30 @@ module _ (netlist : Netlist) (order : List ℕ) (keeps : KeepsRules netlist orde
   jobs_forms (t ∷ jobs) [] c = absurd c
   jobs_forms (t ∷ jobs) (d ∷ choices) c = forms_on (job_steps stock t d) (jobs_steps stock jobs choices) (job_forms t d c.0) (jobs_forms jobs choices c.2)
 
+  formed : AreFormed (file_place netlist.storages) patterns (length netlist.storages) stock.file stock.rules
+  formed =
+      subst (λ n. AreFormed (file_place netlist.storages) patterns (length netlist.storages) n stock.rules) (sym sized)
+      (are_formed netlist order keeps some patterns known reach stock.rules list)
+
   -- the steps of a block, where nothing is live behind it
   pub block_words : (jobs : List Work) (choices : List Choice) → AreCovered stock jobs choices
-      → AllHaveWords (operation_of patterns) (fits_over netlist (operation_of patterns)) (singles (jobs_steps stock jobs choices)) (regs_of 0)
+      → AllHaveWords (operation_in netlist patterns) (fits_over netlist (operation_in netlist patterns)) (singles (jobs_steps stock jobs choices)) (regs_of 0)
   block_words jobs choices c =
       let xs : List Step = jobs_steps stock jobs choices in
       have_words netlist patterns (step_clobbers stock.rules) xs (regs_of 0) (all_worded xs (jobs_forms jobs choices c))
-      (spare_less (operation_of patterns) (step_clobbers stock.rules) xs no_regs (regs_of 0) (λ r e. cc (e, bit_at-zero r))
-      (jobs_spare stock patterns (length netlist.storages) (counter_of netlist.codes) (are_formed netlist order keeps bare some patterns known reach stock.rules list) (are_shared netlist order keeps bare some patterns known reach stock.rules list)
-      (is_counter netlist order keeps bare some patterns known reach stock.rules list) jobs choices c).0)
+      (spare_less (operation_in netlist patterns) (step_clobbers stock.rules) xs no_regs (regs_of 0) (λ r e. cc (e, bit_at-zero r))
+      (jobs_spare stock (file_place netlist.storages) patterns (length netlist.storages) (counter_of netlist.codes) formed (are_shared netlist order keeps some patterns known reach stock.rules list)
+      (is_counter netlist order keeps some patterns known reach stock.rules list) jobs choices c).0)
 
   -- the steps of a test, where registers of its condition are live behind it
   pub test_words : (job : Work) (choice : Choice) (live : Regs) → IsCovered stock (test_of job) choice → ((r : ℕ) → live r ≡ true → wanted stock tested (tree_used (test_of job) choice) choice.plan r ≡ true)
-      → AllHaveWords (operation_of patterns) (fits_over netlist (operation_of patterns)) (singles (job_steps stock (test_of job) choice)) live
+      → AllHaveWords (operation_in netlist patterns) (fits_over netlist (operation_in netlist patterns)) (singles (job_steps stock (test_of job) choice)) live
   test_words job choice live c f =
       let used : Term = tree_used (test_of job) choice in
       let xs : List Step = job_steps stock (test_of job) choice in
-      let s : AreSpare stock patterns (counter_of netlist.codes) tested used choice.plan =
-      subst (λ t. AreSpare stock patterns (counter_of netlist.codes) tested t choice.plan) (sym (ap tree_or_none c.covers.used))
-      (steps_spare stock patterns (length netlist.storages) (counter_of netlist.codes) (are_formed netlist order keeps bare some patterns known reach stock.rules list) (are_shared netlist order keeps bare some patterns known reach stock.rules list)
-      (is_counter netlist order keeps bare some patterns known reach stock.rules list) tested c.covers.tree choice.plan tt c.covers.orderly) in
+      let s : AreSpare stock (file_place netlist.storages) patterns (counter_of netlist.codes) tested used choice.plan =
+      subst (λ t. AreSpare stock (file_place netlist.storages) patterns (counter_of netlist.codes) tested t choice.plan) (sym (ap tree_or_none c.covers.used))
+      (steps_spare stock (file_place netlist.storages) patterns (length netlist.storages) (counter_of netlist.codes) formed (are_shared netlist order keeps some patterns known reach stock.rules list)
+      (is_counter netlist order keeps some patterns known reach stock.rules list) tested c.covers.tree choice.plan tt c.covers.orderly) in
       have_words netlist patterns (step_clobbers stock.rules) xs live (all_worded xs (job_forms (test_of job) choice c))
-      (spare_less (operation_of patterns) (step_clobbers stock.rules) xs (wanted stock tested used choice.plan) live f s.spare)
+      (spare_less (operation_in netlist patterns) (step_clobbers stock.rules) xs (wanted stock tested used choice.plan) live f s.spare)

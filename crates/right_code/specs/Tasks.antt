@@ -3,7 +3,8 @@
 use Rattle.std.specs.Prelude.{ℕ, ◌≤◌, ◌≡◌, List, None}
 use Rattle.net_model.specs.declared.hardware.Netlist.{Netlist}
 use Rattle.net_model.specs.CheckedRules.{KeepsRules, Ordered, memory_addr_width}
-use Rattle.net_model.specs.Nets.{memory_size, memory_width}
+use Rattle.net_model.specs.declared.hardware.Space.TheVariants.{File as InFile}
+use Rattle.net_model.specs.Nets.{memory_size, memory_width, size_in}
 use Rattle.src_model.specs.declared.typed.Typed.{Typed}
 use Rattle.src_model.specs.Rules.{first_fault, temp_count}
 use Rattle.src_model.specs.Written.{Listing, listing_of}
@@ -20,10 +21,9 @@ pub record Task : Type 0 where
   pub width : ℕ
   pub listing : Listing
 
--- the netlist is of the first edition and keeps its rules, and the program its own; its words are
--- those of the data memory, and the memory has a cell for each of its cells
+-- the netlist keeps its rules, and the program its own; its words are those of the data memory, and
+-- the memory has a cell for each of its cells
 pub record IsChecked (order : List ℕ) (task : Task) : Type 0 where
-  pub first : task.netlist.edition ≡ 1
   pub netlist : KeepsRules task.netlist order
   pub program : first_fault task.width task.listing ≡ None
   pub words : memory_width task.netlist.storages ≡ task.width
@@ -47,6 +47,10 @@ task_memory task =
 abbrev pub task_works : Task → List Work
 task_works task = program_works (task_memory task) task.listing
 
--- forms, and the program's temporary cells
+-- forms, the program's temporary cells, and the cells of the register file
 abbrev pub task_stock : List Rule → Task → Stock
-task_stock rules task = record { rules = rules; temps = temp_count task.width task.listing }
+task_stock rules task = record {
+  rules = rules;
+  temps = temp_count task.width task.listing;
+  file = size_in InFile task.netlist.storages;
+}

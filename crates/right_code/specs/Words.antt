@@ -6,7 +6,7 @@ use Rattle.net_model.specs.declared.hardware.Netlist.{Netlist}
 use Rattle.net_model.specs.Patterns.{Pattern}
 use Rattle.code_model.specs.declared.image.Word.{Word}
 use Rattle.form_model.specs.declared.forms.Step.{Step}
-use Rattle.form_model.specs.Effects.{operation_of}
+use Rattle.block_words.specs.Laws.{operation_in}
 use Rattle.form_model.specs.Live.{Regs}
 use Rattle.word_fit.specs.Fits.{FitsJump, IsLeastFit, fits_over}
 use Rattle.word_fit.specs.Groups.{AreLeast}
@@ -30,13 +30,13 @@ pub record IsPackingOf (netlist : Netlist) (patterns : List Pattern) (steps : Li
     (after : Regs) (groups : List (List Step)) : Type 0 where
   pub some : EachHasStep groups
   pub holds : IsPermutation steps (all_steps groups)
-  pub means : MeansSteps netlist (operation_of patterns) after steps groups
-  pub packed : IsPacked (operation_of patterns) (fits_over netlist (operation_of patterns)) after groups
+  pub means : MeansSteps netlist (operation_in netlist patterns) after steps groups
+  pub packed : IsPacked (operation_in netlist patterns) (fits_over netlist (operation_in netlist patterns)) after groups
 
 -- each group has one word, the least that fits it with the registers that are live behind it
 abbrev pub AreGroupWords : Netlist → List Pattern → List (List Step) → Regs → List ℕ → Type 0
 AreGroupWords netlist patterns groups after words =
-    AreLeast (operation_of patterns) (fits_over netlist (operation_of patterns)) words groups after
+    AreLeast (operation_in netlist patterns) (fits_over netlist (operation_in netlist patterns)) words groups after
 
 -- ---- the words of a layout
 
@@ -45,7 +45,7 @@ AreGroupWords netlist patterns groups after words =
 abbrev pub IsItemWord : Netlist → List Pattern → (ℕ → List ℕ) → ℕ → Item → Type 0
 IsItemWord netlist patterns words i (Group block at) = i ≡ slice_index (words block) at
 IsItemWord netlist patterns words i (Jump step) =
-    IsLeastFit (λ word. FitsJump netlist word (operation_of patterns step)) i
+    IsLeastFit (λ word. FitsJump netlist word (operation_in netlist patterns step)) i
 
 -- the words of items stand in the code one after the other, from an address on
 abbrev pub StandItems : Netlist → List Pattern → (ℕ → List ℕ) → List ℕ → ℕ → List Item → Type 0

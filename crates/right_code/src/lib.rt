@@ -3,7 +3,7 @@
 //! Promise: `law_of_programs`: an image that is made for a checked task is right code, which traces
 //! the program (`IsMadeFor`, `IsRightImage`, `IsChecked`), where the code has room for its words
 //! and jumps reach them all (`reach`), as they do where they reach as far as the bound (`bound`).
-//! The netlist of a checked task is of the first edition, so it has no register file.
+//! The netlist may have a register file; the code keeps the program's cells in the data memory.
 //! `law_of_block_words`, `law_of_test_words` and `law_of_jump_words`: each step and each jump of
 //! such code has a word. `law_of_chosen`: a chosen cover has a cell for each of its cuts.
 //! `law_of_lists`, `law_of_costs` and `law_of_bare`: what the definitions ask for is one: the

@@ -4,7 +4,7 @@ ghost use Rattle.std.specs.Prelude.{ℕ, ◌≡◌, true, List, Some, slice_get}
 ghost use Rattle.net_model.specs.Patterns.{ArePatterns, Pattern};
 ghost use Rattle.form_model.specs.declared.forms.Step.{Step};
 ghost use Rattle.form_model.specs.Covers.{Choice};
-ghost use Rattle.form_model.specs.Effects.{operation_of};
+ghost use Rattle.block_words.specs.Laws.{operation_in};
 ghost use Rattle.form_model.specs.Live.{Regs, regs_of, singles};
 ghost use Rattle.form_model.specs.Rules.{Rule, tested};
 ghost use Rattle.form_set.specs.Listing.{AreForms};
@@ -34,7 +34,7 @@ pub fn law_of_block_words()
         (rules : List Rule) (reach : ℕ) → AreForms task.netlist patterns rules reach →
         (choices : List Choice) → AllChosen (task_stock rules task) (task_works task) choices →
         (at n : ℕ) →
-        AllHaveWords (operation_of patterns) (fits_over task.netlist (operation_of patterns))
+        AllHaveWords (operation_in task.netlist patterns) (fits_over task.netlist (operation_in task.netlist patterns))
         (singles (jobs_steps (task_stock rules task)
         (jobs_at (program_flow task.listing) (task_works task) at n)
         (choices_at (program_flow task.listing) choices at n))) (regs_of 0) }
@@ -52,7 +52,7 @@ pub fn law_of_test_words()
         job.destination ≡ tested → (live : Regs) →
         ((r : ℕ) → live r ≡ true →
         wanted (task_stock rules task) tested (tree_used job choice) choice.plan r ≡ true) →
-        AllHaveWords (operation_of patterns) (fits_over task.netlist (operation_of patterns))
+        AllHaveWords (operation_in task.netlist patterns) (fits_over task.netlist (operation_in task.netlist patterns))
         (singles (job_steps (task_stock rules task) job choice)) live }
 {}
 
@@ -70,5 +70,5 @@ pub fn law_of_jump_words()
         IsBranchOf (task_stock rules task) job choice f) →
         (k : ℕ) (step : Step) →
         slice_get (items_from rules (jump_form rules reach) (starts parts) 0 parts) k ≡ Some (Jump step) →
-        (word : ℕ) × FitsJump task.netlist word (operation_of patterns step) }
+        (word : ℕ) × FitsJump task.netlist word (operation_in task.netlist patterns step) }
 {}

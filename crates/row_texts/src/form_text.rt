@@ -9,7 +9,7 @@ use crate::text::put;
 use form_model::{Form, Forms, Goal, RegSet, Target};
 use form_set::forms;
 use net_extract::{Extracted, read_extracted};
-use net_model::{Checked, Expr};
+use net_model::{Checked, Expr, Space};
 use rec_bits::NoMemory;
 use std::alloc::{AllocError, Global};
 
@@ -91,6 +91,7 @@ fn add_goal(text: &mut String, checked: &Checked, form: &Form) -> Result<(), Row
     let id = match &form.goal {
         Goal::Reg(id) => *id,
         Goal::Memory => checked.memory(),
+        Goal::File => checked.place(Space::File),
         Goal::Jump { .. } | Goal::Branch { .. } => checked.pc(),
     };
     add_storage(text, checked, id)?;
@@ -101,7 +102,7 @@ fn add_goal(text: &mut String, checked: &Checked, form: &Form) -> Result<(), Row
 // Adds the value of a form, and for a jump or a branch where it goes.
 fn add_value(text: &mut String, checked: &Checked, form: &Form) -> Result<(), RowFault> {
     match &form.goal {
-        Goal::Reg(_) | Goal::Memory => add_expr(text, checked, &form.value),
+        Goal::Reg(_) | Goal::Memory | Goal::File => add_expr(text, checked, &form.value),
         Goal::Jump { reach } => {
             add_expr(text, checked, &form.value)?;
             Ok(put(text, " below ", *reach)?)
@@ -134,6 +135,9 @@ fn add_form(text: &mut String, checked: &Checked, form: &Form) -> Result<(), Row
     text.push_str(" ")?;
     add_goal(text, checked, form)?;
     add_value(text, checked, form)?;
+    if let Some(place) = form.tied {
+        put(text, ", tied ", u64::from(place))?;
+    }
     put(text, "; bits ", form.fields)?;
     text.push_str(", clobbers")?;
     add_set(text, checked, form.clobbers)?;

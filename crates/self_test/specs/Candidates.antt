@@ -7,7 +7,7 @@ use Rattle.net_model.specs.Nets.{counter_of, memory_width, storage_bits}
 use Rattle.net_model.specs.Terms.{Term, word, reg, const, read, un, bin, slice, cat, zext, sext, select, Move, keep, write, write_at}
 use Rattle.net_model.specs.Patterns.{Pattern}
 use Rattle.net_model.specs.Occurs.{move_occurs}
-use Rattle.form_model.specs.Shapes.{is_shape}
+use Rattle.form_model.specs.Shapes.{is_plain}
 use Rattle.form_model.specs.Rules.{Rule}
 
 -- ---- what holds of all parts of an expression
@@ -31,7 +31,7 @@ abbrev pub has_field_reads : Term → Bool
 has_field_reads (word v) = true
 has_field_reads (reg r v) = true
 has_field_reads (const v n) = true
-has_field_reads (read space a v) = is_shape a
+has_field_reads (read space a v) = is_plain a
 has_field_reads (un o a) = has_field_reads a
 has_field_reads (bin o a b) = has_field_reads a && has_field_reads b
 has_field_reads (slice a hi lo) = has_field_reads a
@@ -70,7 +70,7 @@ value_of_move (write_at a e) = e
 abbrev pub has_target : ℕ → ℕ → Move → Bool
 has_target w bits keep = false
 has_target w bits (write e) = bits == w
-has_target w bits (write_at a e) = is_shape a
+has_target w bits (write_at a e) = is_plain a
 
 -- ---- candidates
 

@@ -21,7 +21,7 @@ abbrev to_acc : Term → Pattern
 to_acc e = record { storage = 1; move = write e }
 
 abbrev form : ℕ → Rule
-form number = record { pattern = number; goal = into_reg 1; addr = None; value = const 0 0; fields = 0; clobbers = 0 }
+form number = record { pattern = number; goal = into_reg 1; addr = None; value = const 0 0; tied = None; fields = 0; clobbers = 0 }
 
 -- an accumulator plus a cell is one, and so are a load, an immediate and a store
 pub sum_is : is_candidate a16 (to_acc (bin Add acc (read InMemory f 16))) ≡ true

@@ -5,10 +5,10 @@ use Rattle.std.specs.Prelude.{slice_get, remove, insert}
 use Rattle.std.specs.List.{AllZip, range_with_len}
 use Rattle.std.proofs.lemmas.List.FromFn.{length-range_with_len}
 use Rattle.net_model.specs.Terms.{Term}
-use Rattle.form_model.specs.Rules.{Rule, Destination, into, temporary}
+use Rattle.form_model.specs.Rules.{Rule, Destination, temporary}
 use Rattle.form_model.specs.Matches.{Site, operand, cut, Found, taken}
 use Rattle.form_model.specs.Plans.{Plan, use_form, Operands, no_operands, operand_then, Cuts, no_cuts, cut_then}
-use Rattle.form_model.specs.Covers.{Stock, Operand, operands_of, cuts_of, IsOrderly, AreOrderly, AreCut}
+use Rattle.form_model.specs.Covers.{Stock, Operand, home_destination, operands_of, cuts_of, IsOrderly, AreOrderly, AreCut}
 use Rattle.form_model.specs.Steps.{OperandCells, CutCells, cut_count, operands_count, cuts_count, operand_counts, cut_counts, operand_cells, cut_cells, plan_operand_cells, plan_cut_cells, operand_cells_or_none, rule_or_none, found_or_none, rule_at, found_at}
 use Rattle.spill.specs.Filled.{woven_cells, filled_cells, filled_in_operands, filled_by_cuts}
 use Rattle.form_model.proofs.Zips.{zip_put, zip_at, map-remove, get_mapped, length_in, length_out, total, total-insert}
@@ -25,12 +25,12 @@ range_joined a (suc m) n =
 
 operands_same : (sites : List Site) (ks ls : List ℕ) (n : ℕ) → map (λ (c : OperandCells). c.operand) (operand_cells sites ks ls n) ≡ operands_of sites
 operands_same [] ks ls n = refl
-operands_same (operand id tree whole ∷ sites) ks ls n = ap (λ (z : List Operand). record { id = id; tree = tree; whole = whole } ∷ z) (operands_same sites (drop 1 ks) ls _)
+operands_same (operand home tree whole ∷ sites) ks ls n = ap (λ (z : List Operand). record { home = home; tree = tree; whole = whole } ∷ z) (operands_same sites (drop 1 ks) ls _)
 operands_same (cut shape tree ∷ sites) ks ls n = operands_same sites ks (drop 1 ls) _
 
 cuts_same : (sites : List Site) (ks ls : List ℕ) (n : ℕ) → map (λ (c : CutCells). c.tree) (cut_cells sites ks ls n) ≡ cuts_of sites
 cuts_same [] ks ls n = refl
-cuts_same (operand id tree whole ∷ sites) ks ls n = cuts_same sites (drop 1 ks) ls _
+cuts_same (operand home tree whole ∷ sites) ks ls n = cuts_same sites (drop 1 ks) ls _
 cuts_same (cut shape tree ∷ sites) ks ls n = ap (λ (z : List Term). tree ∷ z) (cuts_same sites ks (drop 1 ls) _)
 
 -- so many cells are inside an operand, and inside a cut
@@ -43,14 +43,14 @@ CutHasInside c k = c.cell ≡ c.first + k
 operands_inside : (sites : List Site) (ks ls : List ℕ) (n : ℕ) → length ks ≡ length (operands_of sites) → AllZip HasInside (operand_cells sites ks ls n) ks
 operands_inside [] [] ls n p = tt
 operands_inside [] (k ∷ ks) ls n p = absurd (omega (arith, p))
-operands_inside (operand id tree whole ∷ sites) [] ls n p = absurd (omega (arith, p))
-operands_inside (operand id tree whole ∷ sites) (k ∷ ks) ls n p = (refl, operands_inside sites ks ls (n + k) (omega (arith, p)))
+operands_inside (operand home tree whole ∷ sites) [] ls n p = absurd (omega (arith, p))
+operands_inside (operand home tree whole ∷ sites) (k ∷ ks) ls n p = (refl, operands_inside sites ks ls (n + k) (omega (arith, p)))
 operands_inside (cut shape tree ∷ sites) ks ls n p = operands_inside sites ks (drop 1 ls) _ p
 
 cuts_inside : (sites : List Site) (ks ls : List ℕ) (n : ℕ) → length ls ≡ length (cuts_of sites) → AllZip CutHasInside (cut_cells sites ks ls n) ls
 cuts_inside [] ks [] n p = tt
 cuts_inside [] ks (l ∷ ls) n p = absurd (omega (arith, p))
-cuts_inside (operand id tree whole ∷ sites) ks ls n p = cuts_inside sites (drop 1 ks) ls _ p
+cuts_inside (operand home tree whole ∷ sites) ks ls n p = cuts_inside sites (drop 1 ks) ls _ p
 cuts_inside (cut shape tree ∷ sites) ks [] n p = absurd (omega (arith, p))
 cuts_inside (cut shape tree ∷ sites) ks (l ∷ ls) n p = (refl, cuts_inside sites ks ls (n + l + 1) (omega (arith, p)))
 
@@ -68,9 +68,9 @@ woven_in_order : (sites : List Site) (ks ls : List ℕ) (n : ℕ) (xs ys : List 
 woven_in_order [] [] [] n xs ys p q h g = refl
 woven_in_order [] (k ∷ ks) ls n xs ys p q h g = absurd (omega (arith, p))
 woven_in_order [] [] (l ∷ ls) n xs ys p q h g = absurd (omega (arith, q))
-woven_in_order (operand id tree whole ∷ sites) [] ls n xs ys p q h g = absurd (omega (arith, p))
-woven_in_order (operand id tree whole ∷ sites) (k ∷ ks) ls n [] ys p q h g = absurd h
-woven_in_order (operand id tree whole ∷ sites) (k ∷ ks) ls n (x ∷ xs) ys p q h g =
+woven_in_order (operand home tree whole ∷ sites) [] ls n xs ys p q h g = absurd (omega (arith, p))
+woven_in_order (operand home tree whole ∷ sites) (k ∷ ks) ls n [] ys p q h g = absurd h
+woven_in_order (operand home tree whole ∷ sites) (k ∷ ks) ls n (x ∷ xs) ys p q h g =
     let here : x ≡ range_with_len n k = h.0 ∙ ap (range_with_len n) (omega arith) in
     let later : woven_cells sites xs ys ≡ range_with_len (n + k) (total ks + (total ls + length ls)) = woven_in_order sites ks ls (n + k) xs ys (omega (arith, p)) q h.1 g in
     ap (λ (z : List ℕ). z ++ woven_cells sites xs ys) here ∙ ap (λ (z : List ℕ). range_with_len n k ++ z) later
@@ -94,7 +94,7 @@ operands_long stock (operand_then i p ps) left c =
 
 cuts_long : (stock : Stock) (cs : Cuts) (cuts : List Term) → AreCut stock cuts cs → length (cut_counts cs) ≡ length cuts
 cuts_long stock no_cuts cuts c = sym (ap length c)
-cuts_long stock (cut_then p cs) cuts c = let h = cuts_long stock cs c.1 c.4 in omega (arith, h, ap length c.2)
+cuts_long stock (cut_then p cs) cuts c = let h = cuts_long stock cs c.1 c.5 in omega (arith, h, ap length c.2)
 
 operands_total : (ps : Operands) → total (operand_counts ps) ≡ operands_count ps
 operands_total no_operands = refl
@@ -138,13 +138,13 @@ module _ (stock : Stock) where
     operands_in_order (operand_then i p ps) left (o, get, orderly, apart, rest) h =
         let (x, got, same) = get_mapped (λ (c : OperandCells). c.operand) left i o get in
         let (inside, others) = zip_at HasInside left (operand_counts ps) i x (cut_count p) got h in
-        let mine : IsOrderly stock (into x.operand.id) x.operand.tree x.operand.whole p =
-        subst (λ (y : Operand). IsOrderly stock (into y.id) y.tree y.whole p) (sym same) orderly in
-        let is : filled_cells stock p x.first (into x.operand.id) x.operand.tree x.operand.whole ≡ range_with_len x.first (x.past - x.first) =
-        in_order p x.first (into x.operand.id) x.operand.tree x.operand.whole mine ∙ ap (range_with_len x.first) (omega (arith, inside)) in
+        let mine : IsOrderly stock (home_destination x.operand.home) x.operand.tree x.operand.whole p =
+        subst (λ (y : Operand). IsOrderly stock (home_destination y.home) y.tree y.whole p) (sym same) orderly in
+        let is : filled_cells stock p x.first (home_destination x.operand.home) x.operand.tree x.operand.whole ≡ range_with_len x.first (x.past - x.first) =
+        in_order p x.first (home_destination x.operand.home) x.operand.tree x.operand.whole mine ∙ ap (range_with_len x.first) (omega (arith, inside)) in
         subst
         (λ (g : Option OperandCells). AllZip IsFilled left (insert (filled_in_operands stock ps (remove left i)) i
-        (filled_cells stock p (operand_cells_or_none g).first (into (operand_cells_or_none g).operand.id) (operand_cells_or_none g).operand.tree (operand_cells_or_none g).operand.whole))) (sym got)
+        (filled_cells stock p (operand_cells_or_none g).first (home_destination (operand_cells_or_none g).operand.home) (operand_cells_or_none g).operand.tree (operand_cells_or_none g).operand.whole))) (sym got)
         (zip_put IsFilled left (filled_in_operands stock ps (remove left i)) i x _ got is
         (operands_in_order ps (remove left i) (subst (λ l. AreOrderly stock l ps) (sym (map-remove (λ (c : OperandCells). c.operand) left i)) rest) others))
 
@@ -152,8 +152,8 @@ module _ (stock : Stock) where
         → AllZip CutIsFilled cuts (filled_by_cuts stock cs cuts)
     cuts_in_order no_cuts [] c h = tt
     cuts_in_order no_cuts (x ∷ cuts) c h = absurd (cc)
-    cuts_in_order (cut_then p cs) [] (tree, later, e, orderly, rest) h = absurd (cc)
-    cuts_in_order (cut_then p cs) (x ∷ cuts) (tree, later, e, orderly, rest) h =
+    cuts_in_order (cut_then p cs) [] (tree, later, e, orderly, enough, rest) h = absurd (cc)
+    cuts_in_order (cut_then p cs) (x ∷ cuts) (tree, later, e, orderly, enough, rest) h =
         let same : tree ≡ x.tree = cc in
         let same' : later ≡ map (λ (c : CutCells). c.tree) cuts = cc in
         let mine : IsOrderly stock temporary x.tree false p = subst (λ t. IsOrderly stock temporary t false p) same orderly in

@@ -2,10 +2,10 @@
 -- put a cut into its cell, its cell stands.
 use Rattle.std.specs.Prelude.{ℕ, Bool, false, List, [], ◌∷◌, ◌++◌, slice_get, remove, insert, drop}
 use Rattle.net_model.specs.Terms.{Term}
-use Rattle.form_model.specs.Rules.{Destination, into, temporary}
+use Rattle.form_model.specs.Rules.{Destination, temporary}
 use Rattle.form_model.specs.Matches.{Site, operand, cut}
 use Rattle.form_model.specs.Plans.{Plan, use_form, Operands, no_operands, operand_then, Cuts, no_cuts, cut_then}
-use Rattle.form_model.specs.Covers.{Stock}
+use Rattle.form_model.specs.Covers.{Stock, home_destination}
 use Rattle.form_model.specs.Steps.{OperandCells, CutCells, plan_operand_cells, plan_cut_cells, operand_cells_or_none, cut_cells_or_none, found_at}
 
 abbrev pub first_cells : List (List ℕ) → List ℕ
@@ -15,7 +15,7 @@ first_cells (cells ∷ rest) = cells
 -- the cells inside the operands and those of the form's own cuts, joined in the order of the sites
 abbrev pub woven_cells : List Site → List (List ℕ) → List (List ℕ) → List ℕ
 woven_cells [] of_operands of_cuts = []
-woven_cells (operand id tree whole ∷ sites) of_operands of_cuts =
+woven_cells (operand home tree whole ∷ sites) of_operands of_cuts =
     first_cells of_operands ++ woven_cells sites (drop 1 of_operands) of_cuts
 woven_cells (cut shape tree ∷ sites) of_operands of_cuts =
     first_cells of_cuts ++ woven_cells sites of_operands (drop 1 of_cuts)
@@ -34,7 +34,7 @@ abbrev mutual
   filled_in_operands stock (operand_then i p ps) left =
       insert (filled_in_operands stock ps (remove left i)) i
       (filled_cells stock p (operand_cells_or_none (slice_get left i)).first
-      (into (operand_cells_or_none (slice_get left i)).operand.id)
+      (home_destination (operand_cells_or_none (slice_get left i)).operand.home)
       (operand_cells_or_none (slice_get left i)).operand.tree
       (operand_cells_or_none (slice_get left i)).operand.whole)
 

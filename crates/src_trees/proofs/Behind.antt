@@ -4,7 +4,7 @@ use Rattle.std.proofs.lemmas.List.{get_or-drop, length-set}
 use Rattle.rec_bits.specs.Operators.{apply1_of, apply2_of, slice_of, cat_of, sext_of as extended_of}
 use Rattle.net_model.specs.declared.hardware.Space.TheVariants.{Memory as InMemory, File as InFile}
 use Rattle.net_model.specs.Terms.{Term, word, reg, const, read, un, bin, slice, cat, zext, sext, select, term_width}
-use Rattle.form_model.specs.Rules.{Destination, into, cell, stored, temporary, tested}
+use Rattle.form_model.specs.Rules.{Destination, into, cell, filed, stored, temporary, tested}
 use Rattle.src_trees.specs.Lowered.{Work}
 use Rattle.src_trees.specs.Seen.{tree_value, ReadsCells}
 use Rattle.src_trees.specs.Doing.{job_value, put_at, done, all_done, AllRead, DestinationLies, Lies, AllLie}
@@ -61,6 +61,7 @@ module _ (at : ℕ) (cells others : List ℕ) (alike : Alike at cells others) wh
   aim_lies (stored t) l = let e = alike.long in let v = value_behind t l.0 in (reads_behind t l.0, omega (arith, l.1, v), omega (arith, l.2, v, e))
   aim_lies (into id) l = tt
   aim_lies temporary l = tt
+  aim_lies filed l = tt
   aim_lies tested l = tt
 
   pub lies_behind : (work : Work) → Lies at cells work → Lies at others work
@@ -93,6 +94,7 @@ done_behind at cells others work k l = by work.destination l.destination (job_be
     by (stored t) h v = set_alike at (tree_value cells t) (tree_value others t) _ _ cells others k h.1 (value_behind at cells others k t h.0) v
     by (into id) h v = k
     by temporary h v = k
+    by filed h v = k
     by tested h v = k
 
 -- and so do jobs one after the other

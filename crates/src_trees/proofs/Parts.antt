@@ -3,7 +3,7 @@ use Rattle.std.proofs.Common.{ℕ, zero, suc, ◌≡◌, ◌+◌, ◌-◌, Bool,
 use Rattle.std.proofs.lemmas.List.{length-set, length-append}
 use Rattle.form_model.specs.declared.flow.Flow.{Flow}
 use Rattle.form_model.specs.declared.flow.Flow.TheVariants.{Assign, Jump}
-use Rattle.form_model.specs.Rules.{Destination, into, cell, stored, temporary, tested}
+use Rattle.form_model.specs.Rules.{Destination, into, cell, filed, stored, temporary, tested}
 use Rattle.net_model.specs.Terms.{Term}
 use Rattle.src_model.specs.Written.{Act, assign, choice, while, count, Acts, no_acts, act, Otherwise, without, otherwise}
 use Rattle.src_model.specs.Sizes.{statements, statements_in, statements_else}
@@ -107,6 +107,7 @@ put_length (cell address) v cells = length-set cells address v
 put_length (stored address) v cells = length-set cells (tree_value cells address) v
 put_length (into id) v cells = refl
 put_length temporary v cells = refl
+put_length filed v cells = refl
 put_length tested v cells = refl
 
 pub all_done_length : (ts : List Work) (cells : List ℕ) → length (all_done ts cells) ≡ length cells

@@ -1,7 +1,7 @@
 -- What jobs do to the cells of the memory.
 use Rattle.std.specs.Prelude.{ℕ, ◌≡◌, ◌≤◌, ◌<◌, List, [], ◌∷◌, length, slice_set, Option, Some, None}
 use Rattle.net_model.specs.Terms.{Term}
-use Rattle.form_model.specs.Rules.{Destination, into, cell, stored, temporary, tested}
+use Rattle.form_model.specs.Rules.{Destination, into, cell, filed, stored, temporary, tested}
 use Rattle.src_trees.specs.Lowered.{Work}
 use Rattle.src_trees.specs.Seen.{tree_value, ReadsCells}
 
@@ -16,6 +16,7 @@ destination_cell cells (cell address) = Some address
 destination_cell cells (stored address) = Some (tree_value cells address)
 destination_cell cells (into id) = None
 destination_cell cells temporary = None
+destination_cell cells filed = None
 destination_cell cells tested = None
 
 -- the cells with a value there
@@ -49,6 +50,7 @@ DestinationLies at cells (stored address) =
     × (tree_value cells address < length cells)
 DestinationLies at cells (into id) = Unit {0}
 DestinationLies at cells temporary = Unit {0}
+DestinationLies at cells filed = Unit {0}
 DestinationLies at cells tested = Unit {0}
 
 pub record Lies (at : ℕ) (cells : List ℕ) (work : Work) : Type 0 where

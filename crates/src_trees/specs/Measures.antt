@@ -4,7 +4,7 @@ use Rattle.std.specs.Prelude.{ℕ, ◌+◌, max, ◌≤◌, ◌≡◌, true, if�
 use Rattle.net_model.specs.Terms.{Term, word, reg, const, read, un, bin, slice, cat, zext, sext, select, term_width, size_of}
 use Rattle.src_model.specs.Sizes.{is_word}
 use Rattle.form_model.specs.Trees.{is_tree, is_number}
-use Rattle.form_model.specs.Rules.{Destination, into, cell, stored, temporary, tested}
+use Rattle.form_model.specs.Rules.{Destination, into, cell, filed, stored, temporary, tested}
 use Rattle.src_trees.specs.Lowered.{Work}
 
 -- the nodes of a tree that are as wide as a word; a read at a literal address isn't counted, and is
@@ -44,6 +44,7 @@ tree_temps bits (stored address) t = wide_nodes bits address + wide_nodes bits t
 tree_temps bits (into id) t = wide_below bits t
 tree_temps bits (cell address) t = wide_below bits t
 tree_temps bits temporary t = wide_below bits t
+tree_temps bits filed t = wide_below bits t
 tree_temps bits tested t = wide_below bits t
 
 -- the greatest count over all trees of a job, and over all jobs
@@ -77,6 +78,7 @@ tree_nodes (stored address) t = 1 + node_size address + node_size t
 tree_nodes (into id) t = node_size t
 tree_nodes (cell address) t = node_size t
 tree_nodes temporary t = node_size t
+tree_nodes filed t = node_size t
 tree_nodes tested t = node_size t
 
 -- the greatest count over all trees of a job, and over all jobs
@@ -96,6 +98,7 @@ tree_size (stored address) t = size_of address + size_of t
 tree_size (into id) t = size_of t
 tree_size (cell address) t = size_of t
 tree_size temporary t = size_of t
+tree_size filed t = size_of t
 tree_size tested t = size_of t
 
 abbrev pub IsTreeGoal : Destination → Type 0
@@ -103,6 +106,7 @@ IsTreeGoal (stored address) = is_tree address ≡ true
 IsTreeGoal (into id) = ⊥
 IsTreeGoal (cell address) = Unit {0}
 IsTreeGoal temporary = ⊥
+IsTreeGoal filed = ⊥
 IsTreeGoal tested = Unit {0}
 
 -- all trees of a job

@@ -1,24 +1,25 @@
 -- The steps of a job of a self-test have words, and words of groups fit the netlist.
-use Rattle.std.proofs.Common.{ℕ, suc, ◌<◌, List, [], ◌∷◌, length, slice_index, get_or, refl, sym, subst, append-nil, arith}
+use Rattle.std.proofs.Common.{◌≡◌, ℕ, suc, ◌<◌, List, [], ◌∷◌, length, slice_index, get_or, refl, sym, subst, append-nil, arith}
 use Rattle.std.specs.List.{AllByRecursion}
 use Rattle.std.proofs.lemmas.Option.{slice_get-get_or}
 use Rattle.net_model.specs.CheckedRules.{KeepsRules}
 use Rattle.net_model.specs.declared.hardware.Netlist.{Netlist}
-use Rattle.net_model.specs.Nets.{memory_width, word_width}
+use Rattle.net_model.specs.declared.hardware.Space.TheVariants.{File as InFile}
+use Rattle.net_model.specs.Nets.{memory_width, word_width, size_in}
 use Rattle.net_model.specs.Patterns.{ArePatterns, Pattern}
 use Rattle.net_model.specs.Terms.{size_of}
 use Rattle.net_model.specs.Widths.{WordFits}
 use Rattle.net_model.proofs.WordWidths.{has_bits}
 use Rattle.form_model.specs.Covers.{Choice, IsChosen, Stock}
 use Rattle.form_model.specs.declared.forms.Step.{Step}
-use Rattle.form_model.specs.Effects.{operation_of}
+use Rattle.block_words.specs.Laws.{operation_in}
 use Rattle.form_model.specs.Live.{Regs, regs_of, singles}
 use Rattle.form_model.specs.Rules.{Rule}
 use Rattle.form_set.specs.Listing.{AreForms}
 use Rattle.emit_seq.specs.Cells.{AllReadWords}
 use Rattle.src_trees.specs.Lowered.{Work}
 use Rattle.src_trees.specs.Measures.{IsSmall}
-use Rattle.word_fit.specs.Fits.{HasNoFile, fits_over}
+use Rattle.word_fit.specs.Fits.{fits_over}
 use Rattle.word_fit.specs.Groups.{AllHaveWords}
 use Rattle.right_code.specs.Inner.Jobs.{HasOne}
 use Rattle.right_code.specs.Inner.Known.{AreKnown}
@@ -34,7 +35,7 @@ use Rattle.test_code.specs.Inner.Jobs.{IsCellJob}
 small : (bits temps : ℕ) (job : Work) (j : IsCellJob bits temps job) → IsSmall bits temps (size_of j.tree) job
 small bits temps job j = subst (IsSmall bits temps (size_of j.tree)) (sym j.is) (record { destination = tt; trees = (j.plain, j.few, omega arith, tt) })
 
-module _ (netlist : Netlist) (order : List ℕ) (keeps : KeepsRules netlist order) (bare : HasNoFile netlist) (patterns : List Pattern) (are : ArePatterns netlist patterns) (rules : List Rule) (reach : ℕ) (forms : AreForms netlist patterns rules reach) where
+module _ (netlist : Netlist) (order : List ℕ) (keeps : KeepsRules netlist order) (patterns : List Pattern) (are : ArePatterns netlist patterns) (rules : List Rule) (reach : ℕ) (forms : AreForms netlist patterns rules reach) where
   some : 0 < word_width netlist
   some = has_bits netlist order keeps
 
@@ -42,11 +43,11 @@ module _ (netlist : Netlist) (order : List ℕ) (keeps : KeepsRules netlist orde
   known = known_of netlist order keeps patterns are
 
   reads : AllReadWords (memory_width netlist.storages) rules
-  reads = all_read netlist order keeps bare some patterns known reach rules forms.list
+  reads = all_read netlist order keeps some patterns known reach rules forms.list
 
-  module _ (temps : ℕ) (job : Work) (choice : Choice) (j : IsCellJob (memory_width netlist.storages) temps job) where
+  module _ (temps file : ℕ) (job : Work) (choice : Choice) (j : IsCellJob (memory_width netlist.storages) temps job) where
     abbrev stock : Stock
-    stock = record { rules = rules; temps = temps }
+    stock = record { rules = rules; temps = temps; file = file }
 
     pub job_covered : IsChosen stock job.destination job.trees choice → IsCovered stock job choice
     job_covered c = covered_of (memory_width netlist.storages) stock reads (size_of j.tree) job choice (small (memory_width netlist.storages) temps job j) c
@@ -55,10 +56,10 @@ module _ (netlist : Netlist) (order : List ℕ) (keeps : KeepsRules netlist orde
     one = subst (λ (x : Work). HasOne x.destination x.trees) (sym j.is) (j.tree, refl)
 
     -- each step of the job has a word
-    pub job_have : IsChosen stock job.destination job.trees choice → AllHaveWords (operation_of patterns) (fits_over netlist (operation_of patterns)) (singles (job_steps stock job choice)) (regs_of 0)
-    job_have c =
-        subst (λ (steps : List Step). AllHaveWords (operation_of patterns) (fits_over netlist (operation_of patterns)) (singles steps) (regs_of 0)) (append-nil (job_steps stock job choice))
-        (block_words netlist order keeps bare some patterns known reach stock forms.list (job ∷ []) (choice ∷ []) (job_covered c, one, tt))
+    pub job_have : file ≡ size_in InFile netlist.storages → IsChosen stock job.destination job.trees choice → AllHaveWords (operation_in netlist patterns) (fits_over netlist (operation_in netlist patterns)) (singles (job_steps stock job choice)) (regs_of 0)
+    job_have sized c =
+        subst (λ (steps : List Step). AllHaveWords (operation_in netlist patterns) (fits_over netlist (operation_in netlist patterns)) (singles steps) (regs_of 0)) (append-nil (job_steps stock job choice))
+        (block_words netlist order keeps some patterns known reach stock sized forms.list (job ∷ []) (choice ∷ []) (job_covered c, one, tt))
 
 -- words of groups fit
 module _ (netlist : Netlist) where

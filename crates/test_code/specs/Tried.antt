@@ -1,6 +1,8 @@
 -- Which candidates of a netlist's self-test are tested, and the words that test them.
 use Rattle.std.specs.Prelude.{ℕ, ◌+◌, ◌≡◌, List, [], ◌∷◌, ◌++◌, Option, Some, None}
 use Rattle.net_model.specs.declared.hardware.Netlist.{Netlist}
+use Rattle.net_model.specs.declared.hardware.Space.TheVariants.{File as InFile}
+use Rattle.net_model.specs.Nets.{size_in}
 use Rattle.net_model.specs.Patterns.{ArePatterns, Pattern}
 use Rattle.form_model.specs.Covers.{Choice, Stock, job_cost}
 use Rattle.form_model.specs.Live.{no_regs}
@@ -63,7 +65,11 @@ AreWordsOf netlist patterns stock _ _ words = ⊥
 
 -- the forms, with as many temporary cells as the trees of the self-test may need
 abbrev pub test_stock : Netlist → List Rule → List Pattern → Stock
-test_stock netlist rules patterns = record { rules = rules; temps = test_temps netlist rules patterns }
+test_stock netlist rules patterns = record {
+  rules = rules;
+  temps = test_temps netlist rules patterns;
+  file = size_in InFile netlist.storages;
+}
 
 -- a self-test that is made for a netlist
 pub record IsMadeFor (netlist : Netlist) (tried : List (Option Choice)) (words : List ℕ) : Type 0 where

@@ -3,8 +3,10 @@
 ghost use Rattle.std.specs.Prelude.{◌≡◌, ◌+◌, ◌-◌, ◌^◌, ◌<◌, IfOk, OnOk};
 ghost use Rattle.std.specs.List.{AllByRecursion};
 ghost use Rattle.bit_bdd.specs.Diagrams.{Extends};
-ghost use Rattle.cover.specs.Best.{choice_of, stock_with};
-ghost use Rattle.net_model.specs.Nets.{memory_width};
+ghost use Rattle.cover.specs.Best.{choice_of};
+ghost use Rattle.form_model.specs.Covers.{stock_with};
+ghost use Rattle.net_model.specs.declared.hardware.Space.TheVariants.{File as InFile};
+ghost use Rattle.net_model.specs.Nets.{memory_width, size_in};
 ghost use Rattle.net_model.specs.Patterns.{ArePatterns};
 ghost use Rattle.net_model.specs.Widths.{WordFits};
 ghost use Rattle.form_model.specs.Covers.{IsChosen};
@@ -14,7 +16,6 @@ ghost use Rattle.src_trees.specs.Jobs.{work_of, works_of};
 ghost use Rattle.transfer_set.specs.Ready.{IsReady};
 ghost use Rattle.net_code.specs.Machines.{machine_netlist, machine_patterns};
 ghost use Rattle.self_test.specs.Cells.{test_temps, test_works};
-ghost use Rattle.word_fit.specs.Fits.{HasNoFile};
 ghost use Rattle.test_code.specs.Codes.{IsCodeOf};
 ghost use Rattle.test_code.specs.Inner.Adding.{HasAdded};
 ghost use Rattle.test_code.specs.Inner.Jobs.{IsCellJob};
@@ -52,18 +53,18 @@ fn job_block(
     job: &Job,
     chosen: &JobCover,
 ) -> Result<PackedBlock, NoMemory>
-    requires bare { HasNoFile (machine_netlist machine.now) }
+    requires file { forms.now.file ≡ size_in InFile (machine_netlist machine.now).storages }
     requires ready { IsReady (machine_netlist machine.now) book.old machine.now.pool.now machine.now.patterns.now }
     requires patterns { ArePatterns (machine_netlist machine.now) (machine_patterns machine.now) }
     requires forms { AreForms (machine_netlist machine.now) (machine_patterns machine.now)
         (rules_of forms.now.list.items) forms.now.reach }
     requires job { IsCellJob (memory_width (machine_netlist machine.now).storages) temps (work_of job.now) }
-    requires chosen { IsChosen (stock_with forms.now.list.items temps) (work_of job.now).destination
+    requires chosen { IsChosen (stock_with forms.now.list.items temps forms.now.file) (work_of job.now).destination
         (work_of job.now).trees (choice_of chosen.now) }
     ensures grows { Extends book.old book.new }
     ensures ready { IsReady (machine_netlist machine.now) book.new machine.now.pool.now machine.now.patterns.now }
     ensures words { IfOk result (λ block. AreJobWords (machine_netlist machine.now) (machine_patterns machine.now)
-        (stock_with forms.now.list.items temps) (work_of job.now) (choice_of chosen.now) block.words) }
+        (stock_with forms.now.list.items temps forms.now.file) (work_of job.now) (choice_of chosen.now) block.words) }
     ensures fit { IfOk result (λ block. AllByRecursion (WordFits (machine_netlist machine.now)) block.words) }
 {
     // the rules of the netlist say that each step has a word
@@ -83,7 +84,7 @@ fn add_job(
     job: &Job,
     code: &mut TestCode,
 ) -> Result<(), NoMemory>
-    requires bare { HasNoFile (machine_netlist machine.now) }
+    requires file { forms.now.file ≡ size_in InFile (machine_netlist machine.now).storages }
     requires ready { IsReady (machine_netlist machine.now) book.old machine.now.pool.now machine.now.patterns.now }
     requires patterns { ArePatterns (machine_netlist machine.now) (machine_patterns machine.now) }
     requires forms { AreForms (machine_netlist machine.now) (machine_patterns machine.now)
@@ -93,7 +94,7 @@ fn add_job(
     ensures grows { Extends book.old book.new }
     ensures ready { IsReady (machine_netlist machine.now) book.new machine.now.pool.now machine.now.patterns.now }
     ensures added { OnOk result (HasAdded (machine_netlist machine.now) (machine_patterns machine.now)
-        (stock_with forms.now.list.items temps) (work_of job.now) code.old code.new) }
+        (stock_with forms.now.list.items temps forms.now.file) (work_of job.now) code.old code.new) }
 {
     let Some(chosen) = chosen_cover(alloc, forms, job, temps)? else {
         code.skipped += 1;
@@ -106,7 +107,7 @@ fn add_job(
     Ok(())
 }
 
-/// The code of the jobs of the self-test of a netlist without a register file, by its forms.
+/// The code of the jobs of a netlist's self-test, by its forms.
 pub fn code_of(
     alloc: Global,
     machine: &Machine<'_>,
@@ -114,11 +115,11 @@ pub fn code_of(
     forms: &Forms,
     tests: &TestJobs,
 ) -> Result<TestCode, NoMemory>
-    requires bare { HasNoFile (machine_netlist machine.now) }
     requires ready { IsReady (machine_netlist machine.now) book.old machine.now.pool.now machine.now.patterns.now }
     requires patterns { ArePatterns (machine_netlist machine.now) (machine_patterns machine.now) }
     requires forms { AreForms (machine_netlist machine.now) (machine_patterns machine.now)
         (rules_of forms.now.list.items) forms.now.reach }
+    requires file { forms.now.file ≡ size_in InFile (machine_netlist machine.now).storages }
     requires temps { tests.now.temps
         ≡ test_temps (machine_netlist machine.now) (rules_of forms.now.list.items) (machine_patterns machine.now) }
     requires jobs { works_of tests.now.blocks.jobs.items

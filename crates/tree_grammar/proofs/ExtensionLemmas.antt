@@ -8,9 +8,9 @@ use Rattle.std.proofs.Math.Nat.{mod-eq_of_lt}
 use Rattle.std.proofs.Math.Pow.{pow_mono}
 use Rattle.rec_bits.specs.Operators.{sext_of, is_negative_of}
 use Rattle.net_model.specs.Terms.{Term, word, slice, zext, sext, term_width}
-use Rattle.form_model.specs.Shapes.{field_setting, is_field, shape_setting, shows, then_some}
+use Rattle.form_model.specs.Shapes.{field_setting, is_field, plain_setting, then_some}
 use Rattle.form_model.proofs.FieldLaws.{less_true, true_less}
-use Rattle.form_model.proofs.ShapeLaws.{sext_plain}
+use Rattle.form_model.proofs.PlainLaws.{sext_plain}
 use Rattle.tree_grammar.specs.Inner.Settings.{extension_setting, is_word}
 
 same_test : (a b : Bool) → (a ≡ true → b ≡ true) → (b ≡ true → a ≡ true) → a ≡ b
@@ -120,20 +120,20 @@ extended_setting a w v b = by (sext_of (v % 2 ^ term_width a) (term_width a) w =
 shape_of_field : {E : Type 0} (r : Result ℕ E) (t : Term) (v : ℕ) → is_some (field_setting t v) ≡ true → IfOk r (λ b. field_setting t (v % 2 ^ term_width t) ≡ Some b) → IfOk r (λ b. field_setting t v ≡ Some b)
 shape_of_field r t v h = IfOk-weaker r _ _ (λ b e. low_setting t v b h e)
 
-pub shape_of_zext : {E : Type 0} (r : Result ℕ E) (t a b : Term) (w v : ℕ) → t ≡ zext a w → b ≡ a → shows t v ≡ true → IfOk r (λ n. field_setting b (v % 2 ^ term_width b) ≡ Some n) → IfOk r (λ n. shape_setting t v ≡ Some n)
+pub shape_of_zext : {E : Type 0} (r : Result ℕ E) (t a b : Term) (w v : ℕ) → t ≡ zext a w → b ≡ a → is_some (plain_setting t v) ≡ true → IfOk r (λ n. field_setting b (v % 2 ^ term_width b) ≡ Some n) → IfOk r (λ n. plain_setting t v ≡ Some n)
 shape_of_zext r t a b w v e same h =
-    rw e (IfOk-weaker r _ _ (λ n q. low_setting a v n (subst (λ x. shows x v ≡ true) e h) (subst (λ x. field_setting x (v % 2 ^ term_width x) ≡ Some n) same q)))
+    rw e (IfOk-weaker r _ _ (λ n q. low_setting a v n (subst (λ x. is_some (plain_setting x v) ≡ true) e h) (subst (λ x. field_setting x (v % 2 ^ term_width x) ≡ Some n) same q)))
 
-pub shape_of_sext : {E : Type 0} (r : Result ℕ E) (t a b : Term) (w v : ℕ) → t ≡ sext a w → b ≡ a → shows t v ≡ true → IfOk r (λ n. field_setting b (v % 2 ^ term_width b) ≡ Some n) → IfOk r (λ n. shape_setting t v ≡ Some n)
+pub shape_of_sext : {E : Type 0} (r : Result ℕ E) (t a b : Term) (w v : ℕ) → t ≡ sext a w → b ≡ a → is_some (plain_setting t v) ≡ true → IfOk r (λ n. field_setting b (v % 2 ^ term_width b) ≡ Some n) → IfOk r (λ n. plain_setting t v ≡ Some n)
 shape_of_sext r t a b w v e same h =
-    rw e (IfOk-weaker r _ _ (λ n q. extended_setting a w v n (subst (λ x. shows x v ≡ true) e h) (subst (λ x. field_setting x (v % 2 ^ term_width x) ≡ Some n) same q)))
+    rw e (IfOk-weaker r _ _ (λ n q. extended_setting a w v n (subst (λ x. is_some (plain_setting x v) ≡ true) e h) (subst (λ x. field_setting x (v % 2 ^ term_width x) ≡ Some n) same q)))
 
-pub shape_of_word : {E : Type 0} (r : Result ℕ E) (t : Term) (w v : ℕ) → t ≡ word w → shows t v ≡ true → IfOk r (λ n. field_setting t (v % 2 ^ term_width t) ≡ Some n) → IfOk r (λ n. shape_setting t v ≡ Some n)
+pub shape_of_word : {E : Type 0} (r : Result ℕ E) (t : Term) (w v : ℕ) → t ≡ word w → is_some (plain_setting t v) ≡ true → IfOk r (λ n. field_setting t (v % 2 ^ term_width t) ≡ Some n) → IfOk r (λ n. plain_setting t v ≡ Some n)
 shape_of_word r t w v e h q =
-    subst (λ x. IfOk r (λ n. shape_setting x v ≡ Some n)) (sym e)
-    (shape_of_field r (word w) v (subst (λ x. shows x v ≡ true) e h) (subst (λ x. IfOk r (λ n. field_setting x (v % 2 ^ term_width x) ≡ Some n)) e q))
+    subst (λ x. IfOk r (λ n. plain_setting x v ≡ Some n)) (sym e)
+    (shape_of_field r (word w) v (subst (λ x. is_some (plain_setting x v) ≡ true) e h) (subst (λ x. IfOk r (λ n. field_setting x (v % 2 ^ term_width x) ≡ Some n)) e q))
 
-pub shape_of_slice : {E : Type 0} (r : Result ℕ E) (t a : Term) (hi lo v : ℕ) → t ≡ slice a hi lo → shows t v ≡ true → IfOk r (λ n. field_setting t (v % 2 ^ term_width t) ≡ Some n) → IfOk r (λ n. shape_setting t v ≡ Some n)
+pub shape_of_slice : {E : Type 0} (r : Result ℕ E) (t a : Term) (hi lo v : ℕ) → t ≡ slice a hi lo → is_some (plain_setting t v) ≡ true → IfOk r (λ n. field_setting t (v % 2 ^ term_width t) ≡ Some n) → IfOk r (λ n. plain_setting t v ≡ Some n)
 shape_of_slice r t a hi lo v e h q =
-    subst (λ x. IfOk r (λ n. shape_setting x v ≡ Some n)) (sym e)
-    (shape_of_field r (slice a hi lo) v (subst (λ x. shows x v ≡ true) e h) (subst (λ x. IfOk r (λ n. field_setting x (v % 2 ^ term_width x) ≡ Some n)) e q))
+    subst (λ x. IfOk r (λ n. plain_setting x v ≡ Some n)) (sym e)
+    (shape_of_field r (slice a hi lo) v (subst (λ x. is_some (plain_setting x v) ≡ true) e h) (subst (λ x. IfOk r (λ n. field_setting x (v % 2 ^ term_width x) ≡ Some n)) e q))

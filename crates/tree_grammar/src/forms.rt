@@ -69,6 +69,7 @@ fn take_address<'a>(
             }
         }
         Destination::Register(_) => Ok(None),
+        Destination::File => Ok(None),
         Destination::Test => Ok(None),
     }
 }
@@ -131,6 +132,12 @@ fn take_form<'a>(
             }
             take(parts, temps, &form.value, tree, whole, at)
         }
+        Goal::File => {
+            let Destination::File = destination else {
+                return Ok(None);
+            };
+            take(parts, temps, &form.value, tree, whole, at)
+        }
         Goal::Memory => take_memory(parts, temps, form, destination, tree, at),
         Goal::Branch { .. } => {
             let Destination::Test = destination else {
@@ -144,7 +151,7 @@ fn take_form<'a>(
 
 /// What a form takes of a tree that goes to a destination, where so many temporary cells are used;
 /// none exactly where it doesn't match. A form and a tree have one match at most. `whole` is asked
-/// for a register alone: it says that the tree is the root of its job or the number that is a
+/// for a register or the file alone: it says that the tree is the root of its job or the number that is a
 /// read's address. The trees are numbered from `at`, those of a store's address first, and each
 /// part carries the number of its tree. Want of memory stands also for a field above bit 63 of the
 /// word, and for a tree of more nodes than can be counted.

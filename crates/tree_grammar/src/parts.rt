@@ -7,13 +7,21 @@ ghost use Rattle.tree_grammar.specs.Parts.{destination_at};
 use form_model::{Aim, Tree};
 use net_model::Expr;
 
+/// Where an operand waits for the form that takes it.
+#[derive(Clone, Copy)]
+pub enum Home<'a> {
+    /// In the register of this number.
+    Register(u32),
+    /// In a cell of the register file, which this field shape names.
+    File(&'a Expr),
+}
+
 /// What a match leaves open, with the number of its tree among the subtrees.
 #[derive(Clone, Copy)]
 pub enum Part<'a> {
-    /// A tree that another form has to put into the register of number `id` first. A whole tree
-    /// can't be a cut.
+    /// A tree that another form has to put into its home first. A whole tree can't be a cut.
     Operand {
-        id: u32,
+        home: Home<'a>,
         tree: &'a Tree,
         whole: bool,
         at: u64,
@@ -30,17 +38,19 @@ pub enum Part<'a> {
 #[derive(Drop)]
 pub struct Match<'a> {
     /// The bits of the word that the match settles, in their places, with 0 in those that will name
-    /// a temporary cell.
+    /// a temporary cell or a cell of the file.
     pub setting: u64,
     /// Its parts from left to right, those of a store's address before those of its value.
     pub parts: Vec<Part<'a>>,
 }
 
-/// Where a tree's value goes: an aim, or a register as an operand.
+/// Where a tree's value goes: an aim, or a register or the file as an operand.
 #[derive(Clone, Copy)]
 pub enum Destination<'a> {
     /// To the register of this number.
     Register(u32),
+    /// To a cell of the register file.
+    File,
     /// To the cell of this address.
     Cell(u32),
     /// To the cell of the address that this tree gives.

@@ -1,15 +1,16 @@
 //! Field shapes: which numbers they show, and under which bits of the word.
 
-ghost use Rattle.std.specs.Prelude.{◌≡◌, ◌+◌, ◌-◌, ◌*◌, ◌%◌, ◌^◌, ◌<◌, ◌≤◌, ◌==◌, ◌&&◌, nat_lt, is_some, true, Some, IfOk};
+ghost use Rattle.std.specs.Prelude.{◌≡◌, ◌+◌, ◌-◌, ◌*◌, ◌%◌, ◌^◌, ◌<◌, ◌≤◌, ◌==◌, ◌&&◌, nat_lt, is_some, true, Some, IfOk, IfSome};
 ghost use Rattle.std.specs.Bool.{OnTrue};
+ghost use Rattle.std.specs.Option.{option_map};
 ghost use Rattle.rec_bits.specs.Operators.{sext_of};
 ghost use Rattle.net_model.specs.Terms.{term_of, term_width};
-ghost use Rattle.form_model.specs.Shapes.{field_setting, is_field, is_shape, shape_setting, shows, shows_below};
-ghost use Rattle.tree_grammar.specs.Inner.Settings.{IsSteady, extension_setting, is_word};
+ghost use Rattle.form_model.specs.Shapes.{field_setting, is_field, is_plain, is_shape, less_by as less_by_of, plain_setting, shape_setting, shows, shows_below, sum_of as sum_of_terms, sum_setting, sum_with as sum_with_of, summands as summands_of};
+ghost use Rattle.tree_grammar.specs.Inner.Settings.{IsSmall, IsSteady, extension_setting, is_word, sum_at};
 
 use crate::sizes::{expr_width, slice_width};
 use net_model::Expr;
-use rec_bits::{NoMemory, mask, sext, slice};
+use rec_bits::{NoMemory, Op2, mask, sext, slice};
 
 // ---- what is a field shape
 
@@ -34,16 +35,91 @@ fn is_field_of_word(e: &Expr) -> bool
     }
 }
 
-/// Whether the expression is a field shape: the instruction word, a slice of it, a zext or sext of
-/// one of these, or a constant.
-pub fn is_field_shape(e: &Expr) -> bool
-    ensures { result ≡ is_shape (term_of e.now) }
+// Whether the expression is the instruction word, a slice of it, a zext or sext of one of these, or
+// a constant.
+fn is_plain_shape(e: &Expr) -> bool
+    ensures { result ≡ is_plain (term_of e.now) }
 {
     match e {
         Expr::Const { .. } => true,
         Expr::Zext(a, _) => is_field_of_word(a),
         Expr::Sext(a, _) => is_field_of_word(a),
         _ => is_field_of_word(e),
+    }
+}
+
+/// Whether the expression is a field shape: the instruction word, a slice of it, a zext or sext of
+/// one of these, a constant, or the sum of a constant and one of these.
+pub fn is_field_shape(e: &Expr) -> bool
+    ensures { result ≡ is_shape (term_of e.now) }
+{
+    match e {
+        Expr::Bin(op, a, b) => match sum_of(*op, a, b) {
+            Some(sum) => is_plain_shape(sum.to),
+            None => false,
+        },
+        _ => is_plain_shape(e),
+    }
+}
+
+// ---- sums
+
+// A constant, with its width in bits, and what it is added to.
+#[derive(Clone, Copy)]
+struct Sum<'a> {
+    width: u8,
+    added: u64,
+    to: &'a Expr,
+}
+
+// The constant of this width with what it is added to, where it is of its width and the other as
+// wide.
+fn sum_with<'a>(width: u8, added: u64, to: &'a Expr) -> Option<Sum<'a>>
+    ensures is { option_map sum_at result ≡ sum_with_of width added (term_of to.now) }
+    ensures small { IfSome result IsSmall }
+{
+    if width <= 64 && is_within(added, u64::from(width)) && expr_width(to) == u64::from(width) {
+        Some(Sum { width, added, to })
+    } else {
+        None
+    }
+}
+
+// The two expressions as a sum, where one of them is a constant.
+fn summands<'a>(a: &'a Expr, b: &'a Expr) -> Option<Sum<'a>>
+    ensures is { option_map sum_at result ≡ summands_of (term_of a.now) (term_of b.now) }
+    ensures small { IfSome result IsSmall }
+{
+    match a {
+        Expr::Const { width, value } => sum_with(*width, *value, b),
+        _ => match b {
+            Expr::Const { width, value } => sum_with(*width, *value, a),
+            _ => None,
+        },
+    }
+}
+
+// The sum that an operator with its operands is.
+fn sum_of<'a>(op: Op2, a: &'a Expr, b: &'a Expr) -> Option<Sum<'a>>
+    ensures is { option_map sum_at result ≡ sum_of_terms op (term_of a.now) (term_of b.now) }
+    ensures small { IfSome result IsSmall }
+{
+    match op {
+        Op2::Add => summands(a, b),
+        _ => None,
+    }
+}
+
+// The number to which the constant is added to give this value.
+fn less_by(sum: Sum, value: u64) -> u64
+    requires small { IsSmall sum }
+    requires within { value < 2 ^ sum.width }
+    ensures { result ≡ less_by_of sum.entry.width value sum.entry.added }
+{
+    if sum.added <= value {
+        value - sum.added
+    } else {
+        mask(sum.width) - (sum.added - value - 1)
     }
 }
 
@@ -114,15 +190,36 @@ fn extension_shows(field: &Expr, to: u8, value: u64) -> bool
     }
 }
 
-// Whether some word gives the field shape this value.
-fn shows_value(shape: &Expr, value: u64) -> bool
-    ensures { result ≡ shows (term_of shape.now) value }
+// Whether some word gives the constant, or the field as it is extended, this value.
+fn plain_shows(shape: &Expr, value: u64) -> bool
+    ensures { result ≡ is_some (plain_setting (term_of shape.now) value) }
 {
     match shape {
         Expr::Const { value: c, .. } => *c == value,
         Expr::Zext(a, _) => field_shows(a, value),
         Expr::Sext(a, width) => extension_shows(a, *width, value),
         _ => field_shows(shape, value),
+    }
+}
+
+// Whether some word gives the sum this value.
+fn sum_shows(sum: Sum, value: u64) -> bool
+    requires { IsSmall sum }
+    ensures { result ≡ is_some (sum_setting (Some (sum_at sum.entry)) value) }
+{
+    is_within(value, u64::from(sum.width)) && plain_shows(sum.to, less_by(sum, value))
+}
+
+// Whether some word gives the field shape this value.
+fn shows_value(shape: &Expr, value: u64) -> bool
+    ensures { result ≡ shows (term_of shape.now) value }
+{
+    match shape {
+        Expr::Bin(op, a, b) => match sum_of(*op, a, b) {
+            Some(sum) => sum_shows(sum, value),
+            None => false,
+        },
+        _ => plain_shows(shape, value),
     }
 }
 
@@ -203,10 +300,10 @@ fn field_bits(field: &Expr, value: u64) -> Result<u64, NoMemory>
     }
 }
 
-// The same for a shape that shows the value.
-fn shape_bits(shape: &Expr, value: u64) -> Result<u64, NoMemory>
-    requires { shows (term_of shape.now) value ≡ true }
-    ensures { IfOk result (λ bits. shape_setting (term_of shape.now) value ≡ Some bits) }
+// The same for a constant, or a field as it is extended, that has the value under some word.
+fn plain_bits(shape: &Expr, value: u64) -> Result<u64, NoMemory>
+    requires { is_some (plain_setting (term_of shape.now) value) ≡ true }
+    ensures { IfOk result (λ bits. plain_setting (term_of shape.now) value ≡ Some bits) }
 {
     match shape {
         Expr::Zext(a, _) => field_bits(a, value),
@@ -217,15 +314,39 @@ fn shape_bits(shape: &Expr, value: u64) -> Result<u64, NoMemory>
     }
 }
 
+// The bits of the word that give it this value, and none where it doesn't have it.
+fn plain_setting_of(shape: &Expr, value: u64) -> Result<Option<u64>, NoMemory>
+    ensures { IfOk result (λ o. o ≡ plain_setting (term_of shape.now) value) }
+{
+    if !plain_shows(shape, value) {
+        return Ok(None);
+    }
+    let bits = plain_bits(shape, value)?;
+    Ok(Some(bits))
+}
+
+// The bits of the word that give the sum this value, and none where it doesn't have it.
+fn sum_setting_of(sum: Sum, value: u64) -> Result<Option<u64>, NoMemory>
+    requires { IsSmall sum }
+    ensures { IfOk result (λ o. o ≡ sum_setting (Some (sum_at sum.entry)) value) }
+{
+    if !is_within(value, u64::from(sum.width)) {
+        return Ok(None);
+    }
+    plain_setting_of(sum.to, less_by(sum, value))
+}
+
 /// The bits of the word, in their places and 0 elsewhere, that give the field shape this value, and
 /// none exactly where it doesn't show it. A word has at most 64 bits, so a field that lies above
 /// bit 63 is answered as want of memory.
 pub fn setting_of(shape: &Expr, value: u64) -> Result<Option<u64>, NoMemory>
     ensures { IfOk result (λ o. o ≡ shape_setting (term_of shape.now) value) }
 {
-    if !shows_value(shape, value) {
-        return Ok(None);
+    match shape {
+        Expr::Bin(op, a, b) => match sum_of(*op, a, b) {
+            Some(sum) => sum_setting_of(sum, value),
+            None => Ok(None),
+        },
+        _ => plain_setting_of(shape, value),
     }
-    let bits = shape_bits(shape, value)?;
-    Ok(Some(bits))
 }

@@ -7,9 +7,9 @@ ghost use Rattle.form_model.specs.Trees.{is_cell, is_number, tree_term};
 ghost use Rattle.form_model.specs.Matches.{cell_match, literal_match, matched, open_if, operand, settled, shape_match};
 ghost use Rattle.tree_grammar.specs.Numbers.{HoldsSubtrees};
 ghost use Rattle.tree_grammar.specs.Inner.Unary.{pair_of, unary_operands};
-ghost use Rattle.tree_grammar.specs.Parts.{AreAt, IsPartAt, Taken, part_of, sites_of};
+ghost use Rattle.tree_grammar.specs.Parts.{AreAt, IsPartAt, Taken, home_at, part_of, sites_of};
 
-use crate::parts::Part;
+use crate::parts::{Home, Part};
 use crate::shapes::{is_field_shape, setting_of, shows_all};
 use crate::sizes::{is_as_wide, plus, tree_size, tree_width};
 use form_model::Tree;
@@ -158,17 +158,17 @@ fn operands<'a>(e: &'a Expr, tree: &'a Tree) -> Option<Pair<'a>>
 
 // ---- expressions
 
-// A register takes a tree of its width as an operand.
+// A register or a read of the file takes a tree of its width as an operand.
 fn take_operand<'a>(
     parts: &mut Vec<Part<'a>>,
-    id: u32,
+    home: Home<'a>,
     width: u8,
     tree: &'a Tree,
     whole: bool,
     at: u64,
 ) -> Result<Option<u64>, NoMemory>
     ensures found { IfOk result (λ o. Taken (sites_of parts.old.items) (sites_of parts.new.items)
-        (open_if (width == term_width (tree_term tree.now)) (operand id (tree_term tree.now) whole)) o) }
+        (open_if (width == term_width (tree_term tree.now)) (operand (home_at home.entry) (tree_term tree.now) whole)) o) }
     ensures at { OnOk result ((nodes : List Term) → HoldsSubtrees nodes at (tree_term tree.now) →
         AreAt nodes parts.old.items → AreAt nodes parts.new.items) }
 {
@@ -178,7 +178,7 @@ fn take_operand<'a>(
     put_part(
         parts,
         Part::Operand {
-            id,
+            home,
             tree,
             whole,
             at,
@@ -208,7 +208,10 @@ pub(crate) fn take<'a>(
         return take(parts, temps, pair.expr, pair.tree, false, plus(at, 1)?);
     }
     match e {
-        Expr::Reg(id, width) => take_operand(parts, *id, *width, tree, whole, at),
+        Expr::Reg(id, width) => {
+            take_operand(parts, Home::Register(*id), *width, tree, whole, at)
+        }
+        Expr::Cell(a, width) => take_operand(parts, Home::File(a), *width, tree, whole, at),
         Expr::Read(a, width) => {
             if is_field_shape(a) {
                 return take_cell(parts, temps, a, *width, tree, whole, at);
@@ -240,7 +243,6 @@ pub(crate) fn take<'a>(
         }
         Expr::Word(_)
         | Expr::Const { .. }
-        | Expr::Cell(_, _)
         | Expr::Un(_, _)
         | Expr::Slice(_, _, _)
         | Expr::Zext(_, _)

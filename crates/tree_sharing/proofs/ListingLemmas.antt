@@ -4,7 +4,7 @@ use Rattle.std.proofs.lemmas.List.{append-nil}
 use Rattle.net_model.specs.declared.hardware.Space.TheVariants.{Memory as InMemory}
 use Rattle.net_model.specs.Terms.{Term, read, un, slice, zext, sext}
 use Rattle.form_model.specs.Trees.{tree_term}
-use Rattle.form_model.specs.Rules.{Destination, into, cell, stored, temporary, tested}
+use Rattle.form_model.specs.Rules.{Destination, into, filed, cell, stored, temporary, tested}
 use Rattle.form_model.specs.declared.trees.Tree.{Tree}
 use Rattle.form_model.specs.declared.trees.Tree.TheVariants.{Lit, Read', Un', Bin', Slice', Zext', Sext'}
 use Rattle.tree_grammar.specs.Numbers.{subtrees}
@@ -37,6 +37,7 @@ listed t xs ys zs us root first second =
 pub job_listed : (destination : Destination) (t : Term) → address_nodes destination ++ subtrees t ≡ job_nodes destination t
 job_listed (stored a) t = refl
 job_listed (into id) t = refl
+job_listed filed t = refl
 job_listed (cell a) t = refl
 job_listed temporary t = refl
 job_listed tested t = refl

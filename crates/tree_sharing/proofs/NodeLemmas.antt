@@ -2,7 +2,7 @@
 use Rattle.std.proofs.Common.{◌≡◌, ℕ, zero, suc, ◌+◌, List, [], ◌∷◌, ◌++◌, length, Some, arith, refl, sym, ap, ◌∙◌, inl, inr, ◌⊎◌}
 use Rattle.std.specs.Prelude.{slice_get}
 use Rattle.net_model.specs.Terms.{Term, word, reg, const, read, un, bin, slice, cat, zext, sext, select, size_of}
-use Rattle.form_model.specs.Rules.{Destination, into, cell, stored, temporary, tested}
+use Rattle.form_model.specs.Rules.{Destination, into, filed, cell, stored, temporary, tested}
 use Rattle.tree_grammar.specs.Numbers.{subtrees, HoldsSubtrees}
 use Rattle.tree_grammar.specs.Parts.{Stands}
 use Rattle.tree_grammar.proofs.NumberLemmas.{size_length}
@@ -62,6 +62,7 @@ whole_tree (select c a b) = whole_root (select c a b) (subtrees c ++ (subtrees a
 whole_job : (destination : Destination) (t : Term) → Whole (job_nodes destination t)
 whole_job (stored a) t = whole_append (subtrees a) (subtrees t) (whole_tree a) (whole_tree t)
 whole_job (into id) t = whole_tree t
+whole_job filed t = whole_tree t
 whole_job (cell a) t = whole_tree t
 whole_job temporary t = whole_tree t
 whole_job tested t = whole_tree t
@@ -78,6 +79,7 @@ root_stands (stored a) t = record {
   address = λ k s get. from_start (subtrees a ++ subtrees t) k s (get_left (subtrees a) (subtrees t) k s get);
   value = λ k s get. (let e : 0 + size_of a + k ≡ length (subtrees a) + k = (let l = size_length a in omega (arith, l)) in ap (slice_get (subtrees a ++ subtrees t)) e ∙ get_right (subtrees a) (subtrees t) k ∙ get);
 }
+root_stands filed t = record { address = tt; value = from_start (subtrees t) }
 root_stands (into id) t = record { address = tt; value = from_start (subtrees t) }
 root_stands (cell a) t = record { address = tt; value = from_start (subtrees t) }
 root_stands temporary t = record { address = tt; value = from_start (subtrees t) }

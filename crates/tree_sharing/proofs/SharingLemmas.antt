@@ -17,7 +17,7 @@ use Rattle.rec_bits.specs.contracts.operator.Op2PartialEq.TheImpl.{ghosts as op2
 use Rattle.net_model.specs.declared.hardware.Space.TheVariants.{Memory as InMemory}
 use Rattle.net_model.specs.Terms.{Term, const, read, un, bin, slice, zext, sext, size_of}
 use Rattle.form_model.specs.Trees.{tree_term}
-use Rattle.form_model.specs.Rules.{Destination, into, cell, stored, temporary, tested}
+use Rattle.form_model.specs.Rules.{Destination, into, filed, cell, stored, temporary, tested}
 use Rattle.tree_grammar.specs.Parts.{value_at}
 use Rattle.form_model.specs.declared.trees.Tree.{Tree}
 use Rattle.form_model.specs.declared.trees.Tree.TheVariants.{Lit as Lit', Read', Un', Bin', Slice', Zext', Sext'}
@@ -365,6 +365,7 @@ all_done nodes old new at first t below shared holds len count =
 pub job_length : (destination : Destination) (t : Term) → length (job_nodes destination t) ≡ value_at destination 0 + size_of t
 job_length (stored address) t = let a = size_length address in let b = size_length t in omega (arith, a, b, length-append (subtrees address) (subtrees t))
 job_length (into id) t = let b = size_length t in omega (arith, b)
+job_length filed t = let b = size_length t in omega (arith, b)
 job_length (cell address) t = let b = size_length t in omega (arith, b)
 job_length temporary t = let b = size_length t in omega (arith, b)
 job_length tested t = let b = size_length t in omega (arith, b)

@@ -4,13 +4,14 @@ use Rattle.std.specs.Borrow.{Bor}
 use Rattle.net_model.specs.Terms.{Term}
 use Rattle.form_model.specs.Trees.{tree_term}
 use Rattle.form_model.specs.declared.trees.Tree.{Tree}
-use Rattle.form_model.specs.Rules.{Destination, into, cell, stored, temporary, tested}
+use Rattle.form_model.specs.Rules.{Destination, into, filed, cell, stored, temporary, tested}
 use Rattle.tree_grammar.specs.Numbers.{subtrees}
 
 -- the trees of a destination and a value: the address of a store before its value
 abbrev pub job_nodes : Destination → Term → List Term
 job_nodes (stored address) t = subtrees address ++ subtrees t
 job_nodes (into id) t = subtrees t
+job_nodes filed t = subtrees t
 job_nodes (cell address) t = subtrees t
 job_nodes temporary t = subtrees t
 job_nodes tested t = subtrees t

@@ -2,7 +2,7 @@ pub mod Occurring
 pub mod Words
 pub mod Storages
 pub mod Follows
-pub mod Plain
+pub mod FilePlaces
 pub mod Clocks
 pub mod Runs
 pub mod Needed

@@ -1,7 +1,6 @@
 -- A register that an expression reads is one that occurs in it.
 use Rattle.std.proofs.Common.{◌≡◌, ℕ, ◌==◌, ◌||◌, Bool, true, false, refl, sym}
 use Rattle.std.proofs.lemmas.Bool.{eqb-true, eq-eqb, eqb-false, ne_eqb}
-use Rattle.net_model.specs.declared.hardware.Space.TheVariants.{Memory as InMemory, File as InFile}
 use Rattle.net_model.specs.Terms.{Term, word, reg, const, read, un, bin, slice, cat, zext, sext, select, Move, keep, write, write_at}
 use Rattle.net_model.specs.Occurs.{occurs, move_occurs}
 use Rattle.form_model.specs.Effects.{register, term_reads, move_reads}
@@ -17,8 +16,7 @@ pub reads_occurs : (t : Term) (i r : ℕ) → term_reads i t (register r) ≡ oc
 reads_occurs (word w) i r = refl
 reads_occurs (reg q w) i r = swapped r q
 reads_occurs (const w v) i r = refl
-reads_occurs (read InMemory a w) i r = reads_occurs a i r
-reads_occurs (read InFile a w) i r = reads_occurs a i r
+reads_occurs (read space a w) i r = reads_occurs a i r
 reads_occurs (un o a) i r = reads_occurs a i r
 reads_occurs (bin o a b) i r = (λ j. reads_occurs a i r j || reads_occurs b i r j)
 reads_occurs (slice a hi lo) i r = reads_occurs a i r

@@ -10,7 +10,7 @@ use Rattle.net_model.specs.Clock.{Reached, counter_in, run_from, then_run}
 use Rattle.net_model.specs.Widths.{IsState}
 use Rattle.form_model.specs.Effects.{Operation, apply_operation, group_effect, groups_effect, steps_effect}
 use Rattle.form_model.specs.Live.{Regs, group_writes, live_before, singles}
-use Rattle.word_fit.specs.Fits.{fits_over, FitsGroup, HasNoFile}
+use Rattle.word_fit.specs.Fits.{fits_over, FitsGroup}
 use Rattle.word_fit.specs.Groups.{Agree, GroupsFit}
 use Rattle.word_fit.specs.Runs.{IsClocked, StandAt, RunsTo}
 use Rattle.word_fit.proofs.Words.{agree_less, agree_trans, effect_alike}
@@ -49,7 +49,7 @@ module _ (code : List ℕ) (size at next : ℕ) (one : next ≡ (at + 1) % size)
       e ∙ ap (λ n. (n + k) % size) one ∙ mod-add-mod (at + 1) size k
       ∙ ap (λ n. n % size) (let z : at + 1 + k ≡ at + suc k = omega arith in z)
 
-module _ (netlist : Netlist) (order : List ℕ) (keeps : KeepsRules netlist order) (plain : HasNoFile netlist) (code : List ℕ) {A : Type 0} (m : A → Operation) (after : Regs) where
+module _ (netlist : Netlist) (order : List ℕ) (keeps : KeepsRules netlist order) (code : List ℕ) {A : Type 0} (m : A → Operation) (after : Regs) where
   runs : (ws : List ℕ) (gs : List (List A)) (s t : State) → GroupsFit m (fits_over netlist m) ws gs after → Agree (live_before m gs after) t s → IsState netlist t → StandAt code (counter_in netlist t) ws → counter_in netlist t + length ws ≤ 2 ^ counter_width netlist → RunsFrom netlist code t (length ws) after (groups_effect m gs s)
   runs [] [] s t f a h p b = record { last = t; is = λ cycle. refl; state = h; counter = stays netlist t h; agree = a }
   runs [] (g ∷ gs) s t f a h p b = absurd f
@@ -57,7 +57,7 @@ module _ (netlist : Netlist) (order : List ℕ) (keeps : KeepsRules netlist orde
   runs (w ∷ ws) (g ∷ gs) s t f a h p b =
       let l : Regs = live_before m gs after in
       let fit : FitsGroup netlist m w g l = f.0 in
-      let d : IsClocked netlist m code g l t = clocks netlist order keeps plain code w t h fit.clean p.0 m g l fit in
+      let d : IsClocked netlist m code g l t = clocks netlist order keeps code w t h fit.clean p.0 m g l fit in
       let size : ℕ = 2 ^ counter_width netlist in
       let within : counter_in netlist d.next < size = counter_fits netlist d.next d.state in
       let c : Agree (λ r. l r || group_writes m g r) (group_effect m g t) (group_effect m g s) = effect_alike m g l t s a in
@@ -84,6 +84,6 @@ effect-singles : {A : Type 0} (m : A → Operation) (xs : List A) (s : State) �
 effect-singles m [] s = refl
 effect-singles m (x ∷ xs) s = effect-singles m xs (apply_operation (m x) s s)
 
-pub runs_steps : (netlist : Netlist) (order : List ℕ) → KeepsRules netlist order → HasNoFile netlist → {A : Type 0} (m : A → Operation) (code : List ℕ) (after : Regs) (ws : List ℕ) (xs : List A) (s : State) → GroupsFit m (fits_over netlist m) ws (singles xs) after → IsState netlist s → StandAt code (counter_in netlist s) ws → counter_in netlist s + length ws ≤ 2 ^ counter_width netlist → RunsTo netlist code s (length ws) after (steps_effect m xs s)
-runs_steps netlist order keeps plain m code after ws xs s f h p b =
-    subst (RunsTo netlist code s (length ws) after) (effect-singles m xs s) (runs_to netlist order keeps plain code m after ws (singles xs) s f h p b)
+pub runs_steps : (netlist : Netlist) (order : List ℕ) → KeepsRules netlist order → {A : Type 0} (m : A → Operation) (code : List ℕ) (after : Regs) (ws : List ℕ) (xs : List A) (s : State) → GroupsFit m (fits_over netlist m) ws (singles xs) after → IsState netlist s → StandAt code (counter_in netlist s) ws → counter_in netlist s + length ws ≤ 2 ^ counter_width netlist → RunsTo netlist code s (length ws) after (steps_effect m xs s)
+runs_steps netlist order keeps m code after ws xs s f h p b =
+    subst (RunsTo netlist code s (length ws) after) (effect-singles m xs s) (runs_to netlist order keeps code m after ws (singles xs) s f h p b)

@@ -3,6 +3,9 @@ use Rattle.std.proofs.Common.{◌≡◌, ℕ, ◌≤◌, ◌==◌, ◌||◌, ◌
 use Rattle.std.proofs.lemmas.Bool.{true≢false, ne_eqb, cases_eq, cases_lt, or_left, or_right}
 use Rattle.std.proofs.Math.Bool.{or_assoc}
 use Rattle.std.proofs.lemmas.List.{get_or-set_same, get_or-set_other, length-set, set_past, get_or_past}
+use Rattle.net_model.specs.declared.hardware.Space.{Space}
+use Rattle.net_model.specs.declared.hardware.Space.TheVariants.{Memory as InMemory, File as InFile}
+use Rattle.net_model.specs.MemoryText.{with_cell}
 use Rattle.net_model.proofs.Spaces.{by_space}
 use Rattle.net_model.specs.Nets.{held}
 use Rattle.net_model.specs.declared.states.State.{State}
@@ -56,29 +59,29 @@ or_false : (a : Bool) → (a || false) ≡ true → a ≡ true
 or_false true e = refl
 or_false false e = e
 
-move_alike : (move : Move) (storage setting : ℕ) (o u n k : State) (l : Regs) → SeenAlike (λ r. move_reads setting move (register r)) o u → Agree l n k → Agree (λ r. l r || move_writes storage move r) (apply_move storage move setting o n) (apply_move storage move setting u k)
-move_alike keep storage setting o u n k l a b = agree_less l _ n k (λ r e. or_false (l r) e) b
-move_alike (write v) storage setting o u n k l a b =
+-- one value goes into one cell of two states
+put_alike : (n k : State) (l : Regs) (space : Space) (i j x y : ℕ) → i ≡ j → x ≡ y → Agree l n k → Agree l (with_cell n space i x) (with_cell k space j y)
+put_alike n k l InMemory i j x y e f b = record { size = b.size; cells = rw (e, f, b.cells) refl; file = b.file; regs = b.regs }
+put_alike n k l InFile i j x y e f b = record { size = b.size; cells = b.cells; file = rw (e, f, b.file) refl; regs = b.regs }
+
+move_alike : (move : Move) (storage setting : ℕ) (space : Space) (o u n k : State) (l : Regs) → SeenAlike (λ r. move_reads setting move (register r)) o u → Agree l n k → Agree (λ r. l r || move_writes storage move r) (apply_move storage space move setting o n) (apply_move storage space move setting u k)
+move_alike keep storage setting space o u n k l a b = agree_less l _ n k (λ r e. or_false (l r) e) b
+move_alike (write v) storage setting space o u n k l a b =
     let e : mean v o setting ≡ mean v u setting = mean_seen v setting o u (a) in
-    subst (λ x. Agree (λ r. l r || move_writes storage (write v) r) (apply_move storage (write v) setting o n) (let s : State = record { regs = slice_set k.regs storage x; cells = k.cells; file = k.file } in s)) e
+    subst (λ x. Agree (λ r. l r || move_writes storage (write v) r) (apply_move storage space (write v) setting o n) (let s : State = record { regs = slice_set k.regs storage x; cells = k.cells; file = k.file } in s)) e
     (record {
       size = length-set n.regs storage (mean v o setting) ∙ b.size ∙ sym (length-set k.regs storage (mean v o setting));
       cells = b.cells;
       file = b.file;
       regs = λ r f. set_alike n.regs k.regs storage (mean v o setting) r (l r) b.size (b.regs r) f;
     })
-move_alike (write_at c v) storage setting o u n k l a b =
+move_alike (write_at c v) storage setting space o u n k l a b =
     let e : mean c o setting ≡ mean c u setting = mean_seen c setting o u (seen_less _ _ o u (λ r z. or_left (term_reads setting c (register r)) (term_reads setting v (register r)) z) a) in
     let f : mean v o setting ≡ mean v u setting = mean_seen v setting o u (seen_less _ _ o u (λ r z. or_right (term_reads setting c (register r)) (term_reads setting v (register r)) z) a) in
-    record {
-      size = b.size;
-      cells = rw (e, f, b.cells) refl;
-      file = b.file;
-      regs = λ r z. b.regs r (or_false (l r) z);
-    }
+    agree_less l _ _ _ (λ r z. or_false (l r) z) (put_alike n k l space _ _ _ _ e f b)
 
 operation_alike : (p : Operation) (o u n k : State) (l : Regs) → SeenAlike (λ r. reads p (register r)) o u → Agree l n k → Agree (λ r. l r || writes p r) (apply_operation p o n) (apply_operation p u k)
-operation_alike p o u n k l a b = move_alike p.move p.storage p.setting o u n k l a b
+operation_alike p o u n k l a b = move_alike p.move p.storage p.setting p.space o u n k l a b
 
 module _ {A : Type 0} (m : A → Operation) where
   all_alike : (g : List A) (o u n k : State) (l : Regs) → SeenAlike (group_reads m g) o u → Agree l n k → Agree (λ r. l r || group_writes m g r) (apply_all m g o n) (apply_all m g u k)

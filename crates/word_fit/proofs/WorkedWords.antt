@@ -1,19 +1,20 @@
 -- Words of a worked processor that fit a group, and words that don't.
-use Rattle.std.proofs.Common.{◌≡◌, ◌==◌, lit<, [], ◌∷◌, refl, sym, inl}
+use Rattle.std.proofs.Common.{◌≡◌, ◌==◌, false, lit<, [], ◌∷◌, refl, sym, inl}
 use Rattle.std.proofs.lemmas.Bool.{true≢false}
 use Rattle.rec_bits.specs.declared.operator.Op2.TheVariants.{Sub}
 use Rattle.net_model.specs.declared.hardware.Space.TheVariants.{Memory as InMemory}
 use Rattle.net_model.specs.Terms.{word, reg, read, bin, slice, keep, write}
-use Rattle.net_model.specs.Transfers.{IsClean, move_at}
+use Rattle.net_model.specs.Transfers.{IsClean, move_at, space_move}
+use Rattle.net_model.proofs.Spaces.{by_space}
 use Rattle.net_model.specs.Worked.{z16}
 use Rattle.net_model.proofs.WordWidths.{word_fits}
 use Rattle.form_model.specs.Effects.{Operation}
 use Rattle.form_model.specs.Live.{Regs, no_regs}
-use Rattle.word_fit.specs.Fits.{FitsGroup}
+use Rattle.word_fit.specs.Fits.{FitsGroup, group_stores}
 
 -- the accumulator, register 1 of the processor with a flag, takes its difference with cell 2
 abbrev subtracts : Operation
-subtracts = record { storage = 1; move = write (bin Sub (reg 1 16) (read InMemory (slice (word 12) 7 0) 16)); setting = 2 }
+subtracts = record { storage = 1; space = InMemory; move = write (bin Sub (reg 1 16) (read InMemory (slice (word 12) 7 0) 16)); setting = 2 }
 
 abbrev as_is : Operation → Operation
 as_is d = d
@@ -25,9 +26,9 @@ clean_302 = record { fits = word_fits z16 770 refl (lit< tt); clean = refl }
 fits_302 : FitsGroup z16 as_is 770 (subtracts ∷ []) no_regs
 fits_302 = record {
   clean = clean_302;
-  does = (record { changes = λ e. cc; gives = refl; setting = refl }, tt);
+  does = (record { changes = λ e. cc; gives = refl; space = refl; setting = refl }, tt);
   steps = record { step = inl refl };
-  memory = λ e. refl;
+  cells = λ space. by_space (λ z. group_stores z as_is (subtracts ∷ []) ≡ false → space_move z16 z 770 ≡ keep) (λ e. refl) (λ e. refl) space;
   registers = λ r is live unwritten. absurd (true≢false (sym live));
 }
 

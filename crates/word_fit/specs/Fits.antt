@@ -1,24 +1,21 @@
 -- Which words fit a group of steps, over the netlist alone.
-use Rattle.std.specs.Prelude.{ℕ, ◌≡◌, ◌≢◌, ◌≤◌, ◌||◌, Bool, true, false, List, [], ◌∷◌, slice_get, bit_and}
+use Rattle.std.specs.Prelude.{ℕ, ◌≡◌, ◌≢◌, ◌≤◌, ◌||◌, ◌&&◌, Bool, true, false, List, [], ◌∷◌, slice_get, bit_and}
 use Rattle.net_model.specs.declared.hardware.Netlist.{Netlist}
-use Rattle.net_model.specs.declared.hardware.Space.TheVariants.{File as InFile}
-use Rattle.net_model.specs.CheckedRules.{count_in}
+use Rattle.net_model.specs.declared.hardware.Space.{Space}
 use Rattle.net_model.specs.Nets.{IsRegister}
 use Rattle.net_model.specs.Terms.{keep}
-use Rattle.net_model.specs.Transfers.{IsClean, Steps, move_at, memory_move}
+use Rattle.net_model.specs.Transfers.{IsClean, Steps, memory_move, move_at, space_move}
 use Rattle.net_model.specs.Fields.{move_fields}
-use Rattle.form_model.specs.Effects.{Operation, is_store}
+use Rattle.transfer_set.specs.Tables.{file_place}
+use Rattle.form_model.specs.Effects.{Operation, is_store, same_space, space_in}
 use Rattle.form_model.specs.Live.{Regs, group_writes}
 
--- the netlist has no register file
-abbrev pub HasNoFile : Netlist → Type 0
-HasNoFile netlist = count_in InFile netlist.storages ≡ 0
-
--- the word does the transfer, which is one other than to keep, with its setting: the word's bits in
--- the fields of the transfer
+-- the word does the transfer, which is one other than to keep and says which cells its storage has,
+-- with its setting: the word's bits in the fields of the transfer
 pub record Does (netlist : Netlist) (word : ℕ) (d : Operation) : Type 0 where
   pub changes : d.move ≢ keep
   pub gives : move_at netlist word d.storage ≡ d.move
+  pub space : d.space ≡ space_in (file_place netlist.storages) d.storage
   pub setting : bit_and word (move_fields d.move) ≡ d.setting
 
 -- it does the transfer of each step
@@ -26,19 +23,24 @@ abbrev pub DoesAll : {A : Type 0} → Netlist → (A → Operation) → ℕ → 
 DoesAll netlist m word [] = Unit {0}
 DoesAll netlist m word (x ∷ g) = Does netlist word (m x) × DoesAll netlist m word g
 
--- a step of the group writes the data memory
-abbrev pub group_stores : {A : Type 0} → (A → Operation) → List A → Bool
-group_stores m [] = false
-group_stores m (x ∷ g) = is_store (m x).move || group_stores m g
+-- a step writes the data memory, or the register file
+abbrev pub stores_in : Space → Operation → Bool
+stores_in space d = is_store d.move && same_space d.space space
+
+-- so does a step of the group
+abbrev pub group_stores : {A : Type 0} → Space → (A → Operation) → List A → Bool
+group_stores space m [] = false
+group_stores space m (x ∷ g) = stores_in space (m x) || group_stores space m g
 
 -- the word does each step's transfer with its setting, steps, keeps the data memory unless a step
--- writes it, keeps each live register that isn't a destination, and doesn't clash
+-- writes it, keeps the register file unless a step writes it, keeps each live register that isn't a
+-- destination, and doesn't clash
 pub record FitsGroup {A : Type 0} (netlist : Netlist) (m : A → Operation) (word : ℕ) (g : List A)
     (live : Regs) : Type 0 where
   pub clean : IsClean netlist word
   pub does : DoesAll netlist m word g
   pub steps : Steps netlist word
-  pub memory : group_stores m g ≡ false → memory_move netlist word ≡ keep
+  pub cells : (space : Space) → group_stores space m g ≡ false → space_move netlist space word ≡ keep
   pub registers : (r : ℕ) → IsRegister (slice_get netlist.storages r) → live r ≡ true →
       group_writes m g r ≡ false → move_at netlist word r ≡ keep
 
@@ -47,7 +49,7 @@ abbrev pub fits_over : {A : Type 0} → Netlist → (A → Operation) → ℕ �
 fits_over netlist m word g live = FitsGroup netlist m word g live
 
 -- a jump or branch word: it does the transfer with its setting, keeps the data memory, and doesn't
--- clash
+-- clash. The file needn't keep: nothing in it is live behind such a word
 pub record FitsJump (netlist : Netlist) (word : ℕ) (d : Operation) : Type 0 where
   pub clean : IsClean netlist word
   pub does : Does netlist word d

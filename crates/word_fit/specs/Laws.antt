@@ -9,28 +9,27 @@ use Rattle.net_model.specs.Widths.{IsState}
 use Rattle.form_model.specs.declared.forms.Step.{Step}
 use Rattle.form_model.specs.Effects.{Operation, groups_effect, steps_effect}
 use Rattle.form_model.specs.Live.{Regs, live_at, live_before, singles}
-use Rattle.word_fit.specs.Fits.{FitsGroup, HasNoFile, fits_over}
+use Rattle.word_fit.specs.Fits.{FitsGroup, fits_over}
 use Rattle.word_fit.specs.Groups.{GroupsFit, AreLeast, IsLiveBehind, IsReadIn, lives_of}
 use Rattle.word_fit.specs.Runs.{IsClocked, RunsTo, StandAt}
 
--- a clock of a netlist without a register file, under a word that fits a group, follows the group,
--- from every state
+-- a clock under a word that fits a group follows the group, from every state
 abbrev pub ClocksFollow : Type 0
 ClocksFollow =
     (netlist : Netlist) (order : List ℕ) (m : Step → Operation) (code : List ℕ) (w : ℕ)
     (g : List Step) (live : Regs) (s : State) →
-    KeepsRules netlist order → HasNoFile netlist → FitsGroup netlist m w g live → IsState netlist s →
+    KeepsRules netlist order → FitsGroup netlist m w g live → IsState netlist s →
     word_at netlist code s ≡ w → IsClocked netlist m code g live s
 
 -- words that fit groups and stand in a code from the program counter on, up to the last address
 -- that it can have, clocked in order, don't clash, leave the program counter behind them, and leave
--- the memory and the registers that are live after them as the groups do one after the other; the
--- netlist has no register file
+-- the memory, the file and the registers that are live after them as the groups do one after the
+-- other
 abbrev pub RunsFollow : Type 0
 RunsFollow =
     (netlist : Netlist) (order : List ℕ) (m : Step → Operation) (code words : List ℕ)
     (groups : List (List Step)) (after : Regs) (s : State) →
-    KeepsRules netlist order → HasNoFile netlist → GroupsFit m (fits_over netlist m) words groups after → IsState netlist s →
+    KeepsRules netlist order → GroupsFit m (fits_over netlist m) words groups after → IsState netlist s →
     StandAt code (counter_in netlist s) words → counter_in netlist s + length words ≤ 2 ^ counter_width netlist →
     RunsTo netlist code s (length words) after (groups_effect m groups s)
 
@@ -39,7 +38,7 @@ abbrev pub RunsFollowSteps : Type 0
 RunsFollowSteps =
     (netlist : Netlist) (order : List ℕ) (m : Step → Operation) (code words : List ℕ)
     (steps : List Step) (after : Regs) (s : State) →
-    KeepsRules netlist order → HasNoFile netlist → GroupsFit m (fits_over netlist m) words (singles steps) after → IsState netlist s →
+    KeepsRules netlist order → GroupsFit m (fits_over netlist m) words (singles steps) after → IsState netlist s →
     StandAt code (counter_in netlist s) words → counter_in netlist s + length words ≤ 2 ^ counter_width netlist →
     RunsTo netlist code s (length words) after (steps_effect m steps s)
 

@@ -25,7 +25,7 @@ StandAt words address [] = Unit {0}
 StandAt words address (w ∷ ws) = (slice_index words address ≡ w) × StandAt words (address + 1) ws
 
 -- so many clocks don't clash, leave the program counter as many addresses on, as far as its width
--- goes, and leave the memory and the live registers of t
+-- goes, and leave the memory, the file and the live registers of t
 pub record RunsTo (netlist : Netlist) (words : List ℕ) (s : State) (clocks : ℕ) (live : Regs) (t : State) : Type 0 where
   pub last : State
   pub is : run netlist words s clocks ≡ Reached last

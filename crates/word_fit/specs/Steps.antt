@@ -9,4 +9,4 @@ use Rattle.form_model.specs.Effects.{Operation, operation_of}
 -- the transfer of the pattern of this number, under the step's setting; a number past the last
 -- pattern's does nothing
 abbrev pub step_operation : List Node → Table → Step → Operation
-step_operation pool table step = operation_of (row_patterns pool table.rows) step
+step_operation pool table step = operation_of table.file (row_patterns pool table.rows) step

@@ -2,16 +2,15 @@
 
 ghost use Rattle.word_fit.specs.Laws.{ClocksFollow, LeastWordsAreOne, LeastWordsFit, LiveIsNeeded, LivesAreLive, RunsFollow, RunsFollowSteps};
 
-/// A clock of a netlist without a register file, under a word that fits a group, doesn't clash,
-/// does what the steps of the group do at one clock edge, keeps the registers that are live after
-/// it, and leaves the program counter one on.
+/// A clock under a word that fits a group doesn't clash, does what the steps of the group do at one
+/// clock edge, keeps the registers that are live after it, and leaves the program counter one on.
 pub fn law_of_clocks()
     ensures { ClocksFollow }
 {}
 
-/// Words that fit groups, clocked in order on such a netlist from any state, don't clash, and leave
-/// the memory and the registers that are live after them as the groups do; where each group has one
-/// step, as the steps do one after the other.
+/// Words that fit groups, clocked in order from any state, don't clash, and leave the memory, the
+/// file and the registers that are live after them as the groups do; where each group has one step,
+/// as the steps do one after the other.
 pub fn law_of_runs()
     ensures groups { RunsFollow }
     ensures steps { RunsFollowSteps }

@@ -1,12 +1,11 @@
 //! Which words fit a group of steps, and what fitting words do.
 //!
-//! Promise: on a netlist without a register file, a clock under a word that fits a group doesn't
-//! clash, does at one edge what the group's steps do, keeps the live registers, and leaves the
-//! program counter one on (`law_of_clocks`: `ClocksFollow`). Words that fit groups, clocked in
-//! order there, leave what the groups leave (`law_of_runs`: `RunsFollow`, `RunsFollowSteps`). A
-//! register is live exactly where it is still needed (`law_of_live`, `law_of_lives`). The least
-//! words of groups fit them and are one list (`law_of_least`). `written_by` and its fellows tell
-//! what a step writes.
+//! Promise: a clock under a word that fits a group doesn't clash, does at one edge what the group's
+//! steps do, keeps the live registers, and leaves the program counter one on (`law_of_clocks`:
+//! `ClocksFollow`). Words that fit groups, clocked in order, leave what the groups leave in memory,
+//! file and live registers (`law_of_runs`: `RunsFollow`, `RunsFollowSteps`). A register is live
+//! exactly where it is still needed (`law_of_live`, `law_of_lives`). The least words of groups fit
+//! them and are one list (`law_of_least`). `written_by` and its fellows tell what a step writes.
 //!
 //! Files:
 //!
@@ -16,9 +15,8 @@
 //! - `specs/`: `Fits` (which words fit, over the netlist alone), `Groups` (live registers, least
 //!   words), `Runs`, `Steps` and `Laws` are cited by public contracts, here and above, and of
 //!   `Writing` what a step writes; `Worked` is computed.
-//! - `proofs/`: `Clocks` and `Follows` for one clock, `Runs` and `Words` for many, `Plain` for
-//!   netlists without a register file, `Needed` and `Least`; `WorkedWords` has a word that fits, and
-//!   words that don't.
+//! - `proofs/`: `FilePlaces`, `Clocks` and `Follows` for one clock, `Runs` and `Words` for many, `Needed` and
+//!   `Least`; `WorkedWords` has a word that fits, and words that don't.
 #![tactic(auto)]
 
 mod groups;
@@ -27,4 +25,7 @@ mod writing;
 
 pub use groups::Group;
 pub use laws::{law_of_clocks, law_of_least, law_of_live, law_of_lives, law_of_runs};
-pub use writing::{Written, stores, stores_memory, writes, writes_register, written_by};
+pub use writing::{
+    Written, same_space, space_in, stores, stores_cells, stores_in, writes, writes_register,
+    written_by,
+};

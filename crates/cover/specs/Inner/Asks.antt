@@ -1,12 +1,14 @@
--- What is asked for, and covers that spare a set of registers.
-use Rattle.std.specs.Prelude.{ℕ, ◌+◌, ◌≡◌, ◌^◌, ◌==◌, ◌&&◌, Bool, false, if◌then◌else◌, List, [], ◌∷◌, Option, Some, None, slice_get, remove, bit_or, bit_and}
+-- What is asked for, and covers that keep to limits.
+use Rattle.std.specs.Prelude.{ℕ, ◌+◌, ◌-◌, ◌≤◌, ◌≡◌, ◌==◌, ◌&&◌, Bool, false, if◌then◌else◌, List, [], ◌∷◌, Option, Some, None, slice_get, remove, bit_or, bit_and}
 use Rattle.net_model.specs.Terms.{Term, size_of}
-use Rattle.form_model.specs.Rules.{Rule, Destination, into, temporary}
-use Rattle.form_model.specs.Matches.{Site, operand, cut, Found, taken}
+use Rattle.form_model.specs.Rules.{Rule, Destination, temporary}
+use Rattle.form_model.specs.Matches.{Home, Site, operand, cut, Found, taken}
 use Rattle.form_model.specs.Plans.{Plan, use_form, Operands, no_operands, operand_then, Cuts, no_cuts, cut_then}
-use Rattle.form_model.specs.Covers.{Stock, Operand, operands_of, cuts_of}
+use Rattle.form_model.specs.Covers.{Stock, Operand, operands_of, cuts_of, home_destination, home_set, home_cells, kind_cells}
+use Rattle.cover.specs.declared.limits.Limits.{Limits}
 use Rattle.cover.specs.declared.slots.Slot.{Slot}
-use Rattle.cover.specs.declared.slots.Slot.TheVariants.{Register, Temporary}
+use Rattle.cover.specs.declared.slots.Slot.TheVariants.{Register, File, Temporary}
+use Rattle.cover.specs.Inner.Slots.{home_slot}
 
 -- a tree that goes to a destination, and whether it is whole
 pub record Ask : Type 0 where
@@ -15,41 +17,49 @@ pub record Ask : Type 0 where
   pub whole : Bool
 
 abbrev pub operand_ask : Operand → Ask
-operand_ask o = record { destination = into o.id; tree = o.tree; whole = o.whole }
+operand_ask o = record { destination = home_destination o.home; tree = o.tree; whole = o.whole }
 
 abbrev pub cut_ask : Term → Ask
 cut_ask tree = record { destination = temporary; tree = tree; whole = false }
 
--- the set with one more register
-abbrev pub with_reg : ℕ → ℕ → ℕ
-with_reg avoid id = bit_or avoid (2 ^ id)
+-- nothing to avoid, and the whole file to use
+abbrev pub free : Stock → Limits
+free stock = record { avoid = 0; allowed = stock.file }
+
+-- what the operands behind one with this home have to keep to: they don't write its register, or
+-- have one cell of the file less
+abbrev pub after : Limits → Home → Limits
+after limits home = record { avoid = bit_or limits.avoid (home_set home); allowed = limits.allowed - home_cells home }
+
+-- a form with these clobbers that leaves its value in so many cells of the file keeps to the limits
+abbrev pub KeepsTo : Limits → ℕ → ℕ → Type 0
+KeepsTo limits clobbers cells = (bit_and clobbers limits.avoid ≡ 0) × (cells ≤ limits.allowed)
 
 -- what a form takes of what is asked for
 abbrev pub takes : Stock → Rule → Ask → Option Found
 takes stock rule ask = taken stock.temps rule ask.destination ask.tree ask.whole
 
 abbrev mutual
-  -- the plan is an orderly cover that writes none of the avoided registers
-  pub IsSparing : Stock → ℕ → Ask → Plan → Type 0
-  IsSparing stock avoid ask (use_form k ps cs) =
-      (rule : Rule) × (slice_get stock.rules k ≡ Some rule) × (bit_and rule.clobbers avoid ≡ 0)
+  -- the plan is an orderly cover that keeps to the limits
+  pub IsSparing : Stock → Limits → Ask → Plan → Type 0
+  IsSparing stock limits ask (use_form k ps cs) =
+      (rule : Rule) × (slice_get stock.rules k ≡ Some rule) × KeepsTo limits rule.clobbers (kind_cells rule.goal)
       × (found : Found) × (takes stock rule ask ≡ Some found)
-      × AreSparing stock avoid (operands_of found.sites) ps × AreStored stock (cuts_of found.sites) cs
+      × AreSparing stock limits (operands_of found.sites) ps × AreStored stock (cuts_of found.sites) cs
 
-  -- each operand has such a cover, and a later one writes none of the registers of those before it
-  -- either
-  pub AreSparing : Stock → ℕ → List Operand → Operands → Type 0
-  AreSparing stock avoid left no_operands = left ≡ []
-  AreSparing stock avoid left (operand_then i p ps) =
-      (o : Operand) × (slice_get left i ≡ Some o) × IsSparing stock avoid (operand_ask o) p
-      × AreSparing stock (with_reg avoid o.id) (remove left i) ps
+  -- each operand has such a cover, and those behind it spare its home too
+  pub AreSparing : Stock → Limits → List Operand → Operands → Type 0
+  AreSparing stock limits left no_operands = left ≡ []
+  AreSparing stock limits left (operand_then i p ps) =
+      (o : Operand) × (slice_get left i ≡ Some o) × IsSparing stock limits (operand_ask o) p
+      × AreSparing stock (after limits o.home) (remove left i) ps
 
-  -- each cut has a cover into a temporary cell, which has nothing to avoid
+  -- each cut has a cover into a temporary cell, which has nothing to avoid and the whole file
   pub AreStored : Stock → List Term → Cuts → Type 0
   AreStored stock cuts no_cuts = cuts ≡ []
   AreStored stock cuts (cut_then p cs) =
       (tree : Term) × (later : List Term) × (cuts ≡ tree ∷ later)
-      × IsSparing stock 0 (cut_ask tree) p × AreStored stock later cs
+      × IsSparing stock (free stock) (cut_ask tree) p × AreStored stock later cs
 
 -- ---- sizes
 
@@ -61,19 +71,24 @@ abbrev pub terms_size : List Term → ℕ
 terms_size [] = 0
 terms_size (t ∷ ts) = size_of t + terms_size ts
 
--- 0 where nothing is to be avoided
-abbrev pub rank : ℕ → ℕ
-rank avoid = if avoid == 0 then 0 else 1
+-- nothing is to be avoided, and the whole of a file with so many cells may be used
+abbrev pub is_free : ℕ → Limits → Bool
+is_free file limits = (limits.avoid == 0) && (limits.allowed == file)
 
--- the entry of the same tree, of this size, from which a match goes on: that of a register, or of a
--- temporary cell, where there is nothing to avoid
+-- 0 there
+abbrev pub rank : ℕ → Limits → ℕ
+rank file limits = if is_free file limits then 0 else 1
+
+-- the entry of the same tree, of this size, from which a match goes on: that of an operand's home,
+-- or of a temporary cell, where all is free
 abbrev pub rest : ℕ → Bool → List Site → Option Slot
-rest size free (operand id tree whole ∷ []) = if size_of tree == size then Some (Register id) else None
+rest size free (operand home tree whole ∷ []) = if size_of tree == size then Some (home_slot home) else None
 rest size free (cut shape tree ∷ []) = if free && (size_of tree == size) then Some Temporary else None
 rest size free _ = None
 
--- the same from that where there is nothing to avoid: a register stays
+-- the same from that where all is free: a home stays
 abbrev pub start_under : Option Slot → Bool → Option Slot
 start_under None free = None
 start_under (Some (Register r)) free = Some (Register r)
+start_under (Some File) free = Some File
 start_under (Some Temporary) free = if free then Some Temporary else None

@@ -6,7 +6,7 @@ use Rattle.form_model.specs.Plans.{Plan, cost, plan_of}
 use Rattle.form_model.specs.Covers.{Stock, Choice, ChoiceBefore}
 use Rattle.cover.specs.declared.covers.JobCover.{JobCover}
 use Rattle.cover.specs.declared.covers.TreeCover.{TreeCover}
-use Rattle.cover.specs.Inner.Asks.{Ask, IsSparing}
+use Rattle.cover.specs.Inner.Asks.{free, Ask, IsSparing}
 use Rattle.cover.specs.Inner.Choice.{IsFirst}
 use Rattle.cover.specs.Best.{choice_of}
 
@@ -16,8 +16,8 @@ root_ask destination tree = record { destination = destination; tree = tree; who
 
 -- the first cover of least cost of one tree
 abbrev pub IsTreeCover : Stock → Ask → Option TreeCover → Type 0
-IsTreeCover stock ask None = (q : Plan) → IsSparing stock 0 ask q → ⊥
-IsTreeCover stock ask (Some t) = IsFirst stock 0 ask (plan_of t.cover) × (t.cost ≡ cost (plan_of t.cover))
+IsTreeCover stock ask None = (q : Plan) → IsSparing stock (free stock) ask q → ⊥
+IsTreeCover stock ask (Some t) = IsFirst stock (free stock) ask (plan_of t.cover) × (t.cost ≡ cost (plan_of t.cover))
 
 abbrev pub better_of : Option JobCover → ℕ → Option TreeCover → Option JobCover
 better_of best j None = best
@@ -35,15 +35,15 @@ pub record IsBestOne (stock : Stock) (destination : Destination) (trees : List T
   pub tree : Term
   pub used : slice_get trees c.which ≡ Some tree
   pub within : c.which < j
-  pub sparing : IsSparing stock 0 (root_ask destination tree) (plan_of c.cover)
+  pub sparing : IsSparing stock (free stock) (root_ask destination tree) (plan_of c.cover)
   pub costs : c.cost ≡ cost (plan_of c.cover)
   pub beats : (i : ℕ) (t : Term) (q : Plan) → i < j → slice_get trees i ≡ Some t →
-      IsSparing stock 0 (root_ask destination t) q →
+      IsSparing stock (free stock) (root_ask destination t) q →
       Beats (choice_of c) (record { which = i; plan = q })
 
 -- the chosen cover over the first j trees
 abbrev pub IsBest : Stock → Destination → List Term → ℕ → Option JobCover → Type 0
 IsBest stock destination trees j None =
     (i : ℕ) (t : Term) (q : Plan) → i < j → slice_get trees i ≡ Some t →
-    IsSparing stock 0 (root_ask destination t) q → ⊥
+    IsSparing stock (free stock) (root_ask destination t) q → ⊥
 IsBest stock destination trees j (Some c) = IsBestOne stock destination trees j c

@@ -1,13 +1,14 @@
 -- What the choice of a form, of an order and of cuts finds.
-use Rattle.std.specs.Prelude.{ℕ, ◌+◌, ◌-◌, ◌<◌, ◌≤◌, ◌≡◌, ◌≢◌, ◌⊎◌, List, [], ◌∷◌, Option, Some, None, slice_get, remove, bit_and}
+use Rattle.std.specs.Prelude.{ℕ, ◌+◌, ◌-◌, ◌<◌, ◌≤◌, ◌≡◌, ◌≢◌, ◌⊎◌, List, [], ◌∷◌, Option, Some, None, slice_get, remove}
 use Rattle.net_model.specs.Terms.{Term}
 use Rattle.form_model.specs.Trees.{tree_term}
 use Rattle.form_model.specs.Rules.{Rule}
 use Rattle.form_model.specs.Matches.{Found}
 use Rattle.form_model.specs.declared.covers.Cover.{Cover}
 use Rattle.form_model.specs.Plans.{Plan, use_form, Operands, operand_then, Cuts, cost, operands_cost, cuts_cost, operands_plan, cuts_plan}
-use Rattle.form_model.specs.Covers.{Stock, Operand, operands_of, cuts_of, IsBefore, AreBefore, CutsBefore, IsSooner, SamePlaces}
+use Rattle.form_model.specs.Covers.{Stock, Operand, operands_of, cuts_of, kind_cells, IsBefore, AreBefore, CutsBefore, IsSooner, SamePlaces}
 use Rattle.tree_grammar.specs.Parts.{destination_at, Stands}
+use Rattle.cover.specs.declared.limits.Limits.{Limits}
 use Rattle.cover.specs.declared.slots.Slot.{Slot}
 use Rattle.cover.specs.declared.instance.Instance.{Instance}
 use Rattle.cover.specs.declared.fits.Want.{Want}
@@ -18,7 +19,7 @@ use Rattle.cover.specs.declared.matches.Matches.{Matches}
 use Rattle.cover.specs.Inner.Rows.{row_ask}
 use Rattle.cover.specs.declared.opened.OpenOperand.{OpenOperand}
 use Rattle.cover.specs.declared.opened.OpenCut.{OpenCut}
-use Rattle.cover.specs.Inner.Asks.{Ask, operand_ask, cut_ask, with_reg, takes, IsSparing, AreSparing, AreStored}
+use Rattle.cover.specs.Inner.Asks.{free, KeepsTo, Ask, operand_ask, cut_ask, after, takes, IsSparing, AreSparing, AreStored}
 use Rattle.cover.specs.Inner.Least.{AtMost, IsLeast, IsLeastForm, IsLeastOrder, IsLeastCut, IsFloor, summed}
 use Rattle.cover.specs.Inner.Jobs.{nodes_of, open_operands, open_cuts}
 
@@ -29,26 +30,26 @@ abbrev pub StandsWant : Instance → Want → Type 0
 StandsWant instance w = Stands (nodes_of instance) w.at (destination_at w.destination) (tree_term w.tree.now)
 
 -- the form at k begins a cover, and these are the parts of its match and their least costs
-pub record Fits (stock : Stock) (avoid : ℕ) (ask : Ask) (k : ℕ) (operands : List Operand)
+pub record Fits (stock : Stock) (limits : Limits) (ask : Ask) (k : ℕ) (operands : List Operand)
     (stored : List Term) (a b : ℕ) : Type 0 where
   pub rule : Rule
   pub found : Found
   pub listed : slice_get stock.rules k ≡ Some rule
-  pub spared : bit_and rule.clobbers avoid ≡ 0
+  pub spared : KeepsTo limits rule.clobbers (kind_cells rule.goal)
   pub takes_it : takes stock rule ask ≡ Some found
   pub operands_are : operands ≡ operands_of found.sites
   pub cuts_are : stored ≡ cuts_of found.sites
-  pub order : IsLeastOrder stock avoid operands (Some a)
+  pub order : IsLeastOrder stock limits operands (Some a)
   pub cut : IsLeastCut stock stored (Some b)
 
 -- the cost of the covers that begin with the form
 abbrev pub fit_cost : Fit → ℕ
 fit_cost f = 1 + f.operands_cost + f.cuts_cost
 
-abbrev pub IsFit : Stock → ℕ → Ask → ℕ → Option Fit → Type 0
-IsFit stock avoid ask k None = IsLeastForm stock avoid ask k None
-IsFit stock avoid ask k (Some f) =
-    Fits stock avoid ask k (open_operands f.operands.items) (open_cuts f.cuts.items) f.operands_cost f.cuts_cost
+abbrev pub IsFit : Stock → Limits → Ask → ℕ → Option Fit → Type 0
+IsFit stock limits ask k None = IsLeastForm stock limits ask k None
+IsFit stock limits ask k (Some f) =
+    Fits stock limits ask k (open_operands f.operands.items) (open_cuts f.cuts.items) f.operands_cost f.cuts_cost
 
 -- the parts with their costs, where both are known
 abbrev pub FitOf : List OpenOperand → List OpenCut → Option ℕ → Option ℕ → Option Fit → Type 0
@@ -58,22 +59,22 @@ FitOf operands stored a b (Some f) =
     × (b ≡ Some f.cuts_cost)
 
 -- the same of the parts of a match
-abbrev pub FitsParts : Stock → ℕ → List Operand → List Term → Option Fit → Type 0
-FitsParts stock avoid operands stored o =
+abbrev pub FitsParts : Stock → Limits → List Operand → List Term → Option Fit → Type 0
+FitsParts stock limits operands stored o =
     (is : List OpenOperand) × (ss : List OpenCut) × (a : Option ℕ) × (b : Option ℕ)
     × (open_operands is ≡ operands) × (open_cuts ss ≡ stored)
-    × IsLeastOrder stock avoid (open_operands is) a × IsLeastCut stock (open_cuts ss) b × FitOf is ss a b o
+    × IsLeastOrder stock limits (open_operands is) a × IsLeastCut stock (open_cuts ss) b × FitOf is ss a b o
 
 -- no cover of cost n begins with the form at k
-abbrev pub NeverBegins : Stock → ℕ → Ask → ℕ → ℕ → Type 0
-NeverBegins stock avoid ask n k =
-    (ps : Operands) (cs : Cuts) → IsSparing stock avoid ask (use_form k ps cs) →
+abbrev pub NeverBegins : Stock → Limits → Ask → ℕ → ℕ → Type 0
+NeverBegins stock limits ask n k =
+    (ps : Operands) (cs : Cuts) → IsSparing stock limits ask (use_form k ps cs) →
     1 + operands_cost ps + cuts_cost cs ≢ n
 
-abbrev pub Begins : Stock → ℕ → Ask → ℕ → ℕ → Option Fit → Type 0
-Begins stock avoid ask n k None = NeverBegins stock avoid ask n k
-Begins stock avoid ask n k (Some f) =
-    Fits stock avoid ask k (open_operands f.operands.items) (open_cuts f.cuts.items) f.operands_cost f.cuts_cost
+abbrev pub Begins : Stock → Limits → Ask → ℕ → ℕ → Option Fit → Type 0
+Begins stock limits ask n k None = NeverBegins stock limits ask n k
+Begins stock limits ask n k (Some f) =
+    Fits stock limits ask k (open_operands f.operands.items) (open_cuts f.cuts.items) f.operands_cost f.cuts_cost
     × (1 + f.operands_cost + f.cuts_cost ≡ n)
 
 -- what is asked for an entry of the row of the matches' tree
@@ -86,64 +87,64 @@ CostsOf n a b None = (j k : ℕ) → a ≡ Some j → b ≡ Some k → 1 + j + k
 CostsOf n a b (Some c) = (a ≡ Some c.operands) × (b ≡ Some c.cuts) × (1 + c.operands + c.cuts ≡ n)
 
 -- the least costs of the parts of a match, where a form makes n with them
-pub record AreCosts (stock : Stock) (avoid : ℕ) (ops : List Operand) (ts : List Term) (n : ℕ)
+pub record AreCosts (stock : Stock) (limits : Limits) (ops : List Operand) (ts : List Term) (n : ℕ)
     (o : Option PartCosts) : Type 0 where
   pub operands : Option ℕ
   pub cuts : Option ℕ
-  pub order : IsLeastOrder stock avoid ops operands
+  pub order : IsLeastOrder stock limits ops operands
   pub cut : IsLeastCut stock ts cuts
   pub costs : CostsOf n operands cuts o
 
 -- a form with these parts costs more than n
-pub record IsAbove (stock : Stock) (avoid : ℕ) (ops : List Operand) (ts : List Term) (n : ℕ) : Type 0 where
+pub record IsAbove (stock : Stock) (limits : Limits) (ops : List Operand) (ts : List Term) (n : ℕ) : Type 0 where
   pub operands : Option ℕ
   pub cuts : Option ℕ
-  pub floor : IsFloor stock avoid ops operands
+  pub floor : IsFloor stock limits ops operands
   pub cut : IsLeastCut stock ts cuts
   pub above : AtMost (summed (summed (Some 1) operands) cuts) n → ⊥
 
-abbrev pub CostsWithin : Stock → ℕ → List Operand → List Term → ℕ → Option PartCosts → Type 0
-CostsWithin stock avoid ops ts n o = AreCosts stock avoid ops ts n o ⊎ ((o ≡ None) × IsAbove stock avoid ops ts n)
+abbrev pub CostsWithin : Stock → Limits → List Operand → List Term → ℕ → Option PartCosts → Type 0
+CostsWithin stock limits ops ts n o = AreCosts stock limits ops ts n o ⊎ ((o ≡ None) × IsAbove stock limits ops ts n)
 
 -- the match begins a cover of cost n, and these are the costs of its parts
-abbrev pub BeginsOne : Stock → ℕ → Ask → ℕ → FormMatch → Option PartCosts → Type 0
-BeginsOne stock avoid ask n m None = NeverBegins stock avoid ask n m.form
-BeginsOne stock avoid ask n m (Some c) =
-    Fits stock avoid ask m.form (open_operands m.operands.items) (open_cuts m.cuts.items) c.operands c.cuts
+abbrev pub BeginsOne : Stock → Limits → Ask → ℕ → FormMatch → Option PartCosts → Type 0
+BeginsOne stock limits ask n m None = NeverBegins stock limits ask n m.form
+BeginsOne stock limits ask n m (Some c) =
+    Fits stock limits ask m.form (open_operands m.operands.items) (open_cuts m.cuts.items) c.operands c.cuts
     × (1 + c.operands + c.cuts ≡ n)
 
-abbrev pub BeginsAt : Stock → ℕ → Matches → Slot → ℕ → ℕ → Option PartCosts → Type 0
-BeginsAt stock avoid ms slot n i o =
+abbrev pub BeginsAt : Stock → Limits → Matches → Slot → ℕ → ℕ → Option PartCosts → Type 0
+BeginsAt stock limits ms slot n i o =
     (m : FormMatch) → slice_get ms.list.items i ≡ Some m →
-    BeginsOne stock avoid (matches_ask ms slot) n m o
+    BeginsOne stock limits (matches_ask ms slot) n m o
 
 -- the operand at i begins an order of cost n, and itself costs m
-abbrev pub Starts : Stock → ℕ → List Operand → ℕ → ℕ → Option ℕ → Type 0
-Starts stock avoid ops n i (Some m) =
+abbrev pub Starts : Stock → Limits → List Operand → ℕ → ℕ → Option ℕ → Type 0
+Starts stock limits ops n i (Some m) =
     (o : Operand) × (slice_get ops i ≡ Some o) × (0 < m) × (m ≤ n)
-    × IsLeast stock avoid (operand_ask o) (Some m)
-    × IsLeastOrder stock (with_reg avoid o.id) (remove ops i) (Some (n - m))
-Starts stock avoid ops n i None =
-    (p : Plan) (ps : Operands) → AreSparing stock avoid ops (operand_then i p ps) → cost p + operands_cost ps ≢ n
+    × IsLeast stock limits (operand_ask o) (Some m)
+    × IsLeastOrder stock (after limits o.home) (remove ops i) (Some (n - m))
+Starts stock limits ops n i None =
+    (p : Plan) (ps : Operands) → AreSparing stock limits ops (operand_then i p ps) → cost p + operands_cost ps ≢ n
 
 -- the first cut costs m of the n of all
 abbrev pub StartsCut : Stock → List Term → ℕ → ℕ → Type 0
 StartsCut stock [] n m = ⊥
 StartsCut stock (t ∷ ts) n m =
-    (0 < m) × (m ≤ n) × IsLeast stock 0 (cut_ask t) (Some m) × IsLeastCut stock ts (Some (n - m))
+    (0 < m) × (m ≤ n) × IsLeast stock (free stock) (cut_ask t) (Some m) × IsLeastCut stock ts (Some (n - m))
 
 -- the first among the covers of least cost
-pub record IsFirst (stock : Stock) (avoid : ℕ) (ask : Ask) (p : Plan) : Type 0 where
-  pub sparing : IsSparing stock avoid ask p
-  pub first : (q : Plan) → IsSparing stock avoid ask q →
+pub record IsFirst (stock : Stock) (limits : Limits) (ask : Ask) (p : Plan) : Type 0 where
+  pub sparing : IsSparing stock limits ask p
+  pub first : (q : Plan) → IsSparing stock limits ask q →
       (cost p < cost q) ⊎ ((cost p ≡ cost q) × ((p ≡ q) ⊎ IsBefore p q))
 
 abbrev pub OrderBefore : Operands → Operands → Type 0
 OrderBefore ps qs = IsSooner ps qs ⊎ (SamePlaces ps qs × AreBefore ps qs)
 
-pub record IsFirstOrder (stock : Stock) (avoid : ℕ) (ops : List Operand) (ps : Operands) : Type 0 where
-  pub sparing : AreSparing stock avoid ops ps
-  pub first : (qs : Operands) → AreSparing stock avoid ops qs →
+pub record IsFirstOrder (stock : Stock) (limits : Limits) (ops : List Operand) (ps : Operands) : Type 0 where
+  pub sparing : AreSparing stock limits ops ps
+  pub first : (qs : Operands) → AreSparing stock limits ops qs →
       (operands_cost ps < operands_cost qs)
       ⊎ ((operands_cost ps ≡ operands_cost qs) × ((ps ≡ qs) ⊎ OrderBefore ps qs))
 
@@ -153,12 +154,12 @@ pub record IsFirstCuts (stock : Stock) (ts : List Term) (cs : Cuts) : Type 0 whe
       (cuts_cost cs < cuts_cost ds) ⊎ ((cuts_cost cs ≡ cuts_cost ds) × ((cs ≡ ds) ⊎ CutsBefore cs ds))
 
 -- the first cover of the operand at i, and the first of the others, which spare its register
-abbrev pub IsFirstFrom : Stock → ℕ → List Operand → ℕ → Operands → Type 0
-IsFirstFrom stock avoid ops i all =
-    (o : Operand) × (p : Plan) × (ps : Operands) × (slice_get ops i ≡ Some o) × IsFirst stock avoid (operand_ask o) p
-    × IsFirstOrder stock (with_reg avoid o.id) (remove ops i) ps × (all ≡ operand_then i p ps)
+abbrev pub IsFirstFrom : Stock → Limits → List Operand → ℕ → Operands → Type 0
+IsFirstFrom stock limits ops i all =
+    (o : Operand) × (p : Plan) × (ps : Operands) × (slice_get ops i ≡ Some o) × IsFirst stock limits (operand_ask o) p
+    × IsFirstOrder stock (after limits o.home) (remove ops i) ps × (all ≡ operand_then i p ps)
 
 -- the cover has the first covers of the parts of a match of the form at k
-abbrev pub AreFirstParts : Stock → ℕ → List Operand → List Term → ℕ → Cover → Type 0
-AreFirstParts stock avoid ops ts k c =
-    (c.form ≡ k) × IsFirstOrder stock avoid ops (operands_plan c.operands) × IsFirstCuts stock ts (cuts_plan c.cuts)
+abbrev pub AreFirstParts : Stock → Limits → List Operand → List Term → ℕ → Cover → Type 0
+AreFirstParts stock limits ops ts k c =
+    (c.form ≡ k) × IsFirstOrder stock limits ops (operands_plan c.operands) × IsFirstCuts stock ts (cuts_plan c.cuts)

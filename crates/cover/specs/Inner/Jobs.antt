@@ -4,7 +4,7 @@ use Rattle.net_model.specs.Terms.{Term}
 use Rattle.form_model.specs.Trees.{tree_term}
 use Rattle.form_model.specs.Covers.{Stock, Operand, stock_with}
 use Rattle.tree_sharing.specs.Sharing.{job_nodes}
-use Rattle.tree_grammar.specs.Parts.{destination_at}
+use Rattle.tree_grammar.specs.Parts.{destination_at, home_at}
 use Rattle.tree_grammar.specs.declared.parts.Part.{Part}
 use Rattle.tree_grammar.specs.declared.parts.Part.TheVariants.{Cut}
 use Rattle.tree_grammar.specs.declared.parts.Part.TheVariants
@@ -14,14 +14,14 @@ use Rattle.cover.specs.declared.opened.OpenCut.{OpenCut}
 
 -- what an instance is to be covered by
 abbrev pub instance_stock : Instance → Stock
-instance_stock s = stock_with s.forms.now s.temps
+instance_stock s = stock_with s.forms.now s.temps s.file
 
 -- the numbered trees of an instance
 abbrev pub nodes_of : Instance → List Term
 nodes_of k = job_nodes (destination_at k.destination) (tree_term k.tree.now)
 
 abbrev pub open_operand : OpenOperand → Operand
-open_operand i = record { id = i.id; tree = tree_term i.tree.now; whole = i.whole }
+open_operand i = record { home = home_at i.home; tree = tree_term i.tree.now; whole = i.whole }
 
 abbrev pub open_operands : List OpenOperand → List Operand
 open_operands is = map open_operand is
@@ -39,11 +39,11 @@ CutsAt nodes (s ∷ ss) = (slice_get nodes s.at ≡ Some (tree_term s.tree.now))
 
 -- the list has one more item where the part is an operand
 abbrev pub HasOperand : Part → List OpenOperand → List OpenOperand → Type 0
-HasOperand (TheVariants.Operand id tree whole at) old new =
+HasOperand (TheVariants.Operand home tree whole at) old new =
     (i : OpenOperand) × (new ≡ old ++ (i ∷ []))
-    × (open_operand i ≡ record { id = id; tree = tree_term tree.now; whole = whole }) × (i.at ≡ at)
+    × (open_operand i ≡ record { home = home_at home; tree = tree_term tree.now; whole = whole }) × (i.at ≡ at)
 HasOperand (Cut shape tree at) old new = new ≡ old
 
 abbrev pub HasCut : Part → List OpenCut → List OpenCut → Type 0
-HasCut (TheVariants.Operand id tree whole at) old new = new ≡ old
+HasCut (TheVariants.Operand home tree whole at) old new = new ≡ old
 HasCut (Cut shape tree at) old new = new ≡ old ++ (record { tree = tree; at = at } ∷ [])

@@ -3,14 +3,14 @@ use Rattle.std.specs.Prelude.{ℕ, ◌≡◌, Bool, true, false, List, Some, len
 use Rattle.net_model.specs.Terms.{Term}
 use Rattle.form_model.specs.Rules.{Destination}
 use Rattle.form_model.specs.Plans.{use_form, Operands, Cuts}
-use Rattle.form_model.specs.Covers.{Stock, IsOrderly}
-use Rattle.cover.specs.Made.{HoldsParts, IsMade}
+use Rattle.form_model.specs.Covers.{Stock}
+use Rattle.cover.specs.Made.{HoldsParts, IsCover, IsMade}
 
 -- no cover of the tree as a part begins with the form at k
 abbrev pub NeverMakes : Stock → Term → ℕ → Type 0
 NeverMakes stock tree k =
     (destination : Destination) (ps : Operands) (cs : Cuts) → HoldsParts destination →
-    IsOrderly stock destination tree false (use_form k ps cs) → ⊥
+    IsCover stock destination tree false (use_form k ps cs) → ⊥
 
 -- whether one does
 abbrev pub Makes : Stock → Term → ℕ → Bool → Type 0

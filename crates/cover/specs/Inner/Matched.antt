@@ -4,18 +4,19 @@ use Rattle.net_model.specs.Terms.{Term, size_of}
 use Rattle.form_model.specs.Trees.{tree_term}
 use Rattle.form_model.specs.Rules.{Rule}
 use Rattle.form_model.specs.Matches.{Site, operand, cut, Found}
-use Rattle.form_model.specs.Covers.{Stock, operands_of, cuts_of}
+use Rattle.form_model.specs.Covers.{Stock, operands_of, cuts_of, kind_cells}
 use Rattle.tree_grammar.specs.declared.parts.Part.{Part}
 use Rattle.tree_grammar.specs.declared.parts.Part.TheVariants
-use Rattle.tree_grammar.specs.Parts.{sites_of, AreAt}
+use Rattle.tree_grammar.specs.Parts.{home_at, sites_of, AreAt}
+use Rattle.cover.specs.declared.limits.Limits.{Limits}
 use Rattle.cover.specs.declared.instance.Instance.{Instance}
 use Rattle.cover.specs.declared.slots.Slot.{Slot}
-use Rattle.cover.specs.declared.slots.Slot.TheVariants.{Register, Temporary}
+use Rattle.cover.specs.declared.slots.Slot.TheVariants.{Temporary}
 use Rattle.cover.specs.declared.rows.Offer.{Offer}
 use Rattle.cover.specs.declared.matches.FormMatch.{FormMatch}
 use Rattle.cover.specs.declared.matches.Matches.{Matches}
 use Rattle.cover.specs.Inner.Asks.{takes, rest}
-use Rattle.cover.specs.Inner.Slots.{IsEntry, IsSlot, goal_slot}
+use Rattle.cover.specs.Inner.Slots.{IsEntry, IsLowHome, IsSlot, goal_slot, home_slot}
 use Rattle.cover.specs.Inner.Rows.{Row, row_ask, IsOffer}
 use Rattle.cover.specs.Inner.Jobs.{instance_stock, nodes_of, open_operands, open_cuts, OperandsAt, CutsAt}
 
@@ -34,6 +35,7 @@ pub record IsFormMatch (instance : Instance) (t : Term) (whole : Bool) (m : Form
   pub found : Found
   pub listed : slice_get (instance_stock instance).rules m.form ≡ Some rule
   pub clobbers : rule.clobbers ≡ m.clobbers
+  pub cells : kind_cells rule.goal ≡ m.cells
   pub goes : goal_slot rule.goal whole ≡ Some m.goal
   pub slot : IsSlot whole m.goal
   pub takes_it : takes (instance_stock instance) rule (row_ask t whole m.goal) ≡ Some found
@@ -44,23 +46,25 @@ pub record IsFormMatch (instance : Instance) (t : Term) (whole : Bool) (m : Form
   pub operands_at : OperandsAt (nodes_of instance) m.operands.items
   pub cuts_at : CutsAt (nodes_of instance) m.cuts.items
 
--- a set of registers has a bit for that of each operand
+-- a set of registers has a bit for that of each operand whose home is one
 abbrev pub AreLowSites : List Site → Type 0
 AreLowSites [] = Unit {0}
-AreLowSites (operand id tree whole ∷ sites) = (id < 16) × AreLowSites sites
+AreLowSites (operand home tree whole ∷ sites) = IsLowHome home × AreLowSites sites
 AreLowSites (cut shape tree ∷ sites) = AreLowSites sites
 
 -- the entry of the tree of this number from which a match with these parts goes on, as `rest` has it
 abbrev pub rest_at : ℕ → List Part → Option Slot
-rest_at number (TheVariants.Operand id tree whole at ∷ []) = if at == number then Some (Register id) else None
+rest_at number (TheVariants.Operand home tree whole at ∷ []) = if at == number then Some (home_slot (home_at home)) else None
 rest_at number (TheVariants.Cut shape tree at ∷ []) = if at == number then Some Temporary else None
 rest_at number _ = None
 
 -- a match of a form that leaves these parts open
-pub record IsOpened (parts : List Part) (number k : ℕ) (entry : Slot) (clobbered : ℕ) (m : FormMatch) : Type 0 where
+pub record IsOpened (parts : List Part) (number k : ℕ) (entry : Slot) (clobbered written : ℕ)
+    (m : FormMatch) : Type 0 where
   pub form : m.form ≡ k
   pub goal : m.goal ≡ entry
   pub clobbers : m.clobbers ≡ clobbered
+  pub cells : m.cells ≡ written
   pub start : m.start ≡ rest_at number parts
   pub register : IfSome m.start IsEntry
   pub operands : open_operands m.operands.items ≡ operands_of (sites_of parts)
@@ -98,7 +102,7 @@ AreMatches instance ms =
     AreFirstMatches instance (tree_term ms.tree.now) ms.whole (length instance.forms.now) ms.list.items
 
 -- what the match at i gives for a row
-abbrev pub IsOfferAt : Stock → ℕ → Matches → Row → ℕ → Offer → Type 0
-IsOfferAt stock avoid ms row i offer =
+abbrev pub IsOfferAt : Stock → Limits → Matches → Row → ℕ → Offer → Type 0
+IsOfferAt stock limits ms row i offer =
     (m : FormMatch) → slice_get ms.list.items i ≡ Some m →
-    IsOffer stock avoid (tree_term ms.tree.now) ms.whole row m.form offer
+    IsOffer stock limits (tree_term ms.tree.now) ms.whole row m.form offer

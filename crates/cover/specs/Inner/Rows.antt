@@ -1,9 +1,11 @@
--- Rows of least costs of one tree: for each register, and behind them for a temporary cell.
+-- Rows of least costs of one tree: for each register, and behind them for the file and for a
+-- temporary cell.
 use Rattle.std.specs.Prelude.{ℕ, ◌+◌, ◌<◌, ◌≤◌, ◌≡◌, ◌⊎◌, ◌^◌, Bool, true, false, List, [], ◌∷◌, ◌++◌, Option, Some, None, length, slice_get, slice_set, slice_index_or}
 use Rattle.std.specs.List.{sum_by}
 use Rattle.net_model.specs.Terms.{Term}
 use Rattle.form_model.specs.Plans.{Plan, use_form, Operands, Cuts, cost}
 use Rattle.form_model.specs.Covers.{Stock}
+use Rattle.cover.specs.declared.limits.Limits.{Limits}
 use Rattle.cover.specs.declared.slots.Slot.{Slot}
 use Rattle.cover.specs.declared.rows.ChainRule.{ChainRule}
 use Rattle.cover.specs.declared.rows.Offer.{Offer}
@@ -33,26 +35,26 @@ IsBelow n None = Unit {0}
 IsBelow n (Some m) = n < m
 
 -- each entry is that of some cover
-abbrev pub Sound : Stock → ℕ → Term → Bool → Row → Type 0
-Sound stock avoid tree whole row = (r : Slot) → IsSlot whole r → Reached stock avoid (row_ask tree whole r) (entry row r)
+abbrev pub Sound : Stock → Limits → Term → Bool → Row → Type 0
+Sound stock limits tree whole row = (r : Slot) → IsSlot whole r → Reached stock limits (row_ask tree whole r) (entry row r)
 
 -- each entry is the least
-abbrev pub IsLeastRow : Stock → ℕ → Term → Bool → Row → Type 0
-IsLeastRow stock avoid tree whole row =
-    (r : Slot) → IsSlot whole r → IsLeast stock avoid (row_ask tree whole r) (entry row r)
+abbrev pub IsLeastRow : Stock → Limits → Term → Bool → Row → Type 0
+IsLeastRow stock limits tree whole row =
+    (r : Slot) → IsSlot whole r → IsLeast stock limits (row_ask tree whole r) (entry row r)
 
 -- ---- chain rules: forms that go on from another entry of the same row
 
 -- a cover for the one entry gives one for the other, which costs 1 more
-pub record IsLift (stock : Stock) (avoid : ℕ) (tree : Term) (whole : Bool) (m : ChainRule) : Type 0 where
+pub record IsLift (stock : Stock) (limits : Limits) (tree : Term) (whole : Bool) (m : ChainRule) : Type 0 where
   pub start : IsSlot whole m.start
   pub goal : IsSlot whole m.goal
-  pub lift : (p : Plan) → IsSparing stock avoid (row_ask tree whole m.start) p →
-      (q : Plan) × IsSparing stock avoid (row_ask tree whole m.goal) q × (cost q ≡ cost p + 1)
+  pub lift : (p : Plan) → IsSparing stock limits (row_ask tree whole m.start) p →
+      (q : Plan) × IsSparing stock limits (row_ask tree whole m.goal) q × (cost q ≡ cost p + 1)
 
-abbrev pub AreLifts : Stock → ℕ → Term → Bool → List ChainRule → Type 0
-AreLifts stock avoid tree whole chains =
-    (i : ℕ) (m : ChainRule) → slice_get chains i ≡ Some m → IsLift stock avoid tree whole m
+abbrev pub AreLifts : Stock → Limits → Term → Bool → List ChainRule → Type 0
+AreLifts stock limits tree whole chains =
+    (i : ℕ) (m : ChainRule) → slice_get chains i ≡ Some m → IsLift stock limits tree whole m
 
 -- the chain rules stay inside the row
 abbrev pub AreWithin : List ChainRule → Type 0
@@ -60,39 +62,39 @@ AreWithin chains = (i : ℕ) (m : ChainRule) → slice_get chains i ≡ Some m �
 
 -- a cover of an entry is no cheaper than the entry, or begins with a chain rule and goes on with a
 -- cover of its start
-abbrev pub IsMet : Stock → ℕ → Term → Bool → List ChainRule → Row → Slot → ℕ → Type 0
-IsMet stock avoid tree whole chains row r n =
+abbrev pub IsMet : Stock → Limits → Term → Bool → List ChainRule → Row → Slot → ℕ → Type 0
+IsMet stock limits tree whole chains row r n =
     AtMost (entry row r) n
     ⊎ ((i : ℕ) × (m : ChainRule) × (slice_get chains i ≡ Some m) × (m.goal ≡ r) × (q : Plan)
-    × IsSparing stock avoid (row_ask tree whole m.start) q × (cost q + 1 ≤ n))
+    × IsSparing stock limits (row_ask tree whole m.start) q × (cost q + 1 ≤ n))
 
 -- what is known of a tree after the first n matches were tried
-pub record IsTried (stock : Stock) (avoid : ℕ) (tree : Term) (whole : Bool) (list : List FormMatch)
+pub record IsTried (stock : Stock) (limits : Limits) (tree : Term) (whole : Bool) (list : List FormMatch)
     (n : ℕ) (chains : List ChainRule) (row : Row) : Type 0 where
-  pub sound : Sound stock avoid tree whole row
-  pub lifts : AreLifts stock avoid tree whole chains
+  pub sound : Sound stock limits tree whole row
+  pub lifts : AreLifts stock limits tree whole chains
   pub met : (i : ℕ) (m : FormMatch) (ps : Operands) (cs : Cuts) (r : Slot) → i < n →
       slice_get list i ≡ Some m → IsSlot whole r →
-      IsSparing stock avoid (row_ask tree whole r) (use_form m.form ps cs) →
-      IsMet stock avoid tree whole chains row r (cost (use_form m.form ps cs))
+      IsSparing stock limits (row_ask tree whole r) (use_form m.form ps cs) →
+      IsMet stock limits tree whole chains row r (cost (use_form m.form ps cs))
 
 -- what the form at k gives for a row: no cover that is cheaper than what is known, a chain rule, or
 -- a cost of its entry
-abbrev pub IsOffer : Stock → ℕ → Term → Bool → Row → ℕ → Offer → Type 0
-IsOffer stock avoid tree whole row k Nothing =
+abbrev pub IsOffer : Stock → Limits → Term → Bool → Row → ℕ → Offer → Type 0
+IsOffer stock limits tree whole row k Nothing =
     (ps : Operands) (cs : Cuts) (r : Slot) → IsSlot whole r →
-    IsSparing stock avoid (row_ask tree whole r) (use_form k ps cs) →
+    IsSparing stock limits (row_ask tree whole r) (use_form k ps cs) →
     AtMost (entry row r) (cost (use_form k ps cs))
-IsOffer stock avoid tree whole row k (Chains m) =
-    IsLift stock avoid tree whole m
+IsOffer stock limits tree whole row k (Chains m) =
+    IsLift stock limits tree whole m
     × ((ps : Operands) (cs : Cuts) (r : Slot) → IsSlot whole r →
-    IsSparing stock avoid (row_ask tree whole r) (use_form k ps cs) →
-    (m.goal ≡ r) × (q : Plan) × IsSparing stock avoid (row_ask tree whole m.start) q
+    IsSparing stock limits (row_ask tree whole r) (use_form k ps cs) →
+    (m.goal ≡ r) × (q : Plan) × IsSparing stock limits (row_ask tree whole m.start) q
     × (cost q + 1 ≤ cost (use_form k ps cs)))
-IsOffer stock avoid tree whole row k (Reaches slot n) =
-    IsSlot whole slot × Reached stock avoid (row_ask tree whole slot) (Some n)
+IsOffer stock limits tree whole row k (Reaches slot n) =
+    IsSlot whole slot × Reached stock limits (row_ask tree whole slot) (Some n)
     × ((ps : Operands) (cs : Cuts) (r : Slot) → IsSlot whole r →
-    IsSparing stock avoid (row_ask tree whole r) (use_form k ps cs) →
+    IsSparing stock limits (row_ask tree whole r) (use_form k ps cs) →
     (slot ≡ r) × (n ≤ cost (use_form k ps cs)))
 
 -- what an entry weighs
@@ -128,9 +130,9 @@ Changed chains n false old new = (new ≡ old) × ChainsBelow chains n new
 -- entries that are those of covers stay so
 abbrev pub Keeps : List ChainRule → Row → Row → Type 0
 Keeps chains old new =
-    (stock : Stock) (avoid : ℕ) (tree : Term) (whole : Bool) →
-    AreLifts stock avoid tree whole chains → Sound stock avoid tree whole old →
-    Sound stock avoid tree whole new
+    (stock : Stock) (limits : Limits) (tree : Term) (whole : Bool) →
+    AreLifts stock limits tree whole chains → Sound stock limits tree whole old →
+    Sound stock limits tree whole new
 
 -- a row after the first n chain rules were tried
 pub record Swept (chains : List ChainRule) (n : ℕ) (changed : Bool) (old new : Row) : Type 0 where

@@ -26,9 +26,9 @@ EachKept {A = A} P lists = (n : ℕ) (v : Vec A Global) (x : A) → slice_get li
 
 -- the row is the least of the tree of this number
 pub record IsKept (instance : Instance) (number : ℕ) (row : KeptRow) : Type 0 where
-  pub len : length row.costs.items ≡ 17
+  pub len : length row.costs.items ≡ 18
   pub least : (t : Term) → slice_get (nodes_of instance) number ≡ Some t →
-      IsLeastRow (instance_stock instance) row.avoid t row.whole row.costs.items
+      IsLeastRow (instance_stock instance) row.limits t row.whole row.costs.items
 
 -- the matches are those of the tree of this number
 pub record HasMatches (instance : Instance) (number : ℕ) (shared : Rc Matches Global) : Type 0 where

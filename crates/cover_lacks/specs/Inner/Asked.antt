@@ -13,7 +13,7 @@ use Rattle.cover_lacks.specs.declared.asks.Search.{Search}
 use Rattle.cover_lacks.specs.declared.asks.Look.{Look}
 
 abbrev pub search_stock : Search → Stock
-search_stock s = stock_with s.forms.now s.temps
+search_stock s = stock_with s.forms.now s.temps s.file
 
 -- the numbered subtrees
 abbrev pub search_nodes : Search → List Term
@@ -26,7 +26,7 @@ pub record IsSearch (s : Search) : Type 0 where
 
 -- the tree's number
 abbrev pub part_at : Part → ℕ
-part_at (Operand id tree whole at) = at
+part_at (Operand home tree whole at) = at
 part_at (Cut shape tree at) = at
 
 -- the tree is smaller than this, where a size is given
@@ -35,7 +35,7 @@ IsBelow None tree = Unit {0}
 IsBelow (Some n) tree = size_of tree < n
 
 abbrev pub part_tree : Part → Term
-part_tree (Operand id tree whole at) = tree_term tree.now
+part_tree (Operand home tree whole at) = tree_term tree.now
 part_tree (Cut shape tree at) = tree_term tree.now
 
 -- the numbers have one more, that of a tree that counts and that nothing makes, or they are the

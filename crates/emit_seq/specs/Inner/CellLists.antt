@@ -1,8 +1,8 @@
 -- The cells of a match's sites, told site by site from the left.
-use Rattle.std.specs.Prelude.{◌≡◌, ◌≤◌, ℕ, List, ◌++◌, length, drop, map}
+use Rattle.std.specs.Prelude.{◌≡◌, ◌<◌, ◌≤◌, ℕ, List, ◌++◌, length, drop, map}
 use Rattle.net_model.specs.Terms.{Term}
-use Rattle.form_model.specs.Covers.{Operand}
-use Rattle.form_model.specs.Plans.{Operands, no_operands, operand_then}
+use Rattle.form_model.specs.Covers.{Stock, Operand}
+use Rattle.form_model.specs.Plans.{Plan, use_form, Operands, no_operands, operand_then}
 use Rattle.form_model.specs.Matches.{Site}
 use Rattle.form_model.specs.Steps.{OperandCells, CutCells, operand_cells, operand_counts, cut_cells}
 use Rattle.emit_seq.specs.declared.cells.MatchCells.{MatchCells}
@@ -27,6 +27,16 @@ trees_in cuts = map (λ (cells : CutCells). cells.tree) cuts
 abbrev pub ArePlaces : Operands → Type 0
 ArePlaces no_operands = Unit {0}
 ArePlaces (operand_then i p ps) = (i ≤ length (operand_counts ps)) × ArePlaces ps
+
+-- the forms of a cover and of its operands' covers are listed, and each operand has its place among
+-- those that are left
+abbrev mutual
+  pub IsListed : Stock → Plan → Type 0
+  IsListed stock (use_form k ps cs) = (k < length stock.rules) × AreListed stock ps
+
+  pub AreListed : Stock → Operands → Type 0
+  AreListed stock no_operands = Unit {0}
+  AreListed stock (operand_then i p ps) = (i ≤ length (operand_counts ps)) × IsListed stock p × AreListed stock ps
 
 -- the cells of all operands and cuts
 pub record AreMatchCells (sites : List Site) (ks ls : List ℕ) (first : ℕ) (cells : MatchCells) : Type 0 where

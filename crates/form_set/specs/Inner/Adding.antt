@@ -1,5 +1,5 @@
 -- What the code finds out of a pattern, and what it adds to a list of forms.
-use Rattle.std.specs.Prelude.{◌≡◌, ℕ, max, List, [], ◌∷◌, ◌++◌, Option, Some, None, length}
+use Rattle.std.specs.Prelude.{◌≡◌, ℕ, max, true, List, [], ◌∷◌, ◌++◌, Option, Some, None, length}
 use Rattle.net_model.specs.declared.hardware.Netlist.{Netlist}
 use Rattle.net_model.specs.Patterns.{Pattern}
 use Rattle.sym_expr.specs.declared.pool.Node.{Node}
@@ -9,9 +9,18 @@ use Rattle.form_set.specs.declared.branches.BranchIds.{BranchIds}
 use Rattle.form_set.specs.declared.classes.Class.{Class}
 use Rattle.form_set.specs.declared.classes.Class.TheVariants.{Plain, Jump, Branch, Other}
 use Rattle.form_set.specs.Inner.Copies.{AreBranchIds, ids_branch}
+use Rattle.net_model.specs.Occurs.{IsLinear}
+use Rattle.form_set.specs.Static.{cells_shown, is_file_at, move_shaped}
+use Rattle.form_set.specs.Tied.{counted}
 use Rattle.form_set.specs.Listing.{AreRulesOf, IsBranch, IsJump, IsPlain}
 use Rattle.form_set.specs.Targets.{Branch as Parts}
 use Rattle.form_set.specs.Words.{AreClobbers}
+
+-- the expressions of a pattern are those of a plain one
+pub record IsApt (netlist : Netlist) (pattern : Pattern) : Type 0 where
+  pub linear : IsLinear 0 (counted (is_file_at netlist pattern.storage) pattern.move)
+  pub shapes : move_shaped netlist.edition pattern.move ≡ true
+  pub cells : cells_shown netlist pattern ≡ true
 
 -- a plain pattern with its clobbers, or none
 abbrev pub IsPlainOr : Netlist → Pattern → Option ℕ → Type 0

@@ -1,12 +1,14 @@
 -- Addresses and values as the code holds them.
-use Rattle.std.specs.Prelude.{option_map, ℕ, ◌<◌, List, Option, if◌then◌else◌}
-use Rattle.net_model.specs.Terms.{term_of}
+use Rattle.std.specs.Prelude.{◌≡◌, option_map, ℕ, ◌^◌, ◌<◌, ◌≤◌, length, List, Option, if◌then◌else◌}
+use Rattle.net_model.specs.Terms.{term_of, term_width}
 use Rattle.sym_expr.specs.declared.pool.Node.{Node}
 use Rattle.sym_expr.specs.Pools.{term_at}
 use Rattle.form_set.specs.declared.swaps.Sides.{Sides as TheSides}
 use Rattle.form_set.specs.declared.branches.BranchIds.{BranchIds}
 use Rattle.form_set.specs.declared.branches.TargetId.{TargetId}
 use Rattle.form_model.specs.Rules.{BranchTarget, absolute, relative}
+use Rattle.form_model.specs.Shapes.{Sum}
+use Rattle.form_set.specs.declared.shapes.SumIds.{SumIds}
 use Rattle.form_set.specs.Targets.{Branch}
 use Rattle.form_set.specs.Swaps.{Sides}
 
@@ -31,3 +33,15 @@ ids_branch pool parts =
 pub record AreBranchIds (size : ℕ) (parts : BranchIds) : Type 0 where
   pub test : parts.test < size
   pub target : parts.target.expr < size
+
+-- a constant, with its width, and what it is added to, by its id
+abbrev pub ids_sum : List Node → SumIds → Sum
+ids_sum pool sum = record { width = sum.width; added = sum.added; to = term_at pool sum.to }
+
+-- what is known of a sum's parts
+pub record IsSumOf (pool : List Node) (sum : SumIds) : Type 0 where
+  pub to : sum.to < length pool
+  pub low : 1 ≤ sum.width
+  pub high : sum.width ≤ 64
+  pub added : sum.added < 2 ^ sum.width
+  pub wide : term_width (term_at pool sum.to) ≡ sum.width

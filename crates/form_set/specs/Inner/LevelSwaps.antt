@@ -3,11 +3,11 @@
 use Rattle.std.specs.Prelude.{ℕ, zero, suc, ◌+◌, ◌-◌, ◌/◌, ◌==◌, ◌&&◌, if◌then◌else◌, Option, Some, None, List, [], ◌∷◌}
 use Rattle.std.specs.Int.{bit_at}
 use Rattle.net_model.specs.Terms.{Term, read, un, bin, slice, cat, zext, sext, select}
-use Rattle.form_set.specs.Swaps.{Path, at_level, can_swap, ordered}
+use Rattle.form_set.specs.Swaps.{Path, at_level, ordered, swaps_here}
 
 -- 1 for an expression that has an operator at its root that can be swapped
 abbrev pub root_swaps : Term → ℕ
-root_swaps (bin o a b) = if can_swap o then 1 else 0
+root_swaps (bin o a b) = if swaps_here o a b then 1 else 0
 root_swaps _ = 0
 
 -- how many there are in an expression
@@ -31,7 +31,7 @@ abbrev pub left_of : ℕ → ℕ → Term → ℕ
 left_of level choice (read space a w) = at_level level choice (left_of (level - 1) choice a)
 left_of level choice (un o a) = at_level level choice (left_of (level - 1) choice a)
 left_of level choice (bin o a b) =
-    at_level level (if can_swap o then choice / 2 else choice) (left_of (level - 1) (left_of (level - 1) choice a) b)
+    at_level level (if swaps_here o a b then choice / 2 else choice) (left_of (level - 1) (left_of (level - 1) choice a) b)
 left_of level choice (slice a hi lo) = at_level level choice (left_of (level - 1) choice a)
 left_of level choice (cat a b) = at_level level choice (left_of (level - 1) (left_of (level - 1) choice a) b)
 left_of level choice (zext a w) = at_level level choice (left_of (level - 1) choice a)
@@ -45,7 +45,7 @@ abbrev pub swap_level : ℕ → ℕ → Term → Term
 swap_level level choice (read space a w) = at_level level (read space a w) (read space (swap_level (level - 1) choice a) w)
 swap_level level choice (un o a) = at_level level (un o a) (un o (swap_level (level - 1) choice a))
 swap_level level choice (bin o a b) =
-    at_level level (ordered (can_swap o && bit_at choice 0 == 1) o a b)
+    at_level level (ordered (swaps_here o a b && bit_at choice 0 == 1) o a b)
     (bin o (swap_level (level - 1) choice a) (swap_level (level - 1) (left_of (level - 1) choice a) b))
 swap_level level choice (slice a hi lo) =
     at_level level (slice a hi lo) (slice (swap_level (level - 1) choice a) hi lo)

@@ -1,7 +1,7 @@
 -- The groups and the words of a program's blocks and tests, as far as they are made.
 use Rattle.std.specs.Prelude.{ℕ, ◌<◌, ◌≡◌, List, [], ◌∷◌, Some, length, slice_get, slice_index_or}
 use Rattle.code_model.specs.declared.image.Word.{Word}
-use Rattle.form_model.specs.Effects.{operation_of}
+use Rattle.block_words.specs.Laws.{operation_in}
 use Rattle.word_fit.specs.Fits.{FitsJump}
 use Rattle.branch_fix.specs.declared.laid.Item.{Item}
 use Rattle.branch_fix.specs.declared.laid.Item.TheVariants.{Group, Jump}
@@ -71,7 +71,7 @@ pub record IsBlockCode (netlist : Netlist) (patterns : List Pattern) (stock : St
 -- a jump or a branch has a word
 abbrev pub HasWord : Netlist → List Pattern → Item → Type 0
 HasWord netlist patterns (Group block at) = Unit {0}
-HasWord netlist patterns (Jump step) = (word : ℕ) × FitsJump netlist word (operation_of patterns step)
+HasWord netlist patterns (Jump step) = (word : ℕ) × FitsJump netlist word (operation_in netlist patterns step)
 
 -- the word of an item, with the patterns of its steps
 pub record IsWordOf (netlist : Netlist) (patterns : List Pattern) (blocks : List PackedBlock)

@@ -1,5 +1,7 @@
 -- A program with the covers of its jobs, on a netlist with its patterns.
 use Rattle.std.specs.Prelude.{◌≡◌, map}
+use Rattle.net_model.specs.declared.hardware.Space.TheVariants.{File as InFile}
+use Rattle.net_model.specs.Nets.{size_in}
 use Rattle.net_model.specs.Patterns.{ArePatterns}
 use Rattle.src_model.specs.Rules.{temp_count}
 use Rattle.cover.specs.declared.covers.JobCover.{JobCover}
@@ -20,6 +22,7 @@ pub record IsCovering (machine : Machine) (program : CoveredProgram) (task : Tas
   pub patterns : ArePatterns (machine_netlist machine) (machine_patterns machine)
   pub forms : AreForms (machine_netlist machine) (machine_patterns machine) (stock_of program).rules
       program.forms.now.reach
+  pub file : program.forms.now.file ≡ size_in InFile (machine_netlist machine).storages
   pub temps : program.temps ≡ temp_count task.width task.listing
   pub flow : program.flow.now ≡ program_flow task.listing
   pub works : works_in program ≡ task_works task

@@ -9,7 +9,11 @@ use Rattle.src_trees.specs.Lowered.{Work}
 use Rattle.net_code.specs.declared.views.CoveredProgram.{CoveredProgram}
 
 abbrev pub stock_of : CoveredProgram → Stock
-stock_of program = record { rules = rules_of program.forms.now.list.items; temps = program.temps }
+stock_of program = record {
+  rules = rules_of program.forms.now.list.items;
+  temps = program.temps;
+  file = program.forms.now.file;
+}
 
 abbrev pub works_in : CoveredProgram → List Work
 works_in program = works_of program.jobs.now

@@ -17,7 +17,7 @@ abbrev pub netlist_of : Subject → Netlist
 netlist_of subject = subject.checked.now.netlist
 
 abbrev pub stock_of : Subject → Stock
-stock_of subject = stock_with subject.forms.now.list.items subject.temps
+stock_of subject = stock_with subject.forms.now.list.items subject.temps subject.forms.now.file
 
 -- what was added to a text is such a text
 pub record Adds (Is : List ℕ → Type 0) (old new : List ℕ) : Type 0 where

@@ -6,7 +6,7 @@ use Rattle.net_model.specs.Patterns.{Pattern}
 use Rattle.code_model.specs.declared.image.Image.{Image}
 use Rattle.code_model.specs.Places.{words_of}
 use Rattle.form_model.specs.Covers.{Stock, Choice}
-use Rattle.form_model.specs.Effects.{operation_of}
+use Rattle.block_words.specs.Laws.{operation_in}
 use Rattle.form_model.specs.declared.forms.Step.{Step}
 use Rattle.form_model.specs.Live.{Regs}
 use Rattle.word_fit.specs.Fits.{fits_over}
@@ -32,8 +32,8 @@ pub record IsBlockMade (netlist : Netlist) (patterns : List Pattern) (stock : St
   pub covered : AreCovered stock jobs choices
   pub live : Regs
   pub groups : List (List Step)
-  pub means : MeansSteps netlist (operation_of patterns) live (jobs_steps stock jobs choices) groups
+  pub means : MeansSteps netlist (operation_in netlist patterns) live (jobs_steps stock jobs choices) groups
   pub words : List ℕ
-  pub fit : GroupsFit (operation_of patterns) (fits_over netlist (operation_of patterns)) words groups live
+  pub fit : GroupsFit (operation_in netlist patterns) (fits_over netlist (operation_in netlist patterns)) words groups live
   pub long : n ≡ length words
   pub stand : StandAt (words_of image) at words

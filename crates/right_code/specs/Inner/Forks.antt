@@ -11,7 +11,7 @@ use Rattle.net_model.specs.Fields.{fields}
 use Rattle.form_model.specs.Shapes.{is_shape, shape_setting}
 use Rattle.form_model.specs.Rules.{Rule, BranchTarget, absolute, relative, branches, tested}
 use Rattle.form_model.specs.Covers.{Stock, Choice}
-use Rattle.form_model.specs.Effects.{operation_of}
+use Rattle.block_words.specs.Laws.{operation_in}
 use Rattle.form_model.specs.declared.forms.Step.{Step}
 use Rattle.form_model.specs.Live.{Regs}
 use Rattle.form_model.specs.Steps.{branch_setting}
@@ -75,7 +75,7 @@ pub record IsJumpMade (netlist : Netlist) (patterns : List Pattern) (i to : ℕ)
   pub form : IsJumpForm netlist patterns rule
   pub bits : ℕ
   pub shown : shape_setting rule.value to ≡ Some bits
-  pub word : FitsJump netlist i (operation_of patterns (record { pattern = rule.pattern; setting = bits }))
+  pub word : FitsJump netlist i (operation_in netlist patterns (record { pattern = rule.pattern; setting = bits }))
 
 -- the bits for a target: an absolute one is shown as it stands, a relative one, which is an
 -- address, as its distance, or as the two words to the jump behind a long branch
@@ -105,9 +105,9 @@ pub record IsTestMade (netlist : Netlist) (patterns : List Pattern) (stock : Sto
   pub covered : IsCovered stock (test_of job) choice
   pub live : Regs
   pub groups : List (List Step)
-  pub means : MeansSteps netlist (operation_of patterns) live (job_steps stock (test_of job) choice) groups
+  pub means : MeansSteps netlist (operation_in netlist patterns) live (job_steps stock (test_of job) choice) groups
   pub words : List ℕ
-  pub fit : GroupsFit (operation_of patterns) (fits_over netlist (operation_of patterns)) words groups live
+  pub fit : GroupsFit (operation_in netlist patterns) (fits_over netlist (operation_in netlist patterns)) words groups live
   pub long : n ≡ length words
   pub stand : StandAt (words_of image) at words
   pub wants : (r : ℕ) → wanted stock tested (tree_used (test_of job) choice) choice.plan r ≡ true → live r ≡ true
@@ -123,7 +123,7 @@ pub record IsForkMade (netlist : Netlist) (patterns : List Pattern) (stock : Sto
   pub bits : ℕ
   pub shown : IsTargetShown netlist way (at + f.words) to f.long bits
   pub word : FitsJump netlist (image_word image (at + f.words))
-      (operation_of patterns (record {
+      (operation_in netlist patterns (record {
         pattern = (plan_rule stock choice.plan).pattern;
         setting = bit_or (branch_setting stock (tree_used (test_of job) choice) choice.plan) bits;
       }))

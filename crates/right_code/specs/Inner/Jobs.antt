@@ -25,8 +25,9 @@ AreCovered stock (work ∷ works) (choice ∷ choices) =
     × AreCovered stock works choices
 AreCovered stock _ _ = ⊥
 
--- t is what jobs leave from s, but for the cells below an address and for the registers
+-- t is what jobs leave from s, but for the cells below an address, the registers and the file
 pub record LeavesDone (temps : ℕ) (jobs : List Work) (s t : State) : Type 0 where
   pub same : drop temps (all_done jobs s.cells) ≡ drop temps t.cells
   pub long : length (all_done jobs s.cells) ≡ length t.cells
   pub regs : length t.regs ≡ length s.regs
+  pub file : length t.file ≡ length s.file

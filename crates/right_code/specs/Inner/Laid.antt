@@ -11,7 +11,7 @@ use Rattle.form_model.specs.Shapes.{shows}
 use Rattle.form_model.specs.Rules.{Rule, BranchTarget, absolute, relative, branches, tested}
 use Rattle.form_model.specs.Covers.{Stock, Choice}
 use Rattle.form_model.specs.declared.forms.Step.{Step}
-use Rattle.form_model.specs.Effects.{operation_of}
+use Rattle.block_words.specs.Laws.{operation_in}
 use Rattle.form_model.specs.Live.{Regs}
 use Rattle.form_model.specs.Steps.{branch_setting}
 use Rattle.emit_seq.specs.Spares.{wanted}
@@ -61,7 +61,7 @@ pub record IsBlockReady (netlist : Netlist) (patterns : List Pattern) (stock : S
   pub covered : AreCovered stock jobs choices
   pub live : Regs
   pub groups : List (List Step)
-  pub means : MeansSteps netlist (operation_of patterns) live (jobs_steps stock jobs choices) groups
+  pub means : MeansSteps netlist (operation_in netlist patterns) live (jobs_steps stock jobs choices) groups
   pub least : AreGroupWords netlist patterns groups live words
   pub long : size ≡ length words
 
@@ -73,7 +73,7 @@ pub record IsForkReady (netlist : Netlist) (patterns : List Pattern) (stock : St
   pub covered : IsCovered stock (test_of job) choice
   pub live : Regs
   pub groups : List (List Step)
-  pub means : MeansSteps netlist (operation_of patterns) live (job_steps stock (test_of job) choice) groups
+  pub means : MeansSteps netlist (operation_in netlist patterns) live (job_steps stock (test_of job) choice) groups
   pub least : AreGroupWords netlist patterns groups live words
   pub long : f.words ≡ length words
   pub wants : (r : ℕ) → wanted stock tested (tree_used (test_of job) choice) choice.plan r ≡ true → live r ≡ true

@@ -1,8 +1,9 @@
 -- Parts of the definition of what a field shape shows.
-use Rattle.std.specs.Prelude.{◌≤◌, ◌≡◌, ℕ, Bool, true, false, ◌^◌, ◌%◌, ◌==◌, Option, None, if◌then◌else◌}
+use Rattle.std.specs.Prelude.{◌<◌, ◌≤◌, ◌≡◌, ℕ, Bool, true, false, ◌^◌, ◌%◌, ◌==◌, Option, None, if◌then◌else◌}
 use Rattle.rec_bits.specs.Operators.{sext_of}
-use Rattle.net_model.specs.Terms.{Term, word, term_width}
-use Rattle.form_model.specs.Shapes.{field_setting, shows}
+use Rattle.net_model.specs.Terms.{Term, word, term_of, term_width}
+use Rattle.form_model.specs.Shapes.{Sum as TermSum, field_setting, shows}
+use Rattle.tree_grammar.specs.declared.shapes.Sum.{Sum}
 
 -- the instruction word
 abbrev pub is_word : Term → Bool
@@ -19,3 +20,11 @@ extension_setting a w v =
 -- with a number the shape shows all that are less
 abbrev pub IsSteady : Term → Type 0
 IsSteady t = (v u : ℕ) → u ≤ v → shows t v ≡ true → shows t u ≡ true
+
+-- the sum that the code's is
+abbrev pub sum_at : Sum → TermSum
+sum_at s = record { width = s.width; added = s.added; to = term_of s.to.now }
+
+-- its constant has at most 64 bits and is of its width
+abbrev pub IsSmall : Sum → Type 0
+IsSmall s = (s.width ≤ 64) × (s.added < 2 ^ s.width)

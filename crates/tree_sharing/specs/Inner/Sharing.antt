@@ -5,7 +5,7 @@ use Rattle.net_model.specs.declared.hardware.Space.TheVariants.{Memory as InMemo
 use Rattle.net_model.specs.Terms.{Term, const, read, un, bin, slice, zext, sext, size_of}
 use Rattle.form_model.specs.Trees.{tree_term}
 use Rattle.form_model.specs.declared.trees.Tree.{Tree}
-use Rattle.form_model.specs.Rules.{Destination, into, cell, stored, temporary, tested}
+use Rattle.form_model.specs.Rules.{Destination, into, filed, cell, stored, temporary, tested}
 use Rattle.tree_grammar.specs.Numbers.{subtrees, HoldsSubtrees}
 use Rattle.tree_sharing.specs.Sharing.{IsFirst}
 use Rattle.tree_sharing.specs.Inner.Entries.{EachEntry, AnyKey}
@@ -131,6 +131,7 @@ operand_subtrees (Some t) = subtrees t
 abbrev pub address_nodes : Destination → List Term
 address_nodes (stored address) = subtrees address
 address_nodes (into id) = []
+address_nodes filed = []
 address_nodes (cell address) = []
 address_nodes temporary = []
 address_nodes tested = []

@@ -27,7 +27,7 @@ returns-clause-steps c =
 pub returns-clause-once : goal.returns-clause-once
 returns-clause-once c =
     subst (λ z. EachHasPatternsOnce z) (sym c.from_vec.ensures)
-    (each_once (row_patterns c.args.pool.now c.args.patterns.now.rows) c.settle.new.groups.items c.in_ok-settle.ensures.packing.differ)
+    (each_once c.args.checked.now.netlist c.args.patterns.now.file (row_patterns c.args.pool.now c.args.patterns.now.rows) c.settle.new.groups.items (regs_of c.args.after) c.in_ok-settle.ensures.packing.words c.in_ok-settle.ensures.packing.differ)
 
 pub returns-clause-meaning : goal.returns-clause-meaning
 returns-clause-meaning c =

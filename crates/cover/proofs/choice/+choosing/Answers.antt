@@ -6,20 +6,21 @@ use Rattle.form_model.specs.Trees.{tree_term}
 use Rattle.form_model.specs.Plans.{use_form, operand_then, cut_then, plan_of, operands_plan, cuts_plan}
 use Rattle.form_model.specs.Covers.{Operand}
 use Rattle.form_model.specs.declared.covers.Cover.{Cover}
-use Rattle.cover.specs.Inner.Asks.{operand_ask, with_reg}
+use Rattle.tree_grammar.specs.Parts.{home_at}
+use Rattle.cover.specs.Inner.Asks.{operand_ask, after}
 use Rattle.cover.specs.Inner.Least.{IsLeast, IsLeastOrder}
 use Rattle.cover.specs.Inner.Jobs.{instance_stock, nodes_of, open_operand, open_operands, open_cuts, OperandsAt}
 use Rattle.cover.specs.declared.matches.FormMatch.{FormMatch}
 use Rattle.cover.specs.declared.matches.Matches.{Matches}
 use Rattle.cover.specs.Inner.Least.{IsLeastCut}
-use Rattle.cover.specs.Inner.Slots.{IsSlot}
+use Rattle.cover.specs.Inner.Slots.{IsSlot, home_slot}
 use Rattle.cover.specs.Inner.Rows.{row_ask}
 use Rattle.cover.specs.Inner.Jobs.{CutsAt}
 use Rattle.cover.specs.Inner.Matched.{AreMatches}
 use Rattle.cover.specs.Inner.Choice.{matches_ask, NeverBegins, BeginsAt, Starts, StartsCut, IsFirst, IsFirstOrder, IsFirstFrom, IsFirstCuts, AreFirstParts}
 use Rattle.cover.proofs.MatchLemmas.{never_before, some_match, matches_later}
 use Rattle.cover.proofs.NodeLemmas.{input_get, inputs_remove}
-use Rattle.cover.proofs.InputLemmas.{cut_slot, inputs_at, inputs_without, length_inputs, no_stored, stored_split, stored_first, stored_later, no_inputs, tail_is}
+use Rattle.cover.proofs.InputLemmas.{home_ask, home_entry, cut_slot, inputs_at, inputs_without, length_inputs, no_stored, stored_split, stored_first, stored_later, no_inputs, tail_is}
 use Rattle.cover.proofs.ChoiceLemmas.{first_by_form, order_exists, first_by_operand, operands_later, empty_first, empty_cuts, first_by_cut}
 use Rattle.cover.proofs.choice.+choosing.Goals as goal
 
@@ -33,7 +34,7 @@ choose_entry-choose_among-requires t c =
       (
         subst (λ w. IsSlot w c.args.slot) (sym ew) c.requires.slot,
         (
-          subst (λ x. IsLeast (instance_stock c.args.instance.now) c.args.avoid x (Some c.args.n)) (sym ask) c.requires.least,
+          subst (λ x. IsLeast (instance_stock c.args.instance.now) c.args.limits x (Some c.args.n)) (sym ask) c.requires.least,
           (subst (AreMatches c.args.instance.now) (sym e) c.in_ok-matches.ensures.matches, c.in_ok-matches.ensures.right),
         ),
       ),
@@ -45,37 +46,37 @@ choose_entry-returns-clause-first t c =
     let et : tree_term c.deref.result.now.tree.now ≡ tree_term c.args.tree.now = ap (λ (ms : Matches). tree_term ms.tree.now) e ∙ c.in_ok-matches.ensures.tree in
     let ew : c.deref.result.now.whole ≡ c.args.whole = ap (λ (ms : Matches). ms.whole) e ∙ c.in_ok-matches.ensures.whole in
     let ask = ap (λ u. row_ask u c.deref.result.now.whole c.args.slot) et ∙ ap (λ w. row_ask (tree_term c.args.tree.now) w c.args.slot) ew in
-    IfOk-weaker c.choose_among.result (λ (x : Cover). IsFirst (instance_stock c.args.instance.now) c.args.avoid (matches_ask c.deref.result.now c.args.slot) (plan_of x)) (λ (x : Cover). IsFirst (instance_stock c.args.instance.now) c.args.avoid (row_ask (tree_term c.args.tree.now) c.args.whole c.args.slot) (plan_of x))
-    (λ x first. subst (λ a. IsFirst (instance_stock c.args.instance.now) c.args.avoid a (plan_of x)) ask first) c.choose_among.ensures.first
+    IfOk-weaker c.choose_among.result (λ (x : Cover). IsFirst (instance_stock c.args.instance.now) c.args.limits (matches_ask c.deref.result.now c.args.slot) (plan_of x)) (λ (x : Cover). IsFirst (instance_stock c.args.instance.now) c.args.limits (row_ask (tree_term c.args.tree.now) c.args.whole c.args.slot) (plan_of x))
+    (λ x first. subst (λ a. IsFirst (instance_stock c.args.instance.now) c.args.limits a (plan_of x)) ask first) c.choose_among.ensures.first
 
 pub choose_among-returns-in-Some-clause-first : goal.choose_among-returns-in-Some-clause-first
 choose_among-returns-in-Some-clause-first t c =
     let m : FormMatch = c.index-found.result.now in
     let lt : c.loop-i.i < length c.args.matches.now.list.items = search rules in
     let got : slice_get c.args.matches.now.list.items c.loop-i.i ≡ Some m = slice_get_read _ _ _ _ refl lt c.index-found.ensures in
-    let b : BeginsAt (instance_stock c.args.instance.now) c.args.avoid c.args.matches.now c.args.slot c.args.n c.loop-i.i (Some c.in-Some.costs) =
-    subst (λ o. BeginsAt (instance_stock c.args.instance.now) c.args.avoid c.args.matches.now c.args.slot c.args.n c.loop-i.i o) c.in-Some.is c.in_ok-costs.ensures.begins in
+    let b : BeginsAt (instance_stock c.args.instance.now) c.args.limits c.args.matches.now c.args.slot c.args.n c.loop-i.i (Some c.in-Some.costs) =
+    subst (λ o. BeginsAt (instance_stock c.args.instance.now) c.args.limits c.args.matches.now c.args.slot c.args.n c.loop-i.i o) c.in-Some.is c.in_ok-costs.ensures.begins in
     let fits = b m got in
-    IfOk-weaker c.choose_parts.result (λ (x : Cover). AreFirstParts (instance_stock c.args.instance.now) c.args.avoid (open_operands c.deref.result.now) (open_cuts c.deref-in-Some.result.now) m.form x) (λ (x : Cover). IsFirst (instance_stock c.args.instance.now) c.args.avoid (matches_ask c.args.matches.now c.args.slot) (plan_of x))
+    IfOk-weaker c.choose_parts.result (λ (x : Cover). AreFirstParts (instance_stock c.args.instance.now) c.args.limits (open_operands c.deref.result.now) (open_cuts c.deref-in-Some.result.now) m.form x) (λ (x : Cover). IsFirst (instance_stock c.args.instance.now) c.args.limits (matches_ask c.args.matches.now c.args.slot) (plan_of x))
     (λ x first.
-    subst (λ k. IsFirst (instance_stock c.args.instance.now) c.args.avoid (matches_ask c.args.matches.now c.args.slot) (use_form k (operands_plan x.operands) (cuts_plan x.cuts))) (sym first.0)
-    (first_by_form (instance_stock c.args.instance.now) c.args.avoid (matches_ask c.args.matches.now c.args.slot) c.args.n c.requires.least m.form _ _ _ _ _ _
-    (never_before c.args.instance.now c.args.avoid (tree_term c.args.matches.now.tree.now) c.args.matches.now.whole c.args.slot c.args.n c.args.matches.now.list.items c.requires.slot c.requires.matches c.loop-i.i m got c.loop-i.invariant.never)
+    subst (λ k. IsFirst (instance_stock c.args.instance.now) c.args.limits (matches_ask c.args.matches.now c.args.slot) (use_form k (operands_plan x.operands) (cuts_plan x.cuts))) (sym first.0)
+    (first_by_form (instance_stock c.args.instance.now) c.args.limits (matches_ask c.args.matches.now c.args.slot) c.args.n c.requires.least m.form _ _ _ _ _ _
+    (never_before c.args.instance.now c.args.limits (tree_term c.args.matches.now.tree.now) c.args.matches.now.whole c.args.slot c.args.n c.args.matches.now.list.items c.requires.slot c.requires.matches c.loop-i.i m got c.loop-i.invariant.never)
     fits.0 fits.1
-    (subst (λ l. IsFirstOrder (instance_stock c.args.instance.now) c.args.avoid (open_operands l) (operands_plan x.operands)) c.deref.ensures.value first.1)
+    (subst (λ l. IsFirstOrder (instance_stock c.args.instance.now) c.args.limits (open_operands l) (operands_plan x.operands)) c.deref.ensures.value first.1)
     (subst (λ l. IsFirstCuts (instance_stock c.args.instance.now) (open_cuts l) (cuts_plan x.cuts)) c.deref-in-Some.ensures.value first.2))) c.choose_parts.ensures.first
 
 pub choose_among-loop-i-preserved : goal.choose_among-loop-i-preserved
 choose_among-loop-i-preserved t c = record {
-  never = matches_later (NeverBegins (instance_stock c.args.instance.now) c.args.avoid (matches_ask c.args.matches.now c.args.slot) c.args.n) c.args.matches.now.list.items c.loop-i.i c.loop-i.invariant.never
-      (subst (λ o. BeginsAt (instance_stock c.args.instance.now) c.args.avoid c.args.matches.now c.args.slot c.args.n c.loop-i.i o) c.in_default.is c.in_ok-costs.ensures.begins);
+  never = matches_later (NeverBegins (instance_stock c.args.instance.now) c.args.limits (matches_ask c.args.matches.now c.args.slot) c.args.n) c.args.matches.now.list.items c.loop-i.i c.loop-i.invariant.never
+      (subst (λ o. BeginsAt (instance_stock c.args.instance.now) c.args.limits c.args.matches.now c.args.slot c.args.n c.loop-i.i o) c.in_default.is c.in_ok-costs.ensures.begins);
   right = c.in_ok-costs.ensures.right;
 }
 
 pub choose_among-unreachable-requires : goal.choose_among-unreachable-requires
 choose_among-unreachable-requires t c =
     let v : vec_len c.args.matches.now.list ≡ length c.args.matches.now.list.items = search rules in
-    some_match c.args.instance.now c.args.avoid (tree_term c.args.matches.now.tree.now) c.args.matches.now.whole c.args.slot c.args.n c.args.matches.now.list.items c.requires.slot c.requires.matches c.requires.least
+    some_match c.args.instance.now c.args.limits (tree_term c.args.matches.now.tree.now) c.args.matches.now.whole c.args.slot c.args.n c.args.matches.now.list.items c.requires.slot c.requires.matches c.requires.least
     (λ l g lt. c.loop-i.invariant.never l g (omega (arith, lt, v, c.loop-i-test.false)))
 
 pub choose_among-choose_parts-requires : goal.choose_among-choose_parts-requires
@@ -83,12 +84,12 @@ choose_among-choose_parts-requires t c =
     let m : FormMatch = c.index-found.result.now in
     let lt : c.loop-i.i < length c.args.matches.now.list.items = search rules in
     let got : slice_get c.args.matches.now.list.items c.loop-i.i ≡ Some m = slice_get_read _ _ _ _ refl lt c.index-found.ensures in
-    let b : BeginsAt (instance_stock c.args.instance.now) c.args.avoid c.args.matches.now c.args.slot c.args.n c.loop-i.i (Some c.in-Some.costs) =
-    subst (λ o. BeginsAt (instance_stock c.args.instance.now) c.args.avoid c.args.matches.now c.args.slot c.args.n c.loop-i.i o) c.in-Some.is c.in_ok-costs.ensures.begins in
+    let b : BeginsAt (instance_stock c.args.instance.now) c.args.limits c.args.matches.now c.args.slot c.args.n c.loop-i.i (Some c.in-Some.costs) =
+    subst (λ o. BeginsAt (instance_stock c.args.instance.now) c.args.limits c.args.matches.now c.args.slot c.args.n c.loop-i.i o) c.in-Some.is c.in_ok-costs.ensures.begins in
     let fits = b m got in (
       (let sum = fits.1 in omega (arith, sum, c.decreases)),
       (
-        subst (λ l. IsLeastOrder (instance_stock c.args.instance.now) c.args.avoid (open_operands l) (Some c.in-Some.costs.operands)) (sym c.deref.ensures.value) fits.0.order,
+        subst (λ l. IsLeastOrder (instance_stock c.args.instance.now) c.args.limits (open_operands l) (Some c.in-Some.costs.operands)) (sym c.deref.ensures.value) fits.0.order,
         (
           subst (λ l. IsLeastCut (instance_stock c.args.instance.now) (open_cuts l) (Some c.in-Some.costs.cuts)) (sym c.deref-in-Some.ensures.value) fits.0.cut,
           (
@@ -121,21 +122,21 @@ choose_cuts-choose_entry-requires t c =
 
 pub choose_order-returns-in-Some-clause-first : goal.choose_order-returns-in-Some-clause-first
 choose_order-returns-in-Some-clause-first t c =
-    let s : Starts (instance_stock c.args.instance.now) c.args.avoid (open_operands c.args.ops.now) c.args.n c.loop-i.i (Some c.in-Some.m) =
-    subst (λ o. Starts (instance_stock c.args.instance.now) c.args.avoid (open_operands c.args.ops.now) c.args.n c.loop-i.i o) c.in-Some.is c.in_ok-m.ensures.starts in
-    IfOk-weaker c.order_from.result (λ x. IsFirstFrom (instance_stock c.args.instance.now) c.args.avoid (open_operands c.args.ops.now) c.loop-i.i (operands_plan x)) (λ x. IsFirstOrder (instance_stock c.args.instance.now) c.args.avoid (open_operands c.args.ops.now) (operands_plan x))
+    let s : Starts (instance_stock c.args.instance.now) c.args.limits (open_operands c.args.ops.now) c.args.n c.loop-i.i (Some c.in-Some.m) =
+    subst (λ o. Starts (instance_stock c.args.instance.now) c.args.limits (open_operands c.args.ops.now) c.args.n c.loop-i.i o) c.in-Some.is c.in_ok-m.ensures.starts in
+    IfOk-weaker c.order_from.result (λ x. IsFirstFrom (instance_stock c.args.instance.now) c.args.limits (open_operands c.args.ops.now) c.loop-i.i (operands_plan x)) (λ x. IsFirstOrder (instance_stock c.args.instance.now) c.args.limits (open_operands c.args.ops.now) (operands_plan x))
     (λ x first.
     let same : s.0 ≡ first.0 = (let g = s.1 in let h = first.3 in cc) in
-    let la : IsLeast (instance_stock c.args.instance.now) c.args.avoid (operand_ask first.0) (Some c.in-Some.m) = subst (λ y. IsLeast (instance_stock c.args.instance.now) c.args.avoid (operand_ask y) (Some c.in-Some.m)) same s.4 in
-    let lb : IsLeastOrder (instance_stock c.args.instance.now) (with_reg c.args.avoid first.0.id) (remove (open_operands c.args.ops.now) c.loop-i.i) (Some (c.args.n - c.in-Some.m)) =
-    subst (λ (y : Operand). IsLeastOrder (instance_stock c.args.instance.now) (with_reg c.args.avoid y.id) (remove (open_operands c.args.ops.now) c.loop-i.i) (Some (c.args.n - c.in-Some.m))) same s.5 in
-    subst (IsFirstOrder (instance_stock c.args.instance.now) c.args.avoid (open_operands c.args.ops.now)) (sym first.6)
-    (first_by_operand (instance_stock c.args.instance.now) c.args.avoid (open_operands c.args.ops.now) c.args.n c.requires.least c.loop-i.i c.in-Some.m first.0 first.1 first.2 c.loop-i.invariant.never first.3 s.3 la lb first.4 first.5)) c.order_from.ensures.first
+    let la : IsLeast (instance_stock c.args.instance.now) c.args.limits (operand_ask first.0) (Some c.in-Some.m) = subst (λ y. IsLeast (instance_stock c.args.instance.now) c.args.limits (operand_ask y) (Some c.in-Some.m)) same s.4 in
+    let lb : IsLeastOrder (instance_stock c.args.instance.now) (after c.args.limits first.0.home) (remove (open_operands c.args.ops.now) c.loop-i.i) (Some (c.args.n - c.in-Some.m)) =
+    subst (λ (y : Operand). IsLeastOrder (instance_stock c.args.instance.now) (after c.args.limits y.home) (remove (open_operands c.args.ops.now) c.loop-i.i) (Some (c.args.n - c.in-Some.m))) same s.5 in
+    subst (IsFirstOrder (instance_stock c.args.instance.now) c.args.limits (open_operands c.args.ops.now)) (sym first.6)
+    (first_by_operand (instance_stock c.args.instance.now) c.args.limits (open_operands c.args.ops.now) c.args.n c.requires.least c.loop-i.i c.in-Some.m first.0 first.1 first.2 c.loop-i.invariant.never first.3 s.3 la lb first.4 first.5)) c.order_from.ensures.first
 
 pub choose_order-loop-i-preserved : goal.choose_order-loop-i-preserved
 choose_order-loop-i-preserved t c = record {
-  never = operands_later (instance_stock c.args.instance.now) c.args.avoid (open_operands c.args.ops.now) c.args.n c.loop-i.i c.loop-i.invariant.never
-      (subst (λ o. Starts (instance_stock c.args.instance.now) c.args.avoid (open_operands c.args.ops.now) c.args.n c.loop-i.i o) c.in_default.is c.in_ok-m.ensures.starts);
+  never = operands_later (instance_stock c.args.instance.now) c.args.limits (open_operands c.args.ops.now) c.args.n c.loop-i.i c.loop-i.invariant.never
+      (subst (λ o. Starts (instance_stock c.args.instance.now) c.args.limits (open_operands c.args.ops.now) c.args.n c.loop-i.i o) c.in_default.is c.in_ok-m.ensures.starts);
   right = c.in_ok-m.ensures.right;
 }
 
@@ -143,25 +144,28 @@ pub choose_order-unreachable-requires : goal.choose_order-unreachable-requires
 choose_order-unreachable-requires t c =
     let some : 0 < length c.args.ops.now = search rules in
     let n = length_inputs c.args.ops.now in
-    order_exists (instance_stock c.args.instance.now) c.args.avoid (open_operands c.args.ops.now) c.args.n c.requires.least (omega (arith, some, n))
+    order_exists (instance_stock c.args.instance.now) c.args.limits (open_operands c.args.ops.now) c.args.n c.requires.least (omega (arith, some, n))
     (λ j p ps lt. c.loop-i.invariant.never j p ps (omega (arith, lt, n, c.loop-i-test.false)))
 
 pub choose_order-order_from-requires : goal.choose_order-order_from-requires
 choose_order-order_from-requires t c =
-    let s : Starts (instance_stock c.args.instance.now) c.args.avoid (open_operands c.args.ops.now) c.args.n c.loop-i.i (Some c.in-Some.m) =
-    subst (λ o. Starts (instance_stock c.args.instance.now) c.args.avoid (open_operands c.args.ops.now) c.args.n c.loop-i.i o) c.in-Some.is c.in_ok-m.ensures.starts in (omega (arith, c.decreases), (c.loop-i-test.true, (s, (c.requires.at, c.in_ok-m.ensures.right))))
+    let s : Starts (instance_stock c.args.instance.now) c.args.limits (open_operands c.args.ops.now) c.args.n c.loop-i.i (Some c.in-Some.m) =
+    subst (λ o. Starts (instance_stock c.args.instance.now) c.args.limits (open_operands c.args.ops.now) c.args.n c.loop-i.i o) c.in-Some.is c.in_ok-m.ensures.starts in (omega (arith, c.decreases), (c.loop-i-test.true, (s, (c.requires.at, c.in_ok-m.ensures.right))))
 
 pub order_from-choose_entry-requires : goal.order_from-choose_entry-requires
 order_from-choose_entry-requires t c =
     let got = slice_get_read _ _ _ _ refl c.requires.place c.index-ops-i.is in
     let get = inputs_at c.args.ops.now c.args.i c.index-ops-i.result got in
     let s = c.requires.starts in
-    let same : s.0 ≡ open_operand c.index-ops-i.result = (let g = s.1 in cc) in (
+    let same : s.0 ≡ open_operand c.index-ops-i.result = (let g = s.1 in cc) in
+    let slot : c.slot_of-slot.result ≡ home_slot (home_at c.index-ops-i.result.home) = c.slot_of-slot.ensures.is in
+    let ask : row_ask (tree_term c.index-ops-i.result.tree.now) c.index-ops-i.result.whole c.slot_of-slot.result ≡ operand_ask (open_operand c.index-ops-i.result) =
+    ap (row_ask (tree_term c.index-ops-i.result.tree.now) c.index-ops-i.result.whole) slot ∙ home_ask (tree_term c.index-ops-i.result.tree.now) c.index-ops-i.result.whole (open_operand c.index-ops-i.result) refl refl in (
       omega (arith, s.3, c.decreases),
       (
-        c.index-ops-i.result.low,
+        subst (IsSlot c.index-ops-i.result.whole) (sym slot) (home_entry c.index-ops-i.result.whole (home_at c.index-ops-i.result.home) c.index-ops-i.result.low),
         (
-          subst (λ x. IsLeast (instance_stock c.args.instance.now) c.args.avoid (operand_ask x) (Some c.args.m)) same s.4,
+          subst (λ x. IsLeast (instance_stock c.args.instance.now) c.args.limits x (Some c.args.m)) (sym ask) (subst (λ x. IsLeast (instance_stock c.args.instance.now) c.args.limits (operand_ask x) (Some c.args.m)) same s.4),
           (input_get _ _ c.args.i _ c.requires.at got, c.requires.right),
         ),
       ),
@@ -173,13 +177,13 @@ order_from-order_without-requires t c =
     let get = inputs_at c.args.ops.now c.args.i c.index-ops-i.result got in
     let s = c.requires.starts in
     let same : s.0 ≡ open_operand c.index-ops-i.result = (let g = s.1 in cc) in
-    let others : IsLeastOrder (instance_stock c.args.instance.now) (with_reg c.args.avoid c.index-ops-i.result.id) (remove (open_operands c.args.ops.now) c.args.i) (Some (c.args.n - c.args.m)) =
-    subst (λ (x : Operand). IsLeastOrder (instance_stock c.args.instance.now) (with_reg c.args.avoid x.id) (remove (open_operands c.args.ops.now) c.args.i) (Some (c.args.n - c.args.m))) same s.5 in (
+    let others : IsLeastOrder (instance_stock c.args.instance.now) (after c.args.limits (home_at c.index-ops-i.result.home)) (remove (open_operands c.args.ops.now) c.args.i) (Some (c.args.n - c.args.m)) =
+    subst (λ (x : Operand). IsLeastOrder (instance_stock c.args.instance.now) (after c.args.limits x.home) (remove (open_operands c.args.ops.now) c.args.i) (Some (c.args.n - c.args.m))) same s.5 in (
       omega (arith, s.2, s.3, c.decreases),
       (
         c.requires.place,
         (
-          subst (λ r. IsLeastOrder (instance_stock c.args.instance.now) r (remove (open_operands c.args.ops.now) c.args.i) (Some (c.args.n - c.args.m))) (sym c.put_reg-later.ensures) others,
+          subst (λ r. IsLeastOrder (instance_stock c.args.instance.now) r (remove (open_operands c.args.ops.now) c.args.i) (Some (c.args.n - c.args.m))) (sym c.after_home-later.ensures) others,
           (c.requires.at, c.in_ok-here.ensures.right),
         ),
       ),
@@ -189,10 +193,14 @@ pub order_from-returns-clause-first : goal.order_from-returns-clause-first
 order_from-returns-clause-first t c =
     let got = slice_get_read _ _ _ _ refl c.requires.place c.index-ops-i.is in
     let get = inputs_at c.args.ops.now c.args.i c.index-ops-i.result got in
-    let others : IsFirstOrder (instance_stock c.args.instance.now) (with_reg c.args.avoid c.index-ops-i.result.id) (remove (open_operands c.args.ops.now) c.args.i) (operands_plan c.in_ok-others.others) =
-    subst (λ r. IsFirstOrder (instance_stock c.args.instance.now) r (remove (open_operands c.args.ops.now) c.args.i) (operands_plan c.in_ok-others.others)) c.put_reg-later.ensures c.in_ok-others.ensures.first in
-    IfOk-weaker c.operand_first.result (λ x. operands_plan x ≡ operand_then c.args.i (plan_of c.in_ok-here.here) (operands_plan c.in_ok-others.others)) (λ x. IsFirstFrom (instance_stock c.args.instance.now) c.args.avoid (open_operands c.args.ops.now) c.args.i (operands_plan x))
-    (λ x is. (open_operand c.index-ops-i.result, plan_of c.in_ok-here.here, operands_plan c.in_ok-others.others, get, c.in_ok-here.ensures.first, others, is)) c.operand_first.ensures
+    let slot : c.slot_of-slot.result ≡ home_slot (home_at c.index-ops-i.result.home) = c.slot_of-slot.ensures.is in
+    let ask : row_ask (tree_term c.index-ops-i.result.tree.now) c.index-ops-i.result.whole c.slot_of-slot.result ≡ operand_ask (open_operand c.index-ops-i.result) =
+    ap (row_ask (tree_term c.index-ops-i.result.tree.now) c.index-ops-i.result.whole) slot ∙ home_ask (tree_term c.index-ops-i.result.tree.now) c.index-ops-i.result.whole (open_operand c.index-ops-i.result) refl refl in
+    let here = subst (λ x. IsFirst (instance_stock c.args.instance.now) c.args.limits x (plan_of c.in_ok-here.here)) ask c.in_ok-here.ensures.first in
+    let others : IsFirstOrder (instance_stock c.args.instance.now) (after c.args.limits (home_at c.index-ops-i.result.home)) (remove (open_operands c.args.ops.now) c.args.i) (operands_plan c.in_ok-others.others) =
+    subst (λ r. IsFirstOrder (instance_stock c.args.instance.now) r (remove (open_operands c.args.ops.now) c.args.i) (operands_plan c.in_ok-others.others)) c.after_home-later.ensures c.in_ok-others.ensures.first in
+    IfOk-weaker c.operand_first.result (λ x. operands_plan x ≡ operand_then c.args.i (plan_of c.in_ok-here.here) (operands_plan c.in_ok-others.others)) (λ x. IsFirstFrom (instance_stock c.args.instance.now) c.args.limits (open_operands c.args.ops.now) c.args.i (operands_plan x))
+    (λ x is. (open_operand c.index-ops-i.result, plan_of c.in_ok-here.here, operands_plan c.in_ok-others.others, get, here, others, is)) c.operand_first.ensures
 
 pub order_without-choose_order-requires : goal.order_without-choose_order-requires
 order_without-choose_order-requires t c =
@@ -200,7 +208,7 @@ order_without-choose_order-requires t c =
     let e : open_operands c.deref.result.now ≡ remove (open_operands c.args.ops.now) c.args.i = ap open_operands d ∙ inputs_without c.args.ops.now c.args.i in (
       omega (arith, c.decreases),
       (
-        subst (λ xs. IsLeastOrder (instance_stock c.args.instance.now) c.args.avoid xs (Some c.args.n)) (sym e) c.requires.least,
+        subst (λ xs. IsLeastOrder (instance_stock c.args.instance.now) c.args.limits xs (Some c.args.n)) (sym e) c.requires.least,
         (subst (OperandsAt (nodes_of c.args.instance.now)) (sym d) (inputs_remove (nodes_of c.args.instance.now) c.args.ops.now c.args.i c.requires.at), c.requires.right),
       ),
     )
@@ -209,8 +217,8 @@ pub order_without-returns-clause-first : goal.order_without-returns-clause-first
 order_without-returns-clause-first t c =
     let d : c.deref.result.now ≡ remove c.args.ops.now c.args.i = c.deref.ensures.value ∙ c.in_ok-rest.ensures in
     let e : open_operands c.deref.result.now ≡ remove (open_operands c.args.ops.now) c.args.i = ap open_operands d ∙ inputs_without c.args.ops.now c.args.i in
-    IfOk-weaker c.choose_order.result (λ x. IsFirstOrder (instance_stock c.args.instance.now) c.args.avoid (open_operands c.deref.result.now) (operands_plan x)) (λ x. IsFirstOrder (instance_stock c.args.instance.now) c.args.avoid (remove (open_operands c.args.ops.now) c.args.i) (operands_plan x))
-    (λ x first. subst (λ xs. IsFirstOrder (instance_stock c.args.instance.now) c.args.avoid xs (operands_plan x)) e first) c.choose_order.ensures.first
+    IfOk-weaker c.choose_order.result (λ x. IsFirstOrder (instance_stock c.args.instance.now) c.args.limits (open_operands c.deref.result.now) (operands_plan x)) (λ x. IsFirstOrder (instance_stock c.args.instance.now) c.args.limits (remove (open_operands c.args.ops.now) c.args.i) (operands_plan x))
+    (λ x first. subst (λ xs. IsFirstOrder (instance_stock c.args.instance.now) c.args.limits xs (operands_plan x)) e first) c.choose_order.ensures.first
 
 pub choose_order-returns-then-is_empty-clause-first : goal.choose_order-returns-then-is_empty-clause-first
 choose_order-returns-then-is_empty-clause-first t c = empty_first _ _ _ (let n : length c.args.ops.now ≡ 0 = search rules in no_inputs c.args.ops.now n)

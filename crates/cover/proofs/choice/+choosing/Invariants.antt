@@ -31,12 +31,12 @@ decreases-choose_cuts l = 5 * l.n + 3
 
 abbrev pub invariant-choose_among-loop-i : goal.invariant-choose_among-loop-i
 invariant-choose_among-loop-i l = record {
-  never : (j : ℕ) (m : FormMatch) → j < l.i → slice_get l.matches.list.items j ≡ Some m → NeverBegins (instance_stock l.instance) l.avoid (matches_ask l.matches l.slot) l.n m.form;
+  never : (j : ℕ) (m : FormMatch) → j < l.i → slice_get l.matches.list.items j ≡ Some m → NeverBegins (instance_stock l.instance) l.limits (matches_ask l.matches l.slot) l.n m.form;
   right : AreRight l.instance l.table;
 }
 
 abbrev pub invariant-choose_order-loop-i : goal.invariant-choose_order-loop-i
 invariant-choose_order-loop-i l = record {
-  never : (j : ℕ) (p : Plan) (ps : Operands) → j < l.i → AreSparing (instance_stock l.instance) l.avoid (open_operands l.ops) (operand_then j p ps) → cost p + operands_cost ps ≢ l.n;
+  never : (j : ℕ) (p : Plan) (ps : Operands) → j < l.i → AreSparing (instance_stock l.instance) l.limits (open_operands l.ops) (operand_then j p ps) → cost p + operands_cost ps ≢ l.n;
   right : AreRight l.instance l.table;
 }

@@ -1,3 +1,4 @@
+use Rattle.std.proofs.lemmas.Bool.{OnTrue_at, OnFalse_at}
 use Rattle.std.proofs.Common.{◌≡◌, Some, refl, sym, ◌∙◌, subst}
 use Rattle.std.specs.Prelude.{slice_get}
 use Rattle.std.proofs.lemmas.Option.{slice_get_read}
@@ -14,15 +15,15 @@ pub returns-then-ne-clause-begins : goal.returns-then-ne-clause-begins
 returns-then-ne-clause-begins c =
     let m : FormMatch = c.index-found.result.now in
     let got : slice_get c.args.matches.now.list.items c.args.i ≡ Some m = slice_get_read _ _ _ _ refl c.requires.place c.index-found.ensures in
-    at_place (λ y. NeverBegins (instance_stock c.args.instance.now) c.args.avoid (matches_ask c.args.matches.now c.args.slot) c.args.n y.form) c.args.matches.now.list.items c.args.i m got
-    (other_goal c.args.instance.now c.args.avoid (tree_term c.args.matches.now.tree.now) c.args.matches.now.whole m (c.requires.matches.each c.args.i m got) c.args.slot c.args.n c.requires.slot c.requires.least (other_entry m.goal c.args.slot (sym c.ne.ensures ∙ c.if-ne.true)))
+    at_place (λ y. NeverBegins (instance_stock c.args.instance.now) c.args.limits (matches_ask c.args.matches.now c.args.slot) c.args.n y.form) c.args.matches.now.list.items c.args.i m got
+    (other_goal c.args.instance.now c.args.limits (tree_term c.args.matches.now.tree.now) c.args.matches.now.whole m (c.requires.matches.each c.args.i m got) c.args.slot c.args.n c.requires.slot c.requires.least (other_entry m.goal c.args.slot (sym c.ne.ensures ∙ c.if-ne.true)))
 
-pub returns-then-found-avoid-ne0-clause-begins : goal.returns-then-found-avoid-ne0-clause-begins
-returns-then-found-avoid-ne0-clause-begins c =
+pub returns-then-not-keeps_to-clause-begins : goal.returns-then-not-keeps_to-clause-begins
+returns-then-not-keeps_to-clause-begins c =
     let m : FormMatch = c.index-found.result.now in
     let got : slice_get c.args.matches.now.list.items c.args.i ≡ Some m = slice_get_read _ _ _ _ refl c.requires.place c.index-found.ensures in
-    at_place (λ y. NeverBegins (instance_stock c.args.instance.now) c.args.avoid (matches_ask c.args.matches.now c.args.slot) c.args.n y.form) c.args.matches.now.list.items c.args.i m got
-    (other_clobbers c.args.instance.now c.args.avoid (tree_term c.args.matches.now.tree.now) c.args.matches.now.whole m (c.requires.matches.each c.args.i m got) c.args.slot c.args.n c.requires.slot c.requires.least c.if-found-avoid-ne0.true)
+    at_place (λ y. NeverBegins (instance_stock c.args.instance.now) c.args.limits (matches_ask c.args.matches.now c.args.slot) c.args.n y.form) c.args.matches.now.list.items c.args.i m got
+    (other_clobbers c.args.instance.now c.args.limits (tree_term c.args.matches.now.tree.now) c.args.matches.now.whole m (c.requires.matches.each c.args.i m got) c.args.slot c.args.n c.requires.slot c.requires.least (OnFalse_at c.if-not-keeps_to.true c.keeps_to.ensures.no))
 
 pub costs_within-requires-clause-at : goal.costs_within-requires-clause-at
 costs_within-requires-clause-at c =
@@ -40,8 +41,8 @@ pub returns-clause-begins : goal.returns-clause-begins
 returns-clause-begins c =
     let m : FormMatch = c.index-found.result.now in
     let got : slice_get c.args.matches.now.list.items c.args.i ≡ Some m = slice_get_read _ _ _ _ refl c.requires.place c.index-found.ensures in
-    IfOk-weaker c.costs_within.result (λ o. CostsWithin (instance_stock c.args.instance.now) c.args.avoid (open_operands c.deref.result.now) (open_cuts c.deref-2.result.now) c.args.n o) (λ o. BeginsAt (instance_stock c.args.instance.now) c.args.avoid c.args.matches.now c.args.slot c.args.n c.args.i o)
-    (λ o costs. at_place (λ y. BeginsOne (instance_stock c.args.instance.now) c.args.avoid (matches_ask c.args.matches.now c.args.slot) c.args.n y o) c.args.matches.now.list.items c.args.i m got
-    (begins_within c.args.instance.now c.args.avoid (tree_term c.args.matches.now.tree.now) c.args.matches.now.whole m (c.requires.matches.each c.args.i m got) c.args.slot c.args.n c.requires.slot c.requires.least o (same_entry m.goal c.args.slot (sym c.ne.ensures ∙ c.if-ne.false)) c.if-found-avoid-ne0.false
-    (subst (λ l. CostsWithin (instance_stock c.args.instance.now) c.args.avoid (open_operands l) (open_cuts m.cuts.items) c.args.n o) c.deref.ensures.value
-    (subst (λ l. CostsWithin (instance_stock c.args.instance.now) c.args.avoid (open_operands c.deref.result.now) (open_cuts l) c.args.n o) c.deref-2.ensures.value costs)))) c.costs_within.ensures.costs
+    IfOk-weaker c.costs_within.result (λ o. CostsWithin (instance_stock c.args.instance.now) c.args.limits (open_operands c.deref.result.now) (open_cuts c.deref-2.result.now) c.args.n o) (λ o. BeginsAt (instance_stock c.args.instance.now) c.args.limits c.args.matches.now c.args.slot c.args.n c.args.i o)
+    (λ o costs. at_place (λ y. BeginsOne (instance_stock c.args.instance.now) c.args.limits (matches_ask c.args.matches.now c.args.slot) c.args.n y o) c.args.matches.now.list.items c.args.i m got
+    (begins_within c.args.instance.now c.args.limits (tree_term c.args.matches.now.tree.now) c.args.matches.now.whole m (c.requires.matches.each c.args.i m got) c.args.slot c.args.n c.requires.slot c.requires.least o (same_entry m.goal c.args.slot (sym c.ne.ensures ∙ c.if-ne.false)) (OnTrue_at c.if-not-keeps_to.false c.keeps_to.ensures.yes)
+    (subst (λ l. CostsWithin (instance_stock c.args.instance.now) c.args.limits (open_operands l) (open_cuts m.cuts.items) c.args.n o) c.deref.ensures.value
+    (subst (λ l. CostsWithin (instance_stock c.args.instance.now) c.args.limits (open_operands c.deref.result.now) (open_cuts l) c.args.n o) c.deref-2.ensures.value costs)))) c.costs_within.ensures.costs

@@ -6,6 +6,6 @@ use Rattle.cover.proofs.choice.choose.Given as goal
 
 abbrev pub invariant-loop-k : goal.invariant-loop-k
 invariant-loop-k l = record {
-  never : (j : ℕ) → j < l.k → NeverBegins (instance_stock l.instance) l.avoid (ask_of l.want) l.n j;
+  never : (j : ℕ) → j < l.k → NeverBegins (instance_stock l.instance) l.limits (ask_of l.want) l.n j;
   right : AreRight l.instance l.table;
 }

@@ -20,5 +20,5 @@ returns-then-is_above-clause-costs c = inr (
 
 pub returns-clause-costs : goal.returns-clause-costs
 returns-clause-costs c =
-    IfOk-weaker c.costs_of.result (λ o. CostsOf c.args.n c.in_ok-a.a c.in_ok-b.b o) (λ o. CostsWithin (instance_stock c.args.instance.now) c.args.avoid (open_operands c.args.operands.now) (open_cuts c.args.cuts.now) c.args.n o)
+    IfOk-weaker c.costs_of.result (λ o. CostsOf c.args.n c.in_ok-a.a c.in_ok-b.b o) (λ o. CostsWithin (instance_stock c.args.instance.now) c.args.limits (open_operands c.args.operands.now) (open_cuts c.args.cuts.now) c.args.n o)
     (λ o costs. inl (record { operands = c.in_ok-a.a; cuts = c.in_ok-b.b; order = c.in_ok-a.ensures.least; cut = c.in_ok-b.ensures.least; costs = costs })) c.costs_of.ensures

@@ -9,7 +9,7 @@ pub orders-requires-clause-at : goal.orders-requires-clause-at
 orders-requires-clause-at c = subst (OperandsAt (nodes_of c.args.instance.now)) (sym c.deref.ensures.value) (c.in_ok-operands.ensures.at (nodes_of c.args.instance.now) c.requires.at)
 
 pub orders-requires-clause-floor : goal.orders-requires-clause-floor
-orders-requires-clause-floor c = floor_none (instance_stock c.args.instance.now) c.args.avoid (open_operands c.deref.result.now)
+orders-requires-clause-floor c = floor_none (instance_stock c.args.instance.now) c.args.limits (open_operands c.deref.result.now)
 
 pub cuts_cost-requires-clause-at : goal.cuts_cost-requires-clause-at
 cuts_cost-requires-clause-at c = subst (CutsAt (nodes_of c.args.instance.now)) (sym c.deref-2.ensures.value) (c.in_ok-cuts.ensures.at (nodes_of c.args.instance.now) c.requires.at)
@@ -22,7 +22,7 @@ returns-clause-fit c = (
   c.in_ok-b.b,
   c.in_ok-operands.ensures.operands,
   c.in_ok-cuts.ensures.cuts,
-  subst (λ l. IsLeastOrder (instance_stock c.args.instance.now) c.args.avoid (open_operands l) c.in_ok-a.a) c.deref.ensures.value c.in_ok-a.ensures.least,
+  subst (λ l. IsLeastOrder (instance_stock c.args.instance.now) c.args.limits (open_operands l) c.in_ok-a.a) c.deref.ensures.value c.in_ok-a.ensures.least,
   subst (λ l. IsLeastCut (instance_stock c.args.instance.now) (open_cuts l) c.in_ok-b.b) c.deref-2.ensures.value c.in_ok-b.ensures.least,
   c.fit_of.ensures,
 )

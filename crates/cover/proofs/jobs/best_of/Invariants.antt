@@ -5,4 +5,4 @@ use Rattle.cover.specs.Inner.Best.{IsBest}
 use Rattle.cover.proofs.jobs.best_of.Given as goal
 
 abbrev pub invariant-loop-j : goal.invariant-loop-j
-invariant-loop-j l = IsBest (stock_with l.forms l.temps) (destination_of l.job.aim) (trees_of l.job.trees.items) l.j l.best
+invariant-loop-j l = IsBest (stock_with l.forms l.temps l.file) (destination_of l.job.aim) (trees_of l.job.trees.items) l.j l.best

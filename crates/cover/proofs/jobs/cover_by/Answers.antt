@@ -2,6 +2,7 @@ use Rattle.std.proofs.Common.{subst}
 use Rattle.form_model.specs.Trees.{tree_term}
 use Rattle.form_model.specs.Plans.{plan_of}
 use Rattle.tree_grammar.specs.Parts.{destination_at}
+use Rattle.cover.specs.Inner.Asks.{free}
 use Rattle.cover.specs.Inner.Least.{IsLeast}
 use Rattle.cover.specs.Inner.Choice.{IsFirst}
 use Rattle.cover.specs.Inner.Best.{root_ask}
@@ -18,9 +19,9 @@ choose-requires-clause-stands c = root_stands (destination_at c.args.instance.no
 
 pub returns : goal.returns
 returns c =
-    let first : IsFirst (instance_stock c.args.instance.now) 0 (root_ask (destination_at c.args.instance.now.destination) (tree_term c.args.instance.now.tree.now)) (plan_of c.in_ok-cover.cover) =
+    let first : IsFirst (instance_stock c.args.instance.now) (free (instance_stock c.args.instance.now)) (root_ask (destination_at c.args.instance.now.destination) (tree_term c.args.instance.now.tree.now)) (plan_of c.in_ok-cover.cover) =
     c.in_ok-cover.ensures.first in (
       first,
       first_cost _ _ _ c.in-Some.n _ (subst
-          (λ o. IsLeast (instance_stock c.args.instance.now) 0 (root_ask (destination_at c.args.instance.now.destination) (tree_term c.args.instance.now.tree.now)) o) c.in-Some.is c.in_ok-n.ensures.least) first,
+          (λ o. IsLeast (instance_stock c.args.instance.now) (free (instance_stock c.args.instance.now)) (root_ask (destination_at c.args.instance.now.destination) (tree_term c.args.instance.now.tree.now)) o) c.in-Some.is c.in_ok-n.ensures.least) first,
     )

@@ -16,8 +16,8 @@ pub returns : goal.returns
 returns c =
     let here : slice_get c.args.job.now.trees.items c.args.j ≡ Some c.index.result.now = slice_get_read c.args.job.now.trees.items (length c.args.job.now.trees.items) c.args.j c.index.result.now refl c.requires.place c.index.ensures in
     let there : slice_get (trees_of c.args.job.now.trees.items) c.args.j ≡ Some (tree_term c.index.result.now) = slice_get-map tree_term c.args.job.now.trees.items c.args.j ∙ ap (option_map tree_term) here in
-    IfOk-weaker c.cover_tree.result (λ o. IsTreeCover (stock_with c.args.forms.now c.args.temps) (root_ask (destination_at c.of.result) (tree_term c.index.result.now)) o) (λ o. (t : Term) → slice_get (trees_of c.args.job.now.trees.items) c.args.j ≡ Some t → IsTreeCover (stock_with c.args.forms.now c.args.temps) (root_ask (destination_of c.args.job.now.aim) t) o)
+    IfOk-weaker c.cover_tree.result (λ o. IsTreeCover (stock_with c.args.forms.now c.args.temps c.args.file) (root_ask (destination_at c.of.result) (tree_term c.index.result.now)) o) (λ o. (t : Term) → slice_get (trees_of c.args.job.now.trees.items) c.args.j ≡ Some t → IsTreeCover (stock_with c.args.forms.now c.args.temps c.args.file) (root_ask (destination_of c.args.job.now.aim) t) o)
     (λ o is t get.
     let same : tree_term c.index.result.now ≡ t = cc in
-    subst (λ u. IsTreeCover (stock_with c.args.forms.now c.args.temps) (root_ask (destination_of c.args.job.now.aim) u) o) same
-    (subst (λ d. IsTreeCover (stock_with c.args.forms.now c.args.temps) (root_ask d (tree_term c.index.result.now)) o) c.of.ensures is)) c.cover_tree.ensures
+    subst (λ u. IsTreeCover (stock_with c.args.forms.now c.args.temps c.args.file) (root_ask (destination_of c.args.job.now.aim) u) o) same
+    (subst (λ d. IsTreeCover (stock_with c.args.forms.now c.args.temps c.args.file) (root_ask d (tree_term c.index.result.now)) o) c.of.ensures is)) c.cover_tree.ensures

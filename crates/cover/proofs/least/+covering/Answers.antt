@@ -1,23 +1,23 @@
 use Rattle.std.proofs.Common.{◌≡◌, ◌<◌, ◌-◌, length, drop, arith, rules, refl, sym, ap, ◌∙◌, subst, inl, inr, Option, Some, None, Vec, vec_len, ℕ, get_or}
 use Rattle.std.specs.Prelude.{slice_get, remove}
-use Rattle.std.proofs.lemmas.Bool.{OnTrue_at}
+use Rattle.std.proofs.lemmas.Bool.{OnTrue_at, OnFalse_at}
 use Rattle.std.proofs.lemmas.Option.{slice_get_read}
 use Rattle.std.proofs.lemmas.Result.{IfOk-weaker}
 use Rattle.std.specs.declared.alloc.Global.{Global}
 use Rattle.form_model.specs.Trees.{tree_term}
 use Rattle.form_model.specs.Covers.{Operand}
 use Rattle.form_model.specs.Plans.{operands_cost}
-use Rattle.cover.specs.Inner.Asks.{operand_ask, operands_size, terms_size, with_reg}
+use Rattle.tree_grammar.specs.Parts.{home_at}
+use Rattle.cover.specs.Inner.Asks.{operand_ask, operands_size, terms_size, after}
 use Rattle.cover.specs.Inner.Least.{IsLeast, IsLeastOrder, IsLeastAfter, IsLeastFrom, IsLeastCut, IsFloor, IsCostBelow, AtMost, summed}
 use Rattle.cover.specs.Inner.Jobs.{instance_stock, nodes_of, open_operand, open_operands, open_cuts, OperandsAt, CutsAt}
 use Rattle.cover.proofs.SizeLemmas.{size_pos}
 use Rattle.cover.proofs.NodeLemmas.{input_get, inputs_remove}
-use Rattle.cover.proofs.InputLemmas.{inputs_at, inputs_without, length_inputs, no_inputs, inputs_split, inputs_later, size-remove, no_stored, stored_split, stored_first, stored_later, tail_is, cut_slot, rank_le}
-use Rattle.cover.specs.declared.slots.Slot.TheVariants.{Register}
+use Rattle.cover.proofs.InputLemmas.{inputs_at, inputs_without, length_inputs, no_inputs, inputs_split, inputs_later, size-remove, no_stored, stored_split, stored_first, stored_later, tail_is, home_entry, cut_slot, home_least, rank_le, rank_free}
 use Rattle.cover.specs.declared.rows.Offer.TheVariants.{Nothing, Chains}
 use Rattle.cover.specs.declared.matches.Matches.{Matches}
 use Rattle.cover.specs.Inner.Rows.{row_ask, IsTried, IsClosed, IsLeastRow, IsOffer}
-use Rattle.cover.specs.Inner.Slots.{place}
+use Rattle.cover.specs.Inner.Slots.{place, IsSlot}
 use Rattle.cover.specs.Inner.Matched.{AreMatches}
 use Rattle.cover.proofs.OfferLemmas.{blank_row, look_within, tried_none, tried_more, least_row_of}
 use Rattle.cover.proofs.MatchLemmas.{at_index, at_place, matches_all, match_sizes, offer_clobbers, offer_start, offer_below}
@@ -30,7 +30,16 @@ use Rattle.cover.proofs.TableLemmas.{same_default}
 use Rattle.cover.proofs.least.+covering.Goals as goal
 
 pub operand_cost-least-requires : goal.operand_cost-least-requires
-operand_cost-least-requires t c = (omega (arith, c.decreases), (c.args.operand.low, (c.requires.number, c.requires.right)))
+operand_cost-least-requires t c = (
+  omega (arith, c.decreases),
+  (subst (IsSlot c.args.operand.whole) (sym c.slot_of-slot.ensures.is) (home_entry c.args.operand.whole (home_at c.args.operand.home) c.args.operand.low), (c.requires.number, c.requires.right)),
+)
+
+pub operand_cost-returns-clause-least : goal.operand_cost-returns-clause-least
+operand_cost-returns-clause-least t c =
+    IfOk-weaker c.least.result (λ o. IsLeast (instance_stock c.args.instance.now) c.args.limits (row_ask (tree_term c.args.operand.tree.now) c.args.operand.whole c.slot_of-slot.result) o) (λ o. IsLeast (instance_stock c.args.instance.now) c.args.limits (operand_ask (open_operand c.args.operand)) o)
+    (λ o is. home_least (instance_stock c.args.instance.now) c.args.limits (open_operand c.args.operand) o
+    (subst (λ s. IsLeast (instance_stock c.args.instance.now) c.args.limits (row_ask (tree_term c.args.operand.tree.now) c.args.operand.whole s) o) c.slot_of-slot.ensures.is is)) c.least.ensures.least
 
 pub least_row-row_of-requires : goal.least_row-row_of-requires
 least_row-row_of-requires t c =
@@ -40,9 +49,9 @@ least_row-row_of-requires t c =
 pub least_row-returns-clause-least : goal.least_row-returns-clause-least
 least_row-returns-clause-least t c =
     let e : c.deref.result.now ≡ c.in_ok-matches.matches.value = c.deref.ensures in
-    IfOk-weaker c.row_of.result (λ (row : Vec (Option ℕ) Global). IsLeastRow (instance_stock c.args.instance.now) c.args.avoid (tree_term c.deref.result.now.tree.now) c.deref.result.now.whole row.items) (λ (row : Vec (Option ℕ) Global). IsLeastRow (instance_stock c.args.instance.now) c.args.avoid (tree_term c.args.tree.now) c.args.whole row.items)
-    (λ row least. subst (λ u. IsLeastRow (instance_stock c.args.instance.now) c.args.avoid u c.args.whole row.items) (ap (λ (ms : Matches). tree_term ms.tree.now) e ∙ c.in_ok-matches.ensures.tree)
-    (subst (λ w. IsLeastRow (instance_stock c.args.instance.now) c.args.avoid (tree_term c.deref.result.now.tree.now) w row.items) (ap (λ (ms : Matches). ms.whole) e ∙ c.in_ok-matches.ensures.whole) least)) c.row_of.ensures.least
+    IfOk-weaker c.row_of.result (λ (row : Vec (Option ℕ) Global). IsLeastRow (instance_stock c.args.instance.now) c.args.limits (tree_term c.deref.result.now.tree.now) c.deref.result.now.whole row.items) (λ (row : Vec (Option ℕ) Global). IsLeastRow (instance_stock c.args.instance.now) c.args.limits (tree_term c.args.tree.now) c.args.whole row.items)
+    (λ row least. subst (λ u. IsLeastRow (instance_stock c.args.instance.now) c.args.limits u c.args.whole row.items) (ap (λ (ms : Matches). tree_term ms.tree.now) e ∙ c.in_ok-matches.ensures.tree)
+    (subst (λ w. IsLeastRow (instance_stock c.args.instance.now) c.args.limits (tree_term c.deref.result.now.tree.now) w row.items) (ap (λ (ms : Matches). ms.whole) e ∙ c.in_ok-matches.ensures.whole) least)) c.row_of.ensures.least
 
 pub row_of-fill-requires : goal.row_of-fill-requires
 row_of-fill-requires t c = (omega (arith, c.decreases), (c.requires.matches, (c.requires.right, (search rules, search (rules, blank_row)))))
@@ -51,7 +60,7 @@ pub fill-note-requires : goal.fill-note-requires
 fill-note-requires t c =
     let lt : c.loop-i.i < length c.args.matches.now.list.items = search rules in
     let (m, got) = at_index c.args.matches.now.list.items c.loop-i.i lt in
-    record { len = c.loop-i.invariant.len; within = look_within (instance_stock c.args.instance.now) c.args.avoid (tree_term c.args.matches.now.tree.now) c.args.matches.now.whole c.deref.result.now m.form c.in_ok-offer.offer (c.in_ok-offer.ensures.offer m got) }
+    record { len = c.loop-i.invariant.len; within = look_within (instance_stock c.args.instance.now) c.args.limits (tree_term c.args.matches.now.tree.now) c.args.matches.now.whole c.deref.result.now m.form c.in_ok-offer.offer (c.in_ok-offer.ensures.offer m got) }
 
 pub fill-loop-i-preserved : goal.fill-loop-i-preserved
 fill-loop-i-preserved t c =
@@ -59,7 +68,7 @@ fill-loop-i-preserved t c =
     let (m, got) = at_index c.args.matches.now.list.items c.loop-i.i lt in
     record {
       len = c.note.ensures.len;
-      tried = tried_more (instance_stock c.args.instance.now) c.args.avoid (tree_term c.args.matches.now.tree.now) c.args.matches.now.whole c.args.matches.now.list.items c.loop-i.i m got c.in_ok-offer.offer _ _ _ _ c.loop-i.invariant.tried (subst (λ l. IsOffer (instance_stock c.args.instance.now) c.args.avoid (tree_term c.args.matches.now.tree.now) c.args.matches.now.whole l m.form c.in_ok-offer.offer) c.deref.ensures.value (c.in_ok-offer.ensures.offer m got)) c.in_ok-note.ensures.noted;
+      tried = tried_more (instance_stock c.args.instance.now) c.args.limits (tree_term c.args.matches.now.tree.now) c.args.matches.now.whole c.args.matches.now.list.items c.loop-i.i m got c.in_ok-offer.offer _ _ _ _ c.loop-i.invariant.tried (subst (λ l. IsOffer (instance_stock c.args.instance.now) c.args.limits (tree_term c.args.matches.now.tree.now) c.args.matches.now.whole l m.form c.in_ok-offer.offer) c.deref.ensures.value (c.in_ok-offer.ensures.offer m got)) c.in_ok-note.ensures.noted;
       right = c.in_ok-offer.ensures.right;
     }
 
@@ -68,47 +77,47 @@ fill-returns-clause-least t c =
     let v : vec_len c.args.matches.now.list ≡ length c.args.matches.now.list.items = search rules in
     let n : c.loop-i.i ≡ length c.args.matches.now.list.items = omega (arith, v, c.loop-i-test.false, c.loop-i.auto.i-end) in
     least_row_of _ _ _ _ c.args.matches.now.list.items (matches_all c.args.instance.now (tree_term c.args.matches.now.tree.now) c.args.matches.now.whole c.args.matches.now.list.items c.requires.matches) _ _ _
-    (subst (λ j. IsTried (instance_stock c.args.instance.now) c.args.avoid (tree_term c.args.matches.now.tree.now) c.args.matches.now.whole c.args.matches.now.list.items j c.loop-i.chains.items c.loop-i.row.items) n c.loop-i.invariant.tried)
+    (subst (λ j. IsTried (instance_stock c.args.instance.now) c.args.limits (tree_term c.args.matches.now.tree.now) c.args.matches.now.whole c.args.matches.now.list.items j c.loop-i.chains.items c.loop-i.row.items) n c.loop-i.invariant.tried)
     (subst (λ ms. IsClosed ms c.loop-i.row.items c.close.new.row.items) c.deref-2.ensures c.in_ok-close.ensures.closed)
 
 pub fill-loop-i-init : goal.fill-loop-i-init
 fill-loop-i-init t c = record {
   len = c.requires.len;
-  tried = subst (λ l. IsTried (instance_stock c.args.instance.now) c.args.avoid (tree_term c.args.matches.now.tree.now) c.args.matches.now.whole c.args.matches.now.list.items 0 l c.args.row.now.items) (search rules)
-      (tried_none (instance_stock c.args.instance.now) c.args.avoid (tree_term c.args.matches.now.tree.now) c.args.matches.now.whole c.args.matches.now.list.items c.args.row.now.items c.requires.blank);
+  tried = subst (λ l. IsTried (instance_stock c.args.instance.now) c.args.limits (tree_term c.args.matches.now.tree.now) c.args.matches.now.whole c.args.matches.now.list.items 0 l c.args.row.now.items) (search rules)
+      (tried_none (instance_stock c.args.instance.now) c.args.limits (tree_term c.args.matches.now.tree.now) c.args.matches.now.whole c.args.matches.now.list.items c.args.row.now.items c.requires.blank);
   right = c.requires.right;
 }
 
-pub offer_at-returns-then-found-avoid-ne0-clause-offer : goal.offer_at-returns-then-found-avoid-ne0-clause-offer
-offer_at-returns-then-found-avoid-ne0-clause-offer t c =
+pub offer_at-returns-then-not-keeps_to-clause-offer : goal.offer_at-returns-then-not-keeps_to-clause-offer
+offer_at-returns-then-not-keeps_to-clause-offer t c =
     let m : FormMatch = c.index-found.result.now in
     let got : slice_get c.args.matches.now.list.items c.args.i ≡ Some m = slice_get_read _ _ _ _ refl c.requires.place c.index-found.ensures in
-    at_place (λ y. IsOffer (instance_stock c.args.instance.now) c.args.avoid (tree_term c.args.matches.now.tree.now) c.args.matches.now.whole c.args.row.now y.form Nothing) c.args.matches.now.list.items c.args.i m got
-    (offer_clobbers c.args.instance.now c.args.avoid (tree_term c.args.matches.now.tree.now) c.args.matches.now.whole m (c.requires.matches.each c.args.i m got) c.args.row.now c.if-found-avoid-ne0.true)
+    at_place (λ y. IsOffer (instance_stock c.args.instance.now) c.args.limits (tree_term c.args.matches.now.tree.now) c.args.matches.now.whole c.args.row.now y.form Nothing) c.args.matches.now.list.items c.args.i m got
+    (offer_clobbers c.args.instance.now c.args.limits (tree_term c.args.matches.now.tree.now) c.args.matches.now.whole m (c.requires.matches.each c.args.i m got) c.args.row.now (OnFalse_at c.if-not-keeps_to.true c.keeps_to.ensures.no))
 
 pub offer_at-returns-in-Some-clause-offer : goal.offer_at-returns-in-Some-clause-offer
 offer_at-returns-in-Some-clause-offer t c =
     let m : FormMatch = c.index-found.result.now in
     let got : slice_get c.args.matches.now.list.items c.args.i ≡ Some m = slice_get_read _ _ _ _ refl c.requires.place c.index-found.ensures in
-    at_place (λ y. IsOffer (instance_stock c.args.instance.now) c.args.avoid (tree_term c.args.matches.now.tree.now) c.args.matches.now.whole c.args.row.now y.form (Chains (record { start = c.in-Some.start; goal = m.goal }))) c.args.matches.now.list.items c.args.i m got
-    (offer_start c.args.instance.now c.args.avoid (tree_term c.args.matches.now.tree.now) c.args.matches.now.whole m (c.requires.matches.each c.args.i m got) c.args.row.now c.start_of.result c.in-Some.start c.if-found-avoid-ne0.false c.start_of.ensures c.in-Some.is)
+    at_place (λ y. IsOffer (instance_stock c.args.instance.now) c.args.limits (tree_term c.args.matches.now.tree.now) c.args.matches.now.whole c.args.row.now y.form (Chains (record { start = c.in-Some.start; goal = m.goal }))) c.args.matches.now.list.items c.args.i m got
+    (offer_start c.args.instance.now c.args.limits (tree_term c.args.matches.now.tree.now) c.args.matches.now.whole m (c.requires.matches.each c.args.i m got) c.args.row.now c.start_of.result c.in-Some.start (OnTrue_at c.if-not-keeps_to.false c.keeps_to.ensures.yes) c.start_of.ensures c.in-Some.is)
 
 pub offer_at-returns-clause-offer : goal.offer_at-returns-clause-offer
 offer_at-returns-clause-offer t c =
     let m : FormMatch = c.index-found.result.now in
     let got : slice_get c.args.matches.now.list.items c.args.i ≡ Some m = slice_get_read _ _ _ _ refl c.requires.place c.index-found.ensures in
-    at_place (λ y. IsOffer (instance_stock c.args.instance.now) c.args.avoid (tree_term c.args.matches.now.tree.now) c.args.matches.now.whole c.args.row.now y.form c.offer_of.result) c.args.matches.now.list.items c.args.i m got
-    (offer_below c.args.instance.now c.args.avoid (tree_term c.args.matches.now.tree.now) c.args.matches.now.whole m (c.requires.matches.each c.args.i m got) c.args.row.now c.known_cost-known.result c.in_ok-cost.cost c.offer_of.result c.if-found-avoid-ne0.false c.known_cost-known.ensures
-    (subst (λ l. IsCostBelow (instance_stock c.args.instance.now) c.args.avoid (open_operands l) (open_cuts m.cuts.items) c.known_cost-known.result c.in_ok-cost.cost) c.deref.ensures.value
-    (subst (λ l. IsCostBelow (instance_stock c.args.instance.now) c.args.avoid (open_operands c.deref.result.now) (open_cuts l) c.known_cost-known.result c.in_ok-cost.cost) c.deref-2.ensures.value c.in_ok-cost.ensures.least)) c.offer_of.ensures)
+    at_place (λ y. IsOffer (instance_stock c.args.instance.now) c.args.limits (tree_term c.args.matches.now.tree.now) c.args.matches.now.whole c.args.row.now y.form c.offer_of.result) c.args.matches.now.list.items c.args.i m got
+    (offer_below c.args.instance.now c.args.limits (tree_term c.args.matches.now.tree.now) c.args.matches.now.whole m (c.requires.matches.each c.args.i m got) c.args.row.now c.known_cost-known.result c.in_ok-cost.cost c.offer_of.result (OnTrue_at c.if-not-keeps_to.false c.keeps_to.ensures.yes) c.known_cost-known.ensures
+    (subst (λ l. IsCostBelow (instance_stock c.args.instance.now) c.args.limits (open_operands l) (open_cuts m.cuts.items) c.known_cost-known.result c.in_ok-cost.cost) c.deref.ensures.value
+    (subst (λ l. IsCostBelow (instance_stock c.args.instance.now) c.args.limits (open_operands c.deref.result.now) (open_cuts l) c.known_cost-known.result c.in_ok-cost.cost) c.deref-2.ensures.value c.in_ok-cost.ensures.least)) c.offer_of.ensures)
 
 pub offer_at-cost_below-requires : goal.offer_at-cost_below-requires
 offer_at-cost_below-requires t c =
     let m : FormMatch = c.index-found.result.now in
     let got : slice_get c.args.matches.now.list.items c.args.i ≡ Some m = slice_get_read _ _ _ _ refl c.requires.place c.index-found.ensures in
     let f = c.requires.matches.each c.args.i m got in
-    let z = match_sizes c.args.instance.now c.args.avoid (tree_term c.args.matches.now.tree.now) c.args.matches.now.whole m f c.start_of.result c.start_of.ensures c.in_default.is in (
-      omega (arith, z.0, z.1, rank_le c.args.avoid, ap (λ l. operands_size (open_operands l)) c.deref.ensures.value, ap (λ l. terms_size (open_cuts l)) c.deref-2.ensures.value, c.decreases),
+    let z = match_sizes c.args.instance.now c.args.limits (tree_term c.args.matches.now.tree.now) c.args.matches.now.whole m f c.start_of.result c.start_of.ensures c.in_default.is in (
+      omega (arith, z.0, z.1, rank_le c.args.instance.now.file c.args.limits, ap (λ l. operands_size (open_operands l)) c.deref.ensures.value, ap (λ l. terms_size (open_cuts l)) c.deref-2.ensures.value, c.decreases),
       (
         subst (OperandsAt (nodes_of c.args.instance.now)) (sym c.deref.ensures.value) f.operands_at,
         (subst (CutsAt (nodes_of c.args.instance.now)) (sym c.deref-2.ensures.value) f.cuts_at, c.requires.right),
@@ -138,11 +147,11 @@ cost_below-returns-then-is_as_dear-clause-least t c = inr (
 
 pub cost_below-returns-clause-least : goal.cost_below-returns-clause-least
 cost_below-returns-clause-least t c =
-    IfOk-weaker c.form_cost-2.result (λ o. o ≡ summed (summed (Some 1) c.in_ok-a.a) c.in_ok-b.b) (λ o. IsCostBelow (instance_stock c.args.instance.now) c.args.avoid (open_operands c.args.operands.now) (open_cuts c.args.cuts.now) c.args.known o)
+    IfOk-weaker c.form_cost-2.result (λ o. o ≡ summed (summed (Some 1) c.in_ok-a.a) c.in_ok-b.b) (λ o. IsCostBelow (instance_stock c.args.instance.now) c.args.limits (open_operands c.args.operands.now) (open_cuts c.args.cuts.now) c.args.known o)
     (λ o e. inl (record { operands = c.in_ok-a.a; cuts = c.in_ok-b.b; order = c.in_ok-a.ensures.least; cut = c.in_ok-b.ensures.least; sum = e })) c.form_cost-2.ensures
 
 pub floor_of-returns-then-is_empty-clause-floor : goal.floor_of-returns-then-is_empty-clause-floor
-floor_of-returns-then-is_empty-clause-floor t c = floor_none (instance_stock c.args.instance.now) c.args.avoid (open_operands c.args.ops.now)
+floor_of-returns-then-is_empty-clause-floor t c = floor_none (instance_stock c.args.instance.now) c.args.limits (open_operands c.args.ops.now)
 
 pub floor_of-floor_of-requires : goal.floor_of-floor_of-requires
 floor_of-floor_of-requires t c =
@@ -156,28 +165,28 @@ floor_of-returns-clause-floor t c =
     let some : 0 < length c.args.ops.now = search rules in
     let got = slice_get_read _ _ _ _ refl some c.index-ops-0.is in
     let e = inputs_split c.args.ops.now c.index-ops-0.result got in
-    let parts = floor_more (instance_stock c.args.instance.now) c.args.avoid (open_operand c.index-ops-0.result) (open_operands (drop 1 c.args.ops.now)) c.in_ok-m.m c.in_ok-n.n c.in_ok-m.ensures.least (subst (λ l. IsFloor (instance_stock c.args.instance.now) c.args.avoid (open_operands l) c.in_ok-n.n) (tail_is c.args.ops.now) c.in_ok-n.ensures.floor) in
-    IfOk-weaker c.sum_of.result (λ x. x ≡ summed c.in_ok-m.m c.in_ok-n.n) (λ x. IsFloor (instance_stock c.args.instance.now) c.args.avoid (open_operands c.args.ops.now) x)
-    (λ o same. subst (λ x. IsFloor (instance_stock c.args.instance.now) c.args.avoid (open_operands c.args.ops.now) x) (sym same) (subst (λ xs. IsFloor (instance_stock c.args.instance.now) c.args.avoid xs (summed c.in_ok-m.m c.in_ok-n.n)) (sym e) parts)) c.sum_of.ensures
+    let parts = floor_more (instance_stock c.args.instance.now) c.args.limits (open_operand c.index-ops-0.result) (open_operands (drop 1 c.args.ops.now)) c.in_ok-m.m c.in_ok-n.n c.in_ok-m.ensures.least (subst (λ l. IsFloor (instance_stock c.args.instance.now) c.args.limits (open_operands l) c.in_ok-n.n) (tail_is c.args.ops.now) c.in_ok-n.ensures.floor) in
+    IfOk-weaker c.sum_of.result (λ x. x ≡ summed c.in_ok-m.m c.in_ok-n.n) (λ x. IsFloor (instance_stock c.args.instance.now) c.args.limits (open_operands c.args.ops.now) x)
+    (λ o same. subst (λ x. IsFloor (instance_stock c.args.instance.now) c.args.limits (open_operands c.args.ops.now) x) (sym same) (subst (λ xs. IsFloor (instance_stock c.args.instance.now) c.args.limits xs (summed c.in_ok-m.m c.in_ok-n.n)) (sym e) parts)) c.sum_of.ensures
 
 pub floor_of-operand_cost-requires : goal.floor_of-operand_cost-requires
 floor_of-operand_cost-requires t c =
     let some : 0 < length c.args.ops.now = search rules in
     let got = slice_get_read _ _ _ _ refl some c.index-ops-0.is in
     let e = inputs_split c.args.ops.now c.index-ops-0.result got in
-    (omega (arith, ap operands_size e, c.decreases, rank_le c.args.avoid), (input_get _ _ 0 _ c.requires.at got, c.requires.right))
+    (omega (arith, ap operands_size e, c.decreases, rank_le c.args.instance.now.file c.args.limits), (input_get _ _ 0 _ c.requires.at got, c.requires.right))
 
 pub orders-returns-then-is_empty-clause-least : goal.orders-returns-then-is_empty-clause-least
 orders-returns-then-is_empty-clause-least t c = order_none _ _ _ (let n : length c.args.ops.now ≡ 0 = search rules in no_inputs c.args.ops.now n)
 
 pub orders-loop-i-preserved : goal.orders-loop-i-preserved
 orders-loop-i-preserved t c =
-    rw c.lesser_of-best.ensures (let h = order_more (instance_stock c.args.instance.now) c.args.avoid (open_operands c.args.ops.now) c.loop-i.i c.loop-i.best c.in_ok-from.from c.loop-i.invariant.reached c.loop-i.invariant.least c.in_ok-from.ensures.least in record { reached = h.0; least = h.1; right = c.in_ok-from.ensures.right })
+    rw c.lesser_of-best.ensures (let h = order_more (instance_stock c.args.instance.now) c.args.limits (open_operands c.args.ops.now) c.loop-i.i c.loop-i.best c.in_ok-from.from c.loop-i.invariant.reached c.loop-i.invariant.least c.in_ok-from.ensures.least in record { reached = h.0; least = h.1; right = c.in_ok-from.ensures.right })
 
 pub orders-returns-then-is_as_dear-clause-least : goal.orders-returns-then-is_as_dear-clause-least
 orders-returns-then-is_as_dear-clause-least t c =
     rw c.lesser_of-best.ensures (
-    let h = order_more (instance_stock c.args.instance.now) c.args.avoid (open_operands c.args.ops.now) c.loop-i.i c.loop-i.best c.in_ok-from.from c.loop-i.invariant.reached c.loop-i.invariant.least c.in_ok-from.ensures.least in
+    let h = order_more (instance_stock c.args.instance.now) c.args.limits (open_operands c.args.ops.now) c.loop-i.i c.loop-i.best c.in_ok-from.from c.loop-i.invariant.reached c.loop-i.invariant.least c.in_ok-from.ensures.least in
     record { reached = h.0; least = λ ps sparing. subst (λ o. AtMost o (operands_cost ps)) c.lesser_of-best.ensures (OnTrue_at c.if-is_as_dear.true c.is_as_dear.ensures (operands_cost ps) (c.requires.floor ps sparing)) }
     )
 
@@ -192,8 +201,8 @@ pub orders_from-returns-in_default-clause-least : goal.orders_from-returns-in_de
 orders_from-returns-in_default-clause-least t c =
     let got = slice_get_read _ _ _ _ refl c.requires.place c.index-ops-i.is in
     let get = inputs_at c.args.ops.now c.args.i c.index-ops-i.result got in
-    from_none (instance_stock c.args.instance.now) c.args.avoid (open_operands c.args.ops.now) c.args.i (open_operand c.index-ops-i.result) get
-    (subst (λ o. IsLeast (instance_stock c.args.instance.now) c.args.avoid (operand_ask (open_operand c.index-ops-i.result)) o) c.in_default.is c.in_ok-m.ensures.least)
+    from_none (instance_stock c.args.instance.now) c.args.limits (open_operands c.args.ops.now) c.args.i (open_operand c.index-ops-i.result) get
+    (subst (λ o. IsLeast (instance_stock c.args.instance.now) c.args.limits (operand_ask (open_operand c.index-ops-i.result)) o) c.in_default.is c.in_ok-m.ensures.least)
 
 pub orders_from-returns-then-ops-eq1-clause-least : goal.orders_from-returns-then-ops-eq1-clause-least
 orders_from-returns-then-ops-eq1-clause-least t c =
@@ -201,23 +210,23 @@ orders_from-returns-then-ops-eq1-clause-least t c =
     let get = inputs_at c.args.ops.now c.args.i c.index-ops-i.result got in
     let one : length c.args.ops.now ≡ 1 = search rules in
     let n = length_inputs c.args.ops.now in
-    from_last (instance_stock c.args.instance.now) c.args.avoid (open_operands c.args.ops.now) c.args.i (open_operand c.index-ops-i.result) c.in-Some.m get (omega (arith, one, n))
-    (subst (λ o. IsLeast (instance_stock c.args.instance.now) c.args.avoid (operand_ask (open_operand c.index-ops-i.result)) o) c.in-Some.is c.in_ok-m.ensures.least)
+    from_last (instance_stock c.args.instance.now) c.args.limits (open_operands c.args.ops.now) c.args.i (open_operand c.index-ops-i.result) c.in-Some.m get (omega (arith, one, n))
+    (subst (λ o. IsLeast (instance_stock c.args.instance.now) c.args.limits (operand_ask (open_operand c.index-ops-i.result)) o) c.in-Some.is c.in_ok-m.ensures.least)
 
 pub orders_from-returns-clause-least : goal.orders_from-returns-clause-least
 orders_from-returns-clause-least t c =
     let got = slice_get_read _ _ _ _ refl c.requires.place c.index-ops-i.is in
     let get = inputs_at c.args.ops.now c.args.i c.index-ops-i.result got in
-    let first = (subst (λ o. IsLeast (instance_stock c.args.instance.now) c.args.avoid (operand_ask (open_operand c.index-ops-i.result)) o) c.in-Some.is c.in_ok-m.ensures.least) in
-    let parts = from_parts (instance_stock c.args.instance.now) c.args.avoid (open_operands c.args.ops.now) c.args.i (open_operand c.index-ops-i.result) (Some c.in-Some.m) c.in_ok-n.n get first (c.in_ok-n.ensures.least (open_operand c.index-ops-i.result) get) in
-    IfOk-weaker c.sum_of.result (λ x. x ≡ summed (Some c.in-Some.m) c.in_ok-n.n) (λ x. IsLeastFrom (instance_stock c.args.instance.now) c.args.avoid (open_operands c.args.ops.now) c.args.i x) (λ o same. subst (λ x. IsLeastFrom (instance_stock c.args.instance.now) c.args.avoid (open_operands c.args.ops.now) c.args.i x) (sym same) parts) c.sum_of.ensures
+    let first = (subst (λ o. IsLeast (instance_stock c.args.instance.now) c.args.limits (operand_ask (open_operand c.index-ops-i.result)) o) c.in-Some.is c.in_ok-m.ensures.least) in
+    let parts = from_parts (instance_stock c.args.instance.now) c.args.limits (open_operands c.args.ops.now) c.args.i (open_operand c.index-ops-i.result) (Some c.in-Some.m) c.in_ok-n.n get first (c.in_ok-n.ensures.least (open_operand c.index-ops-i.result) get) in
+    IfOk-weaker c.sum_of.result (λ x. x ≡ summed (Some c.in-Some.m) c.in_ok-n.n) (λ x. IsLeastFrom (instance_stock c.args.instance.now) c.args.limits (open_operands c.args.ops.now) c.args.i x) (λ o same. subst (λ x. IsLeastFrom (instance_stock c.args.instance.now) c.args.limits (open_operands c.args.ops.now) c.args.i x) (sym same) parts) c.sum_of.ensures
 
 pub orders_from-operand_cost-requires : goal.orders_from-operand_cost-requires
 orders_from-operand_cost-requires t c =
     let got = slice_get_read _ _ _ _ refl c.requires.place c.index-ops-i.is in
     let get = inputs_at c.args.ops.now c.args.i c.index-ops-i.result got in
     let h = size-remove (open_operands c.args.ops.now) c.args.i (open_operand c.index-ops-i.result) get in
-    (omega (arith, h, c.decreases, rank_le c.args.avoid), (input_get _ _ c.args.i _ c.requires.at got, c.requires.right))
+    (omega (arith, h, c.decreases, rank_le c.args.instance.now.file c.args.limits), (input_get _ _ c.args.i _ c.requires.at got, c.requires.right))
 
 pub orders_from-orders_after-requires : goal.orders_from-orders_after-requires
 orders_from-orders_after-requires t c = (omega (arith, c.decreases), (c.requires.place, (c.requires.at, c.in_ok-m.ensures.right)))
@@ -229,7 +238,7 @@ orders_after-orders-requires t c =
     let h = size-remove (open_operands c.args.ops.now) c.args.i (open_operand c.index-ops-i.result) get in
     let d : c.deref.result.now ≡ remove c.args.ops.now c.args.i = c.deref.ensures.value ∙ c.in_ok-rest.ensures in
     let e : open_operands c.deref.result.now ≡ remove (open_operands c.args.ops.now) c.args.i = ap open_operands d ∙ inputs_without c.args.ops.now c.args.i in
-    (omega (arith, h, ap operands_size e, size_pos (tree_term c.index-ops-i.result.tree.now), c.decreases), (subst (OperandsAt (nodes_of c.args.instance.now)) (sym d) (inputs_remove (nodes_of c.args.instance.now) c.args.ops.now c.args.i c.requires.at), (floor_none (instance_stock c.args.instance.now) c.put_reg-later.result (open_operands c.deref.result.now), c.requires.right)))
+    (omega (arith, h, ap operands_size e, size_pos (tree_term c.index-ops-i.result.tree.now), c.decreases), (subst (OperandsAt (nodes_of c.args.instance.now)) (sym d) (inputs_remove (nodes_of c.args.instance.now) c.args.ops.now c.args.i c.requires.at), (floor_none (instance_stock c.args.instance.now) c.after_home-later.result (open_operands c.deref.result.now), c.requires.right)))
 
 pub orders_after-operand_cost-requires : goal.orders_after-operand_cost-requires
 orders_after-operand_cost-requires t c =
@@ -237,7 +246,7 @@ orders_after-operand_cost-requires t c =
     let got : slice_get c.args.ops.now (1 - c.args.i) ≡ Some c.index-ops-i-then-ops-eq2.result = slice_get_read c.args.ops.now (length c.args.ops.now) (1 - c.args.i) _ refl (let lt = c.requires.place in omega (arith, two, lt)) c.index-ops-i-then-ops-eq2.is in
     let get = inputs_at c.args.ops.now (1 - c.args.i) c.index-ops-i-then-ops-eq2.result got in
     let h = size-remove (open_operands c.args.ops.now) (1 - c.args.i) (open_operand c.index-ops-i-then-ops-eq2.result) get in
-    (omega (arith, h, c.decreases, rank_le c.put_reg-later.result), (input_get _ _ (1 - c.args.i) _ c.requires.at got, c.requires.right))
+    (omega (arith, h, c.decreases, rank_le c.args.instance.now.file c.after_home-later.result), (input_get _ _ (1 - c.args.i) _ c.requires.at got, c.requires.right))
 
 pub orders_after-returns-then-ops-eq2-clause-least : goal.orders_after-returns-then-ops-eq2-clause-least
 orders_after-returns-then-ops-eq2-clause-least t c =
@@ -249,13 +258,13 @@ orders_after-returns-then-ops-eq2-clause-least t c =
     let got' : slice_get c.args.ops.now (1 - c.args.i) ≡ Some c.index-ops-i-then-ops-eq2.result = slice_get_read c.args.ops.now (length c.args.ops.now) (1 - c.args.i) _ refl (omega (arith, two, lt)) c.index-ops-i-then-ops-eq2.is in
     let get' = inputs_at c.args.ops.now (1 - c.args.i) c.index-ops-i-then-ops-eq2.result got' in
     let left = other_left (open_operands c.args.ops.now) c.args.i (open_operand c.index-ops-i-then-ops-eq2.result) (omega (arith, two, n)) (omega (arith, two, lt)) get' in
-    IfOk-weaker c.operand_cost.result (λ o. IsLeast (instance_stock c.args.instance.now) c.put_reg-later.result (operand_ask (open_operand c.index-ops-i-then-ops-eq2.result)) o) (λ o. IsLeastAfter (instance_stock c.args.instance.now) c.args.avoid (open_operands c.args.ops.now) c.args.i o)
+    IfOk-weaker c.operand_cost.result (λ o. IsLeast (instance_stock c.args.instance.now) c.after_home-later.result (operand_ask (open_operand c.index-ops-i-then-ops-eq2.result)) o) (λ o. IsLeastAfter (instance_stock c.args.instance.now) c.args.limits (open_operands c.args.ops.now) c.args.i o)
     (λ o least x here.
     let same : open_operand c.index-ops-i.result ≡ x = cc in
-    subst (λ (y : Operand). IsLeastOrder (instance_stock c.args.instance.now) (with_reg c.args.avoid y.id) (remove (open_operands c.args.ops.now) c.args.i) o) same
-    (subst (λ xs. IsLeastOrder (instance_stock c.args.instance.now) (with_reg c.args.avoid c.index-ops-i.result.id) xs o) (sym left)
-    (order_one (instance_stock c.args.instance.now) (with_reg c.args.avoid c.index-ops-i.result.id) (open_operand c.index-ops-i-then-ops-eq2.result) o
-    (subst (λ s. IsLeast (instance_stock c.args.instance.now) s (operand_ask (open_operand c.index-ops-i-then-ops-eq2.result)) o) c.put_reg-later.ensures least)))) c.operand_cost.ensures.least
+    subst (λ (y : Operand). IsLeastOrder (instance_stock c.args.instance.now) (after c.args.limits y.home) (remove (open_operands c.args.ops.now) c.args.i) o) same
+    (subst (λ xs. IsLeastOrder (instance_stock c.args.instance.now) (after c.args.limits (home_at c.index-ops-i.result.home)) xs o) (sym left)
+    (order_one (instance_stock c.args.instance.now) (after c.args.limits (home_at c.index-ops-i.result.home)) (open_operand c.index-ops-i-then-ops-eq2.result) o
+    (subst (λ s. IsLeast (instance_stock c.args.instance.now) s (operand_ask (open_operand c.index-ops-i-then-ops-eq2.result)) o) c.after_home-later.ensures least)))) c.operand_cost.ensures.least
 
 pub orders_after-returns-clause-least : goal.orders_after-returns-clause-least
 orders_after-returns-clause-least t c =
@@ -263,12 +272,12 @@ orders_after-returns-clause-least t c =
     let get = inputs_at c.args.ops.now c.args.i c.index-ops-i.result got in
     let d : c.deref.result.now ≡ remove c.args.ops.now c.args.i = c.deref.ensures.value ∙ c.in_ok-rest.ensures in
     let e : open_operands c.deref.result.now ≡ remove (open_operands c.args.ops.now) c.args.i = ap open_operands d ∙ inputs_without c.args.ops.now c.args.i in
-    IfOk-weaker c.orders.result (λ o. IsLeastOrder (instance_stock c.args.instance.now) c.put_reg-later.result (open_operands c.deref.result.now) o) (λ o. IsLeastAfter (instance_stock c.args.instance.now) c.args.avoid (open_operands c.args.ops.now) c.args.i o)
+    IfOk-weaker c.orders.result (λ o. IsLeastOrder (instance_stock c.args.instance.now) c.after_home-later.result (open_operands c.deref.result.now) o) (λ o. IsLeastAfter (instance_stock c.args.instance.now) c.args.limits (open_operands c.args.ops.now) c.args.i o)
     (λ o least x here.
     let same : open_operand c.index-ops-i.result ≡ x = cc in
-    subst (λ (y : Operand). IsLeastOrder (instance_stock c.args.instance.now) (with_reg c.args.avoid y.id) (remove (open_operands c.args.ops.now) c.args.i) o) same
-    (subst (λ xs. IsLeastOrder (instance_stock c.args.instance.now) (with_reg c.args.avoid c.index-ops-i.result.id) xs o) e
-    (subst (λ s. IsLeastOrder (instance_stock c.args.instance.now) s (open_operands c.deref.result.now) o) c.put_reg-later.ensures least))) c.orders.ensures.least
+    subst (λ (y : Operand). IsLeastOrder (instance_stock c.args.instance.now) (after c.args.limits y.home) (remove (open_operands c.args.ops.now) c.args.i) o) same
+    (subst (λ xs. IsLeastOrder (instance_stock c.args.instance.now) (after c.args.limits (home_at c.index-ops-i.result.home)) xs o) e
+    (subst (λ s. IsLeastOrder (instance_stock c.args.instance.now) s (open_operands c.deref.result.now) o) c.after_home-later.ensures least))) c.orders.ensures.least
 
 pub cuts_cost-returns-then-is_empty-clause-least : goal.cuts_cost-returns-then-is_empty-clause-least
 cuts_cost-returns-then-is_empty-clause-least t c = cut_none _ _ (let n : length c.args.cuts.now ≡ 0 = search rules in no_stored c.args.cuts.now n)
@@ -278,7 +287,7 @@ cuts_cost-least-requires t c =
     let some : 0 < length c.args.cuts.now = search rules in
     let got = slice_get_read _ _ _ _ refl some c.index-cuts-0.is in
     let e = stored_split c.args.cuts.now c.index-cuts-0.result got in
-    (omega (arith, ap terms_size e, c.decreases), (cut_slot, (stored_first _ c.args.cuts.now _ c.requires.at got, c.requires.right)))
+    (omega (arith, ap terms_size e, rank_free c.args.instance.now.file, c.decreases), (cut_slot, (stored_first _ c.args.cuts.now _ c.requires.at got, c.requires.right)))
 
 pub cuts_cost-cuts_cost-requires : goal.cuts_cost-cuts_cost-requires
 cuts_cost-cuts_cost-requires t c =
@@ -298,7 +307,7 @@ cuts_cost-returns-clause-least t c =
 
 pub least-returns-clause-least : goal.least-returns-clause-least
 least-returns-clause-least t c =
-    let n : length c.in_ok-costs.costs.items ≡ 17 = search rules in
-    subst (λ o. IsLeast (instance_stock c.args.instance.now) c.args.avoid (row_ask (tree_term c.args.tree.now) c.args.whole c.args.slot) o)
+    let n : length c.in_ok-costs.costs.items ≡ 18 = search rules in
+    subst (λ o. IsLeast (instance_stock c.args.instance.now) c.args.limits (row_ask (tree_term c.args.tree.now) c.args.whole c.args.slot) o)
     (same_default c.in_ok-costs.costs.items (place c.args.slot) c.index-cost.result.now None (let w = slot_within c.args.whole c.args.slot c.requires.slot in omega (arith, n, w)) (subst (λ j. c.index-cost.result.now ≡ get_or c.in_ok-costs.costs.items j c.index-cost.result.now) c.index.ensures.is c.index-cost.ensures))
     (c.in_ok-costs.ensures.least c.args.slot c.requires.slot)

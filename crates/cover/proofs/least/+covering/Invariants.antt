@@ -9,22 +9,22 @@ use Rattle.cover.specs.Inner.Tables.{AreRight}
 use Rattle.cover.proofs.least.+covering.Given as goal
 
 abbrev pub decreases-least : goal.decreases-least
-decreases-least l = 32 * size_of (tree_term l.tree.now) + 16 * rank l.avoid + 4
+decreases-least l = 32 * size_of (tree_term l.tree.now) + 16 * rank l.instance.now.file l.limits + 4
 
 abbrev pub decreases-operand_cost : goal.decreases-operand_cost
-decreases-operand_cost l = 32 * size_of (tree_term l.operand.tree.now) + 16 * rank l.avoid + 5
+decreases-operand_cost l = 32 * size_of (tree_term l.operand.tree.now) + 16 * rank l.instance.now.file l.limits + 5
 
 abbrev pub decreases-least_row : goal.decreases-least_row
-decreases-least_row l = 32 * size_of (tree_term l.tree.now) + 16 * rank l.avoid + 3
+decreases-least_row l = 32 * size_of (tree_term l.tree.now) + 16 * rank l.instance.now.file l.limits + 3
 
 abbrev pub decreases-row_of : goal.decreases-row_of
-decreases-row_of l = 32 * size_of (tree_term l.matches.now.tree.now) + 16 * rank l.avoid + 2
+decreases-row_of l = 32 * size_of (tree_term l.matches.now.tree.now) + 16 * rank l.instance.now.file l.limits + 2
 
 abbrev pub decreases-fill : goal.decreases-fill
-decreases-fill l = 32 * size_of (tree_term l.matches.now.tree.now) + 16 * rank l.avoid + 1
+decreases-fill l = 32 * size_of (tree_term l.matches.now.tree.now) + 16 * rank l.instance.now.file l.limits + 1
 
 abbrev pub decreases-offer_at : goal.decreases-offer_at
-decreases-offer_at l = 32 * size_of (tree_term l.matches.now.tree.now) + 16 * rank l.avoid
+decreases-offer_at l = 32 * size_of (tree_term l.matches.now.tree.now) + 16 * rank l.instance.now.file l.limits
 
 abbrev pub decreases-cost_below : goal.decreases-cost_below
 decreases-cost_below l = max (32 * operands_size (open_operands l.operands.now) + 26) (32 * terms_size (open_cuts l.cuts.now) + 9)
@@ -46,14 +46,14 @@ decreases-cuts_cost l = 32 * terms_size (open_cuts l.cuts.now) + 8
 
 abbrev pub invariant-orders-loop-i : goal.invariant-orders-loop-i
 invariant-orders-loop-i l = record {
-  reached : OrderReached (instance_stock l.instance) l.avoid (open_operands l.ops) l.best;
-  least : FirstsBelow (instance_stock l.instance) l.avoid (open_operands l.ops) l.i l.best;
+  reached : OrderReached (instance_stock l.instance) l.limits (open_operands l.ops) l.best;
+  least : FirstsBelow (instance_stock l.instance) l.limits (open_operands l.ops) l.i l.best;
   right : AreRight l.instance l.table;
 }
 
 abbrev pub invariant-fill-loop-i : goal.invariant-fill-loop-i
 invariant-fill-loop-i l = record {
-  len : vec_len l.row ≡ 17;
-  tried : IsTried (instance_stock l.instance) l.avoid (tree_term l.matches.tree.now) l.matches.whole l.matches.list.items l.i l.chains.items l.row.items;
+  len : vec_len l.row ≡ 18;
+  tried : IsTried (instance_stock l.instance) l.limits (tree_term l.matches.tree.now) l.matches.whole l.matches.list.items l.i l.chains.items l.row.items;
   right : AreRight l.instance l.table;
 }

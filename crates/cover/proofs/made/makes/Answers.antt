@@ -7,6 +7,7 @@ use Rattle.tree_grammar.specs.Parts.{destination_at}
 use Rattle.tree_sharing.proofs.NodeLemmas.{nodes_hold}
 use Rattle.cover.specs.Made.{part_goal}
 use Rattle.cover.specs.Inner.Jobs.{instance_stock, nodes_of}
+use Rattle.cover.specs.Inner.Asks.{free}
 use Rattle.cover.specs.Inner.Least.{IsLeastForm}
 use Rattle.cover.proofs.MadeLemmas.{goal_holds, makes_none, makes_some, part_ask, part_stands}
 use Rattle.cover.proofs.RowLemmas.{listed}
@@ -31,7 +32,7 @@ returns-in-Some-2-clause-makes c =
     let d = destination_at c.in-Some.destination in
     let there : part_goal (kind_of form.goal) ≡ Some d = sym c.part_destination.ensures ∙ ap (option_map destination_at) c.in-Some.is in
     makes_some stock t c.args.k (rule_of form) (rule_at instance c.args.k form (listed _ _ _ c.requires.form)) d c.in-Some-2.field-0 there
-    (subst (IsLeastForm stock 0 (part_ask d t) c.args.k) c.in-Some-2.is c.in_ok-form_least.ensures.least)
+    (subst (IsLeastForm stock (free stock) (part_ask d t) c.args.k) c.in-Some-2.is c.in_ok-form_least.ensures.least)
 
 pub returns-in-None-clause-makes : goal.returns-in-None-clause-makes
 returns-in-None-clause-makes c =
@@ -42,4 +43,4 @@ returns-in-None-clause-makes c =
     let d = destination_at c.in-Some.destination in
     let there : part_goal (kind_of form.goal) ≡ Some d = sym c.part_destination.ensures ∙ ap (option_map destination_at) c.in-Some.is in
     makes_none stock t c.args.k (rule_of form) (rule_at instance c.args.k form (listed _ _ _ c.requires.form)) d there
-    (subst (IsLeastForm stock 0 (part_ask d t) c.args.k) c.in-None.is c.in_ok-form_least.ensures.least)
+    (subst (IsLeastForm stock (free stock) (part_ask d t) c.args.k) c.in-None.is c.in_ok-form_least.ensures.least)

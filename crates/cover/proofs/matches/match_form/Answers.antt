@@ -17,7 +17,7 @@ returns c =
     let got : slice_get c.args.instance.now.forms.now c.args.k ≡ Some form = listed _ _ _ c.requires.form in
     let s = start_of c.args.instance.now form c.args.k c.in-Some.goal (tree_term c.args.tree.now) c.args.whole (destination_at c.destination_of_entry.result) c.goal_of.result c.in_ok-found.field-0 c.in-Some-2.found got (c.goal_of.ensures.is, c.goal_of.ensures.slot) c.in-Some.is c.in_ok-found.ensures.found c.in-Some-2.is c.destination_of_entry.ensures in
     let at = start_at c.args.number c.in-Some.goal (tree_term c.args.tree.now) (destination_at c.destination_of_entry.result) c.in_ok-found.field-0 c.in-Some-2.found c.in_ok-found.ensures.at c.in-Some-2.is c.destination_of_entry.ensures in (
-      form_match c.args.instance.now form c.args.k c.in-Some.goal (tree_term c.args.tree.now) c.args.whole c.args.number c.in-Some-2.found c.deref.result.now c.in_ok-opened.opened c.requires.number s at c.deref.ensures.value c.in_ok-opened.ensures,
+      form_match c.args.instance.now form c.args.k c.in-Some.goal (tree_term c.args.tree.now) c.args.whole c.args.number c.in-Some-2.found c.deref.result.now c.in_ok-opened.opened c.requires.number s at c.deref.ensures.value c.cells_of-cells.result c.cells_of-cells.ensures c.in_ok-opened.ensures,
       c.in_ok-opened.ensures.form,
     )
 

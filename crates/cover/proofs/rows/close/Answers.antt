@@ -6,7 +6,7 @@ use Rattle.cover.proofs.rows.close.Goals as goal
 pub loop-preserved : goal.loop-preserved
 loop-preserved c = record {
   len = c.sweep.ensures.len;
-  sound = λ stock avoid tree whole lifts h. c.in_ok-sweep.ensures.swept.sound stock avoid tree whole lifts (c.loop.invariant.sound stock avoid tree whole lifts h);
+  sound = λ stock limits tree whole lifts h. c.in_ok-sweep.ensures.swept.sound stock limits tree whole lifts (c.loop.invariant.sound stock limits tree whole lifts h);
   lower = λ r n h. c.in_ok-sweep.ensures.swept.lower r n (c.loop.invariant.lower r n h);
 }
 

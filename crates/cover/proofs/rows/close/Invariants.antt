@@ -4,7 +4,7 @@ use Rattle.cover.proofs.rows.close.Given as goal
 
 abbrev pub invariant-loop : goal.invariant-loop
 invariant-loop l = record {
-  len : vec_len l.row ≡ 17;
+  len : vec_len l.row ≡ 18;
   sound : Keeps l.chains l.initial.row.items l.row.items;
   lower : Lower l.initial.row.items l.row.items;
 }

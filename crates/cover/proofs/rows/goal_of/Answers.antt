@@ -1,4 +1,4 @@
-use Rattle.std.proofs.Common.{◌<◌, ap, arith, Fits, w8}
+use Rattle.std.proofs.Common.{◌<◌, ap, arith}
 use Rattle.form_model.specs.Rules.{kind_of}
 use Rattle.cover.proofs.rows.goal_of.Goals as goal
 

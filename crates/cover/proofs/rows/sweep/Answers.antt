@@ -21,7 +21,7 @@ loop-m-preserved c =
     record {
       len = c.try_chain.ensures.len;
       swept = elim c.if-branch.branch [
-        | then-branch w ↦ rw w.changed-is (swept_moved _ _ _ _ _ _ m c.loop-m.invariant.swept at (let n : length c.loop-m.row.items ≡ 17 = search rules in n) (c.requires.within _ _ at).1
+        | then-branch w ↦ rw w.changed-is (swept_moved _ _ _ _ _ _ m c.loop-m.invariant.swept at (let n : length c.loop-m.row.items ≡ 18 = search rules in n) (c.requires.within _ _ at).1
             (subst (λ b. Chained m b c.loop-m.row.items c.try_chain.new.row.items) w.if-branch.true c.in_ok-try_chain.ensures.chained))
         | else-branch w ↦ rw w.changed-is (swept_kept _ _ _ _ _ _ m c.loop-m.invariant.swept at
             (subst (λ b. Chained m b c.loop-m.row.items c.try_chain.new.row.items) w.if-branch.false c.in_ok-try_chain.ensures.chained))

@@ -7,8 +7,8 @@ use Rattle.cover.proofs.table.kept.Goals as goal
 
 pub returns : goal.returns
 returns c =
-    let (among, whole, avoid) = c.in_ok-row.ensures in
+    let (among, whole, limits) = c.in_ok-row.ensures in
     let got = slice_get_read _ _ _ _ refl c.in_ok-rows.ensures.lookup.3.0 c.in_ok-rows.ensures.lookup.1 in
     let there : slice_get c.args.table.now.rows.items c.args.number ≡ Some c.in_ok-rows.rows.now = subst (λ l. slice_get l c.args.number ≡ Some c.in_ok-rows.rows.now) c.deref.ensures.value got in
     let here : IsAmong c.in_ok-rows.rows.now.items c.in_ok-row.row.now = subst (λ l. IsAmong l c.in_ok-row.row.now) c.deref-2.ensures.value among in
-    entry_right c.args.instance.now c.args.number c.in_ok-row.row.now c.args.whole c.args.avoid c.args.slot c.index-cost.result.now (c.requires.right.rows c.args.number c.in_ok-rows.rows.now c.in_ok-row.row.now there here) whole avoid c.requires.slot (subst (λ j. c.index-cost.result.now ≡ get_or c.in_ok-row.row.now.costs.items j c.index-cost.result.now) c.index.ensures.is c.index-cost.ensures)
+    entry_right c.args.instance.now c.args.number c.in_ok-row.row.now c.args.whole c.args.limits c.args.slot c.index-cost.result.now (c.requires.right.rows c.args.number c.in_ok-rows.rows.now c.in_ok-row.row.now there here) whole limits c.requires.slot (subst (λ j. c.index-cost.result.now ≡ get_or c.in_ok-row.row.now.costs.items j c.index-cost.result.now) c.index.ensures.is c.index-cost.ensures)

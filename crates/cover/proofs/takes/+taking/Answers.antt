@@ -3,6 +3,8 @@ use Rattle.std.specs.Bool.{OnFalse}
 use Rattle.net_model.specs.Terms.{Term, un, bin, term_of}
 use Rattle.form_model.specs.Trees.{tree_term}
 use Rattle.form_model.specs.Matches.{matched}
+use Rattle.form_model.specs.Shapes.{is_shape}
+use Rattle.cover.proofs.ValueLemmas.{no_number, no_operands_match}
 use Rattle.cover.proofs.takes.+taking.Goals as goal
 
 pub may_take-returns-in-Un : goal.may_take-returns-in-Un
@@ -10,10 +12,17 @@ may_take-returns-in-Un t c =
     let e : un c.in-Un.op (term_of c.deref-in-Un.result.now) ≡ term_of c.args.value.now = ap (λ a. un c.in-Un.op (term_of a)) c.deref-in-Un.ensures ∙ sym (ap term_of c.in-Un.is) in
     subst (λ (v : Term). OnFalse c.may_take_one.result ((temps : ℕ) (whole : Bool) → matched temps v (tree_term c.args.tree.now) whole ≡ None)) e c.may_take_one.ensures
 
-pub may_take-returns-in-Bin : goal.may_take-returns-in-Bin
-may_take-returns-in-Bin t c =
-    let e : bin c.in-Bin.op (term_of c.deref-in-Bin.result.now) (term_of c.deref-in-Bin-2.result.now) ≡ term_of c.args.value.now =
-    ap (λ a. bin c.in-Bin.op (term_of a) (term_of c.deref-in-Bin-2.result.now)) c.deref-in-Bin.ensures
-    ∙ ap (λ b. bin c.in-Bin.op (term_of c.in-Bin.a.value) (term_of b)) c.deref-in-Bin-2.ensures
+pub may_take-returns-then-is_number_tree : goal.may_take-returns-then-is_number_tree
+may_take-returns-then-is_number_tree t c =
+    let e : bin c.in-Bin.op (term_of c.in-Bin.a.value) (term_of c.in-Bin.b.value) ≡ term_of c.args.value.now = sym (ap term_of c.in-Bin.is) in
+    subst (λ (v : Term). OnFalse c.is_field_shape-then-is_number_tree.result ((temps : ℕ) (whole : Bool) → matched temps v (tree_term c.args.tree.now) whole ≡ None)) e
+    (no_number c.is_field_shape-then-is_number_tree.result c.in-Bin.op (term_of c.in-Bin.a.value) (term_of c.in-Bin.b.value) (tree_term c.args.tree.now) (c.is_field_shape-then-is_number_tree.ensures ∙ ap is_shape (sym e)) (sym c.is_number_tree.ensures ∙ c.if-is_number_tree.true))
+
+pub may_take-returns-else-is_number_tree : goal.may_take-returns-else-is_number_tree
+may_take-returns-else-is_number_tree t c =
+    let e : bin c.in-Bin.op (term_of c.deref-else-is_number_tree.result.now) (term_of c.deref-else-is_number_tree-2.result.now) ≡ term_of c.args.value.now =
+    ap (λ a. bin c.in-Bin.op (term_of a) (term_of c.deref-else-is_number_tree-2.result.now)) c.deref-else-is_number_tree.ensures
+    ∙ ap (λ b. bin c.in-Bin.op (term_of c.in-Bin.a.value) (term_of b)) c.deref-else-is_number_tree-2.ensures
     ∙ sym (ap term_of c.in-Bin.is) in
-    subst (λ (v : Term). OnFalse c.may_take_two.result ((temps : ℕ) (whole : Bool) → matched temps v (tree_term c.args.tree.now) whole ≡ None)) e c.may_take_two.ensures
+    subst (λ (v : Term). OnFalse c.may_take_two.result ((temps : ℕ) (whole : Bool) → matched temps v (tree_term c.args.tree.now) whole ≡ None)) e
+    (no_operands_match c.may_take_two.result c.in-Bin.op (term_of c.deref-else-is_number_tree.result.now) (term_of c.deref-else-is_number_tree-2.result.now) (tree_term c.args.tree.now) (sym c.is_number_tree.ensures ∙ c.if-is_number_tree.false) c.may_take_two.ensures)

@@ -33,7 +33,7 @@ returns-then-not-is_empty c =
     let len : c.in_ok-numbers.numbers.len ≡ length numbers = omega (arith, c.in_ok-numbers.numbers.ok.0) in
     let (m, first) = some_of numbers c.is_empty.result (c.is_empty.ensures ∙ ap (λ n. n == 0) len) c.if-not-is_empty.true in
     part_goes (search_stock search) (destination_at search.destination) (tree_term search.tree.now) c.args.at part missed c.args.flags.now.lacking.items c.requires.visited here on c.mark.new.flags.items numbers (length search.forms.now) m
-    (part_bound search.forms.now search.temps part) c.in_ok-numbers.ensures.unmade c.in_ok-numbers.ensures.after first
+    (part_bound search.forms.now search.temps search.file part) c.in_ok-numbers.ensures.unmade c.in_ok-numbers.ensures.after first
     (subst (λ l. Marked missed c.mark.new.flags.items l (length l)) c.deref.ensures.value c.mark.ensures)
 
 pub returns : goal.returns
@@ -47,5 +47,5 @@ returns c =
     let lt : c.args.at < length missed = (let len = c.requires.visited.missed_len in omega (arith, len, c.requires.at)) in
     let on : IsSet missed c.args.at = set_read missed c.args.at c.index.result.now lt c.index.ensures c.if-not-index.false in
     let len : c.in_ok-numbers.numbers.len ≡ length numbers = omega (arith, c.in_ok-numbers.numbers.ok.0) in
-    let all = has_all (search_stock search) (search_nodes search) (PartAsks (search_stock search) part) (length search.forms.now) (part_bound search.forms.now search.temps part) numbers c.in_ok-numbers.ensures.unmade (none_of numbers c.is_empty.result (c.is_empty.ensures ∙ ap (λ n. n == 0) len) c.if-not-is_empty.false) in
+    let all = has_all (search_stock search) (search_nodes search) (PartAsks (search_stock search) part) (length search.forms.now) (part_bound search.forms.now search.temps search.file part) numbers c.in_ok-numbers.ensures.unmade (none_of numbers c.is_empty.result (c.is_empty.ensures ∙ ap (λ n. n == 0) len) c.if-not-is_empty.false) in
     part_lacks (search_stock search) (destination_at search.destination) (tree_term search.tree.now) c.args.at part missed c.args.flags.now.lacking.items c.requires.visited here on _ all refl

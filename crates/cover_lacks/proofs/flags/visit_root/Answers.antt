@@ -32,7 +32,7 @@ returns-then-not-is_empty c =
     let len : c.in_ok-numbers.numbers.len ≡ length numbers = omega (arith, c.in_ok-numbers.numbers.ok.0) in
     let (m, first) = some_of numbers c.is_empty.result (c.is_empty.ensures ∙ ap (λ n. n == 0) len) c.if-not-is_empty.true in
     root_goes (search_stock search) d root missed c.mark.new.flags.items c.args.flags.now.lacking.items numbers (length search.forms.now) m
-    (root_bound search.forms.now search.temps d root) c.requires.clear c.in_ok-numbers.ensures first
+    (root_bound search.forms.now search.temps search.file d root) c.requires.clear c.in_ok-numbers.ensures first
     (subst (λ l. Marked missed c.mark.new.flags.items l (length l)) c.deref.ensures.value c.mark.ensures)
 
 pub index_mut-requires : goal.index_mut-requires
@@ -50,5 +50,5 @@ returns c =
     let root = tree_term search.tree.now in
     let numbers = c.in_ok-numbers.numbers.items in
     let len : c.in_ok-numbers.numbers.len ≡ length numbers = omega (arith, c.in_ok-numbers.numbers.ok.0) in
-    let all = has_all stock (search_nodes search) (RootAsks stock d root) (length search.forms.now) (root_bound search.forms.now search.temps d root) numbers c.in_ok-numbers.ensures (none_of numbers c.is_empty.result (c.is_empty.ensures ∙ ap (λ n. n == 0) len) c.if-not-is_empty.false) in
+    let all = has_all stock (search_nodes search) (RootAsks stock d root) (length search.forms.now) (root_bound search.forms.now search.temps search.file d root) numbers c.in_ok-numbers.ensures (none_of numbers c.is_empty.result (c.is_empty.ensures ∙ ap (λ n. n == 0) len) c.if-not-is_empty.false) in
     root_lacks stock d root c.args.flags.now.missed.items c.args.flags.now.lacking.items _ c.in_ok-root.root c.requires.clear all c.in_ok-root.ensures refl

@@ -14,7 +14,7 @@ use Rattle.cover_lacks.proofs.jobs.add_roots.Goals as goal
 
 pub loop-j-preserved : goal.loop-j-preserved
 loop-j-preserved c =
-    let stock = stock_with c.args.forms.now.list.items c.args.temps in
+    let stock = stock_with c.args.forms.now.list.items c.args.temps c.args.forms.now.file in
     let job = c.args.job.now in
     let d = destination_of job.aim in
     let trees = job.trees.items in
@@ -36,7 +36,7 @@ returns-clause-nodes c =
 
 pub returns-clause-added : goal.returns-clause-added
 returns-clause-added c =
-    let stock = stock_with c.args.forms.now.list.items c.args.temps in
+    let stock = stock_with c.args.forms.now.list.items c.args.temps c.args.forms.now.file in
     let job = c.args.job.now in
     let n : c.loop-j.j ≡ length job.trees.items = omega (arith, c.loop-j-test.false, c.loop-j.auto.j-end) in
     subst (λ k. AreAdded stock (destination_of job.aim) (trees_of job.trees.items) k (terms_at c.loop-j.nodes.items) c.loop-j.flags.items) n c.loop-j.invariant.added

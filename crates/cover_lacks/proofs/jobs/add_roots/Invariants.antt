@@ -10,5 +10,5 @@ use Rattle.cover_lacks.proofs.jobs.add_roots.Given as goal
 abbrev pub invariant-loop-j : goal.invariant-loop-j
 invariant-loop-j l = record {
   nodes : terms_at l.nodes.items ≡ all_nodes (destination_of l.job.aim) (take l.j (trees_of l.job.trees.items));
-  added : AreAdded (stock_with l.forms.list.items l.temps) (destination_of l.job.aim) (trees_of l.job.trees.items) l.j (terms_at l.nodes.items) l.flags.items;
+  added : AreAdded (stock_with l.forms.list.items l.temps l.forms.file) (destination_of l.job.aim) (trees_of l.job.trees.items) l.j (terms_at l.nodes.items) l.flags.items;
 }

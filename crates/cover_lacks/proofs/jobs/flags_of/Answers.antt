@@ -14,5 +14,5 @@ returns c =
     let d = destination_at c.args.destination in
     let root = tree_term c.args.tree.now in
     let none : is_some c.in_ok-least_cost.field-0 ≡ false = first_of (cc, cc c.is_some.ensures, search rules) in
-    flags_lacking (λ (v : Vec Bool Global). v.items) c.lacking_flags.result c.deref.result.now forms c.args.temps d root c.deref.ensures.value c.lacking_flags.ensures.flags c.lacking_flags.ensures.some
-    (uncovered_by (stock_with forms c.args.temps) d root c.in_ok-least_cost.field-0 c.in_ok-least_cost.ensures none)
+    flags_lacking (λ (v : Vec Bool Global). v.items) c.lacking_flags.result c.deref.result.now forms c.args.temps c.args.forms.now.file d root c.deref.ensures.value c.lacking_flags.ensures.flags c.lacking_flags.ensures.some
+    (uncovered_by (stock_with forms c.args.temps c.args.forms.now.file) d root c.in_ok-least_cost.field-0 c.in_ok-least_cost.ensures none)

@@ -26,7 +26,7 @@ in_order-requires c =
 
 pub returns-clause-list : goal.returns-clause-list
 returns-clause-list c =
-    let stock = stock_with c.args.forms.now.list.items c.args.temps in
+    let stock = stock_with c.args.forms.now.list.items c.args.temps c.args.forms.now.file in
     let job = c.args.job.now in
     let d = destination_of job.aim in
     let roots = trees_of job.trees.items in
@@ -41,7 +41,7 @@ returns-clause-list c =
 
 pub returns-clause-some : goal.returns-clause-some
 returns-clause-some c =
-    let stock = stock_with c.args.forms.now.list.items c.args.temps in
+    let stock = stock_with c.args.forms.now.list.items c.args.temps c.args.forms.now.file in
     let job = c.args.job.now in
     let d = destination_of job.aim in
     let roots = trees_of job.trees.items in

@@ -51,13 +51,13 @@ into_cells-returns-in_err-lists-in-len1-up t c = IfOk-from_err c.from_residual-i
 
 pub cut_steps-inside_operands-requires : goal.cut_steps-inside_operands-requires
 cut_steps-inside_operands-requires t c =
-    (omega arith, root_operands (stock_of c.args.stock) c.args.cover.now.form (operands_plan c.args.cover.now.operands) (cuts_plan c.args.cover.now.cuts) (destination_at c.args.covered.destination) (tree_term c.args.covered.tree.now) c.args.covered.whole c.requires c.args.covered.first c.in_ok-root.root c.in_ok-root.ensures)
+    (omega arith, root_operands (stock_of c.args.stock) c.args.cover.now.form (operands_plan c.args.cover.now.operands) (cuts_plan c.args.cover.now.cuts) (destination_at c.args.covered.destination) (tree_term c.args.covered.tree.now) c.args.covered.whole c.requires c.args.covered.first c.args.covered.held c.in_ok-root.root c.in_ok-root.ensures)
 
 pub cut_steps-into_cells-requires : goal.cut_steps-into_cells-requires
 cut_steps-into_cells-requires t c = (
   omega arith,
   subst (λ (l : List CutCells). AreCut (stock_of c.args.stock) (trees_in (cells_of_cuts l)) (cuts_plan c.args.cover.now.cuts)) (sym c.as_slice.ensures.value)
-      (root_cuts (stock_of c.args.stock) c.args.cover.now.form (operands_plan c.args.cover.now.operands) (cuts_plan c.args.cover.now.cuts) (destination_at c.args.covered.destination) (tree_term c.args.covered.tree.now) c.args.covered.whole c.requires c.args.covered.first c.in_ok-root.root c.in_ok-root.ensures),
+      (root_cuts (stock_of c.args.stock) c.args.cover.now.form (operands_plan c.args.cover.now.operands) (cuts_plan c.args.cover.now.cuts) (destination_at c.args.covered.destination) (tree_term c.args.covered.tree.now) c.args.covered.whole c.requires c.args.covered.first c.args.covered.held c.in_ok-root.root c.in_ok-root.ensures),
 )
 
 pub inside_operands-inside_operands-requires : goal.inside_operands-inside_operands-requires

@@ -1,4 +1,5 @@
 use Rattle.std.proofs.Common.{◌≡◌, ◌∙◌, ap, sym}
+use Rattle.net_model.specs.declared.hardware.Netlist.{Netlist}
 use Rattle.sym_expr.specs.Pools.{term_at}
 use Rattle.transfer_set.specs.declared.stepping.Counter.{Counter}
 use Rattle.form_set.specs.Listing.{counter_at}
@@ -11,5 +12,6 @@ returns-in-Select-clause-branch c =
     let netlist = c.args.checked.now.netlist in
     let counter : c.of-counter.result ≡ counter_at netlist = (λ j. record { storage = c.of-counter.ensures.storage j; width = c.of-counter.ensures.width j }) in
     c.choice_at.ensures.branch
-    ∙ ap (λ (pc : Counter). select_branch pc c.args.reach (term_at pool c.in-Select.test) (term_at pool c.in-Select.a) (term_at pool c.in-Select.b)) counter
-    ∙ sym (ap (term_branch (counter_at netlist) c.args.reach) c.in-Select.ensures.term)
+    ∙ ap (λ (n : Netlist). select_branch n.edition c.of-counter.result c.args.reach (term_at pool c.in-Select.test) (term_at pool c.in-Select.a) (term_at pool c.in-Select.b)) c.netlist.ensures.value
+    ∙ ap (λ (pc : Counter). select_branch netlist.edition pc c.args.reach (term_at pool c.in-Select.test) (term_at pool c.in-Select.a) (term_at pool c.in-Select.b)) counter
+    ∙ sym (ap (term_branch netlist.edition (counter_at netlist) c.args.reach) c.in-Select.ensures.term)

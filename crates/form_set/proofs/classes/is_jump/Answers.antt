@@ -8,8 +8,8 @@ returns-then-ids-pc-clause-grows c = extends_refl c.args.book.now
 pub returns-in-Some-clause-grows : goal.returns-in-Some-clause-grows
 returns-in-Some-clause-grows c = extends_refl c.args.book.now
 
-pub returns-then-not-is_shape-clause-grows : goal.returns-then-not-is_shape-clause-grows
-returns-then-not-is_shape-clause-grows c = extends_refl c.args.book.now
+pub returns-then-not-is_shape_in-clause-grows : goal.returns-then-not-is_shape_in-clause-grows
+returns-then-not-is_shape_in-clause-grows c = extends_refl c.args.book.now
 
 pub can_jump-requires-clause-ready : goal.can_jump-requires-clause-ready
 can_jump-requires-clause-ready c = c.requires.ready
@@ -17,8 +17,8 @@ can_jump-requires-clause-ready c = c.requires.ready
 pub can_jump-requires-clause-ids : goal.can_jump-requires-clause-ids
 can_jump-requires-clause-ids c = c.requires.ids
 
-pub is_shape-requires : goal.is_shape-requires
-is_shape-requires c = c.requires.ids.value
+pub is_shape_in-requires : goal.is_shape_in-requires
+is_shape_in-requires c = c.requires.ids.value
 
 pub returns-in_err-can-clause-grows : goal.returns-in_err-can-clause-grows
 returns-in_err-can-clause-grows c = c.can_jump.ensures.grows

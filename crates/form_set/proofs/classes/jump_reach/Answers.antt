@@ -1,5 +1,5 @@
 use Rattle.std.proofs.lemmas.Result.{IfOk-from_err}
-use Rattle.form_set.proofs.Classifying.{reach_is_of}
+use Rattle.form_set.proofs.Classifying.{jump_shape, reach_is_of}
 use Rattle.form_set.proofs.classes.jump_reach.Goals as goal
 
 pub returns-clause-reach : goal.returns-clause-reach
@@ -23,3 +23,7 @@ returns-clause-grows c = c.is_jump.ensures.grows
 
 pub returns-in_err-jump-clause-reach : goal.returns-in_err-jump-clause-reach
 returns-in_err-jump-clause-reach c = IfOk-from_err c.from_residual.result _ c.from_residual.ensures.0
+
+pub shape_reach-requires-clause-shape : goal.shape_reach-requires-clause-shape
+shape_reach-requires-clause-shape c =
+    jump_shape c.args.checked.now.netlist c.args.pool.now c.args.ids (c.in_ok-jump.ensures.jump.0 c.if-not-jump.false)

@@ -30,17 +30,11 @@ clobbers-requires-clause-words c =
     set_later c.step_words.new.book c.can_keep.new.book (KeepsOthers c.args.checked.now.netlist (ids_pattern c.args.pool.now c.args.ids) 0)
     c.in_ok-words.words c.in_ok-ok.ensures.grows c.in_ok-words.ensures.words
 
-pub returns-then-not-move_linear-clause-grows : goal.returns-then-not-move_linear-clause-grows
-returns-then-not-move_linear-clause-grows c = extends_refl c.args.book.now
+pub returns-then-not-is_apt-clause-grows : goal.returns-then-not-is_apt-clause-grows
+returns-then-not-is_apt-clause-grows c = extends_refl c.args.book.now
 
-pub returns-then-not-move_linear-clause-plain : goal.returns-then-not-move_linear-clause-plain
-returns-then-not-move_linear-clause-plain c h = true≢false (sym (c.move_linear.ensures.1 h.linear) ∙ c.if-not-move_linear.true)
-
-pub returns-then-not-move_shaped-clause-grows : goal.returns-then-not-move_shaped-clause-grows
-returns-then-not-move_shaped-clause-grows c = extends_refl c.args.book.now
-
-pub returns-then-not-move_shaped-clause-plain : goal.returns-then-not-move_shaped-clause-plain
-returns-then-not-move_shaped-clause-plain c h = true≢false (sym h.shapes ∙ sym c.move_shaped.ensures ∙ c.if-not-move_shaped.true)
+pub returns-then-not-is_apt-clause-plain : goal.returns-then-not-is_apt-clause-plain
+returns-then-not-is_apt-clause-plain c h = true≢false (sym (c.is_apt.ensures.1 (record { linear = h.linear; shapes = h.shapes; cells = h.cells })) ∙ c.if-not-is_apt.true)
 
 pub returns-in_err-ok-clause-grows : goal.returns-in_err-ok-clause-grows
 returns-in_err-ok-clause-grows c =
@@ -65,24 +59,18 @@ returns-clause-grows c =
 
 pub returns-clause-plain : goal.returns-clause-plain
 returns-clause-plain c = (
-  record { linear = c.move_linear.ensures.0 c.if-not-move_linear.false; shapes = sym c.move_shaped.ensures ∙ c.if-not-move_shaped.false; ok = c.in_ok-ok.ensures.ok.0 c.if-not-ok.false },
+  (let apt = c.is_apt.ensures.0 c.if-not-is_apt.false in record { linear = apt.linear; shapes = apt.shapes; cells = apt.cells; ok = c.in_ok-ok.ensures.ok.0 c.if-not-ok.false }),
   c.in_ok-clobbers.ensures.clobbers,
 )
 
-pub move_linear-requires-clause-addr : goal.move_linear-requires-clause-addr
-move_linear-requires-clause-addr c = c.requires.ids.addr
+pub is_apt-requires-clause-addr : goal.is_apt-requires-clause-addr
+is_apt-requires-clause-addr c = c.requires.ids.addr
 
-pub move_linear-requires-clause-value : goal.move_linear-requires-clause-value
-move_linear-requires-clause-value c = c.requires.ids.value
+pub is_apt-requires-clause-value : goal.is_apt-requires-clause-value
+is_apt-requires-clause-value c = c.requires.ids.value
 
-pub move_linear-requires-clause-terms : goal.move_linear-requires-clause-terms
-move_linear-requires-clause-terms c = c.requires.ids.terms
-
-pub move_shaped-requires-clause-addr : goal.move_shaped-requires-clause-addr
-move_shaped-requires-clause-addr c = c.requires.ids.addr
-
-pub move_shaped-requires-clause-value : goal.move_shaped-requires-clause-value
-move_shaped-requires-clause-value c = c.requires.ids.value
+pub is_apt-requires-clause-terms : goal.is_apt-requires-clause-terms
+is_apt-requires-clause-terms c = c.requires.ids.terms
 
 pub step_words-requires-clause-ready : goal.step_words-requires-clause-ready
 step_words-requires-clause-ready c = c.requires.ready

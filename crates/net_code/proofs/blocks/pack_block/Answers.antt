@@ -1,9 +1,14 @@
 use Rattle.bit_bdd.proofs.CallerLemmas.{extends_trans}
 use Rattle.std.proofs.lemmas.Result.{IfOk-from_err}
-use Rattle.std.proofs.Common.{List, subst}
+use Rattle.std.proofs.Common.{◌≡◌, ℕ, List, Option, subst}
 use Rattle.form_model.specs.declared.forms.Step.{Step}
+use Rattle.form_model.specs.Effects.{operation_of}
 use Rattle.form_model.specs.Live.{regs_of, singles}
+use Rattle.transfer_set.specs.Tables.{file_place}
 use Rattle.word_fit.specs.Fits.{fits_over}
+use Rattle.word_fit.specs.Groups.{AreLeast}
+use Rattle.compaction.specs.Meant.{MeansSteps}
+use Rattle.compaction.specs.Packing.{IsPacked}
 use Rattle.word_fit.specs.Steps.{step_operation}
 use Rattle.right_code.specs.Words.{AreGroupWords}
 use Rattle.net_code.specs.Machines.{machine_netlist, machine_patterns}
@@ -17,11 +22,20 @@ returns-clause-packed c =
     let made = c.in_ok-groups.ensures in
     let some =
     packs_some operation (fits_over (machine_netlist machine) operation) (regs_of c.args.after) 0 (singles c.args.steps.now) c.in_ok-groups.groups (singles_some c.args.steps.now) made.chosen in
+    let nt = machine_netlist machine in
+    let patterns = machine_patterns machine in
+    let after = regs_of c.args.after in
+    let told : machine.patterns.now.file ≡ file_place nt.storages = c.requires.ready.patterns.file in
     record {
-      packing = record { some = some; holds = made.steps; means = made.meaning; packed = made.packed };
+      packing = record {
+        some = some;
+        holds = made.steps;
+        means = subst (λ (f : Option ℕ). MeansSteps nt (operation_of f patterns) after c.args.steps.now c.in_ok-groups.groups) told made.meaning;
+        packed = subst (λ (f : Option ℕ). IsPacked (operation_of f patterns) (fits_over nt (operation_of f patterns)) after c.in_ok-groups.groups) told made.packed;
+      };
       least =
-          subst (λ (groups : List (List Step)). AreGroupWords (machine_netlist machine) (machine_patterns machine) groups (regs_of c.args.after) c.in_ok-words.words) c.as_slice.ensures
-          c.in_ok-words.ensures.least;
+          subst (λ (groups : List (List Step)). AreGroupWords nt patterns groups after c.in_ok-words.words) c.as_slice.ensures
+          (subst (λ (f : Option ℕ). AreLeast (operation_of f patterns) (fits_over nt (operation_of f patterns)) c.in_ok-words.words c.as_slice.result.now after) told c.in_ok-words.ensures.least);
     }
 
 pub returns-in_err-groups-clause-once : goal.returns-in_err-groups-clause-once

@@ -1,6 +1,6 @@
 use Rattle.std.proofs.lemmas.Result.{IfOk-from_err}
 use Rattle.std.proofs.Common.{◌∙◌, subst, sym}
-use Rattle.form_model.specs.Effects.{operation_of}
+use Rattle.block_words.specs.Laws.{operation_in}
 use Rattle.form_model.specs.Live.{Regs, regs_of, singles}
 use Rattle.src_trees.specs.Blocks.{jobs_at}
 use Rattle.word_fit.specs.Fits.{fits_over}
@@ -12,7 +12,7 @@ use Rattle.right_code.proofs.Covering.{chosen_length}
 use Rattle.net_code.specs.Machines.{machine_netlist, machine_patterns}
 use Rattle.net_code.specs.Inner.Views.{choices_in, stock_of, works_in}
 use Rattle.net_code.proofs.Frames.{run_have}
-use Rattle.net_code.proofs.Packing.{none_live}
+use Rattle.net_code.proofs.Packing.{none_live, told_words}
 use Rattle.net_code.proofs.blocks.run_block.Goals as goal
 
 pub block_steps-requires-clause-even : goal.block_steps-requires-clause-even
@@ -22,9 +22,10 @@ pub pack_block-requires-clause-words : goal.pack_block-requires-clause-words
 pack_block-requires-clause-words c =
     let machine = c.args.machine.now in
     let program = c.args.program.now in
-    subst (λ xs. AllHaveWords (operation_of (machine_patterns machine)) (fits_over (machine_netlist machine) (operation_of (machine_patterns machine))) (singles xs) (regs_of 0))
+    told_words (machine_netlist machine) machine.pool.now machine.patterns.now _ _ c.requires.ready.patterns.file
+    (subst (λ xs. AllHaveWords (operation_in (machine_netlist machine) (machine_patterns machine)) (fits_over (machine_netlist machine) (operation_in (machine_netlist machine) (machine_patterns machine))) (singles xs) (regs_of 0))
     (sym (c.as_slice.ensures ∙ c.in_ok-steps.ensures))
-    (run_have machine program c.requires.covering.0 c.requires.covering.1 c.args.at c.args.count)
+    (run_have machine program c.requires.covering.0 c.requires.covering.1 c.args.at c.args.count))
 
 pub returns-clause-packed : goal.returns-clause-packed
 returns-clause-packed c =

@@ -4,7 +4,7 @@ use Rattle.std.specs.Option.{unwrap_or}
 use Rattle.cover.specs.Best.{choice_of}
 use Rattle.emit_seq.specs.Emits.{branch_of}
 use Rattle.emit_seq.specs.Spares.{wanted}
-use Rattle.form_model.specs.Effects.{operation_of}
+use Rattle.block_words.specs.Laws.{operation_in}
 use Rattle.form_model.specs.Live.{Regs, regs_of, singles}
 use Rattle.form_model.specs.Rules.{tested}
 use Rattle.form_model.specs.Steps.{branch_setting, cover_steps}
@@ -16,6 +16,7 @@ use Rattle.net_code.specs.Blocks.{IsPackedBlock}
 use Rattle.net_code.specs.Machines.{machine_netlist, machine_patterns}
 use Rattle.net_code.specs.Inner.Views.{choices_in, stock_of, works_in}
 use Rattle.net_code.proofs.Frames.{root_form, test_have, wanted_is}
+use Rattle.net_code.proofs.Packing.{told_words}
 use Rattle.net_code.proofs.Stepping.{chosen_at}
 use Rattle.net_code.proofs.blocks.test_block.Goals as goal
 
@@ -34,8 +35,9 @@ pack_block-requires-clause-words c =
     let is : c.as_slice.result.now ≡ job_steps stock job choice =
     c.as_slice.ensures ∙ e.steps ∙ ap (λ x. cover_steps stock job.destination x choice.plan) (sym (ap tree_or_none e.used)) in
     let live = wanted_is machine program task covering t.tree job choice t.work t.covers t.test n c.condition_registers-after.type_inv c.condition_registers-after.ensures in
-    subst (λ xs. AllHaveWords (operation_of (machine_patterns machine)) (fits_over (machine_netlist machine) (operation_of (machine_patterns machine))) (singles xs) (regs_of n)) (sym is)
-    (test_have machine program task covering t.tree job choice t.work t.covers t.test n live)
+    told_words (machine_netlist machine) machine.pool.now machine.patterns.now _ _ c.requires.ready.patterns.file
+    (subst (λ xs. AllHaveWords (operation_in (machine_netlist machine) (machine_patterns machine)) (fits_over (machine_netlist machine) (operation_in (machine_netlist machine) (machine_patterns machine))) (singles xs) (regs_of n)) (sym is)
+    (test_have machine program task covering t.tree job choice t.work t.covers t.test n live))
 
 pub returns-clause-code : goal.returns-clause-code
 returns-clause-code c =

@@ -1,7 +1,8 @@
 use Rattle.std.proofs.Common.{◌≡◌, Some, arith, map, slice_get}
 use Rattle.std.proofs.lemmas.Result.{IfOk-from_err, err_from_is_err_and}
 use Rattle.std.proofs.lemmas.List.{length-map}
-use Rattle.cover.specs.Best.{choice_of, stock_with}
+use Rattle.cover.specs.Best.{choice_of}
+use Rattle.form_model.specs.Covers.{stock_with}
 use Rattle.src_trees.specs.Jobs.{work_of, works_of}
 use Rattle.net_code.proofs.Listing.{chosen_count, covers_more, mapped_get, prices_more, uncovered}
 use Rattle.net_code.proofs.covers.covers_of.Goals as goal
@@ -11,13 +12,13 @@ overflow_cast-len c =
     let works = works_of c.args.jobs.now in
     let covers = c.loop-job.covers in
     let long = length-map c.args.jobs.now work_of in
-    let count = chosen_count (stock_with c.args.forms.now.list.items c.args.temps) works (map choice_of covers.items) c.loop-job.job-index (omega (arith, long, c.loop-job-test.true)) c.loop-job.invariant.chosen in
+    let count = chosen_count (stock_with c.args.forms.now.list.items c.args.temps c.args.forms.now.file) works (map choice_of covers.items) c.loop-job.job-index (omega (arith, long, c.loop-job-test.true)) c.loop-job.invariant.chosen in
     let same = length-map covers.items choice_of in
     omega (arith, count, same, covers.ok.0, c.len.ensures)
 
 pub returns-in_err-chosen-clause-refused : goal.returns-in_err-chosen-clause-refused
 returns-in_err-chosen-clause-refused c =
-    let stock = stock_with c.args.forms.now.list.items c.args.temps in
+    let stock = stock_with c.args.forms.now.list.items c.args.temps c.args.forms.now.file in
     let works = works_of c.args.jobs.now in
     let covers = c.loop-job.covers in
     let number = c.loop-job.job-index in
@@ -33,7 +34,7 @@ returns-in_err-chosen-clause-refused c =
 
 pub loop-job-preserved : goal.loop-job-preserved
 loop-job-preserved c =
-    let stock = stock_with c.args.forms.now.list.items c.args.temps in
+    let stock = stock_with c.args.forms.now.list.items c.args.temps c.args.forms.now.file in
     let works = works_of c.args.jobs.now in
     let number = c.loop-job.job-index in
     let work = work_of c.job-item.result in

@@ -26,14 +26,14 @@ returns-in_err-covers-clause-refused c =
     let p = err_from_is_err_and c.from_residual-in_err-covers.result c.from_residual-in_err-covers.ensures.1 in
     rw (p.1, p.2)
     (uncovered task (row_patterns c.args.pool.now c.args.patterns.now.rows) c.requires.patterns (rules_of c.in_ok-forms.forms.list.items) c.in_ok-forms.forms.reach c.in_ok-forms.ensures.forms
-    c.in_ok-forms.ensures.steps c.in_ok-forms.ensures.jumps c.args.places.temps (ap (λ (p : Places). p.temps) c.requires.places) (works_of c.deref.result.now)
+    c.in_ok-forms.ensures.steps c.in_ok-forms.ensures.jumps c.args.places.temps c.in_ok-forms.forms.file (ap (λ (p : Places). p.temps) c.requires.places) c.in_ok-forms.ensures.file (works_of c.deref.result.now)
     (ap works_of c.deref.ensures.value ∙ c.in_ok-blocks.ensures.jobs) _ c.in_err-covers.ensures.refused)
 
 pub covered_image-requires-clause-task : goal.covered_image-requires-clause-task
 covered_image-requires-clause-task c = record {
   task = read_task c.args.checked.now c.args.typed.now;
   covering =
-      task_covering _ _ (read_task c.args.checked.now c.args.typed.now) c.deref.result.now c.in_ok-covers.covers.items refl c.requires.checked c.requires.patterns c.in_ok-forms.ensures.forms
+      task_covering _ _ (read_task c.args.checked.now c.args.typed.now) c.deref.result.now c.in_ok-covers.covers.items refl c.requires.checked c.requires.patterns c.in_ok-forms.ensures.forms c.in_ok-forms.ensures.file
       (ap (λ (p : Places). p.temps) c.requires.places) (c.as_slice.ensures ∙ c.in_ok-blocks.ensures.flow) (c.deref-2.ensures.value ∙ sym c.deref.ensures.value)
       (ap works_of c.deref.ensures.value ∙ c.in_ok-blocks.ensures.jobs) c.deref-3.ensures.value c.in_ok-covers.ensures.chosen c.in_ok-covers.ensures.costs;
   placed = record { layout = c.requires.places; apart = c.requires.apart };
@@ -60,7 +60,7 @@ pub returns-clause-right : goal.returns-clause-right
 returns-clause-right c =
     IfOk-weaker c.covered_image.result _ _
     (λ image h. (h (read_task c.args.checked.now c.args.typed.now)
-    (task_covering _ _ (read_task c.args.checked.now c.args.typed.now) c.deref.result.now c.in_ok-covers.covers.items refl c.requires.checked c.requires.patterns c.in_ok-forms.ensures.forms
+    (task_covering _ _ (read_task c.args.checked.now c.args.typed.now) c.deref.result.now c.in_ok-covers.covers.items refl c.requires.checked c.requires.patterns c.in_ok-forms.ensures.forms c.in_ok-forms.ensures.file
     (ap (λ (p : Places). p.temps) c.requires.places) (c.as_slice.ensures ∙ c.in_ok-blocks.ensures.flow) (c.deref-2.ensures.value ∙ sym c.deref.ensures.value)
     (ap works_of c.deref.ensures.value ∙ c.in_ok-blocks.ensures.jobs) c.deref-3.ensures.value c.in_ok-covers.ensures.chosen c.in_ok-covers.ensures.costs)
     (record { layout = c.requires.places; apart = c.requires.apart })).right)
@@ -70,7 +70,7 @@ pub returns-clause-reached : goal.returns-clause-reached
 returns-clause-reached c =
     IfOk-weaker c.covered_image.result _ _
     (λ image h. told_reached _ _ c.args.places (read_task c.args.checked.now c.args.typed.now) image h
-    (task_covering _ _ (read_task c.args.checked.now c.args.typed.now) c.deref.result.now c.in_ok-covers.covers.items refl c.requires.checked c.requires.patterns c.in_ok-forms.ensures.forms
+    (task_covering _ _ (read_task c.args.checked.now c.args.typed.now) c.deref.result.now c.in_ok-covers.covers.items refl c.requires.checked c.requires.patterns c.in_ok-forms.ensures.forms c.in_ok-forms.ensures.file
     (ap (λ (p : Places). p.temps) c.requires.places) (c.as_slice.ensures ∙ c.in_ok-blocks.ensures.flow) (c.deref-2.ensures.value ∙ sym c.deref.ensures.value)
     (ap works_of c.deref.ensures.value ∙ c.in_ok-blocks.ensures.jobs) c.deref-3.ensures.value c.in_ok-covers.ensures.chosen c.in_ok-covers.ensures.costs)
     (record { layout = c.requires.places; apart = c.requires.apart }) c.in_ok-forms.ensures.steps c.in_ok-forms.ensures.jumps)
@@ -80,7 +80,7 @@ pub returns-clause-refused : goal.returns-clause-refused
 returns-clause-refused c =
     IfErr-weaker c.covered_image.result _ _
     (λ fault h. told_fault _ _ c.args.places (read_task c.args.checked.now c.args.typed.now) fault h
-    (task_covering _ _ (read_task c.args.checked.now c.args.typed.now) c.deref.result.now c.in_ok-covers.covers.items refl c.requires.checked c.requires.patterns c.in_ok-forms.ensures.forms
+    (task_covering _ _ (read_task c.args.checked.now c.args.typed.now) c.deref.result.now c.in_ok-covers.covers.items refl c.requires.checked c.requires.patterns c.in_ok-forms.ensures.forms c.in_ok-forms.ensures.file
     (ap (λ (p : Places). p.temps) c.requires.places) (c.as_slice.ensures ∙ c.in_ok-blocks.ensures.flow) (c.deref-2.ensures.value ∙ sym c.deref.ensures.value)
     (ap works_of c.deref.ensures.value ∙ c.in_ok-blocks.ensures.jobs) c.deref-3.ensures.value c.in_ok-covers.ensures.chosen c.in_ok-covers.ensures.costs)
     (record { layout = c.requires.places; apart = c.requires.apart }) c.in_ok-forms.ensures.steps c.in_ok-forms.ensures.jumps)

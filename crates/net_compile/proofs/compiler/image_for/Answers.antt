@@ -5,7 +5,7 @@ use Rattle.net_compile.proofs.TaskLemmas.{fault_of_places}
 use Rattle.net_compile.proofs.compiler.image_for.Goals as goal
 
 pub image-requires-clause-checked : goal.image-requires-clause-checked
-image-requires-clause-checked c = record { first = c.requires.first; netlist = c.requires.rules; program = c.requires.program; words = sym c.requires.width; cells = c.in_ok-places.ensures.room.room }
+image-requires-clause-checked c = record { netlist = c.requires.rules; program = c.requires.program; words = sym c.requires.width; cells = c.in_ok-places.ensures.room.room }
 
 pub returns-clause-image : goal.returns-clause-image
 returns-clause-image c = record {

@@ -1,6 +1,5 @@
-use Rattle.std.proofs.Common.{ℕ, ◌≡◌, None, ap, ◌∙◌, sym, subst, arith}
+use Rattle.std.proofs.Common.{ℕ, ◌≡◌, None, ◌∙◌, sym, subst, arith}
 use Rattle.std.proofs.lemmas.Result.{IfErr-weaker, IfOk-weaker, err_from_is_err_and}
-use Rattle.net_model.specs.declared.hardware.Netlist.{Netlist}
 use Rattle.src_model.specs.Rules.{first_fault}
 use Rattle.src_model.specs.Written.{listing_of}
 use Rattle.src_front.proofs.Lengths.{few_variables}
@@ -12,11 +11,6 @@ use Rattle.net_compile.proofs.compiler.read_compiled.Goals as goal
 
 pub image_for-requires-clause-rules : goal.image_for-requires-clause-rules
 image_for-requires-clause-rules c = c.in_ok-checked.ensures.found.netlist.rules
-
-pub image_for-requires-clause-first : goal.image_for-requires-clause-first
-image_for-requires-clause-first c =
-    let found = c.in_ok-checked.ensures.found in
-    ap (λ (n : Netlist). n.edition) found.netlist.netlist ∙ found.file.first
 
 pub image_for-requires-clause-ready : goal.image_for-requires-clause-ready
 image_for-requires-clause-ready c = c.in_ok-checked.ensures.extracted.ready

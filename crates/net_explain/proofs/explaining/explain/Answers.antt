@@ -1,13 +1,6 @@
-use Rattle.std.proofs.Common.{◌∙◌, ap}
 use Rattle.std.proofs.lemmas.Result.{err_from_is_err_and}
-use Rattle.net_model.specs.declared.hardware.Netlist.{Netlist}
 use Rattle.net_explain.proofs.Early.{of_netlist}
 use Rattle.net_explain.proofs.explaining.explain.Goals as goal
-
-pub explain_on-text-requires-clause-first : goal.explain_on-text-requires-clause-first
-explain_on-text-requires-clause-first c =
-    let found = c.in_ok-checked.ensures.found in
-    ap (λ (n : Netlist). n.edition) found.netlist.netlist ∙ found.file.first
 
 pub returns-clause-explained : goal.returns-clause-explained
 returns-clause-explained c = c.explain_on-text.ensures.explained c.args.net.now c.in_ok-checked.ensures.found

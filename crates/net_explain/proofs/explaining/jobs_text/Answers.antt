@@ -4,6 +4,7 @@ use Rattle.code_model.specs.declared.image.Places.{Places}
 use Rattle.form_model.specs.Rules.{rules_of}
 use Rattle.job_places.specs.Places.{program_spots}
 use Rattle.right_code.specs.Tasks.{read_task, task_works}
+use Rattle.src_model.specs.Rules.{temp_count}
 use Rattle.transfer_set.specs.Rows.{row_patterns}
 use Rattle.net_explain.specs.Explained.{AreJobTexts}
 use Rattle.net_explain.proofs.Early.{early_of_forms, early_of_places}
@@ -11,7 +12,6 @@ use Rattle.net_explain.proofs.explaining.jobs_text.Goals as goal
 
 pub told_jobs-requires-clause-checked : goal.told_jobs-requires-clause-checked
 told_jobs-requires-clause-checked c = record {
-  first = c.requires.first;
   netlist = c.requires.rules;
   program = c.requires.program;
   words = sym c.requires.width;
@@ -33,8 +33,10 @@ returns-clause-told c =
         forms = c.in_ok-forms.ensures.forms;
       };
       told =
-          subst (λ (temps : ℕ). AreJobTexts task.netlist (record { rules = rules_of forms.list.items; temps = temps }) c.args.src.now 0 (program_spots task.listing) (task_works task) c.in_ok-text.text.items)
-          (ap (λ (p : Places). p.temps) c.in_ok-places.ensures.places) c.in_ok-text.ensures;
+          subst (λ (file : ℕ). AreJobTexts task.netlist (record { rules = rules_of forms.list.items; temps = temp_count task.width task.listing; file = file }) c.args.src.now 0 (program_spots task.listing) (task_works task) c.in_ok-text.text.items)
+          c.in_ok-forms.ensures.file
+          (subst (λ (temps : ℕ). AreJobTexts task.netlist (record { rules = rules_of forms.list.items; temps = temps; file = forms.file }) c.args.src.now 0 (program_spots task.listing) (task_works task) c.in_ok-text.text.items)
+          (ap (λ (p : Places). p.temps) c.in_ok-places.ensures.places) c.in_ok-text.ensures);
     }
 
 pub returns-in_err-places-clause-refused : goal.returns-in_err-places-clause-refused

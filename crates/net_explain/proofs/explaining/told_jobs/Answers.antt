@@ -35,7 +35,7 @@ blocks_of-requires c = record { width = sym c.requires.checked.words; places = c
 pub returns : goal.returns
 returns c =
     let task = read_task c.args.checked.now c.args.typed.now in
-    let stock = stock_with c.args.forms.now.list.items c.args.places.now.temps in
+    let stock = stock_with c.args.forms.now.list.items c.args.places.now.temps c.args.forms.now.file in
     IfOk-weaker c.job_texts-text.result _ _
     (λ text is. subst (λ (l : Listing). AreJobTexts task.netlist stock c.args.src.now 0 (program_spots l) (task_works task) text.items) (ap listing_of c.program.ensures.value)
     (subst (λ (works : List Work). AreJobTexts task.netlist stock c.args.src.now 0 (program_spots (listing_of c.program.result.now)) works text.items)

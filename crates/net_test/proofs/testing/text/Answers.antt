@@ -13,7 +13,7 @@ unreachable-requires c =
     let words = code.words.items in
     let room : length words ≤ code_size nt.codes = c.in_ok-check_words.ensures.room in
     let told : c.in_ok-text.field-0 ≡ text_of nt code.tested code.skipped words (run nt words (test_start nt) (length words)) = rw c.deref.ensures.value at c.in_ok-text.ensures in
-    no_clash nt code c.requires.code _ c.requires.rules c.requires.bare room (sym c.in-None.is ∙ told)
+    no_clash nt code c.requires.code _ c.requires.rules room (sym c.in-None.is ∙ told)
 
 pub returns-clause-text : goal.returns-clause-text
 returns-clause-text c =
@@ -22,4 +22,4 @@ returns-clause-text c =
     let words = code.words.items in
     let room : length words ≤ code_size nt.codes = c.in_ok-check_words.ensures.room in
     let told : c.in_ok-text.field-0 ≡ text_of nt code.tested code.skipped words (run nt words (test_start nt) (length words)) = rw c.deref.ensures.value at c.in_ok-text.ensures in
-    shown nt code c.requires.code _ c.requires.rules c.requires.bare room _ (sym c.in-Some.is ∙ told) c.in_ok-check_words.ensures.few
+    shown nt code c.requires.code _ c.requires.rules room _ (sym c.in-Some.is ∙ told) c.in_ok-check_words.ensures.few

@@ -1,5 +1,7 @@
 use Rattle.std.proofs.Common.{◌∙◌, sym, ap, subst}
-use Rattle.form_model.specs.Live.{regs_of}
+use Rattle.form_model.specs.Live.{group_writes, regs_of}
+use Rattle.word_fit.specs.Fits.{group_stores}
+use Rattle.word_fit.specs.Steps.{step_operation}
 use Rattle.net_model.specs.Nets.{word_width}
 use Rattle.transfer_set.proofs.ReadyLaws.{ready_later}
 use Rattle.nop_synth.specs.Wanted.{AllBelow}
@@ -10,7 +12,8 @@ use Rattle.nop_synth.proofs.words.word_for.Goals as goal
 pub words_held-requires-clause-sets : goal.words_held-requires-clause-sets
 words_held-requires-clause-sets c =
     subst (λ z. AllBelow c.args.book.now z) (sym (c.as_slice.ensures ∙ c.in_ok-sets.ensures))
-    (sets_below c.args.checked.now.netlist c.args.checked.now.order c.netlist.ensures.kept c.args.book.now c.args.pool.now c.args.patterns.now c.requires.ready c.size.ensures.empty c.args.group.now (regs_of c.args.live) _ _)
+    (sets_below c.args.checked.now.netlist c.args.checked.now.order c.netlist.ensures.kept c.args.book.now c.args.pool.now c.args.patterns.now c.requires.ready c.size.ensures.empty c.args.group.now (regs_of c.args.live)
+    (λ space. group_stores space (step_operation c.args.pool.now c.args.patterns.now) c.args.group.now) (group_writes (step_operation c.args.pool.now c.args.patterns.now) c.args.group.now))
 
 pub returns-in_err-fitting-clause-ready : goal.returns-in_err-fitting-clause-ready
 returns-in_err-fitting-clause-ready c =

@@ -2,8 +2,8 @@ use Rattle.std.proofs.Common.{◌≡◌, ◌+◌, ◌-◌, ◌^◌, ◌<◌, ℕ
 use Rattle.std.specs.List.{AllByRecursion}
 use Rattle.std.proofs.lemmas.List.{length-map, length-take-le}
 use Rattle.bit_bdd.proofs.CallerLemmas.{extends_trans}
-use Rattle.cover.specs.Best.{stock_with}
 use Rattle.net_model.specs.Nets.{memory_width}
+use Rattle.form_model.specs.Covers.{stock_with}
 use Rattle.form_model.specs.declared.trees.Job.{Job}
 use Rattle.form_model.specs.Rules.{rules_of}
 use Rattle.src_trees.specs.Jobs.{work_of, works_of}
@@ -42,7 +42,7 @@ add_job-requires-clause-few c =
     let works = works_of tests.blocks.jobs.items in
     let index = c.loop-job.job-index in
     let code = c.loop-job.code in
-    let count = code_count (machine_netlist c.args.machine.now) (machine_patterns c.args.machine.now) (stock_with c.args.forms.now.list.items tests.temps) (take index works) code c.loop-job.invariant.code in
+    let count = code_count (machine_netlist c.args.machine.now) (machine_patterns c.args.machine.now) (stock_with c.args.forms.now.list.items tests.temps c.args.forms.now.file) (take index works) code c.loop-job.invariant.code in
     let long = length-map tests.blocks.jobs.items work_of in
     let taken = length-take-le index works (omega (arith, long, c.loop-job-test.true)) in
     let few : code.tested + code.skipped < 2 ^ 64 - 1 = omega (arith, count, taken, long, tests.blocks.jobs.ok.0, c.loop-job-test.true) in
@@ -53,7 +53,7 @@ loop-job-preserved c =
     let netlist = machine_netlist c.args.machine.now in
     let patterns = machine_patterns c.args.machine.now in
     let tests = c.args.tests.now in
-    let stock = stock_with c.args.forms.now.list.items tests.temps in
+    let stock = stock_with c.args.forms.now.list.items tests.temps c.args.forms.now.file in
     let jobs = tests.blocks.jobs.items in
     let works = works_of jobs in
     let index = c.loop-job.job-index in

@@ -11,5 +11,5 @@ abbrev pub invariant-loop-job : goal.invariant-loop-job
 invariant-loop-job l = record {
   grows : Extends l.initial.book l.book;
   ready : IsReady (machine_netlist l.machine) l.book l.machine.pool.now l.machine.patterns.now;
-  code : IsCodeOf (machine_netlist l.machine) (machine_patterns l.machine) (stock_with l.forms.list.items l.tests.temps) (take l.job-index (works_of l.tests.blocks.jobs.items)) l.code;
+  code : IsCodeOf (machine_netlist l.machine) (machine_patterns l.machine) (stock_with l.forms.list.items l.tests.temps l.forms.file) (take l.job-index (works_of l.tests.blocks.jobs.items)) l.code;
 }

@@ -6,5 +6,8 @@ use Rattle.tree_grammar.proofs.forms.take_form.Goals as goal
 pub returns-else-r-id-clause-at : goal.returns-else-r-id-clause-at
 returns-else-r-id-clause-at c = stands_ok _ _ _ _ _ _ (ap (λ p. value_at (destination_at p) c.args.at) c.in-Register.is) c.take.ensures.at
 
+pub returns-in-File-destination-clause-at : goal.returns-in-File-destination-clause-at
+returns-in-File-destination-clause-at c = stands_ok _ _ _ _ _ _ (ap (λ p. value_at (destination_at p) c.args.at) c.in-File-destination.is) c.take-in-File.ensures.at
+
 pub returns-in-Test-clause-at : goal.returns-in-Test-clause-at
 returns-in-Test-clause-at c = stands_ok _ _ _ _ _ _ (ap (λ p. value_at (destination_at p) c.args.at) c.in-Test.is) c.take-in-Branch.ensures.at

@@ -27,7 +27,7 @@ returns-in-Some-3-clause-at t c = λ nodes holds old.
 
 pub returns-in_ok-plus-in-Read-clause-at : goal.returns-in_ok-plus-in-Read-clause-at
 returns-in_ok-plus-in-Read-clause-at t c =
-    inner_ok _ (tree_term c.args.tree.now) _ (tree_term c.in-Read-tree.b.value) _ c.args.at c.in_ok-plus-in-Read.field-0 _ _ (ap (λ x. subtrees (tree_term x)) c.in-Read-tree.is) (ap tree_term c.deref-in-Read-2.ensures) c.in_ok-plus-in-Read.ensures c.take-in-Read.ensures.at
+    inner_ok _ (tree_term c.args.tree.now) _ (tree_term c.in-Read-tree.b.value) _ c.args.at c.in_ok-plus-in-Read.field-0 _ _ (ap (λ x. subtrees (tree_term x)) c.in-Read-tree.is) (ap tree_term c.deref-in-Read-3.ensures) c.in_ok-plus-in-Read.ensures c.take-in-Read.ensures.at
 
 pub returns-in_err-plus-clause-found : goal.returns-in_err-plus-clause-found
 returns-in_err-plus-clause-found t c = IfOk-from_err c.from_residual.result _ c.from_residual.ensures.0

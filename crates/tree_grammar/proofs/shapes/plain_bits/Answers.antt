@@ -1,7 +1,7 @@
 use Rattle.std.proofs.Common.{ap}
 use Rattle.net_model.specs.Terms.{term_of}
 use Rattle.tree_grammar.proofs.ExtensionLemmas.{shape_of_slice, shape_of_word, shape_of_zext}
-use Rattle.tree_grammar.proofs.shapes.shape_bits.Goals as goal
+use Rattle.tree_grammar.proofs.shapes.plain_bits.Goals as goal
 
 pub returns-in-Zext : goal.returns-in-Zext
 returns-in-Zext c =
