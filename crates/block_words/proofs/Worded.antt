@@ -6,14 +6,13 @@ use Rattle.std.proofs.lemmas.Nat.Bits.{bit_at-lt}
 use Rattle.net_model.specs.declared.hardware.Netlist.{Netlist}
 use Rattle.net_model.specs.declared.hardware.Space.{Space}
 use Rattle.net_model.specs.declared.hardware.Space.TheVariants.{Memory as InMemory, File as InFile}
-use Rattle.net_model.specs.Nets.{IsRegister, place_in}
+use Rattle.net_model.specs.Nets.{IsRegister, file_place, place_in}
 use Rattle.net_model.specs.Transfers.{space_move}
 use Rattle.net_model.proofs.Spaces.{by_space}
 use Rattle.net_model.specs.Fields.{move_fields}
 use Rattle.net_model.specs.Patterns.{IsPattern, IsWordOf, Pattern}
 use Rattle.net_model.specs.Terms.{Move, keep, write, write_at}
 use Rattle.net_model.proofs.Storages.{array_no_register, writes_register}
-use Rattle.transfer_set.specs.Tables.{file_place}
 use Rattle.form_model.specs.declared.forms.Step.{Step}
 use Rattle.form_model.specs.Effects.{same_space, space_in, Operation, is_store, operation_of, operation_or_none, writes}
 use Rattle.form_model.specs.Live.{AllSpare, Regs, live_before, regs_of, singles}

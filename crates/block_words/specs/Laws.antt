@@ -1,9 +1,9 @@
 -- Which steps have words, as statements.
+use Rattle.net_model.specs.Nets.{file_place}
 use Rattle.std.specs.Prelude.{ℕ, List}
 use Rattle.net_model.specs.declared.hardware.Netlist.{Netlist}
 use Rattle.net_model.specs.Patterns.{Pattern}
 use Rattle.form_model.specs.declared.forms.Step.{Step}
-use Rattle.transfer_set.specs.Tables.{file_place}
 use Rattle.form_model.specs.Effects.{Operation, operation_of}
 use Rattle.form_model.specs.Live.{AllSpare, Regs, singles}
 use Rattle.word_fit.specs.Fits.{FitsJump, fits_over}

@@ -1,20 +1,15 @@
 -- The words of groups, by a table of patterns.
-use Rattle.std.specs.Prelude.{ℕ, List}
+use Rattle.std.specs.Prelude.{List}
 use Rattle.net_model.specs.declared.hardware.Netlist.{Netlist}
 use Rattle.sym_expr.specs.declared.pool.Node.{Node}
 use Rattle.transfer_set.specs.Tables.{Table}
 use Rattle.form_model.specs.declared.forms.Step.{Step}
 use Rattle.form_model.specs.Live.{Regs}
 use Rattle.word_fit.specs.Fits.{fits_over}
-use Rattle.word_fit.specs.Groups.{AllHaveWords, AreLeast}
+use Rattle.word_fit.specs.Groups.{AllHaveWords}
 use Rattle.word_fit.specs.Steps.{step_operation}
 
 -- each group has a word that fits it with the registers that are live after it
 abbrev pub HaveWords : Netlist → List Node → Table → List (List Step) → Regs → Type 0
 HaveWords netlist pool table groups after =
     AllHaveWords (step_operation pool table) (fits_over netlist (step_operation pool table)) groups after
-
--- the words are the least that fit, one for each group
-abbrev pub AreLeastWords : Netlist → List Node → Table → List ℕ → List (List Step) → Regs → Type 0
-AreLeastWords netlist pool table words groups after =
-    AreLeast (step_operation pool table) (fits_over netlist (step_operation pool table)) words groups after

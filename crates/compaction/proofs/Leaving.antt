@@ -25,8 +25,8 @@ all_behind xs n = take_all (length xs - n) (drop n xs) (omega (arith, length-dro
 -- what is told of the step and of those around it is told of its place
 pub moved_there : (m : Step → Operation) (fits : ℕ → List Step → Regs → Type 0) (g h front back : List Step) (index : ℕ) (step d : Step) (live : Regs) (found : Option Pair) → index < length h → step ≡ get_or h index d
     → front ≡ take index h → back ≡ drop (index + 1) h
-    → MatchOption found (Movable m fits g step (front ++ back) live → ⊥) (λ (pair : Pair). (pair.first ≡ g ++ step ∷ []) × (pair.second ≡ front ++ back) × Movable m fits g step (front ++ back) live)
-    → MatchOption found ((x : Step) → slice_get h index ≡ Some x → Movable m fits g x (remove h index) live → ⊥) (λ (pair : Pair). IsMovedAt m fits g h live index pair.first pair.second)
+    → MatchOption found (Movable m fits g step (front ++ back) live → ⊥) (λ (pair : Pair). (pair.first.group ≡ g ++ step ∷ []) × (pair.second.group ≡ front ++ back) × Movable m fits g step (front ++ back) live)
+    → MatchOption found ((x : Step) → slice_get h index ≡ Some x → Movable m fits g x (remove h index) live → ⊥) (λ (pair : Pair). IsMovedAt m fits g h live index pair.first.group pair.second.group)
 moved_there m fits g h front back index step d live found lt es ef eb = by found
   where
     at : slice_get h index ≡ Some step
@@ -35,7 +35,7 @@ moved_there m fits g h front back index step d live found lt es ef eb = by found
     rest : front ++ back ≡ remove h index
     rest = (λ j. ef j ++ eb j) ∙ ap (λ i. take index h ++ drop i h) (add-one index) ∙ left_of h index lt
 
-    by : (o : Option Pair) → MatchOption o (Movable m fits g step (front ++ back) live → ⊥) (λ (pair : Pair). (pair.first ≡ g ++ step ∷ []) × (pair.second ≡ front ++ back) × Movable m fits g step (front ++ back) live)
-        → MatchOption o ((x : Step) → slice_get h index ≡ Some x → Movable m fits g x (remove h index) live → ⊥) (λ (pair : Pair). IsMovedAt m fits g h live index pair.first pair.second)
+    by : (o : Option Pair) → MatchOption o (Movable m fits g step (front ++ back) live → ⊥) (λ (pair : Pair). (pair.first.group ≡ g ++ step ∷ []) × (pair.second.group ≡ front ++ back) × Movable m fits g step (front ++ back) live)
+        → MatchOption o ((x : Step) → slice_get h index ≡ Some x → Movable m fits g x (remove h index) live → ⊥) (λ (pair : Pair). IsMovedAt m fits g h live index pair.first.group pair.second.group)
     by None u = λ x e w. u (subst (λ z. Movable m fits g step z live) (sym rest) (subst (λ z. Movable m fits g z (remove h index) live) (some_same x step (sym e ∙ at)) w))
     by (Some pair) w = record { step = step; at = at; first_is = w.0; second_is = w.1 ∙ rest; movable = subst (λ z. Movable m fits g step z live) rest w.2 }

@@ -13,3 +13,5 @@ pub mod LiveLists
 pub mod Leaving
 pub mod Choice
 pub mod WorkedPacking
+pub mod Found
+pub mod Listed

@@ -21,7 +21,7 @@ module _ {A : Type 0} where
   weight_less (g ∷ front) tail new s w = omega (arith, size-append front tail, size-append front new, weight_less front tail new s w)
 
 module _ {A : Type 0} (m : A → Operation) (fits : ℕ → List A → Regs → Type 0) (after : Regs) where
-  live_front : (front tail new : List (List A)) → live_before m tail after ≡ live_before m new after → live_before m (front ++ tail) after ≡ live_before m (front ++ new) after
+  pub live_front : (front tail new : List (List A)) → live_before m tail after ≡ live_before m new after → live_before m (front ++ tail) after ≡ live_before m (front ++ new) after
   live_front front tail new e = live-append m front tail after ∙ ap (λ l. live_before m front l) e ∙ sym (live-append m front new after)
 
   words_tail : (front tail : List (List A)) → AllHaveWords m fits (front ++ tail) after → AllHaveWords m fits tail after

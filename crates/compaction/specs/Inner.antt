@@ -1,4 +1,5 @@
 -- What no public contract cites: what the functions of the crate tell one another, and what only
 -- proofs speak of.
+pub mod Found
 pub mod Turns
 pub mod Machines

@@ -1,14 +1,32 @@
 -- The same over a netlist with a table of its patterns, as the packer has them.
-use Rattle.std.specs.Prelude.{List}
+use Rattle.std.specs.Prelude.{ℕ, List}
+use Rattle.bit_bdd.specs.Diagrams.{Diagrams}
 use Rattle.net_model.specs.declared.hardware.Netlist.{Netlist}
 use Rattle.sym_expr.specs.declared.pool.Node.{Node}
+use Rattle.transfer_set.specs.Ready.{IsReady}
 use Rattle.transfer_set.specs.Tables.{Table}
 use Rattle.form_model.specs.declared.forms.Step.{Step}
+use Rattle.form_model.specs.Effects.{Operation}
 use Rattle.form_model.specs.Live.{Regs}
 use Rattle.word_fit.specs.Fits.{fits_over}
 use Rattle.word_fit.specs.Steps.{step_operation}
 use Rattle.compaction.specs.Packing.{IsPacked}
 use Rattle.compaction.specs.Chosen.{Packs}
+use Rattle.compaction.specs.declared.machine.Machine.{Machine}
+
+-- ---- the machine
+
+-- what its steps do
+abbrev pub operation_in : Machine → Step → Operation
+operation_in machine = step_operation machine.pool.now machine.patterns.now
+
+-- which words fit a group of them
+abbrev pub fits_in : Machine → ℕ → List Step → Regs → Type 0
+fits_in machine = fits_over machine.checked.now.netlist (operation_in machine)
+
+-- its patterns' sets are those of the book
+abbrev pub IsReadyFor : Machine → Diagrams → Type 0
+IsReadyFor machine book = IsReady machine.checked.now.netlist book machine.pool.now machine.patterns.now
 
 -- ---- the result, over a netlist and a table of its patterns
 

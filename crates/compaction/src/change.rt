@@ -1,10 +1,12 @@
 //! What is to be done with two neighbours.
 
-ghost use Rattle.std.specs.Prelude.{◌≡◌, ℕ, ◌<◌, [], ◌∷◌, ◌++◌, length, IfOk, MatchOption, MatchBool, Some, slice_get, remove};
+ghost use Rattle.std.specs.Prelude.{◌≡◌, ℕ, ◌<◌, [], ◌∷◌, ◌++◌, length, IfOk, IfSome, MatchOption, MatchBool, Some, slice_get, remove};
 ghost use Rattle.bit_bdd.specs.Diagrams.{Extends};
 ghost use Rattle.form_model.specs.declared.forms.Step.{Step as TheStep};
 ghost use Rattle.form_model.specs.Live.{regs_of};
-ghost use Rattle.compaction.specs.Inner.Machines.{CanMerge, CanMove, Changes, HasWord, IsReadyFor, HasTables, Moves, MovesAt, operation_in};
+ghost use Rattle.word_fit.specs.Fits.{IsLeastFit};
+ghost use Rattle.compaction.specs.Machines.{IsReadyFor, fits_in, operation_in};
+ghost use Rattle.compaction.specs.Inner.Machines.{AreWordsOf, CanMerge, CanMove, Changes, HasTables, HasWord, IsFitted, IsPairFitted, Moves, MovesAt};
 ghost use Rattle.compaction.specs.Packing.{IsFree};
 
 use crate::copies::{added, joined};
@@ -18,37 +20,44 @@ use rec_bits::NoMemory;
 use std::alloc::Global;
 use word_fit::Group;
 
+/// A group with the least word that fits it.
+#[derive(Drop)]
+pub(crate) struct Fitted {
+    pub group: Group,
+    pub word: u64,
+}
+
 /// What the packer does with two neighbours.
 #[derive(Drop)]
 pub(crate) enum Change {
-    Merged(Group),
-    Moved { first: Group, second: Group },
+    Merged(Fitted),
+    Moved { first: Fitted, second: Fitted },
     Settled,
 }
 
 // Two groups.
 #[derive(Drop)]
 struct Pair {
-    first: Group,
-    second: Group,
+    first: Fitted,
+    second: Fitted,
 }
 
-// Whether a word fits the group.
-fn has_word(
+// The least word that fits the group, if one does.
+fn word_in(
     alloc: Global,
     machine: &Machine<'_>,
     book: &mut Book,
     group: &[Step],
     live: RegSet,
-) -> Result<bool, NoMemory>
+) -> Result<Option<u64>, NoMemory>
     requires ready { IsReadyFor machine.now book.old }
     ensures grows { Extends book.old book.new }
     ensures ready { IsReadyFor machine.now book.new }
-    ensures word { IfOk result (λ found. MatchBool found
-        (HasWord machine.now group.now (regs_of live))
-        (HasWord machine.now group.now (regs_of live) → ⊥)) }
+    ensures word { IfOk result (λ found. MatchOption found
+        (HasWord machine.now group.now (regs_of live) → ⊥)
+        (IsLeastFit (λ word. fits_in machine.now word group.now (regs_of live)))) }
 {
-    let found = word_for(
+    word_for(
         alloc,
         machine.checked,
         book,
@@ -56,11 +65,7 @@ fn has_word(
         machine.patterns,
         group,
         live,
-    )?;
-    match found {
-        Some(_word) => Ok(true),
-        None => Ok(false),
-    }
+    )
 }
 
 // The two groups in one, if they may be merged where `live` is live behind the second. A word is
@@ -72,14 +77,15 @@ fn merged(
     first: &[Step],
     second: &[Step],
     live: RegSet,
-) -> Result<Option<Group>, NoMemory>
+) -> Result<Option<Fitted>, NoMemory>
     requires ready { IsReadyFor machine.now book.old }
     requires tables { HasTables machine.now }
     ensures grows { Extends book.old book.new }
     ensures ready { IsReadyFor machine.now book.new }
     ensures merged { IfOk result (λ found. MatchOption found
         (CanMerge machine.now first.now second.now (regs_of live) → ⊥)
-        (λ both. (both ≡ first.now ++ second.now) × CanMerge machine.now first.now second.now (regs_of live))) }
+        (λ both. (both.group ≡ first.now ++ second.now) × CanMerge machine.now first.now second.now (regs_of live))) }
+    ensures word { IfOk result (λ found. IfSome found (IsFitted machine.now (regs_of live))) }
 {
     if !all_differ(machine, first, second) {
         return Ok(None);
@@ -88,10 +94,10 @@ fn merged(
         return Ok(None);
     }
     let both = joined(alloc, first, second)?;
-    if !has_word(alloc, machine, book, both.as_slice(), live)? {
-        return Ok(None);
+    match word_in(alloc, machine, book, both.as_slice(), live)? {
+        Some(word) => Ok(Some(Fitted { group: both, word })),
+        None => Ok(None),
     }
-    Ok(Some(both))
 }
 
 // Whether a step may leave its group for the group before it, but for their words: `front` and
@@ -142,8 +148,9 @@ fn moved_out(
     ensures ready { IsReadyFor machine.now book.new }
     ensures moved { IfOk result (λ found. MatchOption found
         (CanMove machine.now first.now step (front.now ++ back.now) (regs_of live) → ⊥)
-        (λ pair. (pair.first ≡ first.now ++ step ∷ []) × (pair.second ≡ front.now ++ back.now)
+        (λ pair. (pair.first.group ≡ first.now ++ step ∷ []) × (pair.second.group ≡ front.now ++ back.now)
         × CanMove machine.now first.now step (front.now ++ back.now) (regs_of live))) }
+    ensures words { IfOk result (λ found. IfSome found (IsPairFitted machine.now (regs_of live))) }
 {
     if !is_free(alloc, machine, first, step, front, back)? {
         return Ok(None);
@@ -158,15 +165,21 @@ fn moved_out(
         live,
     );
     let more = added(alloc, first, step)?;
-    if !has_word(alloc, machine, book, more.as_slice(), between)? {
+    let Some(first_word) = word_in(alloc, machine, book, more.as_slice(), between)? else {
         return Ok(None);
-    }
-    if !has_word(alloc, machine, book, rest.as_slice(), live)? {
+    };
+    let Some(second_word) = word_in(alloc, machine, book, rest.as_slice(), live)? else {
         return Ok(None);
-    }
+    };
     Ok(Some(Pair {
-        first: more,
-        second: rest,
+        first: Fitted {
+            group: more,
+            word: first_word,
+        },
+        second: Fitted {
+            group: rest,
+            word: second_word,
+        },
     }))
 }
 
@@ -188,7 +201,8 @@ fn moved_at(
     ensures moved { IfOk result (λ found. MatchOption found
         ((x : TheStep) → slice_get second.now index ≡ Some x →
         CanMove machine.now first.now x (remove second.now index) (regs_of live) → ⊥)
-        (λ pair. MovesAt machine.now first.now second.now (regs_of live) index pair.first pair.second)) }
+        (λ pair. MovesAt machine.now first.now second.now (regs_of live) index pair.first.group pair.second.group)) }
+    ensures words { IfOk result (λ found. IfSome found (IsPairFitted machine.now (regs_of live))) }
 {
     let step = second[index];
     let front = &second[..index];
@@ -213,7 +227,8 @@ fn moved(
     ensures moved { IfOk result (λ found. MatchOption found
         ((index : ℕ) (x : TheStep) → slice_get second.now index ≡ Some x →
         CanMove machine.now first.now x (remove second.now index) (regs_of live) → ⊥)
-        (λ pair. Moves machine.now first.now second.now (regs_of live) pair.first pair.second)) }
+        (λ pair. Moves machine.now first.now second.now (regs_of live) pair.first.group pair.second.group)) }
+    ensures words { IfOk result (λ found. IfSome found (IsPairFitted machine.now (regs_of live))) }
 {
     for index in 0..second.len() {
         match moved_at(alloc, machine, book, first, second, index, live)? {
@@ -238,6 +253,7 @@ pub(crate) fn change_of(
     ensures grows { Extends book.old book.new }
     ensures ready { IsReadyFor machine.now book.new }
     ensures change { IfOk result (Changes machine.now first.now second.now (regs_of live)) }
+    ensures words { IfOk result (AreWordsOf machine.now (regs_of live)) }
 {
     match merged(alloc, machine, book, first, second, live)? {
         Some(both) => Ok(Change::Merged(both)),

@@ -3,7 +3,8 @@
 ghost use Rattle.std.specs.Prelude.{◌≡◌, ◌++◌, IfOk};
 ghost use Rattle.form_model.specs.Effects.{location_of, reads};
 ghost use Rattle.compaction.specs.Packing.{all_differ, is_read_by, reads_across, reads_from, shares_destination};
-ghost use Rattle.compaction.specs.Inner.Machines.{HasTables, operation_in};
+ghost use Rattle.compaction.specs.Machines.{operation_in};
+ghost use Rattle.compaction.specs.Inner.Machines.{HasTables};
 
 use crate::machine::{Machine, reads_memory};
 use form_model::Step;

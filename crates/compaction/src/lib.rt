@@ -4,30 +4,37 @@
 //! destinations and patterns (`differ`, `once`), each with a word that fits it (`words`); any words
 //! that fit them, clocked in order, leave what the steps leave (`meaning`: `MeansSteps`); no two
 //! neighbours may be merged and no step may move up (`packed`: `ArePacked`); and which packing it
-//! is, is settled (`chosen`: `IsWritten`, `law_of_choice`). `pattern_list` gives the numbers of a
-//! group's patterns, ascending.
+//! is, is settled (`chosen`: `IsWritten`, `law_of_choice`). `pack_with` gives each of the same
+//! groups with its word, the least that fits it (`least`: `AreLeast`), by a `Machine` that knows
+//! what the pool's expressions read; `tables_of` tells that once for all blocks (`AreTables`).
+//! `pattern_list` gives the numbers of a group's patterns, ascending.
 //!
 //! Invariant: before each turn of `settle` the pairs before the current one are settled (`PackedTo`
-//! in `specs/Inner/Machines`), and `lives` has the registers that are live behind each group. A
-//! turn keeps what the groups do in every state and what is live before them (`IsSame` in
-//! `specs/Inner/Turns`), so what was settled to the left stays so; after a change the packer goes
-//! on one pair back. A turn makes the list lighter or goes on by one pair, so it ends.
+//! in `specs/Inner/Machines`), `lives` has the registers that are live behind each group, and
+//! `found` the words that changes were made for, each the least that fits its group now
+//! (`AreFound` in `specs/Inner/Found`). A turn keeps what the groups do in every state and what is
+//! live before them (`IsSame` in `specs/Inner/Turns`), so what was settled to the left stays so,
+//! and so do the words there; after a change the packer goes on one pair back. A turn makes the
+//! list lighter or goes on by one pair, so it ends. The words of groups that no change made, each
+//! of one step, are sought last.
 //!
 //! Files:
 //!
-//! - `machine`: a netlist with its patterns, and which expressions read the memory or the file.
+//! - `tables`: what the expressions of a pool read.
+//! - `machine`: a netlist with its patterns and the tables.
 //! - `copies`: groups made of others.
 //! - `depends`: what steps of groups read and write of one another.
 //! - `change`: what is done with two neighbours: merge, move a step, or leave them; a word is
 //!   sought only where nothing else forbids the change.
-//! - `packer`: from pair to pair, and `pack`.
+//! - `packer`: from pair to pair, `pack_with` and `pack`.
+//! - `words`: the words of the groups, of which those that were found are taken over.
 //! - `list`: the list of a word's patterns.
 //! - `laws`: `law_of_choice`.
 //! - `specs/`, cited by public contracts: `Packing` (what may be merged or moved), `Meant`,
-//!   `Chosen`, `Lists`, `Machines`; `Worked` is computed. `specs/Inner/`: `Machines` and `Turns`,
-//!   which go with the packer.
-//! - `proofs/`: `Effects`, `Leaving`, `Lives` for one change, `Turns` and `Packed` for the loop,
-//!   `Meaning`, `Choice`, `Ascending`, `Patterns`.
+//!   `Chosen`, `Lists`, `Machines`, `Tables`; `Worked` is computed. `specs/Inner/`: `Machines`,
+//!   `Turns` and `Found`, which go with the packer.
+//! - `proofs/`: `Effects`, `Leaving`, `Lives` for one change, `Turns`, `Packed` and `Found` for the
+//!   loop, `Listed` for the list of words, `Meaning`, `Choice`, `Ascending`, `Patterns`.
 #![tactic(auto)]
 
 mod change;
@@ -37,7 +44,11 @@ mod laws;
 mod list;
 mod machine;
 mod packer;
+mod tables;
+mod words;
 
 pub use laws::law_of_choice;
 pub use list::pattern_list;
-pub use packer::pack;
+pub use machine::Machine;
+pub use packer::{PackedBlock, pack, pack_with};
+pub use tables::{Tables, tables_of};

@@ -1,5 +1,5 @@
 -- What is known of a form that begins a cover of what is asked.
-use Rattle.std.proofs.Common.{◌≡◌, ◌≢◌, ℕ, ◌+◌, List, Option, Some, None, refl, sym, ap, ◌∙◌, subst, inl, inr}
+use Rattle.std.proofs.Common.{◌≡◌, ◌≢◌, ℕ, ◌+◌, ◌-◌, ◌*◌, ◌^◌, ◌<◌, List, length, Option, Some, None, refl, sym, ap, ◌∙◌, subst, inl, inr, arith}
 use Rattle.std.specs.Prelude.{slice_get, IfSome}
 use Rattle.std.specs.Option.{option_map}
 use Rattle.net_model.specs.Terms.{Term}
@@ -16,11 +16,14 @@ use Rattle.cover.specs.declared.fits.Want.{Want}
 use Rattle.cover.specs.declared.fits.Fit.{Fit}
 use Rattle.cover.specs.declared.opened.OpenOperand.{OpenOperand}
 use Rattle.cover.specs.declared.opened.OpenCut.{OpenCut}
-use Rattle.cover.specs.Inner.Asks.{KeepsTo, Ask, takes}
-use Rattle.cover.specs.Inner.Least.{IsLeast, IsLeastForm, IsLeastOrder, IsLeastCut, summed}
-use Rattle.cover.specs.Inner.Jobs.{instance_stock, nodes_of, open_operands, open_cuts}
+use Rattle.cover.specs.Inner.Asks.{KeepsTo, Ask, takes, operands_size, terms_size, AreFew}
+use Rattle.cover.specs.Inner.Least.{NoMore, IsLeast, IsLeastForm, IsLeastOrder, IsLeastCut, summed}
+use Rattle.cover.specs.Inner.Jobs.{instance_stock, nodes_of, open_operands, open_cuts, AreParts}
 use Rattle.cover.specs.Inner.Choice.{ask_of, StandsWant, IsFit, Fits, FitOf, FitsParts, NeverBegins, fit_cost}
 use Rattle.cover.specs.Inner.Matched.{AreLowSites}
+use Rattle.cover.proofs.SizeLemmas.{total_parts, taken_total}
+use Rattle.cover.proofs.NodeLemmas.{stands_size}
+use Rattle.cover.proofs.FewLemmas.{opened_low, order_few, cuts_few}
 use Rattle.cover.proofs.LowLemmas.{taken_low}
 use Rattle.cover.proofs.StartLemmas.{rule_at}
 use Rattle.cover.proofs.LeastLemmas.{some_form}
@@ -37,6 +40,22 @@ want_takes instance form w o m found is = sym found ∙ ap (option_map found_of)
 -- the operands of what a form takes go to registers that a set of registers has a bit for
 pub want_low : (instance : Instance) (form : Form) (k : ℕ) (w : Want) (m : Match) → slice_get instance.forms.now k ≡ Some form → takes (instance_stock instance) (rule_of form) (ask_of w) ≡ Some (found_of m) → AreLowSites (sites_of m.parts.items)
 want_low instance form k w m got is = taken_low instance.temps (rule_of form) (destination_at w.destination) (tree_term w.tree.now) w.whole (found_of m) is (instance.low k (rule_of form) (rule_at instance k form got))
+
+-- what a form takes of it has no more subtrees than there are
+pub want_parts : (instance : Instance) (rule : Rule) (w : Want) (found : Found) → StandsWant instance w → takes (instance_stock instance) rule (ask_of w) ≡ Some found → AreParts (nodes_of instance) (operands_of found.sites) (cuts_of found.sites)
+want_parts instance rule w found stands is =
+    let le = taken_total instance.temps rule (destination_at w.destination) (tree_term w.tree.now) w.whole found is in
+    let n = stands_size (nodes_of instance) w.at (destination_at w.destination) (tree_term w.tree.now) stands in
+    let parts = total_parts found.sites in
+    omega (arith, le, n, parts)
+
+-- the cost of a form with parts of so few subtrees
+pub fit_few : (instance : Instance) (limits : Limits) (is : List OpenOperand) (ss : List OpenCut) (a b : Option ℕ) (o : Option Fit) → AreFew (length (nodes_of instance)) → AreParts (nodes_of instance) (open_operands is) (open_cuts ss) → IsLeastOrder (instance_stock instance) limits (open_operands is) a → IsLeastCut (instance_stock instance) (open_cuts ss) b → FitOf is ss a b o → IfSome o (λ f. fit_cost f < 2 ^ 64)
+fit_few instance limits is ss a b None few parts la lb h = tt
+fit_few instance limits is ss a b (Some f) few parts la lb (fi, fs, fa, fb) =
+    let x = subst (λ n. NoMore n (36 * operands_size (open_operands is))) fa (order_few (instance_stock instance) instance.low limits (open_operands is) a (opened_low is) la) in
+    let y = subst (λ n. NoMore n (36 * terms_size (open_cuts ss) - 18 * length (open_cuts ss))) fb (cuts_few (instance_stock instance) instance.low (open_cuts ss) b lb) in
+    omega (arith, x, y, parts, few)
 
 summed_none : (x : Option ℕ) → summed x None ≡ None
 summed_none None = refl

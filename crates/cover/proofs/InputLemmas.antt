@@ -48,8 +48,8 @@ inputs_split [] x h = absurd (cc)
 inputs_split (y ∷ is) x h = let e : y ≡ x = cc in ap (λ (z : OpenOperand). open_operand z ∷ open_operands is) e
 
 pub inputs_later : (nodes : List Term) (is : List OpenOperand) → OperandsAt nodes is → OperandsAt nodes (drop 1 is)
-inputs_later nodes [] h = tt
-inputs_later nodes (x ∷ is) h = h.1
+inputs_later nodes [] h = h
+inputs_later nodes (x ∷ is) h = (h.0.1, (let few = h.1 in omega (arith, few)))
 
 pub no_stored : (ts : List OpenCut) → length ts ≡ 0 → open_cuts ts ≡ []
 no_stored [] h = refl
@@ -61,11 +61,11 @@ stored_split (x ∷ ts) s h = let e : x ≡ s = cc in ap (λ (y : OpenCut). tree
 
 pub stored_first : (nodes : List Term) (ts : List OpenCut) (s : OpenCut) → CutsAt nodes ts → slice_get ts 0 ≡ Some s → slice_get nodes s.at ≡ Some (tree_term s.tree.now)
 stored_first nodes [] s h get = absurd (cc)
-stored_first nodes (x ∷ ts) s h get = let e : x ≡ s = cc in subst (λ (y : OpenCut). slice_get nodes y.at ≡ Some (tree_term y.tree.now)) e h.0
+stored_first nodes (x ∷ ts) s h get = let e : x ≡ s = cc in subst (λ (y : OpenCut). slice_get nodes y.at ≡ Some (tree_term y.tree.now)) e h.0.0
 
 pub stored_later : (nodes : List Term) (ts : List OpenCut) → CutsAt nodes ts → CutsAt nodes (drop 1 ts)
-stored_later nodes [] h = tt
-stored_later nodes (x ∷ ts) h = h.1
+stored_later nodes [] h = h
+stored_later nodes (x ∷ ts) h = (h.0.1, (let few = h.1 in omega (arith, few)))
 
 pub tail_is : {X : Type 0} (ts : List X) → take (length ts - 1) (drop 1 ts) ≡ drop 1 ts
 tail_is [] = refl

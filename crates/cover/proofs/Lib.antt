@@ -7,6 +7,7 @@ mod NodeLemmas
 mod LeastLemmas
 mod OfferLemmas
 mod InputLemmas
+mod FewLemmas
 mod TableLemmas
 mod StartLemmas
 mod ChoiceLemmas

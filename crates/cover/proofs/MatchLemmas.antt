@@ -1,5 +1,5 @@
 -- The forms that match a tree, and what their matches give.
-use Rattle.std.proofs.Common.{◌≡◌, ◌≢◌, ℕ, zero, suc, ◌+◌, ◌<◌, List, [], ◌∷◌, length, Option, Some, None, Bool, true, false, refl, sym, ap, ◌∙◌, subst, arith, inl, inr}
+use Rattle.std.proofs.Common.{◌≡◌, ◌≢◌, ℕ, zero, suc, ◌+◌, ◌-◌, ◌*◌, ◌<◌, ◌≤◌, List, [], ◌∷◌, length, Option, Some, None, Bool, true, false, refl, sym, ap, ◌∙◌, subst, arith, inl, inr}
 use Rattle.std.specs.Prelude.{slice_get, IfSome, if◌then◌else◌, ◌==◌, ◌&&◌}
 use Rattle.std.specs.Option.{option_map}
 use Rattle.std.proofs.lemmas.Bool.{cases_eq, cases_lt}
@@ -26,15 +26,17 @@ use Rattle.cover.specs.declared.rows.Offer.TheVariants.{Nothing, Chains}
 use Rattle.cover.specs.declared.choice.PartCosts.{PartCosts}
 use Rattle.cover.specs.declared.matches.FormMatch.{FormMatch}
 use Rattle.cover.specs.Inner.Asks.{KeepsTo, is_free, takes, rest, start_under, operands_size, terms_size, rank, IsSparing, AreSparing, AreStored}
-use Rattle.cover.specs.Inner.Least.{AtMost, IsLeast, IsLeastOrder, IsLeastCut, IsFloor, IsCostBelow, summed}
+use Rattle.cover.specs.Inner.Least.{AtMost, NoMore, IsLeast, IsLeastOrder, IsLeastCut, IsFloor, IsCostBelow, summed}
 use Rattle.cover.specs.Inner.Slots.{IsEntry, IsSlot, entry_destination, goal_slot, home_slot}
-use Rattle.cover.specs.Inner.Rows.{Row, entry, row_ask, IsOffer, offer_is}
-use Rattle.cover.specs.Inner.Jobs.{instance_stock, nodes_of, open_operands, open_cuts}
+use Rattle.cover.specs.Inner.Rows.{Row, entry, row_ask, IsCheapOffer, IsOffer, offer_is}
+use Rattle.cover.specs.Inner.Jobs.{instance_stock, nodes_of, open_operands, open_cuts, AreParts}
 use Rattle.cover.specs.Inner.Matched.{rest_at, IsOpened, Takes, IsFormMatch, MatchesForm, with_match, AreFirstMatches}
 use Rattle.cover.specs.Inner.Choice.{NeverBegins, CostsOf, CostsWithin, BeginsOne}
 use Rattle.tree_sharing.proofs.NodeLemmas.{nodes_hold}
-use Rattle.cover.proofs.NodeLemmas.{whole_number}
-use Rattle.cover.proofs.SizeLemmas.{picked, rest_small}
+use Rattle.cover.proofs.NodeLemmas.{node_size, whole_number}
+use Rattle.cover.proofs.SizeLemmas.{picked, size_pos, total_parts, small_le, rest_small, rest_less}
+use Rattle.cover.proofs.PartLemmas.{parts_operands, parts_cuts}
+use Rattle.cover.proofs.FewLemmas.{no_more_le, opened_low, order_few, cuts_few, form_few}
 use Rattle.tree_sharing.proofs.SharingLemmas.{get_push}
 use Rattle.cover.proofs.LeastLemmas.{some_form, both_at_most}
 use Rattle.cover.proofs.OfferLemmas.{row_small, offer_no_spare, offer_chain, offer_form, get_old, get_new}
@@ -96,12 +98,19 @@ form_match instance form k goal t whole number m parts x get s at e written cell
   register = o.register;
   operands = o.operands ∙ ap (λ l. operands_of (sites_of l)) e;
   cuts = o.cuts ∙ ap (λ l. cuts_of (sites_of l)) e;
-  operands_at = o.operands_at (nodes_of instance) (subst (AreAt (nodes_of instance)) (sym e) here);
-  cuts_at = o.cuts_at (nodes_of instance) (subst (AreAt (nodes_of instance)) (sym e) here);
+  operands_at = parts_operands (nodes_of instance) x.operands.items _ _ few (o.operands ∙ ap (λ l. operands_of (sites_of l)) e) (o.operands_at (nodes_of instance) here);
+  cuts_at = parts_cuts (nodes_of instance) x.cuts.items _ _ few (o.cuts ∙ ap (λ l. cuts_of (sites_of l)) e) (o.cuts_at (nodes_of instance) here);
 }
   where
-    here : AreAt (nodes_of instance) m.parts.items
-    here = at (nodes_of instance) (nodes_hold (destination_at instance.destination) (tree_term instance.tree.now) number t get)
+    here : AreAt (nodes_of instance) parts
+    here = subst (AreAt (nodes_of instance)) (sym e) (at (nodes_of instance) (nodes_hold (destination_at instance.destination) (tree_term instance.tree.now) number t get))
+
+    few : AreParts (nodes_of instance) (operands_of (sites_of m.parts.items)) (cuts_of (sites_of m.parts.items))
+    few =
+        let le = small_le whole t (sites_of m.parts.items) s.small in
+        let n = node_size (destination_at instance.destination) (tree_term instance.tree.now) t number get in
+        let sum = total_parts (sites_of m.parts.items) in
+        omega (arith, le, n, sum)
 
 -- the entry to which a form goes that takes the tree
 takes_goal : (instance : Instance) (form : Form) (k : ℕ) (t : Term) (whole : Bool) → slice_get instance.forms.now k ≡ Some form → (x : Takes (instance_stock instance) t whole k) → (x.rule ≡ rule_of form) × (goal_slot (rule_of form).goal whole ≡ Some x.entry)
@@ -134,11 +143,12 @@ never_value instance form k t whole got never x =
 -- ---- the list of matches
 
 module _ (instance : Instance) (t : Term) (whole : Bool) where
-  pub matches_none : AreFirstMatches instance t whole 0 []
-  matches_none = record { each = λ i m get. absurd (cc); below = λ i m get. absurd (cc); all = λ k lt. absurd (omega arith); ordered = λ i j m l lt get. absurd (cc) }
+  pub matches_none : (number : ℕ) → slice_get (nodes_of instance) number ≡ Some t → AreFirstMatches instance t whole 0 []
+  matches_none number get = record { few = node_size (destination_at instance.destination) (tree_term instance.tree.now) t number get; each = λ i m get. absurd (cc); below = λ i m get. absurd (cc); all = λ k lt. absurd (omega arith); ordered = λ i j m l lt get. absurd (cc) }
 
   pub matches_more : (n : ℕ) (list new : List FormMatch) (o : Option FormMatch) → AreFirstMatches instance t whole n list → MatchesForm instance t whole n o → new ≡ with_match list o → AreFirstMatches instance t whole (n + 1) new
   matches_more n list new None h never e = subst (AreFirstMatches instance t whole (n + 1)) (sym e) (record {
+    few = h.few;
     each = h.each;
     below = λ i m get. (let lt = h.below i m get in omega (arith, lt));
     all = λ k lt x. elim (cases_eq k n) [
@@ -148,6 +158,7 @@ module _ (instance : Instance) (t : Term) (whole : Bool) where
     ordered = h.ordered;
   })
   matches_more n list new (Some f) h (is, at) e = subst (AreFirstMatches instance t whole (n + 1)) (sym e) (record {
+    few = h.few;
     each = λ i m get. elim (get_push list f i m get) [
       | inl old ↦ h.each i m old
       | inr last ↦ subst (IsFormMatch instance t whole) (sym last.1) is
@@ -246,6 +257,41 @@ module _ (instance : Instance) (limits : Limits) (t : Term) (whole : Bool) (m : 
   offer_below row known o offer spared e (inr (none, x)) is =
       subst (IsOffer (instance_stock instance) limits t whole row m.form) (sym (is ∙ ap (offer_is m.goal) none))
       (offer_dear row x.operands x.cuts (summed (summed (Some 1) x.operands) x.cuts) x.floor x.cut refl (λ n h. subst (λ k. AtMost k n) e (x.dear n h)))
+
+  -- its operands and its cuts have no more subtrees than the tree
+  pub match_parts : size_of t ≤ length (nodes_of instance) → AreParts (nodes_of instance) (open_operands m.operands.items) (open_cuts m.cuts.items)
+  match_parts few =
+      let small = (row_small (instance_stock instance) f.rule t whole m.goal f.found f.slot f.takes_it).1 in
+      let le = small_le whole t f.found.sites small in
+      let parts = total_parts f.found.sites in
+      let os = ap operands_size f.operands in
+      let ts = ap terms_size f.cuts in
+      omega (arith, few, le, parts, os, ts)
+
+  -- where it goes on from no entry, its covers are cheap
+  parts_cheap : (o : Option Slot) (a b : Option ℕ) → o ≡ start_under m.start (is_free instance.file limits) → o ≡ None → IsLeastOrder (instance_stock instance) limits (open_operands m.operands.items) a → IsLeastCut (instance_stock instance) (open_cuts m.cuts.items) b → NoMore (summed (summed (Some 1) a) b) (36 * size_of t - 17)
+  parts_cheap o a b is none la lb =
+      let la' = order_few (instance_stock instance) instance.low limits (open_operands m.operands.items) a (opened_low m.operands.items) la in
+      let lb' = cuts_few (instance_stock instance) instance.low (open_cuts m.cuts.items) b lb in
+      let small = (row_small (instance_stock instance) f.rule t whole m.goal f.found f.slot f.takes_it).1 in
+      let os = ap operands_size f.operands in
+      let ts = ap terms_size f.cuts in
+      let parts = total_parts f.found.sites in
+      let pos = size_pos t in
+      let le : 1 + 36 * operands_size (open_operands m.operands.items) + (36 * terms_size (open_cuts m.cuts.items) - 18 * length (open_cuts m.cuts.items)) ≤ 36 * size_of t - 17 = elim (rest_less whole t instance.file limits f.found.sites small (rest_is o is ∙ none)) [
+        | inl lt ↦ omega (arith, os, ts, parts, pos, lt)
+        | inr (x, y, r) ↦ (let n = ap operands_size x in let k = ap terms_size y in let l = ap length (f.cuts ∙ y) in omega (arith, os, ts, pos, n, k, l))
+      ] in
+      no_more_le (summed (summed (Some 1) a) b) _ (36 * size_of t - 17) le (form_few a b _ _ la' lb')
+
+  pub offer_cheap : (o : Option Slot) (known d : Option ℕ) (offer : Offer) → o ≡ start_under m.start (is_free instance.file limits) → o ≡ None → IsCostBelow (instance_stock instance) limits (open_operands m.operands.items) (open_cuts m.cuts.items) known d → offer ≡ offer_is m.goal d → IsCheapOffer t offer
+  offer_cheap o known d offer is none (inl x) e =
+      subst (IsCheapOffer t) (sym (e ∙ ap (offer_is m.goal) x.sum)) (go (summed (summed (Some 1) x.operands) x.cuts) (parts_cheap o x.operands x.cuts is none x.order x.cut))
+    where
+      go : (n : Option ℕ) → NoMore n (36 * size_of t - 17) → IsCheapOffer t (offer_is m.goal n)
+      go None h = tt
+      go (Some n) h = let pos = size_pos t in omega (arith, h, pos)
+  offer_cheap o known d offer is none (inr x) e = subst (IsCheapOffer t) (sym (e ∙ ap (offer_is m.goal) x.0)) tt
 
   -- ---- covers of one cost
 

@@ -11,8 +11,9 @@ use Rattle.tree_grammar.specs.declared.parts.Part.TheVariants
 use Rattle.tree_grammar.specs.Parts.{part_of, sites_of, AreAt, IsPartAt}
 use Rattle.cover.specs.declared.opened.OpenOperand.{OpenOperand}
 use Rattle.cover.specs.declared.opened.OpenCut.{OpenCut}
+use Rattle.cover.specs.Inner.Asks.{operands_size, terms_size}
 use Rattle.cover.specs.Inner.Matched.{AreLowSites}
-use Rattle.cover.specs.Inner.Jobs.{open_operand, open_operands, open_cuts, OperandsAt, CutsAt, HasOperand, HasCut}
+use Rattle.cover.specs.Inner.Jobs.{open_operand, open_operands, open_cuts, EachOperandAt, EachCutAt, OperandsAt, CutsAt, AreParts, HasOperand, HasCut}
 
 pub take_get : {X : Type 0} (xs : List X) (i : ℕ) (x : X) → slice_get xs i ≡ Some x → take (i + 1) xs ≡ take i xs ++ (x ∷ [])
 take_get xs i x h = (let e : i + 1 ≡ suc i = omega arith in ap (λ n. take n xs) e) ∙ go xs i h
@@ -40,11 +41,11 @@ are_last : (nodes : List Term) (xs : List Part) (p : Part) → AreAt nodes (xs +
 are_last nodes [] p h = h.0
 are_last nodes (x ∷ xs) p h = are_last nodes xs p h.1
 
-inputs_push : (nodes : List Term) (xs : List OpenOperand) (i : OpenOperand) → OperandsAt nodes xs → OperandsAt nodes (i ∷ []) → OperandsAt nodes (xs ++ (i ∷ []))
+inputs_push : (nodes : List Term) (xs : List OpenOperand) (i : OpenOperand) → EachOperandAt nodes xs → EachOperandAt nodes (i ∷ []) → EachOperandAt nodes (xs ++ (i ∷ []))
 inputs_push nodes [] i h k = k
 inputs_push nodes (x ∷ xs) i h k = (h.0, inputs_push nodes xs i h.1 k)
 
-stored_push : (nodes : List Term) (xs : List OpenCut) (i : OpenCut) → CutsAt nodes xs → CutsAt nodes (i ∷ []) → CutsAt nodes (xs ++ (i ∷ []))
+stored_push : (nodes : List Term) (xs : List OpenCut) (i : OpenCut) → EachCutAt nodes xs → EachCutAt nodes (i ∷ []) → EachCutAt nodes (xs ++ (i ∷ []))
 stored_push nodes [] i h k = k
 stored_push nodes (x ∷ xs) i h k = (h.0, stored_push nodes xs i h.1 k)
 
@@ -65,18 +66,25 @@ pub stored_step : (p : Part) (old new : List OpenCut) (xs : List Part) → HasCu
 stored_step p old new xs h e =
     stored_is p old new h ∙ ap (λ l. l ++ cuts_of (part_of p ∷ [])) e ∙ sym (cuts-append (sites_of xs) (part_of p ∷ [])) ∙ ap cuts_of (sym (map-append part_of xs (p ∷ [])))
 
-input_put : (nodes : List Term) (p : Part) (old new : List OpenOperand) → HasOperand p old new → IsPartAt nodes p → OperandsAt nodes old → OperandsAt nodes new
+input_put : (nodes : List Term) (p : Part) (old new : List OpenOperand) → HasOperand p old new → IsPartAt nodes p → EachOperandAt nodes old → EachOperandAt nodes new
 input_put nodes (TheVariants.Operand id tree whole at) old new (i, e, is, h) here k =
     let there : slice_get nodes i.at ≡ Some (tree_term i.tree.now) = ap (slice_get nodes) h ∙ here ∙ ap (λ (o : Operand). Some o.tree) (sym is) in
-    subst (OperandsAt nodes) (sym e) (inputs_push nodes old i k (there, tt))
-input_put nodes (TheVariants.Cut shape tree at) old new h here k = subst (OperandsAt nodes) (sym h) k
+    subst (EachOperandAt nodes) (sym e) (inputs_push nodes old i k (there, tt))
+input_put nodes (TheVariants.Cut shape tree at) old new h here k = subst (EachOperandAt nodes) (sym h) k
 
-stored_put : (nodes : List Term) (p : Part) (old new : List OpenCut) → HasCut p old new → IsPartAt nodes p → CutsAt nodes old → CutsAt nodes new
-stored_put nodes (TheVariants.Operand id tree whole at) old new h here k = subst (CutsAt nodes) (sym h) k
-stored_put nodes (TheVariants.Cut shape tree at) old new h here k = subst (CutsAt nodes) (sym h) (stored_push nodes old _ k (here, tt))
+stored_put : (nodes : List Term) (p : Part) (old new : List OpenCut) → HasCut p old new → IsPartAt nodes p → EachCutAt nodes old → EachCutAt nodes new
+stored_put nodes (TheVariants.Operand id tree whole at) old new h here k = subst (EachCutAt nodes) (sym h) k
+stored_put nodes (TheVariants.Cut shape tree at) old new h here k = subst (EachCutAt nodes) (sym h) (stored_push nodes old _ k (here, tt))
 
-pub input_at : (p : Part) (old new : List OpenOperand) (xs : List Part) → HasOperand p old new → ((nodes : List Term) → AreAt nodes xs → OperandsAt nodes old) → (nodes : List Term) → AreAt nodes (xs ++ (p ∷ [])) → OperandsAt nodes new
+pub input_at : (p : Part) (old new : List OpenOperand) (xs : List Part) → HasOperand p old new → ((nodes : List Term) → AreAt nodes xs → EachOperandAt nodes old) → (nodes : List Term) → AreAt nodes (xs ++ (p ∷ [])) → EachOperandAt nodes new
 input_at p old new xs h before nodes are = input_put nodes p old new h (are_last nodes xs p are) (before nodes (are_first nodes xs p are))
+
+-- operands and cuts at their numbers, of which there are no more subtrees than nodes
+pub parts_operands : (nodes : List Term) (is : List OpenOperand) (ops : List Operand) (ts : List Term) → AreParts nodes ops ts → open_operands is ≡ ops → EachOperandAt nodes is → OperandsAt nodes is
+parts_operands nodes is ops ts parts e at = (at, (let n = ap operands_size e in omega (arith, n, parts)))
+
+pub parts_cuts : (nodes : List Term) (ss : List OpenCut) (ops : List Operand) (ts : List Term) → AreParts nodes ops ts → open_cuts ss ≡ ts → EachCutAt nodes ss → CutsAt nodes ss
+parts_cuts nodes ss ops ts parts e at = (at, (let n = ap terms_size e in omega (arith, n, parts)))
 
 -- the parts of low sites are low
 pub low_at : (parts : List Part) (i : ℕ) (p : Part) → AreLowSites (sites_of parts) → slice_get parts i ≡ Some p → AreLowSites (part_of p ∷ [])
@@ -92,5 +100,5 @@ low_at (x ∷ parts) (suc i) p h get = low_at parts i p (later (part_of x) (site
     later (operand id tree whole) sites h = h.1
     later (cut shape tree) sites h = h
 
-pub stored_at : (p : Part) (old new : List OpenCut) (xs : List Part) → HasCut p old new → ((nodes : List Term) → AreAt nodes xs → CutsAt nodes old) → (nodes : List Term) → AreAt nodes (xs ++ (p ∷ [])) → CutsAt nodes new
+pub stored_at : (p : Part) (old new : List OpenCut) (xs : List Part) → HasCut p old new → ((nodes : List Term) → AreAt nodes xs → EachCutAt nodes old) → (nodes : List Term) → AreAt nodes (xs ++ (p ∷ [])) → EachCutAt nodes new
 stored_at p old new xs h before nodes are = stored_put nodes p old new h (are_last nodes xs p are) (before nodes (are_first nodes xs p are))

@@ -8,8 +8,9 @@ use Rattle.rec_bits.specs.declared.operator.Op1.{Op1}
 use Rattle.rec_bits.specs.declared.operator.Op2.{Op2}
 use Rattle.form_model.specs.Trees.{is_number, is_cell}
 use Rattle.form_model.specs.Shapes.{is_shape, shows_below}
-use Rattle.form_model.specs.Rules.{Rule, Kind, into_reg, into_memory, into_file, jumps, branches, into, filed, temporary}
-use Rattle.form_model.specs.Matches.{same_op1, same_op2, Home, in_register, in_file, Site, operand, cut, Found, settled, open_if, both, shape_match, literal_match, cell_match, read_match, un_match, bin_match, slice_match, zext_match, sext_match, matched, address_match, goal_match}
+use Rattle.form_model.specs.Rules.{Rule, Kind, into_reg, into_memory, into_file, jumps, branches, Destination, into, filed, cell, stored, temporary, tested}
+use Rattle.form_model.specs.Matches.{same_op1, same_op2, Home, in_register, in_file, Site, operand, cut, Found, settled, open_if, both, shape_match, literal_match, cell_match, read_match, un_match, bin_match, slice_match, zext_match, sext_match, matched, address_match, goal_match, taken}
+use Rattle.tree_grammar.specs.Parts.{value_at}
 use Rattle.form_model.specs.Covers.{operands_of, cuts_of}
 use Rattle.cover.specs.declared.limits.Limits.{Limits}
 use Rattle.cover.specs.declared.slots.Slot.{Slot}
@@ -60,7 +61,7 @@ total-append (cut shape tree ∷ xs) ys = let h = total-append xs ys in omega (a
 abbrev pub Small : Bool → Term → List Site → Type 0
 Small whole t sites = ((h : Home) × (sites ≡ operand h t whole ∷ [])) ⊎ (((shape : Term) × (sites ≡ cut shape t ∷ []) × (whole ≡ false)) ⊎ (total sites < size_of t))
 
-small_le : (whole : Bool) (t : Term) (sites : List Site) → Small whole t sites → total sites ≤ size_of t
+pub small_le : (whole : Bool) (t : Term) (sites : List Site) → Small whole t sites → total sites ≤ size_of t
 small_le whole t sites (inl h) = let e = ap total h.1 in omega (arith, e)
 small_le whole t sites (inr (inl h)) = let e = ap total h.1 in omega (arith, e)
 small_le whole t sites (inr (inr h)) = omega (arith, h)
@@ -207,6 +208,41 @@ temp_small temps rule into_memory t whole found h =
 temp_small temps rule (jumps reach) t whole found h = absurd (cc)
 temp_small temps rule (branches when_one to) t whole found h = absurd (cc)
 
+-- ---- what is taken for any destination has no more subtrees than its address and its tree
+
+address_total : (temps : ℕ) (addr : Option Term) (destination : Destination) (found : Found) → address_match temps addr destination ≡ Some found → total found.sites ≤ value_at destination 0
+address_total temps None destination found h = absurd (cc)
+address_total temps (Some a) (cell address) found h = let e = ap total (settled_sites _ found (picked (is_shape a) _ found h).1) in omega (arith, e)
+address_total temps (Some a) (stored address) found h = let le = small_le false address found.sites (matched_small temps a address false found h) in omega (arith, le)
+address_total temps (Some a) temporary found h = let e = ap total (address_sites temps (Some a) found h) in omega (arith, e)
+address_total temps (Some a) (into id) found h = absurd (cc)
+address_total temps (Some a) filed found h = absurd (cc)
+address_total temps (Some a) tested found h = absurd (cc)
+
+value_total : (temps : ℕ) (rule : Rule) (t : Term) (whole : Bool) (found : Found) → matched temps rule.value t whole ≡ Some found → total found.sites ≤ size_of t
+value_total temps rule t whole found h = small_le whole t found.sites (matched_small temps rule.value t whole found h)
+
+both_total : (temps : ℕ) (rule : Rule) (destination : Destination) (t : Term) (whole : Bool) (found : Found) → both (address_match temps rule.addr destination) (matched temps rule.value t whole) ≡ Some found → total found.sites ≤ value_at destination 0 + size_of t
+both_total temps rule destination t whole found h =
+    let (f, g, ef, eg, is) = both_parts (address_match temps rule.addr destination) (matched temps rule.value t whole) found h in
+    let a = address_total temps rule.addr destination f ef in
+    let b = value_total temps rule t whole g eg in
+    let e = ap total is in
+    let s = total-append f.sites g.sites in
+    omega (arith, a, b, e, s)
+
+goal_total : (temps : ℕ) (rule : Rule) (goal : Kind) (destination : Destination) (t : Term) (whole : Bool) (found : Found) → goal_match temps rule goal destination t whole ≡ Some found → total found.sites ≤ value_at destination 0 + size_of t
+goal_total temps rule (into_reg r) (into id) t whole found h = let le = value_total temps rule t whole found (picked (r == id) _ found h).1 in omega (arith, le)
+goal_total temps rule into_file filed t whole found h = let le = value_total temps rule t whole found h in omega (arith, le)
+goal_total temps rule into_memory (cell address) t whole found h = both_total temps rule (cell address) t true found h
+goal_total temps rule into_memory (stored address) t whole found h = both_total temps rule (stored address) t false found h
+goal_total temps rule into_memory temporary t whole found h = both_total temps rule temporary t false found h
+goal_total temps rule (branches when_one to) tested t whole found h = let le = value_total temps rule t true found h in omega (arith, le)
+goal_total temps rule _ _ t whole found h = absurd (cc)
+
+pub taken_total : (temps : ℕ) (rule : Rule) (destination : Destination) (t : Term) (whole : Bool) (found : Found) → taken temps rule destination t whole ≡ Some found → total found.sites ≤ value_at destination 0 + size_of t
+taken_total temps rule destination t whole found h = goal_total temps rule rule.goal destination t whole found h
+
 -- ---- the entry from which a match goes on
 
 some_none : {A : Type 0} (b : Bool) (x : A) → (if b then Some x else None) ≡ None → b ≡ false
@@ -220,17 +256,21 @@ and_false : (a b : Bool) → b ≡ true → (a && b) ≡ false → a ≡ false
 and_false true b e f = absurd (cc)
 and_false false b e f = refl
 
-pub rest_small : (whole : Bool) (t : Term) (file : ℕ) (limits : Limits) (sites : List Site) → Small whole t sites → rest (size_of t) (is_free file limits) sites ≡ None → (operands_size (operands_of sites) < size_of t) × (terms_size (cuts_of sites) < size_of t + rank file limits)
-rest_small whole t file limits sites (inl (r, e)) none =
+-- where it goes on from no entry, less than the tree is left, or the tree as a cut where not all is
+-- free
+pub rest_less : (whole : Bool) (t : Term) (file : ℕ) (limits : Limits) (sites : List Site) → Small whole t sites → rest (size_of t) (is_free file limits) sites ≡ None → (total sites < size_of t) ⊎ ((operands_of sites ≡ []) × (cuts_of sites ≡ t ∷ []) × (rank file limits ≡ 1))
+rest_less whole t file limits sites (inl (r, e)) none =
     absurd (true_false (size_of t == size_of t) (eq_self (size_of t)) (some_none _ (home_slot r) (ap (rest (size_of t) (is_free file limits)) (sym e) ∙ none)))
-rest_small whole t file limits sites (inr (inl (shape, e, w))) none =
+rest_less whole t file limits sites (inr (inl (shape, e, w))) none =
     let f : (is_free file limits) ≡ false = and_false (is_free file limits) (size_of t == size_of t) (eq_self (size_of t)) (some_none ((is_free file limits) && (size_of t == size_of t)) Temporary (ap (rest (size_of t) (is_free file limits)) (sym e) ∙ none)) in
-    let k : rank file limits ≡ 1 = ap (λ b. if b then 0 else 1) f in
-    let a = ap (λ s. operands_size (operands_of s)) e in
-    let b = ap (λ s. terms_size (cuts_of s)) e in
-    let p = size_pos t in
-    (omega (arith, a, p), omega (arith, b, k))
-rest_small whole t file limits sites (inr (inr lt)) none = let p = total_parts sites in (omega (arith, p, lt), omega (arith, p, lt))
+    inr (ap operands_of e, ap cuts_of e, ap (λ b. if b then 0 else 1) f)
+rest_less whole t file limits sites (inr (inr lt)) none = inl lt
+
+pub rest_small : (whole : Bool) (t : Term) (file : ℕ) (limits : Limits) (sites : List Site) → Small whole t sites → rest (size_of t) (is_free file limits) sites ≡ None → (operands_size (operands_of sites) < size_of t) × (terms_size (cuts_of sites) < size_of t + rank file limits)
+rest_small whole t file limits sites small none = elim (rest_less whole t file limits sites small none) [
+  | inl lt ↦ (let p = total_parts sites in (omega (arith, p, lt), omega (arith, p, lt)))
+  | inr (a, b, k) ↦ (let n = ap operands_size a in let m = ap terms_size b in let p = size_pos t in (omega (arith, n, p), omega (arith, m, k)))
+]
 
 taken_whole : (size : ℕ) (free : Bool) (sites : List Site) (q : Slot) → rest size free sites ≡ Some q → total sites ≡ size
 taken_whole size free [] q h = absurd (cc)

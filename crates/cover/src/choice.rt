@@ -5,13 +5,13 @@ ghost use Rattle.std.specs.Prelude.{◌≡◌, ℕ, ◌+◌, ◌-◌, ◌<◌, �
 ghost use Rattle.std.specs.Bool.{OnTrue};
 ghost use Rattle.form_model.specs.Plans.{operand_then, cut_then, plan_of, operands_plan, cuts_plan};
 ghost use Rattle.cover.specs.Inner.Asks.{rest};
-ghost use Rattle.cover.specs.Inner.Least.{AtMost, IsLeast, IsLeastOrder, IsLeastCut};
+ghost use Rattle.cover.specs.Inner.Least.{AtMost, IsHeld, IsLeast, IsLeastOrder, IsLeastCut, summed};
 ghost use Rattle.form_model.specs.Trees.{tree_term};
 ghost use Rattle.cover.specs.Inner.Slots.{IsSlot};
 ghost use Rattle.cover.specs.Inner.Rows.{row_ask};
 ghost use Rattle.cover.specs.Inner.Matched.{AreMatches};
 ghost use Rattle.cover.specs.Inner.Choice.{ask_of, matches_ask, StandsWant, Begins, BeginsAt, CostsOf, CostsWithin, Starts, StartsCut, IsFirst, IsFirstOrder, IsFirstFrom, IsFirstCuts, AreFirstParts};
-ghost use Rattle.cover.specs.Inner.Jobs.{instance_stock, nodes_of, open_operands, open_cuts, OperandsAt, CutsAt};
+ghost use Rattle.cover.specs.Inner.Jobs.{instance_stock, nodes_of, open_operands, open_cuts, OperandsAt, CutsAt, AreParts};
 ghost use Rattle.cover.specs.Inner.Tables.{AreRight};
 
 use crate::costs::form_cost;
@@ -27,7 +27,6 @@ use crate::table::{CostTable, matches_at};
 use form_model::{Cover, CoverCuts, CoverOperands, Tree};
 use rec_bits::NoMemory;
 use std::alloc::Global;
-use tree_grammar::plus;
 
 // The least costs of a match's operands and of its cuts.
 #[derive(Clone, Copy)]
@@ -58,7 +57,7 @@ fn begins<'a>(
     let Some(fit) = fit_at(alloc, instance, table, want, limits, k)? else {
         return Ok(None);
     };
-    if cost_of(&fit)? == n {
+    if cost_of(&fit) == n {
         return Ok(Some(fit));
     }
     Ok(None)
@@ -170,16 +169,17 @@ pub(crate) fn choose<'a>(
 }
 
 // The costs of a match's operands and of its cuts, where the form makes `n` with them.
-fn costs_of(n: u64, operands: Option<u64>, cuts: Option<u64>) -> Result<Option<PartCosts>, NoMemory>
-    ensures { IfOk result (λ o. CostsOf n operands cuts o) }
+fn costs_of(n: u64, operands: Option<u64>, cuts: Option<u64>) -> Option<PartCosts>
+    requires { IsHeld (summed (summed (Some 1) operands) cuts) }
+    ensures { CostsOf n operands cuts result }
 {
     let (Some(operands), Some(cuts)) = (operands, cuts) else {
-        return Ok(None);
+        return None;
     };
-    if plus(plus(1, operands)?, cuts)? != n {
-        return Ok(None);
+    if 1 + operands + cuts != n {
+        return None;
     }
-    Ok(Some(PartCosts { operands, cuts }))
+    Some(PartCosts { operands, cuts })
 }
 
 // Whether what costs so much or more can't cost `n`.
@@ -242,6 +242,7 @@ fn costs_within<'a>(
 ) -> Result<Option<PartCosts>, NoMemory>
     requires at { OperandsAt (nodes_of instance.now) operands.now }
     requires cuts_at { CutsAt (nodes_of instance.now) cuts.now }
+    requires few { AreParts (nodes_of instance.now) (open_operands operands.now) (open_cuts cuts.now) }
     requires right { AreRight instance.now table.old }
     ensures costs { IfOk result (λ o.
         CostsWithin (instance_stock instance.now) limits (open_operands operands.now) (open_cuts cuts.now) n o) }
@@ -249,11 +250,11 @@ fn costs_within<'a>(
 {
     let b = cuts_cost(alloc, instance, table, cuts)?;
     let floor = floor_of(alloc, instance, table, operands, limits)?;
-    if is_above(form_cost(floor, b)?, n) {
+    if is_above(form_cost(floor, b), n) {
         return Ok(None);
     }
     let a = orders(alloc, instance, table, operands, limits, floor)?;
-    costs_of(n, a, b)
+    Ok(costs_of(n, a, b))
 }
 
 // The first cover of the least cost `n` of a tree for an entry of its row.

@@ -1,12 +1,9 @@
 //! Costs: how many forms a cover has.
 
-ghost use Rattle.std.specs.Prelude.{◌≡◌, ℕ, Some, IfOk};
+ghost use Rattle.std.specs.Prelude.{◌≡◌, ℕ, Some};
 ghost use Rattle.std.specs.Bool.{OnTrue, OnFalse};
-ghost use Rattle.cover.specs.Inner.Least.{AtMost, lesser, summed};
+ghost use Rattle.cover.specs.Inner.Least.{AtMost, IsHeld, lesser, summed};
 ghost use Rattle.cover.specs.Inner.Rows.{IsBelow};
-
-use rec_bits::NoMemory;
-use tree_grammar::plus;
 
 // Whether the cost is less than the one that is known.
 pub(crate) fn is_less(n: u64, known: Option<u64>) -> bool
@@ -19,20 +16,25 @@ pub(crate) fn is_less(n: u64, known: Option<u64>) -> bool
     }
 }
 
-pub(crate) fn sum_of(a: Option<u64>, b: Option<u64>) -> Result<Option<u64>, NoMemory>
-    ensures { IfOk result (λ o. o ≡ summed a b) }
+pub(crate) fn sum_of(a: Option<u64>, b: Option<u64>) -> Option<u64>
+    requires { IsHeld (summed a b) }
+    ensures { result ≡ summed a b }
 {
     match (a, b) {
-        (Some(m), Some(n)) => Ok(Some(plus(m, n)?)),
-        _ => Ok(None),
+        (Some(m), Some(n)) => Some(m + n),
+        _ => None,
     }
 }
 
 // The cost of a form with the parts of its match.
-pub(crate) fn form_cost(operands: Option<u64>, cuts: Option<u64>) -> Result<Option<u64>, NoMemory>
-    ensures { IfOk result (λ o. o ≡ summed (summed (Some 1) operands) cuts) }
+pub(crate) fn form_cost(operands: Option<u64>, cuts: Option<u64>) -> Option<u64>
+    requires { IsHeld (summed (summed (Some 1) operands) cuts) }
+    ensures { result ≡ summed (summed (Some 1) operands) cuts }
 {
-    sum_of(sum_of(Some(1), operands)?, cuts)
+    match (operands, cuts) {
+        (Some(m), Some(n)) => Some(1 + m + n),
+        _ => None,
+    }
 }
 
 // Whether what costs so much or more can't be less than the cost that is known.

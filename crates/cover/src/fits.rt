@@ -1,13 +1,13 @@
 //! The forms that begin a cover of what is asked for, and the least cost of its covers.
 
-ghost use Rattle.std.specs.Prelude.{◌≡◌, ◌<◌, IfOk, OnOk, IfSome, length};
+ghost use Rattle.std.specs.Prelude.{◌≡◌, ◌^◌, ◌<◌, IfOk, OnOk, IfSome, length};
 ghost use Rattle.std.specs.Option.{option_map};
 ghost use Rattle.form_model.specs.Covers.{operands_of, cuts_of};
 ghost use Rattle.tree_grammar.specs.Parts.{sites_of, AreAt};
 ghost use Rattle.cover.specs.Inner.Asks.{free};
 ghost use Rattle.cover.specs.Inner.Least.{IsLeast, IsLeastForm};
 ghost use Rattle.cover.specs.Inner.Choice.{ask_of, StandsWant, IsFit, FitOf, FitsParts, fit_cost};
-ghost use Rattle.cover.specs.Inner.Jobs.{instance_stock, nodes_of, OperandsAt, CutsAt};
+ghost use Rattle.cover.specs.Inner.Jobs.{instance_stock, nodes_of, OperandsAt, CutsAt, AreParts};
 ghost use Rattle.cover.specs.Inner.Matched.{AreLowSites};
 ghost use Rattle.cover.specs.Inner.Tables.{AreRight};
 
@@ -21,7 +21,7 @@ use crate::table::CostTable;
 use form_model::Tree;
 use rec_bits::NoMemory;
 use std::alloc::Global;
-use tree_grammar::{Destination, Part, match_at, plus};
+use tree_grammar::{Destination, Part, match_at};
 
 /// What is asked for: a tree that goes to a destination, with the number at which its trees begin.
 #[derive(Clone, Copy)]
@@ -56,6 +56,7 @@ pub(crate) fn fit_at<'a>(
     ensures fit { IfOk result (λ o. IsFit (instance_stock instance.now) limits (ask_of want.now) k o) }
     ensures at { IfOk result (λ o. IfSome o (λ f. OperandsAt (nodes_of instance.now) f.operands.items)) }
     ensures cuts_at { IfOk result (λ o. IfSome o (λ f. CutsAt (nodes_of instance.now) f.cuts.items)) }
+    ensures few { IfOk result (λ o. IfSome o (λ f. fit_cost f < 2 ^ 64)) }
     ensures right { OnOk result (AreRight instance.now table.new) }
 {
     let form = &instance.forms[k];
@@ -87,11 +88,13 @@ fn fit_parts<'a>(
 ) -> Result<Option<Fit<'a>>, NoMemory>
     requires low { AreLowSites (sites_of parts.now) }
     requires at { AreAt (nodes_of instance.now) parts.now }
+    requires few { AreParts (nodes_of instance.now) (operands_of (sites_of parts.now)) (cuts_of (sites_of parts.now)) }
     requires right { AreRight instance.now table.old }
     ensures fit { IfOk result (λ o.
         FitsParts (instance_stock instance.now) limits (operands_of (sites_of parts.now)) (cuts_of (sites_of parts.now)) o) }
     ensures at { IfOk result (λ o. IfSome o (λ f. OperandsAt (nodes_of instance.now) f.operands.items)) }
     ensures cuts_at { IfOk result (λ o. IfSome o (λ f. CutsAt (nodes_of instance.now) f.cuts.items)) }
+    ensures few { IfOk result (λ o. IfSome o (λ f. fit_cost f < 2 ^ 64)) }
     ensures right { OnOk result (AreRight instance.now table.new) }
 {
     let operands = operands_in(alloc, parts)?;
@@ -121,19 +124,21 @@ fn fit_of<'a>(
 }
 
 // The cost of the covers that begin with the form.
-pub(crate) fn cost_of(fit: &Fit) -> Result<u64, NoMemory>
-    ensures { IfOk result (λ n. n ≡ fit_cost fit.now) }
+pub(crate) fn cost_of(fit: &Fit) -> u64
+    requires { fit_cost fit.now < 2 ^ 64 }
+    ensures { result ≡ fit_cost fit.now }
 {
-    plus(plus(1, fit.operands_cost)?, fit.cuts_cost)
+    1 + fit.operands_cost + fit.cuts_cost
 }
 
 // The same where it begins any.
-fn cost_if(fit: &Option<Fit>) -> Result<Option<u64>, NoMemory>
-    ensures { IfOk result (λ o. o ≡ option_map fit_cost fit.now) }
+fn cost_if(fit: &Option<Fit>) -> Option<u64>
+    requires { IfSome fit.now (λ f. fit_cost f < 2 ^ 64) }
+    ensures { result ≡ option_map fit_cost fit.now }
 {
     match fit {
-        Some(fit) => Ok(Some(cost_of(fit)?)),
-        None => Ok(None),
+        Some(fit) => Some(cost_of(fit)),
+        None => None,
     }
 }
 
@@ -156,7 +161,7 @@ pub(crate) fn form_least<'a>(
         allowed: instance.file,
     };
     let fit = fit_at(alloc, instance, table, want, free, k)?;
-    cost_if(&fit)
+    Ok(cost_if(&fit))
 }
 
 // The least cost of the covers.

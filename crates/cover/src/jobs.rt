@@ -146,7 +146,7 @@ fn without_branch(aim: &Aim, c: JobCover) -> JobCover
 /// used; `NoCover` exactly where no tree of the job has an orderly cover. Covers of equal cost are
 /// ordered by the tree that they cover, then by the place of the form, then by the order of the
 /// operands, then by their covers in that order, and then by the cuts' covers. Want of memory
-/// stands also for a cost, a tree or a setting of a form past 64 bits.
+/// stands also for a tree or a setting of a form past 64 bits. No cost passes them.
 pub fn cover(alloc: Global, forms: &Forms, job: &Job, temps: u32) -> Result<JobCover, CoverFault>
     ensures chosen { IfOk result (λ c. IsChosen (stock_with forms.now.list.items temps forms.now.file)
         (destination_of job.now.aim) (trees_of job.now.trees.items) (choice_of c)) }

@@ -1,13 +1,13 @@
 //! Least costs: of a tree for a register or a temporary cell, of operands over their orders, and of
 //! cuts.
 
-ghost use Rattle.std.specs.Prelude.{◌≡◌, ◌<◌, Some, IfOk, OnOk, vec_len, length, slice_get};
+ghost use Rattle.std.specs.Prelude.{◌≡◌, ◌*◌, ◌<◌, Some, IfOk, OnOk, vec_len, length, slice_get};
 ghost use Rattle.form_model.specs.Trees.{tree_term};
-ghost use Rattle.cover.specs.Inner.Asks.{operand_ask};
-ghost use Rattle.cover.specs.Inner.Least.{IsLeast, IsLeastOrder, IsLeastAfter, IsLeastFrom, IsLeastCut, IsFloor, IsCostBelow};
+ghost use Rattle.cover.specs.Inner.Asks.{operand_ask, operands_size};
+ghost use Rattle.cover.specs.Inner.Least.{IsLeast, IsLeastOrder, IsLeastAfter, IsLeastFrom, IsLeastCut, IsFloor, IsCostBelow, NoMore};
 ghost use Rattle.cover.specs.Inner.Slots.{IsSlot};
-ghost use Rattle.cover.specs.Inner.Rows.{row_ask, IsBlank, IsLeastRow};
-ghost use Rattle.cover.specs.Inner.Jobs.{instance_stock, nodes_of, open_operand, open_operands, open_cuts, OperandsAt, CutsAt};
+ghost use Rattle.cover.specs.Inner.Rows.{row_ask, IsBlank, IsCheapOffer, IsLeastRow};
+ghost use Rattle.cover.specs.Inner.Jobs.{instance_stock, nodes_of, open_operand, open_operands, open_cuts, OperandsAt, CutsAt, AreParts};
 ghost use Rattle.cover.specs.Inner.Matched.{AreMatches, IsOfferAt};
 ghost use Rattle.cover.specs.Inner.Tables.{AreRight};
 
@@ -159,7 +159,7 @@ fn fill<'a>(
         let offer = offer_at(alloc, instance, table, matches, limits, row, i)?;
         note(offer, &mut chains, row)?;
     }
-    close(&chains, row)?;
+    close(&chains, row);
     Ok(())
 }
 
@@ -179,6 +179,7 @@ fn offer_at<'a>(
     requires matches { AreMatches instance.now matches.now }
     requires right { AreRight instance.now table.old }
     ensures offer { IfOk result (λ l. IsOfferAt (instance_stock instance.now) limits matches.now row.now i l) }
+    ensures cheap { IfOk result (λ l. IsCheapOffer (tree_term matches.now.tree.now) l) }
     ensures right { OnOk result (AreRight instance.now table.new) }
 {
     let found = &matches.list[i];
@@ -218,6 +219,7 @@ fn cost_below<'a>(
 ) -> Result<Option<u64>, NoMemory>
     requires at { OperandsAt (nodes_of instance.now) operands.now }
     requires cuts_at { CutsAt (nodes_of instance.now) cuts.now }
+    requires few { AreParts (nodes_of instance.now) (open_operands operands.now) (open_cuts cuts.now) }
     requires right { AreRight instance.now table.old }
     ensures least { IfOk result (λ o.
         IsCostBelow (instance_stock instance.now) limits (open_operands operands.now) (open_cuts cuts.now) known o) }
@@ -225,11 +227,11 @@ fn cost_below<'a>(
 {
     let b = cuts_cost(alloc, instance, table, cuts)?;
     let floor = floor_of(alloc, instance, table, operands, limits)?;
-    if is_as_dear(form_cost(floor, b)?, known) {
+    if is_as_dear(form_cost(floor, b), known) {
         return Ok(None);
     }
     let a = orders(alloc, instance, table, operands, limits, floor)?;
-    form_cost(a, b)
+    Ok(form_cost(a, b))
 }
 
 // What no order of the operands costs less than: the sum of their least costs, where none has to
@@ -245,6 +247,7 @@ pub(crate) fn floor_of<'a>(
     requires at { OperandsAt (nodes_of instance.now) ops.now }
     requires right { AreRight instance.now table.old }
     ensures floor { IfOk result (λ o. IsFloor (instance_stock instance.now) limits (open_operands ops.now) o) }
+    ensures few { IfOk result (λ o. NoMore o (36 * operands_size (open_operands ops.now))) }
     ensures right { OnOk result (AreRight instance.now table.new) }
 {
     if ops.is_empty() {
@@ -252,7 +255,7 @@ pub(crate) fn floor_of<'a>(
     }
     let m = operand_cost(alloc, instance, table, ops[0], limits)?;
     let n = floor_of(alloc, instance, table, &ops[1..], limits)?;
-    sum_of(m, n)
+    Ok(sum_of(m, n))
 }
 
 // The least cost of the operands, over their orders, of which none costs less than the floor: one
@@ -310,7 +313,7 @@ fn orders_from<'a>(
         return Ok(Some(m));
     }
     let n = orders_after(alloc, instance, table, ops, limits, i)?;
-    sum_of(Some(m), n)
+    Ok(sum_of(Some(m), n))
 }
 
 // The least cost of the operands but the one at `i`, whose register they have to spare.
@@ -370,5 +373,5 @@ pub(crate) fn cuts_cost<'a>(
         free,
     )?;
     let n = cuts_cost(alloc, instance, table, &cuts[1..])?;
-    sum_of(m, n)
+    Ok(sum_of(m, n))
 }

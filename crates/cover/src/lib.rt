@@ -15,11 +15,19 @@
 //! for the file and for a temporary cell it has the least cost of the covers that write none of
 //! these registers and need no more cells. An operand behind one whose home is in the file is
 //! allowed one cell less, and a cut the whole file. Each list of matches has all forms that match
-//! its subtree, in their order. A row is kept only once it is closed under the forms that go on from
-//! another entry of the same row, *chain rules*. `choice` reads off a cover by asking for each part
-//! whether it is one of the least cost that is left. Each register has an entry and a bit in a set: those that
-//! forms go to and name are below 16 (`Forms`), and so are those of the operands that matches leave
-//! open. Without a file no cell is allowed in any limits, and the table is one of registers alone.
+//! its subtree, in their order. A row is kept only once it is closed under the forms that go on
+//! from another entry of the same row, *chain rules*. `choice` reads off a cover by asking for each
+//! part whether it is one of the least cost that is left. Each register has an entry and a bit in a
+//! set: those that forms go to and name are below 16 (`Forms`), and so are those of the operands
+//! that matches leave open. Without a file no cell is allowed in any limits, and the table is one
+//! of registers alone.
+//!
+//! No cost passes 64 bits, so costs are added without a test. A tree of n subtrees that has a cover
+//! has one of at most 36 n forms (`FewLemmas`): in the row of each subtree chain rules lead through
+//! 18 entries at most, and where the subtree is a cut as a whole, so they do in a second row. There
+//! are so few subtrees (`AreFew`), since one block of memory has a list of rows for each of them.
+//! While a row is closed, an entry that has no cost gets one that is 1 more than another's
+//! (`IsRoomy`).
 //!
 //! Files:
 //!
@@ -49,8 +57,8 @@
 //!   `form_model/specs/Covers`. `specs/Inner/`: what the functions here tell one another, with
 //!   `Asks`, `Least`, `Slots`, `Rows` and `Choice` at the head.
 //! - `proofs/`: named by what they are about; from costs to the promise they go `LeastLemmas`,
-//!   `RowLemmas`, `TableLemmas`, `ChoiceLemmas`, `OrderlyLemmas`, `BestLemmas`, and `OnceLemmas`
-//!   for the law.
+//!   `RowLemmas`, `FewLemmas`, `TableLemmas`, `ChoiceLemmas`, `OrderlyLemmas`, `BestLemmas`, and
+//!   `OnceLemmas` for the law.
 #![tactic(auto)]
 
 mod choice;

@@ -4,7 +4,7 @@ ghost use Rattle.std.specs.Prelude.{◌≡◌, [], ◌∷◌, ◌<◌, IfOk, OnO
 ghost use Rattle.net_model.specs.Terms.{Term};
 ghost use Rattle.form_model.specs.Covers.{operands_of, cuts_of};
 ghost use Rattle.tree_grammar.specs.Parts.{part_of, sites_of, AreAt};
-ghost use Rattle.cover.specs.Inner.Jobs.{open_operands, open_cuts, OperandsAt, CutsAt, HasOperand, HasCut};
+ghost use Rattle.cover.specs.Inner.Jobs.{open_operands, open_cuts, EachOperandAt, EachCutAt, HasOperand, HasCut};
 ghost use Rattle.cover.specs.Inner.Matched.{rest_at, AreLowSites};
 ghost use Rattle.cover.specs.Inner.Slots.{IsEntry};
 
@@ -21,7 +21,7 @@ pub(crate) fn operands_in<'a>(
 ) -> Result<Vec<OpenOperand<'a>>, NoMemory>
     requires low { AreLowSites (sites_of parts.now) }
     ensures operands { IfOk result (λ v. open_operands v.items ≡ operands_of (sites_of parts.now)) }
-    ensures at { IfOk result (λ v. (nodes : List Term) → AreAt nodes parts.now → OperandsAt nodes v.items) }
+    ensures at { IfOk result (λ v. (nodes : List Term) → AreAt nodes parts.now → EachOperandAt nodes v.items) }
 {
     let mut out = Vec::new(alloc);
     for part in parts {
@@ -56,7 +56,7 @@ fn put_operand<'a>(out: &mut Vec<OpenOperand<'a>>, part: Part<'a>) -> Result<(),
 // The cuts among the parts, from left to right.
 pub(crate) fn cuts_in<'a>(alloc: Global, parts: &[Part<'a>]) -> Result<Vec<OpenCut<'a>>, NoMemory>
     ensures cuts { IfOk result (λ v. open_cuts v.items ≡ cuts_of (sites_of parts.now)) }
-    ensures at { IfOk result (λ v. (nodes : List Term) → AreAt nodes parts.now → CutsAt nodes v.items) }
+    ensures at { IfOk result (λ v. (nodes : List Term) → AreAt nodes parts.now → EachCutAt nodes v.items) }
 {
     let mut out = Vec::new(alloc);
     for part in parts {

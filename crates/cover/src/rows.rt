@@ -1,7 +1,7 @@
 //! Rows of least costs of one tree: an entry for each register, and behind them one for the file and
 //! one for a temporary cell.
 
-ghost use Rattle.std.specs.Prelude.{◌≡◌, ◌<◌, Some, IfOk, OnOk, IfSome, vec_len, length, slice_set, if◌then◌else◌};
+ghost use Rattle.std.specs.Prelude.{◌≡◌, ◌-◌, ◌^◌, ◌<◌, Some, OnOk, IfSome, vec_len, length, slice_set, if◌then◌else◌};
 ghost use Rattle.std.specs.Bool.{OnTrue, OnFalse};
 ghost use Rattle.form_model.specs.Registers.{IsLowGoal};
 ghost use Rattle.form_model.specs.Rules.{kind_of};
@@ -9,14 +9,14 @@ ghost use Rattle.form_model.specs.Plans.{cost};
 ghost use Rattle.tree_grammar.specs.Parts.{destination_at};
 ghost use Rattle.cover.specs.Inner.Least.{AtMost};
 ghost use Rattle.cover.specs.Inner.Slots.{entry_destination, goal_slot, place, IsEntry, IsSlot};
-ghost use Rattle.cover.specs.Inner.Rows.{entry, IsBelow, AreWithin, IsWithin, offer_is, Noted, Chained, Swept, IsClosed, Entered};
+ghost use Rattle.cover.specs.Inner.Rows.{entry, IsBelow, IsRoomy, AreWithin, IsWithin, offer_is, Noted, Chained, Swept, IsClosed, Entered};
 
 use crate::costs::is_less;
 use crate::slots::Slot;
 use form_model::{Form, Goal};
 use rec_bits::NoMemory;
 use smallvec::SmallVec;
-use tree_grammar::{Destination, plus};
+use tree_grammar::Destination;
 
 /// A form whose match leaves the whole tree as its one part: from a cover for one entry of the
 /// tree's row it makes a cover for another, which costs 1 more.
@@ -102,45 +102,49 @@ fn enter_cost(row: &mut Vec<Option<u64>>, slot: Slot, n: u64)
 
 // Lowers the entry to which a chain rule leads, where the one from which it starts allows it, and
 // says whether it has.
-fn try_chain(m: ChainRule, row: &mut Vec<Option<u64>>) -> Result<bool, NoMemory>
+fn try_chain(m: ChainRule, row: &mut Vec<Option<u64>>) -> bool
     requires len { vec_len row.old ≡ 18 }
     requires start { IsEntry m.start }
     requires goal { IsEntry m.goal }
+    requires room { IsRoomy (2 ^ 64 - 2) row.old.items }
     ensures len { vec_len row.new ≡ 18 }
-    ensures chained { IfOk result (λ changed. Chained m changed row.old.items row.new.items) }
+    ensures chained { Chained m result row.old.items row.new.items }
 {
     let Some(c) = row[m.start.index()] else {
-        return Ok(false);
+        return false;
     };
-    let n = plus(c, 1)?;
-    Ok(enter(row, m.goal, n))
+    let n = c + 1;
+    enter(row, m.goal, n)
 }
 
 // Tries each chain rule once, and says whether an entry has become less.
-fn sweep(chains: &[ChainRule], row: &mut Vec<Option<u64>>) -> Result<bool, NoMemory>
+fn sweep(chains: &[ChainRule], row: &mut Vec<Option<u64>>) -> bool
     requires len { vec_len row.old ≡ 18 }
     requires within { AreWithin chains.now }
+    requires room { IsRoomy (2 ^ 64 - 2) row.old.items }
     ensures len { vec_len row.new ≡ 18 }
-    ensures swept { IfOk result (λ changed. Swept chains.now (length chains.now) changed row.old.items row.new.items) }
+    ensures swept { Swept chains.now (length chains.now) result row.old.items row.new.items }
+    ensures room { IsRoomy (2 ^ 64 - 2) row.new.items }
 {
     let mut changed = false;
     for m in chains {
-        if try_chain(*m, row)? {
+        if try_chain(*m, row) {
             changed = true;
         }
     }
-    Ok(changed)
+    changed
 }
 
-// Tries the chain rules until none makes an entry less.
-pub(crate) fn close(chains: &[ChainRule], row: &mut Vec<Option<u64>>) -> Result<(), NoMemory>
+// Tries the chain rules until none makes an entry less. No cost passes 64 bits: the first cost of an
+// entry is 1 more than one that another had before, and there are 18 entries.
+pub(crate) fn close(chains: &[ChainRule], row: &mut Vec<Option<u64>>)
     requires len { vec_len row.old ≡ 18 }
     requires within { AreWithin chains.now }
+    requires room { IsRoomy (2 ^ 64 - 2) row.old.items }
     ensures len { vec_len row.new ≡ 18 }
-    ensures closed { OnOk result (IsClosed chains.now row.old.items row.new.items) }
+    ensures closed { IsClosed chains.now row.old.items row.new.items }
 {
-    while sweep(chains, row)? {}
-    Ok(())
+    while sweep(chains, row) {}
 }
 
 // Adds what a form gives to the chain rules or to the row.

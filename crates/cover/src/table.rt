@@ -1,8 +1,9 @@
 //! The table of the matches and the rows that were found.
 
-ghost use Rattle.std.specs.Prelude.{◌≡◌, ◌<◌, Some, IfOk, OnOk, IfSome, slice_get};
+ghost use Rattle.std.specs.Prelude.{◌≡◌, ◌*◌, ◌^◌, ◌<◌, ◌≤◌, Some, IfOk, OnOk, IfSome, slice_get};
 ghost use Rattle.net_model.specs.Terms.{Term};
-ghost use Rattle.std.specs.Bool.{OnTrue};
+ghost use Rattle.std.specs.Bool.{OnTrue, OnFalse};
+ghost use Rattle.cover.specs.Inner.Asks.{AreFew};
 ghost use Rattle.cover.specs.Inner.Least.{IsLeast};
 ghost use Rattle.cover.specs.Inner.Slots.{IsEntry, IsSlot};
 ghost use Rattle.cover.specs.Inner.Rows.{row_ask};
@@ -17,7 +18,7 @@ use crate::matches::{Matches, matches_of};
 use crate::slots::Slot;
 use form_model::Tree;
 use rec_bits::NoMemory;
-use std::alloc::Global;
+use std::alloc::{Global, Layout};
 use std::rc::Rc;
 use tree_sharing::{first_equal, first_numbers};
 
@@ -59,6 +60,15 @@ fn empty_lists<T: Drop>(alloc: Global, count: usize) -> Result<Vec<Vec<T>>, NoMe
     Ok(lists)
 }
 
+// Whether one block of memory can have a list of rows, of 24 bytes, for each of so many numbers. No
+// cost passes 64 bits then.
+fn may_be_kept(count: usize) -> bool
+    ensures few { OnTrue result (AreFew count) }
+    ensures many { OnFalse result (2 ^ 63 ≤ 24 * count) }
+{
+    Layout::array::<Vec<KeptRow>>(count).is_ok()
+}
+
 // A table with no matches and no rows.
 pub(crate) fn new_table<'a>(
     alloc: Global,
@@ -68,6 +78,9 @@ pub(crate) fn new_table<'a>(
 {
     let firsts = first_numbers(alloc, instance.destination, instance.tree)?;
     let count = firsts.len();
+    if !may_be_kept(count) {
+        return Err(NoMemory);
+    }
     Ok(CostTable {
         firsts,
         matches: empty_lists(alloc, count)?,

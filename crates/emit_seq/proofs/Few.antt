@@ -3,14 +3,15 @@
 use Rattle.std.proofs.Common.{◌≡◌, ℕ, zero, suc, ◌+◌, ◌<◌, ◌≤◌, ◌⊎◌, inl, inr, bit_and, bit_or, Bool, true, false, List, [], ◌∷◌, Some, refl, sym, ap, ◌∙◌, subst, arith}
 use Rattle.std.specs.Prelude.{slice_get, remove}
 use Rattle.net_model.specs.Terms.{Term}
-use Rattle.form_model.specs.Rules.{Destination, temporary}
+use Rattle.form_model.specs.Rules.{Destination, into, filed, cell, stored, temporary, tested}
 use Rattle.form_model.specs.Matches.{Home, in_register, in_file, Found}
 use Rattle.form_model.specs.Plans.{Plan, use_form, Operands, no_operands, operand_then, Cuts, no_cuts, cut_then, cost, operands_cost, cuts_cost}
 use Rattle.form_model.specs.Covers.{Stock, Operand, operands_of, cuts_of, form_clobbers, home_destination, home_set, need, operands_need, written, all_written, IsOrderly, AreOrderly, AreCut, Choice, Covers, ChoiceBefore, IsChosen}
 use Rattle.form_model.specs.Steps.{cut_count, operands_count, cuts_count}
-use Rattle.emit_seq.specs.Cells.{AllReadWords, cuttable_below, cuttable_nodes, cuttable_count}
+use Rattle.form_model.specs.WideNodes.{tree_temps, wide_below}
+use Rattle.emit_seq.specs.ReadWords.{AllReadWords}
 use Rattle.form_model.proofs.NeedLaws.{cells_left}
-use Rattle.emit_seq.proofs.Nodes.{operands_sum, cuts_sum, sites_sum, MatchKind, itself, stored_whole, parts, IsPlain, whole_at, goal_kind, goal_sum}
+use Rattle.emit_seq.proofs.Nodes.{goal_nodes, tree_nodes, operands_sum, cuts_sum, sites_sum, MatchKind, itself, stored_whole, parts, IsPlain, whole_at, goal_kind, goal_sum}
 
 module _ (bits : ℕ) (stock : Stock) (words : AllReadWords bits stock.rules) where
   abbrev op_sum : List Operand → ℕ
@@ -34,27 +35,27 @@ module _ (bits : ℕ) (stock : Stock) (words : AllReadWords bits stock.rules) wh
   IsLeastCut n tree = (q : Plan) → IsOrderly stock temporary tree false q → need stock.rules q ≤ stock.file → n ≤ cost q
 
   record IsFew (p : Plan) : Type 0 where
-    few : (destination : Destination) (tree : Term) (whole : Bool) → IsOrderly stock destination tree whole p → IsMin p destination tree whole → cut_count p ≤ cuttable_count bits destination tree whole
+    few : (destination : Destination) (tree : Term) (whole : Bool) → IsOrderly stock destination tree whole p → IsMin p destination tree whole → cut_count p ≤ goal_nodes stock.temps bits destination tree whole
     fewer : (destination : Destination) (tree : Term) (whole : Bool) → IsPlain stock.temps bits destination → IsOrderly stock destination tree whole p → IsMin p destination tree whole → IsLeastCut (cost p) tree
-        → cut_count p ≤ cuttable_below bits tree
+        → cut_count p ≤ wide_below bits tree
 
   record AreFew (ps : Operands) : Type 0 where
     few : (left : List Operand) → AreOrderly stock left ps → AreMin ps left → operands_count ps ≤ op_sum left
-    fewer : (o : Operand) → AreOrderly stock (o ∷ []) ps → AreMin ps (o ∷ []) → IsLeastCut (operands_cost ps) o.tree → operands_count ps ≤ cuttable_below bits o.tree
+    fewer : (o : Operand) → AreOrderly stock (o ∷ []) ps → AreMin ps (o ∷ []) → IsLeastCut (operands_cost ps) o.tree → operands_count ps ≤ wide_below bits o.tree
 
   record CutsFew (cs : Cuts) : Type 0 where
     few : (trees : List Term) → AreCut stock trees cs → CutsMin cs trees → cuts_count cs ≤ cut_sum trees
 
-  sum_at : (left : List Operand) (i : ℕ) (o : Operand) → slice_get left i ≡ Some o → op_sum left ≡ cuttable_nodes bits o.tree o.whole + op_sum (remove left i)
+  sum_at : (left : List Operand) (i : ℕ) (o : Operand) → slice_get left i ≡ Some o → op_sum left ≡ tree_nodes stock.temps bits o.tree o.whole + op_sum (remove left i)
   sum_at [] i o e = absurd (cc)
-  sum_at (x ∷ left) zero o e = let q : x ≡ o = cc in ap (λ (z : Operand). cuttable_nodes bits z.tree z.whole + op_sum left) q
+  sum_at (x ∷ left) zero o e = let q : x ≡ o = cc in ap (λ (z : Operand). tree_nodes stock.temps bits z.tree z.whole + op_sum left) q
   sum_at (x ∷ left) (suc i) o e = let h = sum_at left i o e in omega (arith, h)
 
   home_plain : (home : Home) → IsPlain stock.temps bits (home_destination home)
   home_plain (in_register id) = tt
   home_plain (in_file shape) = tt
 
-  home_nodes : (home : Home) (t : Term) (whole : Bool) → cuttable_count bits (home_destination home) t whole ≡ cuttable_nodes bits t whole
+  home_nodes : (home : Home) (t : Term) (whole : Bool) → goal_nodes stock.temps bits (home_destination home) t whole ≡ tree_nodes stock.temps bits t whole
   home_nodes (in_register id) t whole = refl
   home_nodes (in_file shape) t whole = refl
 
@@ -75,19 +76,19 @@ module _ (bits : ℕ) (stock : Stock) (words : AllReadWords bits stock.rules) wh
 
       few' : (left : List Operand) → AreOrderly stock left (operand_then i p ps) → AreMin (operand_then i p ps) left → operands_count (operand_then i p ps) ≤ op_sum left
       few' left c m =
-          let a : cut_count p ≤ cuttable_nodes bits c.0.tree c.0.whole =
+          let a : cut_count p ≤ tree_nodes stock.temps bits c.0.tree c.0.whole =
           subst (λ n. cut_count p ≤ n) (home_nodes c.0.home c.0.tree c.0.whole) (h.few (home_destination c.0.home) c.0.tree c.0.whole c.2 (head_min i left c m)) in
           let b : operands_count ps ≤ op_sum (remove left i) = k.few (remove left i) c.4 (rest_min i left c m) in
           omega (arith, a, b, sum_at left i c.0 c.1)
 
       fewer' : (j : ℕ) (o : Operand) → AreOrderly stock (o ∷ []) (operand_then j p ps) → AreMin (operand_then j p ps) (o ∷ []) → IsLeastCut (operands_cost (operand_then j p ps)) o.tree
-          → operands_count (operand_then j p ps) ≤ cuttable_below bits o.tree
+          → operands_count (operand_then j p ps) ≤ wide_below bits o.tree
       fewer' zero o c m l =
           let e : o ≡ c.0 = cc (c.1) in
           let least : IsLeastCut (cost p) c.0.tree = λ q d b. let r : cost p + operands_cost ps ≤ cost q = l q (subst (λ (z : Operand). IsOrderly stock temporary z.tree false q) (sym e) d) b in omega (arith, r) in
-          let a : cut_count p ≤ cuttable_below bits c.0.tree = h.fewer (home_destination c.0.home) c.0.tree c.0.whole (home_plain c.0.home) c.2 (head_min zero (o ∷ []) c m) least in
+          let a : cut_count p ≤ wide_below bits c.0.tree = h.fewer (home_destination c.0.home) c.0.tree c.0.whole (home_plain c.0.home) c.2 (head_min zero (o ∷ []) c m) least in
           let b : operands_count ps ≤ 0 = k.few [] c.4 (rest_min zero (o ∷ []) c m) in
-          let q : cuttable_below bits o.tree ≡ cuttable_below bits c.0.tree = ap (λ (z : Operand). cuttable_below bits z.tree) e in
+          let q : wide_below bits o.tree ≡ wide_below bits c.0.tree = ap (λ (z : Operand). wide_below bits z.tree) e in
           omega (arith, a, b, q)
       fewer' (suc j) o c m l = absurd (cc (c.1))
 
@@ -100,10 +101,10 @@ module _ (bits : ℕ) (stock : Stock) (words : AllReadWords bits stock.rules) wh
       few' : (trees : List Term) → AreCut stock trees (cut_then p cs) → CutsMin (cut_then p cs) trees → cuts_count (cut_then p cs) ≤ cut_sum trees
       few' trees c m =
           let least : IsLeastCut (cost p) c.0 = λ q d b. let r : cost p + cuts_cost cs ≤ cost q + cuts_cost cs = m (cut_then q cs) (c.0, c.1, c.2, d, b, c.5) in omega (arith, r) in
-          let a : cut_count p ≤ cuttable_below bits c.0 = h.fewer temporary c.0 false tt c.3 (λ q d e b. least q d (let n = c.4 in omega (arith, n, b))) least in
+          let a : cut_count p ≤ wide_below bits c.0 = h.fewer temporary c.0 false tt c.3 (λ q d e b. least q d (let n = c.4 in omega (arith, n, b))) least in
           let later : CutsMin cs c.1 = λ ds d. let r : cost p + cuts_cost cs ≤ cost p + cuts_cost ds = m (cut_then p ds) (c.0, c.1, c.2, c.3, c.4, d) in omega (arith, r) in
           let b : cuts_count cs ≤ cut_sum c.1 = k.few c.1 c.5 later in
-          let q : cut_sum trees ≡ cuttable_below bits c.0 + 1 + cut_sum c.1 = ap cut_sum c.2 in
+          let q : cut_sum trees ≡ wide_below bits c.0 + 1 + cut_sum c.1 = ap cut_sum c.2 in
           omega (arith, a, b, q)
 
   no_cut_few : CutsFew no_cuts
@@ -129,26 +130,26 @@ module _ (bits : ℕ) (stock : Stock) (words : AllReadWords bits stock.rules) wh
           let r : 1 + operands_cost ps + cuts_cost cs ≤ 1 + operands_cost ps + cuts_cost ds = m (use_form k ps ds) (c.0, c.1, c.2, c.3, c.4, d) refl (omega arith) in omega (arith, r)
 
       few' : (destination : Destination) (tree : Term) (whole : Bool) → IsOrderly stock destination tree whole (use_form k ps cs) → IsMin (use_form k ps cs) destination tree whole
-          → cut_count (use_form k ps cs) ≤ cuttable_count bits destination tree whole
+          → cut_count (use_form k ps cs) ≤ goal_nodes stock.temps bits destination tree whole
       few' destination tree whole c m =
           let a : operands_count ps ≤ op_sum (operands_of c.2.sites) = hp.few (operands_of c.2.sites) c.4 (op_min destination tree whole c m) in
           let b : cuts_count cs ≤ cut_sum (cuts_of c.2.sites) = hc.few (cuts_of c.2.sites) c.5 (cut_min destination tree whole c m) in
-          let s : sites_sum stock.temps bits c.2.sites ≤ cuttable_count bits destination tree whole = goal_sum stock.temps bits c.0 c.0.goal destination tree whole c.2 (words k c.0 c.1).0 (words k c.0 c.1).1 c.3 in
+          let s : sites_sum stock.temps bits c.2.sites ≤ goal_nodes stock.temps bits destination tree whole = goal_sum stock.temps bits c.0 c.0.goal destination tree whole c.2 (words k c.0 c.1).0 (words k c.0 c.1).1 c.3 in
           omega (arith, a, b, s)
 
       fewer' : (destination : Destination) (tree : Term) (whole : Bool) → IsPlain stock.temps bits destination → IsOrderly stock destination tree whole (use_form k ps cs) → IsMin (use_form k ps cs) destination tree whole
-          → IsLeastCut (cost (use_form k ps cs)) tree → cut_count (use_form k ps cs) ≤ cuttable_below bits tree
+          → IsLeastCut (cost (use_form k ps cs)) tree → cut_count (use_form k ps cs) ≤ wide_below bits tree
       fewer' destination tree whole pl c m l =
           by_kind (whole_at stock.temps bits destination whole) c.2 (goal_kind stock.temps bits c.0 c.0.goal destination tree whole c.2 (words k c.0 c.1).1 pl c.3) c.4 c.5 (op_min destination tree whole c m) (cut_min destination tree whole c m) l
         where
           by_kind : (w : Bool) (f : Found) → MatchKind stock.temps bits tree w f → AreOrderly stock (operands_of f.sites) ps → AreCut stock (cuts_of f.sites) cs → AreMin ps (operands_of f.sites)
-              → CutsMin cs (cuts_of f.sites) → IsLeastCut (1 + operands_cost ps + cuts_cost cs) tree → operands_count ps + cuts_count cs ≤ cuttable_below bits tree
+              → CutsMin cs (cuts_of f.sites) → IsLeastCut (1 + operands_cost ps + cuts_cost cs) tree → operands_count ps + cuts_count cs ≤ wide_below bits tree
           by_kind w f (itself id e) o u om um l =
               let b : cuts_count cs ≤ cut_sum (cuts_of f.sites) = hc.few (cuts_of f.sites) u um in
               let z : cut_sum (cuts_of f.sites) ≡ 0 = ap (λ s. cut_sum (cuts_of s)) e in
               let op : Operand = record { home = id; tree = tree; whole = w } in
               let eo : operands_of f.sites ≡ op ∷ [] = ap operands_of e in
-              let a : operands_count ps ≤ cuttable_below bits tree =
+              let a : operands_count ps ≤ wide_below bits tree =
               hp.fewer op (subst (λ s. AreOrderly stock s ps) eo o) (subst (λ s. AreMin ps s) eo om)
               (λ q d v. let r : 1 + operands_cost ps + cuts_cost cs ≤ cost q = l q d v in omega (arith, r)) in
               omega (arith, a, b, z)
@@ -173,9 +174,17 @@ module _ (bits : ℕ) (stock : Stock) (words : AllReadWords bits stock.rules) wh
     few_cuts no_cuts = no_cut_few
     few_cuts (cut_then p cs) = cut_few p cs (few_plan p) (few_cuts cs)
 
+  goal_temps : (destination : Destination) (t : Term) → goal_nodes stock.temps bits destination t true ≡ tree_temps bits destination t
+  goal_temps (into id) t = refl
+  goal_temps filed t = refl
+  goal_temps (cell a) t = refl
+  goal_temps (stored a) t = refl
+  goal_temps temporary t = refl
+  goal_temps tested t = refl
+
   -- a chosen cover has at most as many cuts as its tree has nodes that can be cut
-  pub chosen_few : (destination : Destination) (trees : List Term) (choice : Choice) → (c : IsChosen stock destination trees choice) → cut_count choice.plan ≤ cuttable_count bits destination c.covers.tree true
-  chosen_few destination trees choice c = (few_plan choice.plan).few destination c.covers.tree true c.covers.orderly least
+  pub chosen_few : (destination : Destination) (trees : List Term) (choice : Choice) → (c : IsChosen stock destination trees choice) → cut_count choice.plan ≤ tree_temps bits destination c.covers.tree
+  chosen_few destination trees choice c = subst (λ n. cut_count choice.plan ≤ n) (goal_temps destination c.covers.tree) ((few_plan choice.plan).few destination c.covers.tree true c.covers.orderly least)
     where
       least : IsMin choice.plan destination c.covers.tree true
       least q d e b =

@@ -10,19 +10,57 @@ use Rattle.form_model.specs.Shapes.{is_shape, shape_setting, shows_below}
 use Rattle.form_model.specs.Rules.{Rule, Kind, into_reg, into_memory, into_file, branches, Destination, into, filed, cell, stored, temporary, tested}
 use Rattle.form_model.specs.Matches.{Home, in_register, in_file, Site, operand, cut, Found, settled, open_if, both, shape_match, literal_match, cell_match, read_match, un_match, bin_match, slice_match, zext_match, sext_match, matched, address_match, goal_match, same_op1, same_op2}
 use Rattle.form_model.specs.Covers.{Operand, operands_of, cuts_of}
-use Rattle.emit_seq.specs.Cells.{ReadsWords, AddressReadsWords, one_if, is_cuttable, cuttable_below, cuttable_nodes, cuttable_count}
+use Rattle.form_model.specs.WideNodes.{wide_below, wide_nodes}
+use Rattle.form_model.proofs.WideLaws.{below_nodes, one_more}
+use Rattle.emit_seq.specs.ReadWords.{ReadsWords, AddressReadsWords}
 use Rattle.form_model.proofs.SettingLaws.{picked}
 use Rattle.emit_seq.proofs.Matched.{Joined, joined, Literal, literal, opened, settled_some}
 
 module _ (temps bits : ℕ) where
+  -- the nodes of a word's width of a tree, its root among them unless it is whole
+  abbrev pub tree_nodes : Term → Bool → ℕ
+  tree_nodes t whole = if whole then wide_below bits t else wide_nodes bits t
+
+  -- and those of a tree for a destination
+  abbrev pub goal_nodes : Destination → Term → Bool → ℕ
+  goal_nodes (into id) tree whole = tree_nodes tree whole
+  goal_nodes filed tree whole = tree_nodes tree whole
+  goal_nodes (cell address) tree whole = tree_nodes tree true
+  goal_nodes (stored address) tree whole = tree_nodes address false + tree_nodes tree false
+  goal_nodes temporary tree whole = tree_nodes tree false
+  goal_nodes tested tree whole = tree_nodes tree true
+
+  below_tree : (t : Term) (whole : Bool) → wide_below bits t ≤ tree_nodes t whole
+  below_tree t true = omega arith
+  below_tree t false = below_nodes bits t
+
+  -- a tree that is a cut counts itself
+  cut_tree : (t : Term) (whole : Bool) → not whole ≡ true → (term_width t == bits) ≡ true → is_cell t ≡ false → wide_below bits t + 1 ≤ tree_nodes t whole
+  cut_tree t true n w c = absurd (cc)
+  cut_tree t false n w c = let e = one_more bits t w c in omega (arith, e)
+
+  -- a number that is a read's address isn't counted
+  address_sum : (b : Term) (n : ℕ) → n ≤ tree_nodes b (is_number b) → n ≤ (if is_number b then 0 else wide_nodes bits b)
+  address_sum (word w) n h = h
+  address_sum (reg r w) n h = h
+  address_sum (const w v) n h = h
+  address_sum (read space a w) n h = h
+  address_sum (un o a) n h = h
+  address_sum (bin o a b) n h = h
+  address_sum (slice a hi lo) n h = h
+  address_sum (cat a b) n h = h
+  address_sum (zext a w) n h = h
+  address_sum (sext a w) n h = h
+  address_sum (select c a b) n h = h
+
   -- what the sites may want: the nodes of an operand, and those of a cut with the cut itself
   abbrev pub operands_sum : List Operand → ℕ
   operands_sum [] = 0
-  operands_sum (o ∷ os) = cuttable_nodes bits o.tree o.whole + operands_sum os
+  operands_sum (o ∷ os) = tree_nodes o.tree o.whole + operands_sum os
 
   abbrev pub cuts_sum : List Term → ℕ
   cuts_sum [] = 0
-  cuts_sum (t ∷ ts) = cuttable_below bits t + 1 + cuts_sum ts
+  cuts_sum (t ∷ ts) = wide_below bits t + 1 + cuts_sum ts
 
   abbrev pub sites_sum : List Site → ℕ
   sites_sum sites = operands_sum (operands_of sites) + cuts_sum (cuts_of sites)
@@ -35,15 +73,14 @@ module _ (temps bits : ℕ) where
   -- a match takes the tree itself, as an operand or as a cut, or parts below its root
   pub data MatchKind : Term → Bool → Found → Type 0 where
     itself : {t : Term} {whole : Bool} {f : Found} → (home : Home) → f.sites ≡ operand home t whole ∷ [] → MatchKind t whole f
-    stored_whole : {t : Term} {whole : Bool} {f : Found} → (shape : Term) → f.sites ≡ cut shape t ∷ [] → (not whole && is_cuttable bits t) ≡ true → MatchKind t whole f
-    parts : {t : Term} {whole : Bool} {f : Found} → sites_sum f.sites ≤ cuttable_below bits t → MatchKind t whole f
+    stored_whole : {t : Term} {whole : Bool} {f : Found} → (shape : Term) → f.sites ≡ cut shape t ∷ [] → wide_below bits t + 1 ≤ tree_nodes t whole → MatchKind t whole f
+    parts : {t : Term} {whole : Bool} {f : Found} → sites_sum f.sites ≤ wide_below bits t → MatchKind t whole f
 
-  pub kind_sum : (t : Term) (whole : Bool) (f : Found) → MatchKind t whole f → sites_sum f.sites ≤ cuttable_nodes bits t whole
+  pub kind_sum : (t : Term) (whole : Bool) (f : Found) → MatchKind t whole f → sites_sum f.sites ≤ tree_nodes t whole
   kind_sum t whole f (itself home e) = let q : sites_sum f.sites ≡ sites_sum (operand home t whole ∷ []) = ap sites_sum e in omega (arith, q)
   kind_sum t whole f (stored_whole shape e c) =
-      let q : sites_sum f.sites ≡ sites_sum (cut shape t ∷ []) = ap sites_sum e in
-      let n : one_if (not whole && is_cuttable bits t) ≡ 1 = ap one_if c in omega (arith, q, n)
-  kind_sum t whole f (parts h) = omega (arith, h)
+      let q : sites_sum f.sites ≡ sites_sum (cut shape t ∷ []) = ap sites_sum e in omega (arith, q, c)
+  kind_sum t whole f (parts h) = let b = below_tree t whole in omega (arith, h, b)
 
   -- what each match of this expression takes
   abbrev MatchKinds : Term → Type 0
@@ -82,7 +119,7 @@ module _ (temps bits : ℕ) where
   read_kind : (a : Term) (w : ℕ) → MatchKinds a → (t : Term) (whole : Bool) (f : Found) → read_match (matched temps a) w t ≡ Some f → MatchKind t whole f
   read_kind a w ih (read InMemory b v) whole f h =
       let p : ((v == w) ≡ true) × (matched temps a b (is_number b) ≡ Some f) = picked _ _ _ h in
-      parts (kind_sum b (is_number b) f (ih b (is_number b) f p.1))
+      parts (address_sum b (sites_sum f.sites) (kind_sum b (is_number b) f (ih b (is_number b) f p.1)))
   read_kind a w ih t whole f h = absurd (cc)
 
   number_kind : (a t : Term) (whole : Bool) (f : Found) → literal_match a t ≡ Some f → MatchKind t whole f
@@ -103,7 +140,7 @@ module _ (temps bits : ℕ) where
       fork of_words false e k =
           let p : ((not whole && shows_below a temps) ≡ true) × (record { setting = 0; sites = cut a t ∷ [] } ≡ f) = opened _ _ _ k in
           let q : (not whole ≡ true) × (shows_below a temps ≡ true) = and_parts _ _ p.0 in
-          stored_whole a (ap (λ (z : Found). z.sites) (sym p.1)) (rw (q.0, of_words, e) refl)
+          stored_whole a (ap (λ (z : Found). z.sites) (sym p.1)) (cut_tree t whole q.0 of_words e)
 
   slice_kind : (a : Term) (hi lo : ℕ) → MatchKinds a → (t : Term) (whole : Bool) (f : Found) → slice_match (matched temps a) (term_width a) hi lo t ≡ Some f → MatchKind t whole f
   slice_kind a hi lo ih (slice b h' l') whole f h =
@@ -194,7 +231,7 @@ module _ (temps bits : ℕ) where
   kind_moved : (t : Term) (whole : Bool) (f g : Found) → g.sites ≡ f.sites → MatchKind t whole f → MatchKind t whole g
   kind_moved t whole f g e (itself id q) = itself id (e ∙ q)
   kind_moved t whole f g e (stored_whole shape q c) = stored_whole shape (e ∙ q) c
-  kind_moved t whole f g e (parts h) = parts (subst (λ z. sites_sum z ≤ cuttable_below bits t) (sym e) h)
+  kind_moved t whole f g e (parts h) = parts (subst (λ z. sites_sum z ≤ wide_below bits t) (sym e) h)
 
   memory_kind : (rule : Rule) (destination : Destination) (tree : Term) (whole : Bool) (found : Found) → ReadsWords bits rule.value → IsPlain destination
       → both (address_match temps rule.addr destination) (matched temps rule.value tree whole) ≡ Some found → MatchKind tree whole found
@@ -216,7 +253,7 @@ module _ (temps bits : ℕ) where
   goal_kind rule goal destination tree whole found o p h = absurd (cc)
 
   store_sum : (rule : Rule) (address tree : Term) (at : Option Term) (found : Found) → AddressReadsWords bits at → ReadsWords bits rule.value
-      → both (address_match temps at (stored address)) (matched temps rule.value tree false) ≡ Some found → sites_sum found.sites ≤ cuttable_nodes bits address false + cuttable_nodes bits tree false
+      → both (address_match temps at (stored address)) (matched temps rule.value tree false) ≡ Some found → sites_sum found.sites ≤ tree_nodes address false + tree_nodes tree false
   store_sum rule address tree None found u v h = absurd (cc)
   store_sum rule address tree (Some addr) found u v h =
       let j : Joined (matched temps addr address false) (matched temps rule.value tree false) found = joined _ _ _ h in
@@ -230,7 +267,7 @@ module _ (temps bits : ℕ) where
       )
 
   pub goal_sum : (rule : Rule) (goal : Kind) (destination : Destination) (tree : Term) (whole : Bool) (found : Found) → AddressReadsWords bits rule.addr → ReadsWords bits rule.value
-      → goal_match temps rule goal destination tree whole ≡ Some found → sites_sum found.sites ≤ cuttable_count bits destination tree whole
+      → goal_match temps rule goal destination tree whole ≡ Some found → sites_sum found.sites ≤ goal_nodes destination tree whole
   goal_sum rule (into_reg q) (into id) tree whole found u v h = kind_sum tree whole found (goal_kind rule (into_reg q) (into id) tree whole found v tt h)
   goal_sum rule into_file filed tree whole found u v h = kind_sum tree whole found (goal_kind rule into_file filed tree whole found v tt h)
   goal_sum rule into_memory (cell a) tree whole found u v h = kind_sum tree true found (memory_kind rule (cell a) tree true found v tt h)

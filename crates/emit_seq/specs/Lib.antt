@@ -3,7 +3,7 @@ pub mod Formed
 pub mod Leaves
 pub mod Spares
 pub mod Settles
-pub mod Cells
+pub mod ReadWords
 pub mod Views
 pub mod Emits
 pub mod Inner

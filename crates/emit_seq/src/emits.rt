@@ -77,9 +77,10 @@ fn emit_at<'a>(
     Ok(Emitted { steps, branch })
 }
 
-/// The steps of a job whose tree of number `which` this orderly cover covers: first those that put its cuts
-/// into the temporary cells 0, 1 and so on, from left to right and a cut after those inside it,
-/// then those of its operands in their order, and then the form's own. A test's branch is no step.
+/// The steps of a job whose tree of number `which` this orderly cover covers: first those that put
+/// its cuts into the temporary cells 0, 1 and so on, from left to right and a cut after those
+/// inside it, then those of its operands in their order, and then the form's own. A test's branch
+/// is no step.
 pub fn emit(
     alloc: Global,
     forms: &Forms,

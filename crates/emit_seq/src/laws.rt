@@ -9,7 +9,8 @@ ghost use Rattle.form_model.specs.Rules.{Destination, tested};
 ghost use Rattle.form_model.specs.Plans.{Plan};
 ghost use Rattle.form_model.specs.Covers.{Stock, Choice, IsChosen, IsOrderly, job_cost, need};
 ghost use Rattle.form_model.specs.Steps.{branch_setting, cut_count, cover_steps};
-ghost use Rattle.emit_seq.specs.Cells.{AllReadWords, cuttable_count};
+ghost use Rattle.form_model.specs.WideNodes.{tree_temps};
+ghost use Rattle.emit_seq.specs.ReadWords.{AllReadWords};
 ghost use Rattle.emit_seq.specs.Formed.{AreFormed};
 ghost use Rattle.emit_seq.specs.Leaves.{condition_of, IsOfJob, IsCoverStart, LeaveValue};
 ghost use Rattle.emit_seq.specs.Settles.{AreOfForms};
@@ -57,10 +58,10 @@ pub fn law_of_settings()
 {}
 
 /// Where the forms read words of so many bits, a chosen cover has at most as many cuts, inner ones
-/// among them, as its tree has nodes that can be cut.
+/// among them, as its tree has nodes of a word's width below its root.
 pub fn law_of_cells()
     ensures { (bits : ℕ) (stock : Stock) → AllReadWords bits stock.rules →
         (destination : Destination) (trees : List Term) (choice : Choice) →
         (c : IsChosen stock destination trees choice) →
-        cut_count choice.plan ≤ cuttable_count bits destination c.covers.tree true }
+        cut_count choice.plan ≤ tree_temps bits destination c.covers.tree }
 {}

@@ -33,8 +33,8 @@ fn put_form_step(
     }
 }
 
-/// Adds the steps of an orderly cover without those for its cuts: those of its operands, and then the form's
-/// own.
+/// Adds the steps of an orderly cover without those for its cuts: those of its operands, and then
+/// the form's own.
 #[cycle(evaluating)]
 pub fn put_own_steps<'a>(
     alloc: Global,

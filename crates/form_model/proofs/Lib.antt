@@ -6,5 +6,6 @@ pub mod SumLaws
 pub mod ShapeLaws
 pub mod TreeLaws
 pub mod NeedLaws
+pub mod WideLaws
 pub mod Zips
 mod WorkedCovers

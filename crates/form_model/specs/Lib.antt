@@ -2,6 +2,7 @@ pub mod Trees
 pub mod Shapes
 pub mod Bits
 pub mod Rules
+pub mod WideNodes
 pub mod Registers
 pub mod Matches
 pub mod Plans

@@ -5,11 +5,11 @@ use Rattle.bit_bdd.specs.Diagrams.{Diagrams, Extends, has_word}
 use Rattle.net_model.specs.declared.hardware.Netlist.{Netlist}
 use Rattle.net_model.specs.declared.hardware.Space.TheVariants.{File as InFile}
 use Rattle.net_model.specs.declared.hardware.Storage.{Storage}
-use Rattle.net_model.specs.Nets.{memory_id, place_in}
+use Rattle.net_model.specs.Nets.{file_place, memory_id, place_in}
 use Rattle.net_model.specs.Patterns.{IsWordOf, Pattern}
 use Rattle.sym_expr.specs.declared.pool.Node.{Node}
 use Rattle.net_model.specs.Transfers.{Keeps, StepsOn}
-use Rattle.transfer_set.specs.Tables.{Table, file_place}
+use Rattle.transfer_set.specs.Tables.{Table}
 use Rattle.form_set.specs.declared.pattern_ids.PatternIds.{PatternIds}
 use Rattle.form_set.specs.Inner.PatternIds.{InSet, ArePatternIds, ids_pattern}
 use Rattle.transfer_set.specs.Ready.{IsReady}

@@ -13,8 +13,8 @@ pub fn law_of_forms()
 {}
 
 /// For every setting of a plain form some word does its transfer, steps, keeps the data memory
-/// unless that is what it writes, and keeps each register that is no clobber; what it writes is a
-/// clobber, and so is the program counter.
+/// and the register file unless that is what it writes, and keeps each register that is no
+/// clobber; a register that it writes is a clobber, and so is the program counter.
 pub fn law_of_words()
     ensures words { SettingsHaveWords }
     ensures own { ClobbersHaveOwn }

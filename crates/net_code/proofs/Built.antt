@@ -47,7 +47,7 @@ use Rattle.right_code.specs.Tasks.{IsChecked, Task, task_memory, task_stock, tas
 use Rattle.right_code.proofs.OneBound.{bound_one}
 use Rattle.right_code.proofs.Right.{jump_words_of, right_image}
 use Rattle.net_code.specs.declared.views.CoveredProgram.{CoveredProgram}
-use Rattle.net_code.specs.declared.views.Machine.{Machine}
+use Rattle.compaction.specs.declared.machine.Machine.{Machine}
 use Rattle.net_code.specs.Inner.Coded.{AreItemWords, HasWord, IsBlockCode}
 use Rattle.net_code.specs.Machines.{machine_netlist, machine_patterns}
 use Rattle.net_code.specs.Inner.Covering.{IsCovering}
@@ -61,7 +61,7 @@ use Rattle.net_code.proofs.Fitting.{image_fitting}
 use Rattle.net_code.proofs.Frames.{are, chosen, covered, forms, of_program, of_task, tests}
 use Rattle.net_code.proofs.Lengths.{code_within}
 use Rattle.net_code.proofs.Making.{branches_made, sizes}
-use Rattle.net_code.specs.declared.blocks.PackedBlock.{PackedBlock}
+use Rattle.compaction.specs.declared.packer.PackedBlock.{PackedBlock}
 use Rattle.net_code.proofs.Whole.{image_made}
 
 -- jobs with chosen covers have as many costs

@@ -13,7 +13,7 @@ use Rattle.src_trees.specs.Lowered.{Work}
 use Rattle.branch_fix.specs.Parts.{branch_or_zero, blocks_before, place_blocks, place_tests, tests_before}
 use Rattle.right_code.specs.Images.{choices_at}
 use Rattle.right_code.specs.Jobs.{jobs_steps}
-use Rattle.net_code.specs.declared.blocks.PackedBlock.{PackedBlock}
+use Rattle.compaction.specs.declared.packer.PackedBlock.{PackedBlock}
 use Rattle.net_code.specs.Blocks.{IsPackedBlock}
 use Rattle.net_code.specs.Inner.Coded.{IsBlockCode, IsTestCode, block_at, no_block}
 

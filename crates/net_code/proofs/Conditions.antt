@@ -1,7 +1,6 @@
--- The registers that a branch's condition reads, as a set of bits.
-use Rattle.std.proofs.Common.{◌≡◌, ℕ, ◌<◌, ◌≤◌, ◌==◌, ◌||◌, ◌^◌, nat_lt, if◌then◌else◌, Bool, true, false, bit_or, List, length, refl, sym, ◌∙◌, ap, arith}
-use Rattle.std.proofs.lemmas.Bool.{eqb-true, eqb-false, eq-eqb, ltb-true, ltb-false, ne_eqb}
-use Rattle.std.proofs.lemmas.Nat.{one_shl}
+-- The registers that are wanted behind a test are those that its branch's condition reads.
+use Rattle.std.proofs.Common.{◌≡◌, ℕ, ◌<◌, ◌≤◌, ◌||◌, ◌^◌, nat_lt, Bool, true, false, List, Some, length, slice_get, refl, sym, ◌∙◌, ap, arith}
+use Rattle.std.proofs.lemmas.Bool.{ltb-true, ltb-false, ne_eqb}
 use Rattle.net_model.specs.declared.hardware.Space.TheVariants.{Memory as InMemory, File as InFile}
 use Rattle.net_model.specs.declared.hardware.Netlist.{Netlist}
 use Rattle.net_model.specs.Patterns.{ArePatterns, Pattern}
@@ -18,14 +17,14 @@ use Rattle.form_model.specs.Steps.{branch_setting, rule_at}
 use Rattle.form_set.specs.Listing.{AreForms}
 use Rattle.emit_seq.specs.Spares.{wanted}
 use Rattle.emit_seq.proofs.Opened.{opened_plan}
-use Rattle.live_sets.proofs.Bits.{regs_of_none, regs_of_one, regs_of_or, regs_of_past}
+use Rattle.live_sets.proofs.Bits.{regs_of_past}
 use Rattle.right_code.specs.Forks.{plan_rule}
 use Rattle.right_code.specs.Inner.Forks.{IsBranchForm}
 use Rattle.right_code.specs.Tasks.{IsChecked, Task, task_stock}
 use Rattle.right_code.proofs.Known.{known_of}
 use Rattle.right_code.proofs.Layouts.{plan_goal}
 use Rattle.right_code.proofs.Turns.{fork_form}
-use Rattle.net_code.specs.Inner.Registers.{one_register, term_registers}
+use Rattle.net_code.specs.Inner.Registers.{AreConditionReads, pattern_condition}
 
 neither : (a b : Bool) → a ≡ false → b ≡ false → (a || b) ≡ false
 neither a b e f = ap (λ x. x || b) e ∙ f
@@ -47,57 +46,12 @@ past_netlist netlist few (select c a b) h i r le =
     neither (term_reads i c (register r)) (term_reads i a (register r) || term_reads i b (register r)) (past_netlist netlist few c h.0 i r le)
     (neither (term_reads i a (register r)) (term_reads i b (register r)) (past_netlist netlist few a h.1 i r le) (past_netlist netlist few b h.2 i r le))
 
-same_turned : (q r : ℕ) → (q == r) ≡ (r == q)
-same_turned q r = by (q == r) refl
-  where
-    by : (b : Bool) → (q == r) ≡ b → b ≡ (r == q)
-    by true e = sym (eq-eqb r q (sym (eqb-true q r e)))
-    by false e = sym (ne_eqb r q (λ f. eqb-false q r e (sym f)))
-
-one_reads : (q r : ℕ) → r < 16 → (r == q) ≡ regs_of (one_register q) r
-one_reads q r lt = by (nat_lt q 16) refl
-  where
-    by : (b : Bool) → nat_lt q 16 ≡ b → (r == q) ≡ regs_of (if b then 2 ^ q else 0) r
-    by true e = sym (regs_of_one q r (2 ^ q) (ltb-true q 16 e) (sym (one_shl q 16 (ltb-true q 16 e))) ∙ same_turned q r)
-    by false e = ne_eqb r q (λ f. let k = ltb-false q 16 e in omega (arith, k, f, lt)) ∙ sym (regs_of_none r)
-
-both : (a b x y : Bool) → a ≡ x → b ≡ y → (a || b) ≡ (x || y)
-both a b x y e f j = e j || f j
-
-or_assoc : (x y z : Bool) → ((x || y) || z) ≡ (x || (y || z))
-or_assoc true y z = refl
-or_assoc false y z = refl
-
--- below 16 the set has what the expression reads
-reads_below : (t : Term) (i r : ℕ) → r < 16 → term_reads i t (register r) ≡ regs_of (term_registers t) r
-reads_below (word w) i r lt = sym (regs_of_none r)
-reads_below (reg q w) i r lt = one_reads q r lt
-reads_below (const w v) i r lt = sym (regs_of_none r)
-reads_below (read InMemory a w) i r lt = reads_below a i r lt
-reads_below (read InFile a w) i r lt = reads_below a i r lt
-reads_below (un o a) i r lt = reads_below a i r lt
-reads_below (bin o a b) i r lt = both _ _ _ _ (reads_below a i r lt) (reads_below b i r lt) ∙ sym (regs_of_or (term_registers a) (term_registers b) r)
-reads_below (slice a hi lo) i r lt = reads_below a i r lt
-reads_below (cat a b) i r lt = both _ _ _ _ (reads_below a i r lt) (reads_below b i r lt) ∙ sym (regs_of_or (term_registers a) (term_registers b) r)
-reads_below (zext a w) i r lt = reads_below a i r lt
-reads_below (sext a w) i r lt = reads_below a i r lt
-reads_below (select c a b) i r lt =
-    both _ _ _ _ (reads_below c i r lt) (both _ _ _ _ (reads_below a i r lt) (reads_below b i r lt) ∙ sym (regs_of_or (term_registers a) (term_registers b) r))
-    ∙ turn
-  where
-    turn : (regs_of (term_registers c) r || regs_of (bit_or (term_registers a) (term_registers b)) r) ≡ regs_of (bit_or (bit_or (term_registers c) (term_registers a)) (term_registers b)) r
-    turn =
-        both _ _ _ _ refl (regs_of_or (term_registers a) (term_registers b) r)
-        ∙ sym (or_assoc (regs_of (term_registers c) r) (regs_of (term_registers a) r) (regs_of (term_registers b) r))
-        ∙ both _ _ _ _ (sym (regs_of_or (term_registers c) (term_registers a) r)) refl
-        ∙ sym (regs_of_or (bit_or (term_registers c) (term_registers a)) (term_registers b) r)
-
 module _ (order : List ℕ) (task : Task) (checked : IsChecked order task) (patterns : List Pattern) (are : ArePatterns task.netlist patterns)
     (rules : List Rule) (reach : ℕ) (forms : AreForms task.netlist patterns rules reach) where
   -- the registers that are wanted after a test's steps
   pub wanted_registers : (tree : Term) (plan : Plan) → IsOrderly (task_stock rules task) tested tree true plan
-      → (n : ℕ) → n < 2 ^ 16 → n ≡ term_registers (plan_rule (task_stock rules task) plan).value → wanted (task_stock rules task) tested tree plan ≡ regs_of n
-  wanted_registers tree (use_form k ps cs) orderly n small is = λ x r. point r (nat_lt r 16) refl x
+      → (n : ℕ) → n < 2 ^ 16 → AreConditionReads patterns (plan_rule (task_stock rules task) plan).pattern n → wanted (task_stock rules task) tested tree plan ≡ regs_of n
+  wanted_registers tree (use_form k ps cs) orderly n small reads = λ x r. point r (nat_lt r 16) refl x
     where
       rule : Rule
       rule = rule_at (task_stock rules task) k
@@ -115,8 +69,11 @@ module _ (order : List ℕ) (task : Task) (checked : IsChecked order task) (patt
       terms : IsTermOf task.netlist form.condition
       terms = (known_of task.netlist order checked.netlist patterns are rule.pattern _ form.is).terms.0
 
+      condition : pattern_condition (slice_get patterns rule.pattern) ≡ Some form.condition
+      condition = ap pattern_condition form.is
+
       point : (r : ℕ) (b : Bool) → nat_lt r 16 ≡ b → term_reads setting rule.value (register r) ≡ regs_of n r
-      point r true e = reads_below rule.value setting r (ltb-true r 16 e) ∙ ap (λ m. regs_of m r) (sym is)
+      point r true e = form.alike.reads setting r ∙ sym (reads form.condition condition setting r (ltb-true r 16 e))
       point r false e =
           let le = ltb-false r 16 e in
           form.alike.reads setting r ∙ past_netlist task.netlist (few_storages task.netlist order checked.netlist) form.condition terms setting r le ∙ sym (regs_of_past n r small le)

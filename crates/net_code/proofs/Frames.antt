@@ -29,10 +29,10 @@ use Rattle.right_code.specs.Tasks.{Task, task_memory, task_stock, task_works}
 use Rattle.right_code.proofs.Tasks.{AreTests, IsTestWork, program_tests, tests_get}
 use Rattle.right_code.proofs.Right.{block_words_of, job_covered, test_words_of}
 use Rattle.net_code.specs.declared.views.CoveredProgram.{CoveredProgram}
-use Rattle.net_code.specs.declared.views.Machine.{Machine}
+use Rattle.compaction.specs.declared.machine.Machine.{Machine}
 use Rattle.net_code.specs.Machines.{machine_netlist, machine_patterns}
 use Rattle.net_code.specs.Inner.Covering.{IsCovering}
-use Rattle.net_code.specs.Inner.Registers.{form_registers}
+use Rattle.net_code.specs.Inner.Registers.{AreConditionReads}
 use Rattle.net_code.specs.Inner.Views.{choices_in, stock_of, works_in}
 use Rattle.net_code.proofs.Conditions.{wanted_registers}
 
@@ -127,18 +127,18 @@ module _ (machine : Machine) (program : CoveredProgram) (task : Task) (c : IsCov
 
   -- the registers that are wanted behind a test
   wanted_there : (number : ℕ) (job : Work) (choice : Choice) → slice_get (task_works task) number ≡ Some job → slice_get (choices_in program) number ≡ Some choice → job.destination ≡ tested
-      → (n : ℕ) → n < 2 ^ 16 → n ≡ form_registers (slice_get rules (root_of choice.plan)) → wanted (task_stock rules task) tested (tree_used job choice) choice.plan ≡ regs_of n
+      → (n : ℕ) → n < 2 ^ 16 → ((rule : Rule) → slice_get rules (root_of choice.plan) ≡ Some rule → AreConditionReads patterns rule.pattern n) → wanted (task_stock rules task) tested (tree_used job choice) choice.plan ≡ regs_of n
   wanted_there number job choice at there e n small is =
       let h : IsCovered (task_stock rules task) job choice = covered number job choice at there in
       ap (λ t. wanted (task_stock rules task) tested t choice.plan) (ap tree_or_none h.covers.used)
       ∙ wanted_registers order task c.checked patterns are rules reach forms h.covers.tree choice.plan
-      (subst (λ d. IsOrderly (task_stock rules task) d h.covers.tree true choice.plan) e h.covers.orderly) n small (is ∙ ap form_registers (root_there number job choice at there))
+      (subst (λ d. IsOrderly (task_stock rules task) d h.covers.tree true choice.plan) e h.covers.orderly) n small (is (plan_rule (task_stock rules task) choice.plan) (root_there number job choice at there))
 
   pub wanted_is : (number : ℕ) (job : Work) (choice : Choice) → slice_get (works_in program) number ≡ Some job → slice_get (choices_in program) number ≡ Some choice → job.destination ≡ tested
-      → (n : ℕ) → n < 2 ^ 16 → n ≡ form_registers (slice_get rules (root_of choice.plan)) → wanted (stock_of program) tested (tree_used job choice) choice.plan ≡ regs_of n
+      → (n : ℕ) → n < 2 ^ 16 → ((rule : Rule) → slice_get rules (root_of choice.plan) ≡ Some rule → AreConditionReads patterns rule.pattern n) → wanted (stock_of program) tested (tree_used job choice) choice.plan ≡ regs_of n
   wanted_is number job choice =
       of_program (λ nt t s f w. slice_get w number ≡ Some job → slice_get (choices_in program) number ≡ Some choice → job.destination ≡ tested
-      → (n : ℕ) → n < 2 ^ 16 → n ≡ form_registers (slice_get rules (root_of choice.plan))
+      → (n : ℕ) → n < 2 ^ 16 → ((rule : Rule) → slice_get rules (root_of choice.plan) ≡ Some rule → AreConditionReads patterns rule.pattern n)
       → wanted (record { rules = rules; temps = t; file = s }) tested (tree_used job choice) choice.plan ≡ regs_of n)
       (wanted_there number job choice)
 

@@ -20,7 +20,7 @@ use Rattle.net_code.specs.Inner.Coded.{IsBlockCode}
 use Rattle.branch_fix.specs.Parts.{blocks_before}
 use Rattle.net_code.proofs.Making.{sizes, sizes_at}
 use Rattle.net_code.proofs.Packing.{groups_few}
-use Rattle.net_code.specs.declared.blocks.PackedBlock.{PackedBlock}
+use Rattle.compaction.specs.declared.packer.PackedBlock.{PackedBlock}
 use Rattle.net_code.proofs.Sizes.{place_cost, run_cost, run_more, sizes_within}
 
 -- ---- steps of jobs

@@ -12,7 +12,7 @@ use Rattle.form_model.specs.Covers.{Choice, IsChosen, Stock, job_cost}
 use Rattle.branch_fix.specs.declared.laid.Item.{Item}
 use Rattle.src_trees.specs.Lowered.{Work}
 use Rattle.right_code.specs.Covered.{AllChosen, HasCover, IsFirstBare, job_costs, numbered}
-use Rattle.net_code.specs.declared.blocks.PackedBlock.{PackedBlock}
+use Rattle.compaction.specs.declared.packer.PackedBlock.{PackedBlock}
 use Rattle.net_code.specs.Inner.Coded.{AreItemWords, IsWordOf}
 use Rattle.net_code.specs.Inner.Uncovered.{IsOneBare, IsUncovered}
 use Rattle.net_code.specs.declared.fault.CodeFault.{CodeFault}

@@ -18,7 +18,7 @@ use Rattle.branch_fix.specs.Parts.{fork_to, branch_or_zero, part_for, parts_of, 
 use Rattle.branch_fix.specs.Rounds.{IsFixpoint}
 use Rattle.right_code.specs.Images.{AreBlockWords, AreTestWords, IsBranchOf, choices_at}
 use Rattle.right_code.specs.Words.{IsItemWord, ListItems, StandItems}
-use Rattle.net_code.specs.declared.blocks.PackedBlock.{PackedBlock}
+use Rattle.compaction.specs.declared.packer.PackedBlock.{PackedBlock}
 use Rattle.net_code.specs.Inner.Coded.{AreItemWords, IsBlockCode, groups_at, words_at}
 use Rattle.net_code.proofs.Places.{settled_part, shortened}
 

@@ -1,5 +1,6 @@
 -- Each group of a packing has a step, so there are no more groups than steps; and its words' lists
 -- ascend. The empty set of bits is that of no registers.
+use Rattle.net_model.specs.Nets.{file_place}
 use Rattle.std.proofs.Common.{◌≡◌, ℕ, suc, ◌-◌, ◌≤◌, List, [], ◌∷◌, ◌++◌, Option, length, arith, length-append, subst, sym}
 use Rattle.std.proofs.lemmas.List.Sorted.{length_permutation}
 use Rattle.std.specs.List.{AllByRecursion}
@@ -7,7 +8,7 @@ use Rattle.net_model.specs.declared.hardware.Netlist.{Netlist}
 use Rattle.net_model.specs.Patterns.{Pattern}
 use Rattle.sym_expr.specs.declared.pool.Node.{Node}
 use Rattle.transfer_set.specs.Rows.{row_patterns}
-use Rattle.transfer_set.specs.Tables.{Table, file_place}
+use Rattle.transfer_set.specs.Tables.{Table}
 use Rattle.word_fit.specs.Fits.{fits_over}
 use Rattle.word_fit.specs.Groups.{AllHaveWords}
 use Rattle.block_words.specs.Laws.{operation_in}

@@ -20,7 +20,7 @@ use Rattle.right_code.specs.Covered.{AllChosen, job_costs, numbered}
 use Rattle.right_code.specs.Images.{IsMadeFor}
 use Rattle.right_code.specs.Tasks.{Task, task_stock, task_works}
 use Rattle.right_code.specs.Words.{ListItems, StandItems}
-use Rattle.net_code.specs.declared.blocks.PackedBlock.{PackedBlock}
+use Rattle.compaction.specs.declared.packer.PackedBlock.{PackedBlock}
 use Rattle.net_code.specs.Inner.Coded.{AreItemWords, IsBlockCode, groups_at, words_at}
 use Rattle.net_code.proofs.Making.{blocks_made, tests_made, words_long, words_list, sizes, words_stand}
 

@@ -6,7 +6,7 @@ use Rattle.form_model.specs.Live.{Regs}
 use Rattle.form_model.specs.declared.forms.Step.{Step}
 use Rattle.right_code.specs.Words.{AreGroupWords, IsPackingOf}
 use Rattle.compaction.specs.Lists.{EachHasPatternsOnce}
-use Rattle.net_code.specs.declared.blocks.PackedBlock.{PackedBlock}
+use Rattle.compaction.specs.declared.packer.PackedBlock.{PackedBlock}
 
 -- steps are packed into the groups of a block, behind which these registers are live, and each
 -- group has its word

@@ -3,7 +3,7 @@ use Rattle.std.specs.Prelude.{List}
 use Rattle.net_model.specs.declared.hardware.Netlist.{Netlist}
 use Rattle.net_model.specs.Patterns.{Pattern}
 use Rattle.transfer_set.specs.Rows.{row_patterns}
-use Rattle.net_code.specs.declared.views.Machine.{Machine}
+use Rattle.compaction.specs.declared.machine.Machine.{Machine}
 
 abbrev pub machine_netlist : Machine → Netlist
 machine_netlist machine = machine.checked.now.netlist

@@ -6,6 +6,9 @@ ghost use Rattle.bit_bdd.specs.Diagrams.{Extends};
 ghost use Rattle.branch_fix.specs.Entered.{entered_places};
 ghost use Rattle.cover.specs.Best.{choice_of};
 ghost use Rattle.form_model.specs.Live.{no_regs, regs_of, singles};
+ghost use Rattle.form_model.specs.Rules.{Rule};
+ghost use Rattle.live_sets.specs.Listed.{IsListed};
+ghost use Rattle.compaction.specs.Tables.{KnowsReads};
 ghost use Rattle.block_words.specs.Words.{HaveWords};
 ghost use Rattle.src_trees.specs.Blocks.{IsAssignBlock, continues, is_assign, jobs_at};
 ghost use Rattle.src_trees.specs.Jobs.{work_of};
@@ -16,31 +19,20 @@ ghost use Rattle.net_code.specs.Blocks.{IsOnce, IsPackedBlock};
 ghost use Rattle.net_code.specs.Machines.{machine_netlist, machine_patterns};
 ghost use Rattle.net_code.specs.Inner.Coded.{IsBlockCode, IsTestCode};
 ghost use Rattle.net_code.specs.Inner.Covering.{IsCovered};
-ghost use Rattle.net_code.specs.Inner.Registers.{form_registers};
+ghost use Rattle.net_code.specs.Inner.Registers.{AreConditionReads};
 ghost use Rattle.net_code.specs.Inner.Views.{IsTestAt, IsTestJob, choices_in, stock_of, works_in};
 
-use crate::registers::registers;
+use crate::registers::condition_registers;
 use crate::steps::{block_length, block_steps};
-use crate::views::{CoveredProgram, Machine};
+use crate::views::CoveredProgram;
 use bit_bdd::Book;
-use block_words::words_of;
 use branch_fix::{continues, entered};
-use compaction::pack;
+use compaction::{Machine, PackedBlock, pack_with};
 use cover::JobCover;
 use emit_seq::emit;
 use form_model::{Flow, Job, RegSet, Step};
-use rec_bits::{Items, NoMemory};
+use rec_bits::NoMemory;
 use std::alloc::Global;
-use word_fit::Group;
-
-/// A block of steps, packed.
-#[derive(Drop)]
-pub struct PackedBlock {
-    /// The steps that one word does, for each word.
-    pub groups: Items<Group>,
-    /// The words, as many as groups.
-    pub words: Items<u64>,
-}
 
 /// The blocks of a flow, a test's operands among them, and for each test its branch form, by its
 /// place in the list of forms, and the setting of its condition's bits.
@@ -60,6 +52,7 @@ pub fn pack_block(
     after: RegSet,
 ) -> Result<PackedBlock, NoMemory>
     requires ready { IsReady (machine_netlist machine.now) book.old machine.now.pool.now machine.now.patterns.now }
+    requires tables { KnowsReads machine.now }
     requires words { HaveWords (machine_netlist machine.now) machine.now.pool.now
         machine.now.patterns.now (singles steps.now) (regs_of after) }
     ensures grows { Extends book.old book.new }
@@ -68,25 +61,8 @@ pub fn pack_block(
         (machine_patterns machine.now) steps.now (regs_of after)) }
     ensures once { IfOk result IsOnce }
 {
-    let groups = pack(
-        alloc,
-        machine.checked,
-        book,
-        machine.pool,
-        machine.patterns,
-        steps,
-        after,
-    )?;
-    let words = words_of(
-        alloc,
-        machine.checked,
-        book,
-        machine.pool,
-        machine.patterns,
-        groups.as_slice(),
-        after,
-    )?;
-    Ok(PackedBlock { groups, words })
+    let block = pack_with(alloc, machine, book, steps, after)?;
+    Ok(block)
 }
 
 // The block of so many places from one on. No register is live behind it.
@@ -99,6 +75,7 @@ fn run_block(
     count: usize,
 ) -> Result<PackedBlock, NoMemory>
     requires ready { IsReady (machine_netlist machine.now) book.old machine.now.pool.now machine.now.patterns.now }
+    requires tables { KnowsReads machine.now }
     requires covering { IsCovered machine.now program.now }
     requires block { IsAssignBlock program.now.flow.now at count }
     requires within { at + count ≤ length program.now.flow.now }
@@ -117,11 +94,14 @@ fn run_block(
 }
 
 // The registers that the condition of a cover's branch form reads.
-fn condition_registers(program: &CoveredProgram<'_>, form: usize) -> RegSet
-    ensures { result ≡ form_registers (slice_get (stock_of program.now).rules form) }
+fn branch_registers(machine: &Machine<'_>, program: &CoveredProgram<'_>, form: usize) -> RegSet
+    requires tables { KnowsReads machine.now }
+    requires listed { IsListed (machine_netlist machine.now) machine.now.pool.now machine.now.patterns.now }
+    ensures { (rule : Rule) → slice_get (stock_of program.now).rules form ≡ Some rule →
+        AreConditionReads (machine_patterns machine.now) rule.pattern result }
 {
     match program.forms.list.get(form) {
-        Some(form) => registers(&form.value),
+        Some(form) => condition_registers(machine, form.pattern),
         None => 0,
     }
 }
@@ -136,6 +116,7 @@ fn test_block(
     chosen: &JobCover,
 ) -> Result<(PackedBlock, u64), NoMemory>
     requires ready { IsReady (machine_netlist machine.now) book.old machine.now.pool.now machine.now.patterns.now }
+    requires tables { KnowsReads machine.now }
     requires covering { IsCovered machine.now program.now }
     requires job { IsTestJob program.now (work_of job.now) (choice_of chosen.now) }
     ensures grows { Extends book.old book.new }
@@ -153,7 +134,7 @@ fn test_block(
         &chosen.cover,
         program.temps,
     )?;
-    let after = condition_registers(program, chosen.cover.form);
+    let after = branch_registers(machine, program, chosen.cover.form);
     let block = pack_block(alloc, machine, book, emitted.steps.as_slice(), after)?;
     Ok((block, emitted.branch.unwrap_or(0)))
 }
@@ -169,6 +150,7 @@ fn push_run(
     code: &mut BlockCode,
 ) -> Result<(), NoMemory>
     requires ready { IsReady (machine_netlist machine.now) book.old machine.now.pool.now machine.now.patterns.now }
+    requires tables { KnowsReads machine.now }
     requires covering { IsCovered machine.now program.now }
     requires within { at < length program.now.flow.now }
     requires begins { continues program.now.flow.now at ≡ false }
@@ -203,6 +185,7 @@ fn push_test(
     code: &mut BlockCode,
 ) -> Result<(), NoMemory>
     requires ready { IsReady (machine_netlist machine.now) book.old machine.now.pool.now machine.now.patterns.now }
+    requires tables { KnowsReads machine.now }
     requires covering { IsCovered machine.now program.now }
     requires once { AllByRecursion IsOnce code.old.blocks.items }
     requires code { IsBlockCode (machine_netlist machine.now) (machine_patterns machine.now)
@@ -236,6 +219,7 @@ fn push_code(
     code: &mut BlockCode,
 ) -> Result<(), NoMemory>
     requires ready { IsReady (machine_netlist machine.now) book.old machine.now.pool.now machine.now.patterns.now }
+    requires tables { KnowsReads machine.now }
     requires covering { IsCovered machine.now program.now }
     requires within { at < length program.now.flow.now }
     requires entered { entered.now ≡ entered_places program.now.flow.now }
@@ -275,6 +259,7 @@ pub(crate) fn block_code(
     program: &CoveredProgram<'_>,
 ) -> Result<BlockCode, NoMemory>
     requires ready { IsReady (machine_netlist machine.now) book.old machine.now.pool.now machine.now.patterns.now }
+    requires tables { KnowsReads machine.now }
     requires covering { IsCovered machine.now program.now }
     ensures grows { Extends book.old book.new }
     ensures ready { IsReady (machine_netlist machine.now) book.new machine.now.pool.now machine.now.patterns.now }

@@ -13,23 +13,25 @@ ghost use Rattle.transfer_set.specs.Rows.{row_patterns};
 ghost use Rattle.branch_fix.specs.Bounds.{bound_of, control_words, sum_of};
 ghost use Rattle.branch_fix.specs.Laid.{IsLaid, outline};
 ghost use Rattle.cover.specs.declared.covers.JobCover.{JobCover as TheCover};
-ghost use Rattle.net_code.specs.declared.blocks.PackedBlock.{PackedBlock as TheBlock};
+ghost use Rattle.compaction.specs.Tables.{KnowsReads};
+ghost use Rattle.compaction.specs.declared.packer.PackedBlock.{PackedBlock as TheBlock};
 ghost use Rattle.right_code.specs.Images.{IsRightImage};
 ghost use Rattle.right_code.specs.Tasks.{IsChecked, read_task};
 ghost use Rattle.net_code.specs.Machines.{machine_netlist};
 ghost use Rattle.net_code.specs.Inner.Imaged.{HasTask, IsImageMade, IsLengthFault, IsTaskImage, OfTask};
 ghost use Rattle.net_code.specs.Refusals.{IsCodeFault, IsReached};
 
-use crate::blocks::{PackedBlock, block_code};
+use crate::blocks::block_code;
 use crate::covers::{cost_lines, costs_of, covers_of};
 use crate::fault::CodeFault;
 use crate::forms::usable_forms;
 use crate::jobs::blocks_of;
-use crate::views::{CoveredProgram, Machine};
+use crate::views::CoveredProgram;
 use crate::words::words_of_items;
 use bit_bdd::Book;
 use branch_fix::{Laid, LayFault, bound, lay_out};
 use code_model::{Image, Places};
+use compaction::{Machine, PackedBlock, tables_of};
 use net_model::Checked;
 use rec_bits::{Items, NoMemory};
 use src_model::Typed;
@@ -92,6 +94,7 @@ fn laid_image(
     bound: u64,
 ) -> Result<Image, NoMemory>
     requires ready { IsReady (machine_netlist machine.now) book.old machine.now.pool.now machine.now.patterns.now }
+    requires tables { KnowsReads machine.now }
     requires task { HasTask machine.now program.now places }
     requires costs { costs.now ≡ map (λ (c : TheCover). c.cost) program.now.covers.now }
     requires few { length costs.now < 2 ^ 32 }
@@ -125,6 +128,7 @@ fn covered_image(
     places: Places,
 ) -> Result<Image, CodeFault>
     requires ready { IsReady (machine_netlist machine.now) book.old machine.now.pool.now machine.now.patterns.now }
+    requires tables { KnowsReads machine.now }
     requires task { HasTask machine.now program.now places }
     requires few { length program.now.covers.now < 2 ^ 31 }
     requires places { length program.now.flow.now ≤ 2 ^ 32 }
@@ -183,17 +187,20 @@ pub fn image_of(
     let forms = usable_forms(alloc, checked, book, pool, patterns)?;
     let blocks = blocks_of(alloc, checked, typed, &places)?;
     let covers = covers_of(alloc, &forms, &blocks.jobs, places.temps)?;
-    let machine = Machine {
-        checked,
-        pool,
-        patterns,
-    };
     let program = CoveredProgram {
         forms: &forms,
         temps: places.temps,
         flow: blocks.flow.as_slice(),
         jobs: &blocks.jobs,
         covers: &covers,
+    };
+    let tables = tables_of(alloc, pool)?;
+    let machine = Machine {
+        checked,
+        pool,
+        patterns,
+        registers: tables.registers.as_slice(),
+        memory: tables.memory.as_slice(),
     };
     covered_image(alloc, &machine, book, &program, places)
 }

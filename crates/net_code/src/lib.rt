@@ -12,7 +12,7 @@
 //! What serves without a program, too: `only_control`, whether all forms of a list are jumps or
 //! branches; `chosen_cover`, the cover of one job, or None exactly where it has none (`tried`:
 //! `IsTried`); `pack_block`, steps packed into groups, each with its word (`packed`:
-//! `IsPackedBlock`).
+//! `IsPackedBlock`), by a `Machine` that knows what the expressions of the patterns read.
 //!
 //! Invariant: a `CoveredProgram` has the covers of all jobs in the order of their numbers. Blocks
 //! and tests are made in the order of the flow, a block for each place that begins one, so the
@@ -20,7 +20,7 @@
 //!
 //! Files:
 //!
-//! - `fault`, `views`: why no image was made, and what code is made from.
+//! - `fault`, `views`: why no image was made, and the program that code is made from.
 //! - `forms`: the forms of the netlist, of which one steps and one jumps.
 //! - `jobs`: the flow and the jobs of the program in the netlist's memory.
 //! - `covers`: `chosen_cover`, a cover for each job, and their costs.
@@ -49,10 +49,9 @@ mod steps;
 mod views;
 mod words;
 
-pub use blocks::{PackedBlock, pack_block};
+pub use blocks::pack_block;
 pub use covers::chosen_cover;
 pub use fault::CodeFault;
 pub use forms::{only_control, usable_forms};
 pub use image::image_of;
 pub use jobs::blocks_of;
-pub use views::Machine;

@@ -1,34 +1,41 @@
-//! The registers that an expression reads.
+//! The registers that the condition of a branch reads.
 
-ghost use Rattle.std.specs.Prelude.{◌≡◌};
-ghost use Rattle.net_model.specs.Terms.{term_of};
-ghost use Rattle.net_code.specs.Inner.Registers.{one_register, term_registers};
+ghost use Rattle.std.specs.Prelude.{◌≡◌, ◌<◌, IfSome, length, option_map, slice_get};
+ghost use Rattle.compaction.specs.Tables.{KnowsReads};
+ghost use Rattle.live_sets.specs.Listed.{IsListed};
+ghost use Rattle.sym_expr.specs.Pools.{term_at};
+ghost use Rattle.net_code.specs.Machines.{machine_netlist, machine_patterns};
+ghost use Rattle.net_code.specs.Inner.Registers.{AreConditionReads, pattern_condition};
 
+use compaction::Machine;
 use form_model::RegSet;
-use net_model::Expr;
+use sym_expr::{ExprId, Node};
 
-// The set of one register; of a number from 16 on, which no storage has, the empty one.
-fn one(id: u32) -> RegSet
-    ensures { result ≡ one_register id }
+// The expression by which a pattern chooses between two values, if it does.
+fn condition_of(machine: &Machine<'_>, pattern: u32) -> Option<ExprId>
+    requires { IsListed (machine_netlist machine.now) machine.now.pool.now machine.now.patterns.now }
+    ensures within { IfSome result (λ id. id < length machine.now.pool.now) }
+    ensures condition { option_map (term_at machine.now.pool.now) result
+        ≡ pattern_condition (slice_get (machine_patterns machine.now) pattern) }
 {
-    if id < 16 { 1 << id } else { 0 }
+    match machine.patterns.expr_of(pattern) {
+        Some((None, value)) => match machine.pool.node(value) {
+            Node::Select(condition, ..) => Some(condition),
+            _ => None,
+        },
+        _ => None,
+    }
 }
 
-/// The registers that occur in an expression.
-pub(crate) fn registers(e: &Expr) -> RegSet
-    ensures { result ≡ term_registers (term_of e.now) }
+/// The registers that the condition of a pattern reads, by which it chooses between two values: bit
+/// `r` stands for the register of number `r`. A pattern without a condition reads none.
+pub(crate) fn condition_registers(machine: &Machine<'_>, pattern: u32) -> RegSet
+    requires tables { KnowsReads machine.now }
+    requires listed { IsListed (machine_netlist machine.now) machine.now.pool.now machine.now.patterns.now }
+    ensures { AreConditionReads (machine_patterns machine.now) pattern result }
 {
-    match e {
-        Expr::Word(_) => 0,
-        Expr::Reg(id, _) => one(*id),
-        Expr::Const { .. } => 0,
-        Expr::Read(a, _) | Expr::Cell(a, _) => registers(a),
-        Expr::Un(_, a) => registers(a),
-        Expr::Bin(_, a, b) => registers(a) | registers(b),
-        Expr::Slice(a, _, _) => registers(a),
-        Expr::Cat(a, b) => registers(a) | registers(b),
-        Expr::Zext(a, _) => registers(a),
-        Expr::Sext(a, _) => registers(a),
-        Expr::Select(c, a, b) => registers(c) | registers(a) | registers(b),
+    match condition_of(machine, pattern) {
+        Some(condition) => machine.registers[condition as usize],
+        None => 0,
     }
 }

@@ -10,12 +10,10 @@ ghost use Rattle.net_code.specs.Blocks.{IsOnce};
 ghost use Rattle.net_code.specs.Machines.{machine_netlist, machine_patterns};
 ghost use Rattle.net_code.specs.Inner.Coded.{AreItemWords, HasWord, IsWordOf, groups_at, words_at};
 
-use crate::blocks::PackedBlock;
-use crate::views::Machine;
 use bit_bdd::Book;
 use branch_fix::Item;
 use code_model::Word;
-use compaction::pattern_list;
+use compaction::{Machine, PackedBlock, pattern_list};
 use form_model::Step;
 use nop_synth::jump_word;
 use rec_bits::{Items, NoMemory};

@@ -1,5 +1,5 @@
 -- Nets, storages and codes by their numbers.
-use Rattle.std.specs.Prelude.{ℕ, suc, if◌then◌else◌, List, [], ◌∷◌, Option, Some, None, slice_get, option_map, Bool, true, false}
+use Rattle.std.specs.Prelude.{ℕ, suc, nat_lt, if◌then◌else◌, List, [], ◌∷◌, length, Option, Some, None, slice_get, option_map, Bool, true, false}
 use Rattle.net_model.specs.declared.hardware.Netlist.{Netlist}
 use Rattle.net_model.specs.declared.hardware.Net.{Net}
 use Rattle.net_model.specs.declared.hardware.Code.{Code}
@@ -98,6 +98,11 @@ addr_width_in space storages = array_addr_width (array_in space storages)
 
 abbrev pub memory_id : List Storage → ℕ
 memory_id storages = place_in InMemory storages
+
+-- the number of the register file's storage, where there is one
+abbrev pub file_place : List Storage → Option ℕ
+file_place storages =
+    if nat_lt (place_in InFile storages) (length storages) then Some (place_in InFile storages) else None
 
 abbrev pub memory_width : List Storage → ℕ
 memory_width storages = width_in InMemory storages

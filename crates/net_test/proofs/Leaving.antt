@@ -1,11 +1,10 @@
 -- The words of jobs, clocked in order, leave what the jobs leave one after the other.
 use Rattle.std.proofs.Common.{◌≡◌, ℕ, ◌+◌, ◌≤◌, ◌^◌, List, [], ◌∷◌, Option, Some, None, drop, length, length-append, refl, sym, ◌∙◌, ap, arith, subst}
-use Rattle.transfer_set.specs.Tables.{file_place}
 use Rattle.net_model.specs.declared.hardware.Netlist.{Netlist}
 use Rattle.net_model.specs.declared.hardware.Space.TheVariants.{File as InFile}
 use Rattle.net_model.specs.declared.states.State.{State}
 use Rattle.net_model.specs.Clock.{Reached, counter_in, run_from}
-use Rattle.net_model.specs.Nets.{counter_of, counter_width, size_in}
+use Rattle.net_model.specs.Nets.{counter_of, counter_width, file_place, size_in}
 use Rattle.net_model.specs.Patterns.{Pattern}
 use Rattle.net_model.specs.Widths.{IsState}
 use Rattle.emit_seq.specs.Formed.{AreFormed}

@@ -2,14 +2,13 @@
 -- the code has room for its words.
 use Rattle.std.proofs.Common.{◌≡◌, ℕ, zero, suc, ◌+◌, ◌<◌, ◌≤◌, List, [], ◌∷◌, Option, Some, None, length, refl, replicate, sym, arith, slice_index, subst}
 use Rattle.std.specs.List.{AllByRecursion}
-use Rattle.transfer_set.specs.Tables.{file_place}
 use Rattle.net_model.specs.declared.hardware.Netlist.{Netlist}
 use Rattle.net_model.specs.declared.hardware.Space.TheVariants.{Memory as InMemory, File as InFile}
 use Rattle.net_model.specs.declared.hardware.Space.TheVariants.{Memory as InMemory}
 use Rattle.net_model.specs.declared.states.State.{State}
 use Rattle.net_model.specs.CheckedRules.{KeepsRules, code_size}
 use Rattle.net_model.specs.Clock.{counter_in}
-use Rattle.net_model.specs.Nets.{counter_of, memory_size, memory_width, size_in, word_width}
+use Rattle.net_model.specs.Nets.{counter_of, file_place, memory_size, memory_width, size_in, word_width}
 use Rattle.net_model.specs.Terms.{Term}
 use Rattle.net_model.proofs.WordWidths.{has_bits}
 use Rattle.emit_seq.specs.Formed.{AreFormed}

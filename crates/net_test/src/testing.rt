@@ -3,6 +3,7 @@
 ghost use Rattle.std.specs.Prelude.{◌≡◌, ◌*◌, ◌-◌, ◌<◌, ◌≤◌, ◌^◌, IfErr, IfOk, OnOk, length};
 ghost use Rattle.fault_sim.specs.Reports.{bits_of};
 ghost use Rattle.form_model.specs.Rules.{rules_of};
+ghost use Rattle.compaction.specs.Tables.{KnowsReads};
 ghost use Rattle.form_set.specs.Listing.{AreForms};
 ghost use Rattle.net_model.specs.declared.hardware.Space.TheVariants.{File as InFile};
 ghost use Rattle.net_model.specs.CheckedRules.{KeepsRules, code_size};
@@ -20,9 +21,10 @@ ghost use Rattle.net_test.specs.Texts.{IsTestFault, IsTested, LacksTest};
 use crate::fault::TestFault;
 use binding::BindFault;
 use bit_bdd::Book;
+use compaction::{Machine, tables_of};
 use form_model::Forms;
 use form_set::forms;
-use net_code::{Machine, only_control};
+use net_code::only_control;
 use net_extract::{Extracted, read_extracted_taken};
 use net_model::{Checked, Net, Netlist};
 use rec_bits::{Items, NoMemory};
@@ -80,6 +82,7 @@ fn code(
     forms: &Forms,
 ) -> Result<TestCode, TestFault>
     requires ready { IsReady (machine_netlist machine.now) book.old machine.now.pool.now machine.now.patterns.now }
+    requires tables { KnowsReads machine.now }
     requires patterns { ArePatterns (machine_netlist machine.now) (machine_patterns machine.now) }
     requires forms { AreForms (machine_netlist machine.now) (machine_patterns machine.now)
         (rules_of forms.now.list.items) forms.now.reach }
@@ -176,12 +179,16 @@ fn text_of(
         patterns,
         ..
     } = extracted;
+    let (pool, patterns) = (&*pool, &*patterns);
+    let forms = forms(alloc, checked, patterns, book, pool)?;
+    let tables = tables_of(alloc, pool)?;
     let machine = Machine {
         checked,
-        pool: &*pool,
-        patterns: &*patterns,
+        pool,
+        patterns,
+        registers: tables.registers.as_slice(),
+        memory: tables.memory.as_slice(),
     };
-    let forms = forms(alloc, checked, machine.patterns, book, machine.pool)?;
     let code = code(alloc, &machine, book, &forms)?;
     text(alloc, checked, &code)
 }

@@ -10,7 +10,7 @@ use Rattle.net_model.specs.declared.hardware.Space.TheVariants.{Memory as InMemo
 use Rattle.net_model.specs.declared.hardware.Storage.{Storage}
 use Rattle.net_model.specs.declared.hardware.Storage.TheVariants.{Register, Memory, File}
 use Rattle.net_model.specs.CheckedRules.{KeepsRules, memory_count}
-use Rattle.net_model.specs.Nets.{IsRegister, memory_id, place_in}
+use Rattle.net_model.specs.Nets.{IsRegister, file_place, memory_id, place_in}
 use Rattle.net_model.specs.Terms.{keep}
 use Rattle.net_model.specs.Transfers.{IsClean, space_move}
 use Rattle.net_model.proofs.Spaces.{by_space}
@@ -18,7 +18,7 @@ use Rattle.net_model.proofs.KeptRules.{few_storages, one_each}
 use Rattle.net_model.proofs.Storages.{array_no_register, other_register, register_within}
 use Rattle.sym_expr.specs.declared.pool.Node.{Node}
 use Rattle.transfer_set.specs.Ready.{IsReady}
-use Rattle.transfer_set.specs.Tables.{Table, file_place}
+use Rattle.transfer_set.specs.Tables.{Table}
 use Rattle.transfer_set.specs.declared.row.Row.{Row}
 use Rattle.transfer_set.proofs.ReadyLaws.{row_clean}
 use Rattle.form_model.specs.declared.forms.Step.{Step}

@@ -20,8 +20,8 @@ use transfer_set::Patterns;
 /// The least word that fits a group of steps with a set of live registers, and `None` exactly where
 /// no word fits. A word fits where it does each step's transfer with its setting, steps, keeps the
 /// data memory unless a step writes it, keeps the register file unless a step writes it, keeps each
-/// live register that no step writes, and doesn't clash. `live` has bit `r` for the register of number `r`. No word does a step whose number is
-/// past the last pattern's.
+/// live register that no step writes, and doesn't clash. `live` has bit `r` for the register of
+/// number `r`. No word does a step whose number is past the last pattern's.
 ///
 /// The patterns' sets are those of the book, and their expressions those of the pool; the book
 /// grows, and what it held means what it meant. Want of memory is the only refusal.

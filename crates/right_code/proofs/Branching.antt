@@ -2,14 +2,13 @@
 use Rattle.std.proofs.Common.{ℕ, ◌≡◌, ◌≤◌, ◌<◌, ◌+◌, ◌%◌, ◌^◌, inl, inr, Bool, true, false, if◌then◌else◌, bit_and, bit_or, nat_lt, List, Option, Some, None, slice_get, refl, ◌∙◌, ap, arith, subst}
 use Rattle.std.proofs.Math.Nat.{mod-eq_of_lt}
 use Rattle.std.proofs.lemmas.Nat.{and_le_l}
-use Rattle.transfer_set.specs.Tables.{file_place}
 use Rattle.net_model.specs.declared.hardware.Netlist.{Netlist}
 use Rattle.net_model.specs.declared.states.State.{State}
 use Rattle.net_model.specs.CheckedRules.{KeepsRules}
 use Rattle.net_model.specs.Terms.{Term, word, reg, const, read, un, bin, slice, cat, zext, sext, select, term_width, write}
 use Rattle.net_model.specs.Meaning.{mean}
 use Rattle.net_model.specs.Symbolic.{no_state}
-use Rattle.net_model.specs.Nets.{counter_of, counter_width}
+use Rattle.net_model.specs.Nets.{counter_of, counter_width, file_place}
 use Rattle.net_model.specs.Clock.{counter_in}
 use Rattle.net_model.specs.Patterns.{Pattern}
 use Rattle.net_model.specs.Transfers.{IsClean, counter_move}

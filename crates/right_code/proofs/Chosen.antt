@@ -17,7 +17,7 @@ use Rattle.form_model.specs.Covers.{Stock, Choice}
 use Rattle.form_model.specs.Live.{no_regs}
 use Rattle.form_model.specs.Rules.{tested}
 use Rattle.emit_seq.specs.Spares.{wanted}
-use Rattle.emit_seq.specs.Cells.{AllReadWords}
+use Rattle.emit_seq.specs.ReadWords.{AllReadWords}
 use Rattle.src_trees.specs.Lowered.{Work}
 use Rattle.src_trees.specs.Blocks.{job_list, job_at, jobs_at}
 use Rattle.src_trees.specs.Flows.{program_flow}

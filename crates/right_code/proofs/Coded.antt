@@ -2,13 +2,12 @@
 use Rattle.std.proofs.Common.{ℕ, zero, suc, ◌≡◌, ◌≤◌, ◌<◌, ◌+◌, ◌^◌, inl, inr, Bool, true, false, List, [], ◌∷◌, length, Option, Some, None, slice_get, slice_index, refl, sym, ◌∙◌, ap, arith}
 use Rattle.std.proofs.lemmas.Bool.{cases_eq}
 use Rattle.std.proofs.Math.Nat.{pow-le-pow_right}
-use Rattle.transfer_set.specs.Tables.{file_place}
 use Rattle.net_model.specs.declared.hardware.Netlist.{Netlist}
 use Rattle.net_model.specs.declared.hardware.Space.TheVariants.{File as InFile}
 use Rattle.net_model.specs.declared.hardware.Storage.{Storage}
 use Rattle.net_model.specs.declared.hardware.Storage.TheVariants.{Register, Memory, File}
 use Rattle.net_model.specs.CheckedRules.{KeepsRules, IsCounter, code_size}
-use Rattle.net_model.specs.Nets.{storage_bits, counter_of, counter_width, memory_size, memory_width, size_in}
+use Rattle.net_model.specs.Nets.{file_place, storage_bits, counter_of, counter_width, memory_size, memory_width, size_in}
 use Rattle.net_model.specs.Widths.{WordFits}
 use Rattle.net_model.specs.Patterns.{Pattern}
 use Rattle.net_model.proofs.KeptRules.{sound_of}

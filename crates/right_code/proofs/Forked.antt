@@ -1,6 +1,5 @@
 -- The words of a test do what the flow says.
 use Rattle.std.proofs.Common.{ℕ, ◌≡◌, ◌≤◌, ◌<◌, ◌+◌, ◌^◌, Bool, true, false, if◌then◌else◌, bit_and, List, length, drop, Some, refl, sym, ◌∙◌, ap, arith, subst}
-use Rattle.transfer_set.specs.Tables.{file_place}
 use Rattle.net_model.proofs.Spaces.{by_space}
 use Rattle.net_model.specs.declared.hardware.Netlist.{Netlist}
 use Rattle.net_model.specs.declared.hardware.Space.TheVariants.{File as InFile}
@@ -8,7 +7,7 @@ use Rattle.net_model.specs.declared.states.State.{State}
 use Rattle.net_model.specs.CheckedRules.{KeepsRules}
 use Rattle.net_model.specs.Terms.{Term}
 use Rattle.net_model.specs.Meaning.{mean}
-use Rattle.net_model.specs.Nets.{counter_width, held, size_in}
+use Rattle.net_model.specs.Nets.{counter_width, file_place, held, size_in}
 use Rattle.net_model.specs.Patterns.{Pattern}
 use Rattle.code_model.specs.declared.image.Image.{Image}
 use Rattle.net_model.specs.Fields.{fields}

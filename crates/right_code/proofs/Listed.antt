@@ -2,12 +2,11 @@
 use Rattle.std.proofs.Common.{◌≡◌, ℕ, ◌+◌, ◌<◌, ◌==◌, ◌⊎◌, inl, inr, Bool, true, false, if◌then◌else◌, List, Option, Some, None, length, slice_get, refl, sym, ◌∙◌, ap, subst, arith}
 use Rattle.std.proofs.lemmas.Bool.{eq-eqb}
 use Rattle.std.proofs.lemmas.Nat.{and_le_l}
-use Rattle.transfer_set.specs.Tables.{file_place}
 use Rattle.net_model.specs.declared.hardware.Space.TheVariants.{Memory as InMemory, File as InFile}
 use Rattle.net_model.specs.declared.hardware.Netlist.{Netlist}
 use Rattle.net_model.specs.CheckedRules.{KeepsRules}
 use Rattle.net_model.specs.Fields.{move_fields}
-use Rattle.net_model.specs.Nets.{counter_of, counter_width, memory_id, memory_width, size_in, word_width}
+use Rattle.net_model.specs.Nets.{counter_of, counter_width, file_place, memory_id, memory_width, size_in, word_width}
 use Rattle.net_model.specs.Patterns.{Pattern}
 use Rattle.net_model.specs.Terms.{Term, word, reg, const, read, un, bin, slice, cat, zext, sext, select, Move, keep, write, write_at, next_of, swapped_next_of}
 use Rattle.net_model.specs.Transfers.{move_at}
@@ -22,7 +21,7 @@ use Rattle.form_set.proofs.FormLaws.{form_at}
 use Rattle.form_set.proofs.NoForms.{plain_not_branch}
 use Rattle.form_set.proofs.OneList.{clobbers_one}
 use Rattle.form_set.proofs.RuleLists.{plain_not_jump}
-use Rattle.emit_seq.specs.Cells.{AddressReadsWords, AllReadWords, ReadsWords}
+use Rattle.emit_seq.specs.ReadWords.{AddressReadsWords, AllReadWords, ReadsWords}
 use Rattle.emit_seq.specs.Formed.{AreFormed, IsFormed}
 use Rattle.emit_seq.specs.Spares.{AreShared, ReadsCounter}
 use Rattle.right_code.specs.Inner.Known.{AreKnown}

@@ -1,10 +1,9 @@
 -- Code as the layout orders it is made of its parts.
 use Rattle.std.proofs.Common.{ℕ, ◌≡◌, ◌≤◌, ◌<◌, ◌+◌, unwrap_or, Bool, true, false, List, length, Some, None, slice_get, slice_index, sym, ◌∙◌, ap, arith, subst}
-use Rattle.transfer_set.specs.Tables.{file_place}
 use Rattle.net_model.specs.declared.hardware.Netlist.{Netlist}
 use Rattle.net_model.specs.declared.hardware.Space.TheVariants.{File as InFile}
 use Rattle.net_model.specs.CheckedRules.{KeepsRules}
-use Rattle.net_model.specs.Nets.{memory_size, memory_width, size_in}
+use Rattle.net_model.specs.Nets.{file_place, memory_size, memory_width, size_in}
 use Rattle.net_model.specs.Widths.{WordFits}
 use Rattle.net_model.specs.Patterns.{Pattern}
 use Rattle.src_model.specs.Written.{Listing, acts_of}

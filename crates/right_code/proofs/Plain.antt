@@ -5,13 +5,12 @@ use Rattle.std.specs.Int.{bit_at}
 use Rattle.std.specs.Prelude.{is_some}
 use Rattle.std.proofs.lemmas.Bool.{true≢false, eq-eqb, ne_eqb, and_parts}
 use Rattle.std.proofs.lemmas.Nat.{and_comm}
-use Rattle.transfer_set.specs.Tables.{file_place}
 use Rattle.net_model.specs.declared.hardware.Space.TheVariants.{Memory as InMemory, File as InFile}
 use Rattle.net_model.specs.declared.hardware.Netlist.{Netlist}
 use Rattle.net_model.specs.CheckedRules.{KeepsRules}
 use Rattle.net_model.specs.declared.hardware.Space.{Space}
 use Rattle.net_model.specs.declared.hardware.Storage.{Storage}
-use Rattle.net_model.specs.Nets.{IsRegister, memory_id, place_in, size_in, space_of, word_width}
+use Rattle.net_model.specs.Nets.{IsRegister, file_place, memory_id, place_in, size_in, space_of, word_width}
 use Rattle.net_model.specs.Patterns.{Pattern}
 use Rattle.net_model.specs.Terms.{Term, word, reg, const, read, un, bin, slice, cat, zext, sext, select, term_width, Move, keep, write, write_at}
 use Rattle.net_model.specs.Transfers.{move_at}

@@ -1,9 +1,8 @@
 -- An image that is made for a task traces its program.
 use Rattle.std.proofs.Common.{◌≡◌, zero, suc, [], ◌∷◌, Some, slice_get, true, ℕ, ◌≤◌, ◌<◌, List, length, slice_index, refl, ◌∙◌, ap, arith, subst}
-use Rattle.transfer_set.specs.Tables.{file_place}
 use Rattle.net_model.specs.declared.hardware.Space.TheVariants.{Memory as InMemory, File as InFile}
 use Rattle.net_model.specs.CheckedRules.{code_size, memory_addr_width}
-use Rattle.net_model.specs.Nets.{size_in, word_width}
+use Rattle.net_model.specs.Nets.{file_place, size_in, word_width}
 use Rattle.net_model.specs.Patterns.{ArePatterns, Pattern}
 use Rattle.net_model.specs.Widths.{WordFits}
 use Rattle.net_model.proofs.WordWidths.{has_bits}
@@ -16,7 +15,7 @@ use Rattle.code_model.specs.Places.{places_from, words_of}
 use Rattle.code_model.specs.Right.{TracesRight}
 use Rattle.form_model.specs.Rules.{Rule, tested}
 use Rattle.form_set.specs.Listing.{AreForms}
-use Rattle.emit_seq.specs.Cells.{AllReadWords}
+use Rattle.emit_seq.specs.ReadWords.{AllReadWords}
 use Rattle.emit_seq.specs.Formed.{AreFormed}
 use Rattle.src_trees.specs.Flows.{places_in, program_flow}
 use Rattle.src_trees.specs.Measures.{AllSmall, IsSmall}

@@ -11,7 +11,7 @@ use Rattle.net_model.specs.Fields.{fields}
 use Rattle.net_model.specs.Terms.{Term, word, reg, const, read, un, bin, slice, cat, zext, sext, select}
 use Rattle.form_model.specs.Effects.{register, term_reads}
 use Rattle.form_set.specs.Swaps.{Path, Sides, ordered, picks, swap_at, swap_paths, swapped, swaps_here}
-use Rattle.emit_seq.specs.Cells.{ReadsWords}
+use Rattle.emit_seq.specs.ReadWords.{ReadsWords}
 use Rattle.form_model.specs.Bits.{uses}
 use Rattle.emit_seq.specs.Formed.{BitsApart, IsOnce}
 

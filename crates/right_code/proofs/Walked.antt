@@ -1,13 +1,12 @@
 -- Words that fit groups, clocked one after the other, each clock to the next address.
 use Rattle.std.proofs.Common.{ℕ, zero, suc, ◌≡◌, ◌≤◌, ◌<◌, ◌+◌, ◌^◌, List, [], ◌∷◌, length, drop, refl, sym, ◌∙◌, ap, arith, subst, slice_index}
 use Rattle.std.proofs.Math.Nat.{mod-eq_of_lt}
-use Rattle.transfer_set.specs.Tables.{file_place}
 use Rattle.net_model.specs.declared.hardware.Netlist.{Netlist}
 use Rattle.net_model.specs.declared.hardware.Space.TheVariants.{File as InFile}
 use Rattle.net_model.specs.Widths.{IsState}
 use Rattle.net_model.specs.declared.states.State.{State}
 use Rattle.net_model.specs.CheckedRules.{KeepsRules}
-use Rattle.net_model.specs.Nets.{counter_width, size_in}
+use Rattle.net_model.specs.Nets.{counter_width, file_place, size_in}
 use Rattle.net_model.specs.Clock.{Reached, counter_in, run_from, then_run}
 use Rattle.net_model.specs.Patterns.{Pattern}
 use Rattle.code_model.specs.declared.image.Image.{Image}

@@ -4,9 +4,8 @@ use Rattle.std.specs.Int.Bits.{or_add_and}
 use Rattle.std.proofs.lemmas.Nat.{and_le_l}
 use Rattle.std.proofs.lemmas.Nat.Bits.{bit_at-zero}
 use Rattle.net_model.specs.declared.hardware.Space.TheVariants.{File as InFile}
-use Rattle.net_model.specs.Nets.{size_in}
+use Rattle.net_model.specs.Nets.{file_place, size_in}
 use Rattle.emit_seq.specs.Formed.{AreFormed}
-use Rattle.transfer_set.specs.Tables.{file_place}
 use Rattle.net_model.specs.declared.hardware.Netlist.{Netlist}
 use Rattle.net_model.specs.CheckedRules.{KeepsRules}
 use Rattle.net_model.specs.Fields.{fields, move_fields}

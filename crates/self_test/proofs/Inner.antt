@@ -1,32 +1,15 @@
 -- What is counted of a value is what its tree has, wherever its operands stand.
-use Rattle.std.proofs.Common.{◌≡◌, ℕ, ◌+◌, Bool, true, false, cond, List, [], ◌∷◌, max, refl, ap, ◌∙◌, arith}
+use Rattle.std.proofs.Common.{◌≡◌, ℕ, ◌+◌, Bool, true, false, cond, List, [], ◌∷◌, max, refl, ap, ◌∙◌}
 use Rattle.rec_bits.specs.Operators.{result_width}
 use Rattle.net_model.specs.Terms.{Term, word, reg, const, read, un, bin, slice, cat, zext, sext, select, term_width}
 use Rattle.form_model.specs.Shapes.{is_field}
-use Rattle.form_model.specs.Trees.{is_cell, is_number}
+use Rattle.form_model.specs.Trees.{is_cell}
+use Rattle.form_model.proofs.WideLaws.{wide_split}
 use Rattle.src_model.specs.Sizes.{is_word}
-use Rattle.src_trees.specs.Measures.{wide_below, wide_nodes}
+use Rattle.form_model.specs.WideNodes.{wide_below, wide_nodes}
 use Rattle.self_test.specs.declared.trees.Widths.{Widths}
 use Rattle.self_test.specs.Trees.{literal, operands, temps_of, tree_from}
 use Rattle.self_test.specs.Inner.Values.{greatest_inner, inner, is_operand, node}
-
--- a tree's nodes are its root, unless that is a cell, and those below it
-split : (w : ℕ) (t : Term) → wide_nodes w t ≡ cond (is_cell t) 0 (is_word w (term_width t) + wide_below w t)
-split w (word v) = omega arith
-split w (reg r v) = omega arith
-split w (const v n) = omega arith
-split w (read space a v) = by (is_number a)
-  where
-    by : (b : Bool) → cond b 0 (is_word w v + wide_nodes w a) ≡ cond b 0 (is_word w v + cond b 0 (wide_nodes w a))
-    by true = refl
-    by false = refl
-split w (un o a) = refl
-split w (bin o a b) = refl
-split w (slice a hi lo) = refl
-split w (cat a b) = refl
-split w (zext a v) = refl
-split w (sext a v) = refl
-split w (select c a b) = refl
 
 module _ (m : Widths) where
   cell_is : (at : ℕ) (t : Term) → is_cell (tree_from m at t) ≡ is_operand t
@@ -83,7 +66,7 @@ module _ (m : Widths) where
   -- the same nodes, counted on the tree and on the value
   nodes_are : (w at : ℕ) (t : Term) → wide_nodes w (tree_from m at t) ≡ node w t (wide_below w (tree_from m at t))
   nodes_are w at t =
-      split w (tree_from m at t)
+      wide_split w (tree_from m at t)
       ∙ ap (λ b. cond b 0 (is_word w (term_width (tree_from m at t)) + wide_below w (tree_from m at t))) (cell_is at t)
       ∙ ap (λ v. cond (is_operand t) 0 (is_word w v + wide_below w (tree_from m at t))) (width_is at t)
 

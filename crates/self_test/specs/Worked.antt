@@ -8,7 +8,7 @@ use Rattle.net_model.specs.Worked.{a16}
 use Rattle.form_model.specs.Rules.{Rule, into_reg, cell}
 use Rattle.self_test.specs.Candidates.{is_candidate}
 use Rattle.self_test.specs.Trees.{tree_from, widths_of}
-use Rattle.src_trees.specs.Measures.{wide_below}
+use Rattle.form_model.specs.WideNodes.{wide_below}
 use Rattle.self_test.specs.Cells.{test_need, test_temps, test_works}
 
 abbrev f : Term

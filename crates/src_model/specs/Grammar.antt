@@ -58,7 +58,8 @@ op_at k t = op_of k t.word
 abbrev pub join : Phrase → Op2 → Phrase → Phrase
 join a op b = record { at = a.at; shape = bin op a.at a.shape b.at b.shape }
 
--- ---- expressions: U stands for what a sign takes, E for what stands in brackets, parentheses and calls
+-- ---- expressions: U stands for what a sign takes, E for what stands in brackets, parentheses
+-- and calls
 
 -- [ '[' Expr ']' ]
 abbrev pub IsIndex : (List Lexed → Phrase → Type 0) → List Lexed → Option Phrase → Type 0

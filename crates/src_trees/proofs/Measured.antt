@@ -28,7 +28,8 @@ use Rattle.form_model.specs.Rules.{cell, tested}
 use Rattle.src_trees.specs.Lowered.{MemoryMap, Work, base_of, narrowed, computed_address, element_address, tree_of, element_destination, assigned_destination, assign_work, compared_trees, step_work, works, works_in, works_else}
 use Rattle.src_trees.specs.Seen.{memory_map, InReach}
 use Rattle.src_model.specs.Inner.Sound.{Sound, SoundIn, SoundElse}
-use Rattle.src_trees.specs.Measures.{wide_nodes, wide_below, TreesAre, IsSmall, AllSmall}
+use Rattle.form_model.specs.WideNodes.{wide_nodes, wide_below}
+use Rattle.src_trees.specs.Measures.{TreesAre, IsSmall, AllSmall}
 use Rattle.src_trees.proofs.Meant.{tree_width}
 
 both_true : (a b : Bool) → a ≡ true → b ≡ true → (a && b) ≡ true

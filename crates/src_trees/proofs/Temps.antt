@@ -19,7 +19,8 @@ use Rattle.form_model.specs.Rules.{cell, tested}
 use Rattle.src_trees.specs.Lowered.{MemoryMap, Work, base_of, tree_of, element_destination, assigned_destination, compared_trees, step_work, works, works_in, works_else}
 use Rattle.src_trees.specs.Flows.{program_works}
 use Rattle.src_trees.specs.Seen.{memory_map, InReach}
-use Rattle.src_trees.specs.Measures.{wide_nodes, trees_temps, most_temps}
+use Rattle.form_model.specs.WideNodes.{wide_nodes}
+use Rattle.src_trees.specs.Measures.{trees_temps, most_temps}
 use Rattle.src_trees.proofs.Meant.{tree_width}
 use Rattle.src_trees.proofs.Measured.{same_part, sides_same, computed_wide}
 

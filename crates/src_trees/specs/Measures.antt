@@ -1,51 +1,11 @@
 -- The sizes of trees: the nodes of a word's width, which are those that may need a temporary cell,
 -- and all nodes.
 use Rattle.std.specs.Prelude.{ℕ, ◌+◌, max, ◌≤◌, ◌≡◌, true, if◌then◌else◌, List, [], ◌∷◌}
-use Rattle.net_model.specs.Terms.{Term, word, reg, const, read, un, bin, slice, cat, zext, sext, select, term_width, size_of}
-use Rattle.src_model.specs.Sizes.{is_word}
+use Rattle.net_model.specs.Terms.{Term, word, reg, const, read, un, bin, slice, cat, zext, sext, select, size_of}
 use Rattle.form_model.specs.Trees.{is_tree, is_number}
 use Rattle.form_model.specs.Rules.{Destination, into, cell, filed, stored, temporary, tested}
+use Rattle.form_model.specs.WideNodes.{tree_temps}
 use Rattle.src_trees.specs.Lowered.{Work}
-
--- the nodes of a tree that are as wide as a word; a read at a literal address isn't counted, and is
--- one node
-abbrev pub wide_nodes : ℕ → Term → ℕ
-wide_nodes bits (word w) = is_word bits w
-wide_nodes bits (reg r w) = is_word bits w
-wide_nodes bits (const w v) = is_word bits w
-wide_nodes bits (read space a w) = if is_number a then 0 else is_word bits w + wide_nodes bits a
-wide_nodes bits (un o a) = is_word bits (term_width a) + wide_nodes bits a
-wide_nodes bits (bin o a b) = is_word bits (term_width (bin o a b)) + (wide_nodes bits a + wide_nodes bits b)
-wide_nodes bits (slice a hi lo) = is_word bits (term_width (slice a hi lo)) + wide_nodes bits a
-wide_nodes bits (cat a b) = is_word bits (term_width (cat a b)) + (wide_nodes bits a + wide_nodes bits b)
-wide_nodes bits (zext a w) = is_word bits w + wide_nodes bits a
-wide_nodes bits (sext a w) = is_word bits w + wide_nodes bits a
-wide_nodes bits (select c a b) =
-    is_word bits (term_width a) + (wide_nodes bits c + (wide_nodes bits a + wide_nodes bits b))
-
--- those below the root
-abbrev pub wide_below : ℕ → Term → ℕ
-wide_below bits (word w) = 0
-wide_below bits (reg r w) = 0
-wide_below bits (const w v) = 0
-wide_below bits (read space a w) = if is_number a then 0 else wide_nodes bits a
-wide_below bits (un o a) = wide_nodes bits a
-wide_below bits (bin o a b) = wide_nodes bits a + wide_nodes bits b
-wide_below bits (slice a hi lo) = wide_nodes bits a
-wide_below bits (cat a b) = wide_nodes bits a + wide_nodes bits b
-wide_below bits (zext a w) = wide_nodes bits a
-wide_below bits (sext a w) = wide_nodes bits a
-wide_below bits (select c a b) = wide_nodes bits c + (wide_nodes bits a + wide_nodes bits b)
-
--- a tree of a job with this destination: with a store, whose root is the store, all nodes of both
--- trees are below it
-abbrev pub tree_temps : ℕ → Destination → Term → ℕ
-tree_temps bits (stored address) t = wide_nodes bits address + wide_nodes bits t
-tree_temps bits (into id) t = wide_below bits t
-tree_temps bits (cell address) t = wide_below bits t
-tree_temps bits temporary t = wide_below bits t
-tree_temps bits filed t = wide_below bits t
-tree_temps bits tested t = wide_below bits t
 
 -- the greatest count over all trees of a job, and over all jobs
 abbrev pub trees_temps : ℕ → Destination → List Term → ℕ

@@ -16,7 +16,7 @@ use Rattle.block_words.specs.Laws.{operation_in}
 use Rattle.form_model.specs.Live.{Regs, regs_of, singles}
 use Rattle.form_model.specs.Rules.{Rule}
 use Rattle.form_set.specs.Listing.{AreForms}
-use Rattle.emit_seq.specs.Cells.{AllReadWords}
+use Rattle.emit_seq.specs.ReadWords.{AllReadWords}
 use Rattle.src_trees.specs.Lowered.{Work}
 use Rattle.src_trees.specs.Measures.{IsSmall}
 use Rattle.word_fit.specs.Fits.{fits_over}

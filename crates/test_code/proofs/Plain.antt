@@ -8,7 +8,7 @@ use Rattle.net_model.specs.Terms.{Term, word, reg, const, read, un, bin, slice, 
 use Rattle.form_model.specs.Rules.{Rule}
 use Rattle.form_model.specs.Shapes.{is_field}
 use Rattle.form_model.specs.Trees.{is_tree}
-use Rattle.src_trees.specs.Measures.{wide_below}
+use Rattle.form_model.specs.WideNodes.{wide_below}
 use Rattle.self_test.specs.Cells.{test_temps, test_values, test_works, works_from}
 use Rattle.self_test.specs.Trees.{literal, operands, temps_of, tree_from, widths_of}
 use Rattle.self_test.proofs.Inner.{inner_is}

@@ -3,6 +3,7 @@
 ghost use Rattle.std.specs.Prelude.{◌≡◌, ◌+◌, ◌-◌, ◌^◌, ◌<◌, IfOk, OnOk};
 ghost use Rattle.std.specs.List.{AllByRecursion};
 ghost use Rattle.bit_bdd.specs.Diagrams.{Extends};
+ghost use Rattle.compaction.specs.Tables.{KnowsReads};
 ghost use Rattle.cover.specs.Best.{choice_of};
 ghost use Rattle.form_model.specs.Covers.{stock_with};
 ghost use Rattle.net_model.specs.declared.hardware.Space.TheVariants.{File as InFile};
@@ -22,10 +23,11 @@ ghost use Rattle.test_code.specs.Inner.Jobs.{IsCellJob};
 ghost use Rattle.test_code.specs.Tried.{AreJobWords, test_stock};
 
 use bit_bdd::Book;
+use compaction::{Machine, PackedBlock};
 use cover::JobCover;
 use emit_seq::emit;
 use form_model::{Forms, Job};
-use net_code::{Machine, PackedBlock, chosen_cover, pack_block};
+use net_code::{chosen_cover, pack_block};
 use rec_bits::NoMemory;
 use self_test::TestJobs;
 use std::alloc::Global;
@@ -55,6 +57,7 @@ fn job_block(
 ) -> Result<PackedBlock, NoMemory>
     requires file { forms.now.file ≡ size_in InFile (machine_netlist machine.now).storages }
     requires ready { IsReady (machine_netlist machine.now) book.old machine.now.pool.now machine.now.patterns.now }
+    requires tables { KnowsReads machine.now }
     requires patterns { ArePatterns (machine_netlist machine.now) (machine_patterns machine.now) }
     requires forms { AreForms (machine_netlist machine.now) (machine_patterns machine.now)
         (rules_of forms.now.list.items) forms.now.reach }
@@ -86,6 +89,7 @@ fn add_job(
 ) -> Result<(), NoMemory>
     requires file { forms.now.file ≡ size_in InFile (machine_netlist machine.now).storages }
     requires ready { IsReady (machine_netlist machine.now) book.old machine.now.pool.now machine.now.patterns.now }
+    requires tables { KnowsReads machine.now }
     requires patterns { ArePatterns (machine_netlist machine.now) (machine_patterns machine.now) }
     requires forms { AreForms (machine_netlist machine.now) (machine_patterns machine.now)
         (rules_of forms.now.list.items) forms.now.reach }
@@ -116,6 +120,7 @@ pub fn code_of(
     tests: &TestJobs,
 ) -> Result<TestCode, NoMemory>
     requires ready { IsReady (machine_netlist machine.now) book.old machine.now.pool.now machine.now.patterns.now }
+    requires tables { KnowsReads machine.now }
     requires patterns { ArePatterns (machine_netlist machine.now) (machine_patterns machine.now) }
     requires forms { AreForms (machine_netlist machine.now) (machine_patterns machine.now)
         (rules_of forms.now.list.items) forms.now.reach }

@@ -5,7 +5,7 @@ use Rattle.bit_bdd.specs.Diagrams.{Diagrams, Extends, has_word}
 use Rattle.bit_bdd.proofs.CallerLemmas.{extends_refl, extends_trans, same_words}
 use Rattle.net_model.specs.declared.hardware.Netlist.{Netlist}
 use Rattle.net_model.specs.CheckedRules.{KeepsRules}
-use Rattle.net_model.specs.Nets.{counter_of, counter_width, memory_id}
+use Rattle.net_model.specs.Nets.{counter_of, counter_width, file_place, memory_id}
 use Rattle.net_model.specs.Patterns.{ArePatterns, IsPatternBefore, IsPattern, IsWordOf, Pattern}
 use Rattle.net_model.specs.Texts.{move_text}
 use Rattle.net_model.specs.Transfers.{IsClean, move_at}
@@ -18,7 +18,7 @@ use Rattle.transfer_set.specs.Routes.{IsSet}
 use Rattle.transfer_set.specs.Rows.{AreSorted, AreRowsOf, IsNotAfter, ShowsMove, entries_of, entry_of, row_move, row_pattern, row_patterns}
 use Rattle.transfer_set.specs.Inner.Sources.{changes}
 use Rattle.transfer_set.specs.Inner.Stepping.{any_step}
-use Rattle.transfer_set.specs.Tables.{IsPatternTable, IsRow, file_place}
+use Rattle.transfer_set.specs.Tables.{IsPatternTable, IsRow}
 use Rattle.transfer_set.specs.TextMarks.{HasPlainNames, IsMoveOf}
 use Rattle.transfer_set.proofs.Collecting.{held_entries_later, moves_later, whole_later}
 use Rattle.transfer_set.proofs.SetsFound.{keep_found, step_found}

@@ -1,10 +1,8 @@
 -- What is told of all patterns of a netlist.
-use Rattle.std.specs.Prelude.{◌≡◌, ◌≢◌, ℕ, ◌<◌, List, length, slice_index, Option, Some, None, nat_lt, if◌then◌else◌, All, AllPairs, Contains}
+use Rattle.std.specs.Prelude.{◌≡◌, ◌≢◌, ℕ, ◌<◌, List, length, slice_index, Option, All, AllPairs, Contains}
 use Rattle.bit_bdd.specs.Diagrams.{Diagrams, has_word}
 use Rattle.net_model.specs.declared.hardware.Netlist.{Netlist}
-use Rattle.net_model.specs.declared.hardware.Storage.{Storage}
-use Rattle.net_model.specs.declared.hardware.Space.TheVariants.{File as InFile}
-use Rattle.net_model.specs.Nets.{memory_id, place_in}
+use Rattle.net_model.specs.Nets.{file_place, memory_id}
 use Rattle.net_model.specs.Patterns.{ArePatterns, IsPattern, Pattern}
 use Rattle.sym_expr.specs.declared.pool.Node.{Node}
 use Rattle.transfer_set.specs.Entries.{IsAddrKnown, IsWordsOf}
@@ -13,11 +11,6 @@ use Rattle.transfer_set.specs.Rows.{AreSorted, ShowsMove, row_move, row_patterns
 use Rattle.transfer_set.specs.Sets.{IsKeepSet, IsStepSet}
 use Rattle.transfer_set.specs.TextMarks.{HasPlainNames}
 use Rattle.transfer_set.specs.declared.row.Row.{Row}
-
--- the number of the register file's storage, where there is one
-abbrev pub file_place : List Storage → Option ℕ
-file_place storages =
-    if nat_lt (place_in InFile storages) (length storages) then Some (place_in InFile storages) else None
 
 -- the patterns, for each storage the words that keep it, the words that step, and the numbers of
 -- the memory and of the file

@@ -3,12 +3,11 @@
 ghost use Rattle.std.specs.Prelude.{◌≡◌, ◌==◌, length, option_copied, option_map, slice_get, IfOk};
 ghost use Rattle.bit_bdd.specs.Diagrams.{Extends};
 ghost use Rattle.ctl_bdd.specs.Controls.{IsControl};
-ghost use Rattle.net_model.specs.Nets.{word_width};
+ghost use Rattle.net_model.specs.Nets.{file_place, word_width};
 ghost use Rattle.transfer_set.specs.PatternsText.{IsPatternsText};
 ghost use Rattle.transfer_set.specs.Ready.{IsReady};
 ghost use Rattle.transfer_set.specs.Routes.{AreRoutes};
 ghost use Rattle.transfer_set.specs.Rows.{row_patterns};
-ghost use Rattle.transfer_set.specs.Tables.{file_place};
 
 mod pattern_text;
 

@@ -151,10 +151,10 @@ fn take_form<'a>(
 
 /// What a form takes of a tree that goes to a destination, where so many temporary cells are used;
 /// none exactly where it doesn't match. A form and a tree have one match at most. `whole` is asked
-/// for a register or the file alone: it says that the tree is the root of its job or the number that is a
-/// read's address. The trees are numbered from `at`, those of a store's address first, and each
-/// part carries the number of its tree. Want of memory stands also for a field above bit 63 of the
-/// word, and for a tree of more nodes than can be counted.
+/// for a register or the file alone: it says that the tree is the root of its job or the number
+/// that is a read's address. The trees are numbered from `at`, those of a store's address first,
+/// and each part carries the number of its tree. Want of memory stands also for a field above bit
+/// 63 of the word, and for a tree of more nodes than can be counted.
 pub fn match_at<'a>(
     alloc: Global,
     form: &'a Form,

@@ -10,9 +10,8 @@ use Rattle.net_model.specs.CheckedRules.{count_in}
 use Rattle.net_model.specs.declared.hardware.Netlist.{Netlist}
 use Rattle.net_model.specs.Terms.{keep}
 use Rattle.net_model.specs.Transfers.{move_at, transfer_of}
-use Rattle.net_model.specs.Nets.{HasCells, place_in, space_of}
+use Rattle.net_model.specs.Nets.{HasCells, file_place, place_in, space_of}
 use Rattle.net_model.proofs.Storages.{found}
-use Rattle.transfer_set.specs.Tables.{file_place}
 use Rattle.form_model.specs.Effects.{space_in}
 
 -- the storage of the file's place is a file

@@ -2,11 +2,10 @@
 use Rattle.std.specs.Prelude.{ℕ, ◌≡◌, ◌≢◌, ◌≤◌, ◌||◌, ◌&&◌, Bool, true, false, List, [], ◌∷◌, slice_get, bit_and}
 use Rattle.net_model.specs.declared.hardware.Netlist.{Netlist}
 use Rattle.net_model.specs.declared.hardware.Space.{Space}
-use Rattle.net_model.specs.Nets.{IsRegister}
+use Rattle.net_model.specs.Nets.{IsRegister, file_place}
 use Rattle.net_model.specs.Terms.{keep}
 use Rattle.net_model.specs.Transfers.{IsClean, Steps, memory_move, move_at, space_move}
 use Rattle.net_model.specs.Fields.{move_fields}
-use Rattle.transfer_set.specs.Tables.{file_place}
 use Rattle.form_model.specs.Effects.{Operation, is_store, same_space, space_in}
 use Rattle.form_model.specs.Live.{Regs, group_writes}
 

@@ -15,8 +15,8 @@
 //! - `specs/`: `Fits` (which words fit, over the netlist alone), `Groups` (live registers, least
 //!   words), `Runs`, `Steps` and `Laws` are cited by public contracts, here and above, and of
 //!   `Writing` what a step writes; `Worked` is computed.
-//! - `proofs/`: `FilePlaces`, `Clocks` and `Follows` for one clock, `Runs` and `Words` for many, `Needed` and
-//!   `Least`; `WorkedWords` has a word that fits, and words that don't.
+//! - `proofs/`: `FilePlaces`, `Clocks` and `Follows` for one clock, `Runs` and `Words` for many,
+//!   `Needed` and `Least`; `WorkedWords` has a word that fits, and words that don't.
 #![tactic(auto)]
 
 mod groups;

@@ -31,8 +31,9 @@ pub record IsMoved {A : Type 0} (m : A → Operation) (fits : ℕ → List A →
 -- the change that the packer makes of two neighbours
 abbrev pub IsChange : (Step → Operation) → (ℕ → List Step → Regs → Type 0) → List Step → List Step →
     Regs → Change → Type 0
-IsChange m fits g h live (Merged both) = (both ≡ g ++ h) × Mergeable m fits g h live
-IsChange m fits g h live (Moved first second) = (Mergeable m fits g h live → ⊥) × IsMoved m fits g h live first second
+IsChange m fits g h live (Merged both) = (both.group ≡ g ++ h) × Mergeable m fits g h live
+IsChange m fits g h live (Moved first second) =
+    (Mergeable m fits g h live → ⊥) × IsMoved m fits g h live first.group second.group
 IsChange m fits g h live Settled = IsSettled m fits g h live
 
 -- ---- what is settled

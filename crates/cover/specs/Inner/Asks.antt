@@ -1,5 +1,5 @@
 -- What is asked for, and covers that keep to limits.
-use Rattle.std.specs.Prelude.{ℕ, ◌+◌, ◌-◌, ◌≤◌, ◌≡◌, ◌==◌, ◌&&◌, Bool, false, if◌then◌else◌, List, [], ◌∷◌, Option, Some, None, slice_get, remove, bit_or, bit_and}
+use Rattle.std.specs.Prelude.{ℕ, ◌+◌, ◌-◌, ◌*◌, ◌^◌, ◌<◌, ◌≤◌, ◌≡◌, ◌==◌, ◌&&◌, Bool, false, if◌then◌else◌, List, [], ◌∷◌, Option, Some, None, slice_get, remove, bit_or, bit_and}
 use Rattle.net_model.specs.Terms.{Term, size_of}
 use Rattle.form_model.specs.Rules.{Rule, Destination, temporary}
 use Rattle.form_model.specs.Matches.{Home, Site, operand, cut, Found, taken}
@@ -70,6 +70,11 @@ operands_size (o ∷ os) = size_of o.tree + operands_size os
 abbrev pub terms_size : List Term → ℕ
 terms_size [] = 0
 terms_size (t ∷ ts) = size_of t + terms_size ts
+
+-- so few trees that no least cost passes 64 bits: a tree of n subtrees that has a cover has one of at
+-- most 36 n forms
+abbrev pub AreFew : ℕ → Type 0
+AreFew n = 36 * n + 18 < 2 ^ 64
 
 -- nothing is to be avoided, and the whole of a file with so many cells may be used
 abbrev pub is_free : ℕ → Limits → Bool

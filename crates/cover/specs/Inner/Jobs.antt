@@ -1,5 +1,5 @@
 -- What the code's values stand for, and the numbers of a job's trees.
-use Rattle.std.specs.Prelude.{◌≡◌, List, [], ◌∷◌, ◌++◌, map, Some, slice_get}
+use Rattle.std.specs.Prelude.{◌+◌, ◌≤◌, ◌≡◌, List, [], ◌∷◌, ◌++◌, length, map, Some, slice_get}
 use Rattle.net_model.specs.Terms.{Term}
 use Rattle.form_model.specs.Trees.{tree_term}
 use Rattle.form_model.specs.Covers.{Stock, Operand, stock_with}
@@ -11,6 +11,7 @@ use Rattle.tree_grammar.specs.declared.parts.Part.TheVariants
 use Rattle.cover.specs.declared.instance.Instance.{Instance}
 use Rattle.cover.specs.declared.opened.OpenOperand.{OpenOperand}
 use Rattle.cover.specs.declared.opened.OpenCut.{OpenCut}
+use Rattle.cover.specs.Inner.Asks.{operands_size, terms_size}
 
 -- what an instance is to be covered by
 abbrev pub instance_stock : Instance → Stock
@@ -29,13 +30,25 @@ open_operands is = map open_operand is
 abbrev pub open_cuts : List OpenCut → List Term
 open_cuts ss = map (λ s. tree_term s.tree.now) ss
 
+-- each operand is the tree of its number
+abbrev pub EachOperandAt : List Term → List OpenOperand → Type 0
+EachOperandAt nodes [] = Unit {0}
+EachOperandAt nodes (i ∷ is) = (slice_get nodes i.at ≡ Some (tree_term i.tree.now)) × EachOperandAt nodes is
+
+abbrev pub EachCutAt : List Term → List OpenCut → Type 0
+EachCutAt nodes [] = Unit {0}
+EachCutAt nodes (s ∷ ss) = (slice_get nodes s.at ≡ Some (tree_term s.tree.now)) × EachCutAt nodes ss
+
+-- so it is, and all of them have no more subtrees than there are
 abbrev pub OperandsAt : List Term → List OpenOperand → Type 0
-OperandsAt nodes [] = Unit {0}
-OperandsAt nodes (i ∷ is) = (slice_get nodes i.at ≡ Some (tree_term i.tree.now)) × OperandsAt nodes is
+OperandsAt nodes is = EachOperandAt nodes is × (operands_size (open_operands is) ≤ length nodes)
 
 abbrev pub CutsAt : List Term → List OpenCut → Type 0
-CutsAt nodes [] = Unit {0}
-CutsAt nodes (s ∷ ss) = (slice_get nodes s.at ≡ Some (tree_term s.tree.now)) × CutsAt nodes ss
+CutsAt nodes ss = EachCutAt nodes ss × (terms_size (open_cuts ss) ≤ length nodes)
+
+-- the operands and the cuts of one match together have no more either
+abbrev pub AreParts : List Term → List Operand → List Term → Type 0
+AreParts nodes operands cuts = operands_size operands + terms_size cuts ≤ length nodes
 
 -- the list has one more item where the part is an operand
 abbrev pub HasOperand : Part → List OpenOperand → List OpenOperand → Type 0

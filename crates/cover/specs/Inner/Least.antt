@@ -1,5 +1,5 @@
 -- The least cost of covers.
-use Rattle.std.specs.Prelude.{ℕ, ◌+◌, ◌<◌, ◌≤◌, ◌≡◌, List, ◌⊎◌, Option, Some, None, nat_lt, if◌then◌else◌, slice_get, remove}
+use Rattle.std.specs.Prelude.{ℕ, ◌+◌, ◌^◌, ◌<◌, ◌≤◌, ◌≡◌, List, ◌⊎◌, Option, Some, None, nat_lt, if◌then◌else◌, slice_get, remove}
 use Rattle.net_model.specs.Terms.{Term}
 use Rattle.form_model.specs.Plans.{Plan, use_form, Operands, operand_then, Cuts, cost, operands_cost, cuts_cost}
 use Rattle.form_model.specs.Covers.{Stock, Operand}
@@ -10,6 +10,16 @@ use Rattle.cover.specs.Inner.Asks.{Ask, after, IsSparing, AreSparing, AreStored}
 abbrev pub AtMost : Option ℕ → ℕ → Type 0
 AtMost None n = ⊥
 AtMost (Some m) n = m ≤ n
+
+-- a cost, if it is known, is at most n
+abbrev pub NoMore : Option ℕ → ℕ → Type 0
+NoMore None n = Unit {0}
+NoMore (Some m) n = m ≤ n
+
+-- 64 bits hold a cost, if it is known
+abbrev pub IsHeld : Option ℕ → Type 0
+IsHeld None = Unit {0}
+IsHeld (Some n) = n < 2 ^ 64
 
 -- a known cost is that of some cover
 abbrev pub Reached : Stock → Limits → Ask → Option ℕ → Type 0

@@ -1,5 +1,5 @@
 -- The forms that match a tree.
-use Rattle.std.specs.Prelude.{ℕ, ◌<◌, ◌≡◌, true, Bool, List, [], ◌∷◌, ◌++◌, Option, Some, None, IfSome, slice_get, length, if◌then◌else◌, ◌==◌}
+use Rattle.std.specs.Prelude.{ℕ, ◌<◌, ◌≤◌, ◌≡◌, true, Bool, List, [], ◌∷◌, ◌++◌, Option, Some, None, IfSome, slice_get, length, if◌then◌else◌, ◌==◌}
 use Rattle.net_model.specs.Terms.{Term, size_of}
 use Rattle.form_model.specs.Trees.{tree_term}
 use Rattle.form_model.specs.Rules.{Rule}
@@ -18,7 +18,7 @@ use Rattle.cover.specs.declared.matches.Matches.{Matches}
 use Rattle.cover.specs.Inner.Asks.{takes, rest}
 use Rattle.cover.specs.Inner.Slots.{IsEntry, IsLowHome, IsSlot, goal_slot, home_slot}
 use Rattle.cover.specs.Inner.Rows.{Row, row_ask, IsOffer}
-use Rattle.cover.specs.Inner.Jobs.{instance_stock, nodes_of, open_operands, open_cuts, OperandsAt, CutsAt}
+use Rattle.cover.specs.Inner.Jobs.{instance_stock, nodes_of, open_operands, open_cuts, EachOperandAt, EachCutAt, OperandsAt, CutsAt}
 
 -- the form at k takes the tree for an entry of its row
 pub record Takes (stock : Stock) (t : Term) (whole : Bool) (k : ℕ) : Type 0 where
@@ -69,8 +69,8 @@ pub record IsOpened (parts : List Part) (number k : ℕ) (entry : Slot) (clobber
   pub register : IfSome m.start IsEntry
   pub operands : open_operands m.operands.items ≡ operands_of (sites_of parts)
   pub cuts : open_cuts m.cuts.items ≡ cuts_of (sites_of parts)
-  pub operands_at : (nodes : List Term) → AreAt nodes parts → OperandsAt nodes m.operands.items
-  pub cuts_at : (nodes : List Term) → AreAt nodes parts → CutsAt nodes m.cuts.items
+  pub operands_at : (nodes : List Term) → AreAt nodes parts → EachOperandAt nodes m.operands.items
+  pub cuts_at : (nodes : List Term) → AreAt nodes parts → EachCutAt nodes m.cuts.items
 
 -- whether the form at k matches
 abbrev pub MatchesForm : Instance → Term → Bool → ℕ → Option FormMatch → Type 0
@@ -89,6 +89,7 @@ AddsMatch instance t whole k old new =
 -- the matches of the first n forms, in their order
 pub record AreFirstMatches (instance : Instance) (t : Term) (whole : Bool) (n : ℕ)
     (list : List FormMatch) : Type 0 where
+  pub few : size_of t ≤ length (nodes_of instance)
   pub each : (i : ℕ) (m : FormMatch) → slice_get list i ≡ Some m → IsFormMatch instance t whole m
   pub below : (i : ℕ) (m : FormMatch) → slice_get list i ≡ Some m → m.form < n
   pub all : (k : ℕ) → k < n → Takes (instance_stock instance) t whole k →

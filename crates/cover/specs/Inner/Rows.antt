@@ -1,8 +1,8 @@
 -- Rows of least costs of one tree: for each register, and behind them for the file and for a
 -- temporary cell.
-use Rattle.std.specs.Prelude.{ℕ, ◌+◌, ◌<◌, ◌≤◌, ◌≡◌, ◌⊎◌, ◌^◌, Bool, true, false, List, [], ◌∷◌, ◌++◌, Option, Some, None, length, slice_get, slice_set, slice_index_or}
+use Rattle.std.specs.Prelude.{ℕ, ◌+◌, ◌*◌, ◌<◌, ◌≤◌, ◌≡◌, ◌⊎◌, ◌^◌, Bool, true, false, List, [], ◌∷◌, ◌++◌, Option, Some, None, length, slice_get, slice_set, slice_index_or}
 use Rattle.std.specs.List.{sum_by}
-use Rattle.net_model.specs.Terms.{Term}
+use Rattle.net_model.specs.Terms.{Term, size_of}
 use Rattle.form_model.specs.Plans.{Plan, use_form, Operands, Cuts, cost}
 use Rattle.form_model.specs.Covers.{Stock}
 use Rattle.cover.specs.declared.limits.Limits.{Limits}
@@ -12,7 +12,7 @@ use Rattle.cover.specs.declared.rows.Offer.{Offer}
 use Rattle.cover.specs.declared.matches.FormMatch.{FormMatch}
 use Rattle.cover.specs.declared.rows.Offer.TheVariants.{Nothing, Chains, Reaches}
 use Rattle.cover.specs.Inner.Asks.{Ask, IsSparing}
-use Rattle.cover.specs.Inner.Least.{AtMost, Reached, IsLeast}
+use Rattle.cover.specs.Inner.Least.{AtMost, NoMore, Reached, IsLeast}
 use Rattle.cover.specs.Inner.Slots.{place, IsEntry, IsSlot, entry_destination}
 
 abbrev pub Row : Type 0
@@ -105,6 +105,24 @@ weight (Some n) = n
 abbrev pub weight_of : Row → ℕ
 weight_of row = sum_by weight row
 
+-- 1 for an entry that has no cost
+abbrev pub unfilled : Option ℕ → ℕ
+unfilled None = 1
+unfilled (Some n) = 0
+
+-- how many entries have no cost
+abbrev pub unfilled_in : Row → ℕ
+unfilled_in row = sum_by unfilled row
+
+-- each cost, with 1 more for each entry that has none, is at most this. Chain rules keep it so: they
+-- make an entry less, or give a cost that is 1 more than another's to one that has none
+abbrev pub IsRoomy : ℕ → Row → Type 0
+IsRoomy most row = (s : Slot) (c : ℕ) → entry row s ≡ Some c → c + unfilled_in row ≤ most
+
+-- no entry costs more than n
+abbrev pub NoneAbove : ℕ → Row → Type 0
+NoneAbove n row = (s : Slot) → NoMore (entry row s) n
+
 -- no entry has become more than it was
 abbrev pub Lower : Row → Row → Type 0
 Lower old new = (r : Slot) (n : ℕ) → AtMost (entry old r) n → AtMost (entry new r) n
@@ -163,6 +181,12 @@ abbrev pub IsWithin : Offer → Type 0
 IsWithin Nothing = Unit {0}
 IsWithin (Chains m) = Unit {0}
 IsWithin (Reaches slot n) = IsEntry slot
+
+-- what a form offers for a tree of n subtrees costs at most 36 n - 17
+abbrev pub IsCheapOffer : Term → Offer → Type 0
+IsCheapOffer tree Nothing = Unit {0}
+IsCheapOffer tree (Chains m) = Unit {0}
+IsCheapOffer tree (Reaches slot n) = n + 17 ≤ 36 * size_of tree
 
 abbrev pub offer_is : Slot → Option ℕ → Offer
 offer_is goal None = Nothing

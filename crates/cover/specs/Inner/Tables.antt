@@ -10,6 +10,7 @@ use Rattle.cover.specs.declared.table.KeptRow.{KeptRow}
 use Rattle.cover.specs.declared.table.CostTable.{CostTable}
 use Rattle.cover.specs.declared.matches.Matches.{Matches}
 use Rattle.tree_sharing.specs.Sharing.{AreFirstEqual}
+use Rattle.cover.specs.Inner.Asks.{AreFew}
 use Rattle.cover.specs.Inner.Rows.{IsLeastRow}
 use Rattle.cover.specs.Inner.Jobs.{instance_stock, nodes_of}
 use Rattle.cover.specs.Inner.Matched.{AreMatches}
@@ -35,8 +36,10 @@ pub record HasMatches (instance : Instance) (number : ℕ) (shared : Rc Matches 
   pub tree : slice_get (nodes_of instance) number ≡ Some (tree_term shared.value.tree.now)
   pub matches : AreMatches instance shared.value
 
--- the numbers of equal trees are right, and so are all matches and each row that is kept
+-- the trees are few, the numbers of equal ones are right, and so are all matches and each row that
+-- is kept
 pub record AreRight (instance : Instance) (table : CostTable) : Type 0 where
+  pub few : AreFew (length (nodes_of instance))
   pub firsts : AreFirstEqual (nodes_of instance) table.firsts.items
   pub matches : EachKept (HasMatches instance) table.matches.items
   pub rows : EachKept (IsKept instance) table.rows.items

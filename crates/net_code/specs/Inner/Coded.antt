@@ -24,7 +24,7 @@ use Rattle.right_code.specs.Jobs.{job_steps, jobs_steps, tree_used}
 use Rattle.right_code.specs.Words.{IsItemWord, item_steps}
 use Rattle.compaction.specs.Lists.{IsPatternList}
 use Rattle.net_code.specs.Blocks.{IsPackedBlock}
-use Rattle.net_code.specs.declared.blocks.PackedBlock.{PackedBlock}
+use Rattle.compaction.specs.declared.packer.PackedBlock.{PackedBlock}
 
 -- ---- blocks
 

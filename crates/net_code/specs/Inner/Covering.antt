@@ -10,7 +10,7 @@ use Rattle.src_trees.specs.Flows.{program_flow}
 use Rattle.right_code.specs.Covered.{AllChosen, job_costs}
 use Rattle.right_code.specs.Tasks.{IsChecked, Task, task_works}
 use Rattle.net_code.specs.declared.views.CoveredProgram.{CoveredProgram}
-use Rattle.net_code.specs.declared.views.Machine.{Machine}
+use Rattle.compaction.specs.declared.machine.Machine.{Machine}
 use Rattle.net_code.specs.Machines.{machine_netlist, machine_patterns}
 use Rattle.net_code.specs.Inner.Views.{choices_in, stock_of, works_in}
 

@@ -13,7 +13,7 @@ use Rattle.net_code.specs.Refusals.{IsBeyondReach, IsImageTooLong}
 use Rattle.net_code.specs.declared.fault.CodeFault.{CodeFault}
 use Rattle.net_code.specs.declared.fault.CodeFault.TheVariants.{NoReach, ImageFull, Memory}
 use Rattle.net_code.specs.declared.views.CoveredProgram.{CoveredProgram}
-use Rattle.net_code.specs.declared.views.Machine.{Machine}
+use Rattle.compaction.specs.declared.machine.Machine.{Machine}
 
 -- the variables of a task stand at the places of its layout, each in cells of the memory of its own
 pub record ArePlaces (task : Task) (places : Places) : Type 0 where

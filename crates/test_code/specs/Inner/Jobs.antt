@@ -4,7 +4,7 @@ use Rattle.net_model.specs.Terms.{Term}
 use Rattle.form_model.specs.Rules.{cell}
 use Rattle.form_model.specs.Trees.{is_tree}
 use Rattle.src_trees.specs.Lowered.{Work}
-use Rattle.src_trees.specs.Measures.{wide_below}
+use Rattle.form_model.specs.WideNodes.{wide_below}
 
 -- a job of one tree, to a cell, which needs at most so many temporary cells of so many bits
 pub record IsCellJob (bits temps : ℕ) (job : Work) : Type 0 where

@@ -2,7 +2,8 @@ use Rattle.std.proofs.Common.{◌≡◌, ℕ, ◌<◌, slice_get, remove, Some}
 use Rattle.bit_bdd.specs.Diagrams.{Extends}
 use Rattle.form_model.specs.declared.forms.Step.{Step}
 use Rattle.form_model.specs.Live.{regs_of}
-use Rattle.compaction.specs.Inner.Machines.{CanMove, IsReadyFor}
+use Rattle.compaction.specs.Machines.{IsReadyFor}
+use Rattle.compaction.specs.Inner.Machines.{CanMove}
 use Rattle.compaction.proofs.change.moved.Given as goal
 
 abbrev pub invariant-loop-index : goal.invariant-loop-index

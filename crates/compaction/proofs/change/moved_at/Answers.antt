@@ -1,7 +1,7 @@
 use Rattle.std.proofs.lemmas.Result.{IfOk-from_err}
 use Rattle.std.proofs.Common.{◌+◌, refl, take}
 use Rattle.form_model.specs.Live.{regs_of}
-use Rattle.compaction.specs.Inner.Machines.{fits_in, operation_in}
+use Rattle.compaction.specs.Machines.{fits_in, operation_in}
 use Rattle.compaction.proofs.Leaving.{all_behind, moved_there}
 use Rattle.compaction.proofs.change.moved_at.Goals as goal
 

@@ -1,6 +1,6 @@
 use Rattle.std.proofs.lemmas.Result.{IfOk-from_err}
 use Rattle.std.proofs.Common.{◌∙◌}
-use Rattle.block_words.proofs.Listed.{singles_more}
+use Rattle.compaction.proofs.Listed.{singles_more}
 use Rattle.compaction.proofs.copies.singles.Goals as goal
 
 pub loop-step-preserved : goal.loop-step-preserved

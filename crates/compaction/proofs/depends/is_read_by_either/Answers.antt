@@ -1,5 +1,5 @@
 use Rattle.std.proofs.lemmas.Result.{IfOk-from_err}
-use Rattle.compaction.specs.Inner.Machines.{operation_in}
+use Rattle.compaction.specs.Machines.{operation_in}
 use Rattle.compaction.proofs.Appended.{first_of_two, is_read_by-append, second_of_two}
 use Rattle.compaction.proofs.depends.is_read_by_either.Goals as goal
 

@@ -1,4 +1,4 @@
-use Rattle.compaction.specs.Inner.Machines.{operation_in}
+use Rattle.compaction.specs.Machines.{operation_in}
 use Rattle.compaction.proofs.Appended.{first_of_two, second_of_two, shares_destination-append}
 use Rattle.compaction.proofs.depends.shares_either.Goals as goal
 

@@ -1,5 +1,5 @@
 use Rattle.std.proofs.Common.{sym, ◌∙◌}
-use Rattle.compaction.specs.Inner.Machines.{operation_in}
+use Rattle.compaction.specs.Machines.{operation_in}
 use Rattle.compaction.proofs.Memory.{unseen}
 use Rattle.compaction.proofs.depends.touches.Goals as goal
 

@@ -2,7 +2,7 @@ use Rattle.std.proofs.Common.{refl, arith}
 use Rattle.bit_bdd.proofs.CallerLemmas.{extends_refl, extends_trans}
 use Rattle.form_model.specs.Live.{regs_of}
 use Rattle.compaction.specs.Chosen.{ends}
-use Rattle.compaction.specs.Inner.Machines.{fits_in, operation_in}
+use Rattle.compaction.specs.Machines.{fits_in, operation_in}
 use Rattle.compaction.proofs.Lives.{same_refl, same_trans}
 use Rattle.compaction.proofs.LiveLists.{sets_long}
 use Rattle.compaction.proofs.Packed.{all_settled, is_packed}
@@ -14,6 +14,7 @@ loop-pair-init c = record {
   ready = c.requires.ready;
   same = same_refl (operation_in c.args.machine.now) c.args.groups.now.items;
   lives = c.requires.lives;
+  found = c.requires.found;
   chosen = λ result w. w;
   packed = c.requires.start;
 }
@@ -28,6 +29,7 @@ loop-pair-preserved c = record {
   ready = c.in_ok-pair.ensures.ready;
   same = same_trans (operation_in c.args.machine.now) c.args.groups.now.items c.loop-pair.groups.items c.turn.new.groups.items c.loop-pair.invariant.same c.in_ok-pair.ensures.turn.same;
   lives = c.in_ok-pair.ensures.lives;
+  found = c.in_ok-pair.ensures.found;
   chosen = λ result w. c.loop-pair.invariant.chosen result (c.in_ok-pair.ensures.turn.chosen result w);
   packed = c.in_ok-pair.ensures.turn.packed;
 }

@@ -5,9 +5,9 @@ use Rattle.std.proofs.lemmas.Option.{slice_get_read}
 use Rattle.std.proofs.lemmas.Result.{IfOk-weaker}
 use Rattle.form_model.specs.Trees.{tree_term}
 use Rattle.cover.specs.declared.matches.FormMatch.{FormMatch}
-use Rattle.cover.specs.Inner.Jobs.{instance_stock, nodes_of, open_operands, open_cuts, OperandsAt, CutsAt}
+use Rattle.cover.specs.Inner.Jobs.{instance_stock, nodes_of, open_operands, open_cuts, OperandsAt, CutsAt, AreParts}
 use Rattle.cover.specs.Inner.Choice.{matches_ask, NeverBegins, CostsWithin, BeginsOne, BeginsAt}
-use Rattle.cover.proofs.MatchLemmas.{at_place, other_goal, other_clobbers, begins_within}
+use Rattle.cover.proofs.MatchLemmas.{at_place, match_parts, other_goal, other_clobbers, begins_within}
 use Rattle.cover.proofs.SlotLemmas.{same_entry, other_entry}
 use Rattle.cover.proofs.choice.begins_at.Goals as goal
 
@@ -36,6 +36,14 @@ costs_within-requires-clause-cuts_at c =
     let m : FormMatch = c.index-found.result.now in
     let got : slice_get c.args.matches.now.list.items c.args.i ≡ Some m = slice_get_read _ _ _ _ refl c.requires.place c.index-found.ensures in
     subst (CutsAt (nodes_of c.args.instance.now)) (sym c.deref-2.ensures.value) (c.requires.matches.each c.args.i m got).cuts_at
+
+pub costs_within-requires-clause-few : goal.costs_within-requires-clause-few
+costs_within-requires-clause-few c =
+    let m : FormMatch = c.index-found.result.now in
+    let got : slice_get c.args.matches.now.list.items c.args.i ≡ Some m = slice_get_read _ _ _ _ refl c.requires.place c.index-found.ensures in
+    subst (λ l. AreParts (nodes_of c.args.instance.now) (open_operands l) (open_cuts c.deref-2.result.now)) (sym c.deref.ensures.value)
+    (subst (λ l. AreParts (nodes_of c.args.instance.now) (open_operands m.operands.items) (open_cuts l)) (sym c.deref-2.ensures.value)
+    (match_parts c.args.instance.now c.args.limits (tree_term c.args.matches.now.tree.now) c.args.matches.now.whole m (c.requires.matches.each c.args.i m got) c.requires.matches.few))
 
 pub returns-clause-begins : goal.returns-clause-begins
 returns-clause-begins c =

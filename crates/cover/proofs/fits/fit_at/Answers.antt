@@ -8,12 +8,12 @@ use Rattle.form_model.specs.Covers.{operands_of, cuts_of, kind_cells}
 use Rattle.tree_grammar.specs.Parts.{found_of, sites_of, AreAt}
 use Rattle.cover.specs.Inner.Asks.{KeepsTo}
 use Rattle.cover.proofs.LeastLemmas.{no_form}
-use Rattle.cover.specs.Inner.Jobs.{instance_stock, nodes_of}
+use Rattle.cover.specs.Inner.Jobs.{instance_stock, nodes_of, AreParts}
 use Rattle.cover.specs.Inner.Choice.{ask_of, FitsParts, IsFit}
 use Rattle.cover.proofs.RowLemmas.{listed}
 use Rattle.cover.proofs.StartLemmas.{rule_at}
 use Rattle.cover.specs.Inner.Matched.{AreLowSites}
-use Rattle.cover.proofs.FitLemmas.{want_at, want_takes, want_low, parts_fit}
+use Rattle.cover.proofs.FitLemmas.{want_at, want_takes, want_low, want_parts, parts_fit}
 use Rattle.cover.proofs.fits.fit_at.Goals as goal
 
 pub fit_parts-requires-clause-at : goal.fit_parts-requires-clause-at
@@ -27,6 +27,13 @@ fit_parts-requires-clause-low c =
     let got : slice_get c.args.instance.now.forms.now c.args.k ≡ Some form = listed _ _ _ c.requires.form in
     subst (λ l. AreLowSites (sites_of l)) (sym c.deref.ensures.value)
     (want_low c.args.instance.now form c.args.k c.args.want.now c.in-Some.found got
+    (want_takes c.args.instance.now form c.args.want.now c.in_ok-found.field-0 c.in-Some.found c.in_ok-found.ensures.found c.in-Some.is))
+
+pub fit_parts-requires-clause-few : goal.fit_parts-requires-clause-few
+fit_parts-requires-clause-few c =
+    let form : Form = get_or c.args.instance.now.forms.now c.args.k c.index-instance-k.result in
+    subst (λ l. AreParts (nodes_of c.args.instance.now) (operands_of (sites_of l)) (cuts_of (sites_of l))) (sym c.deref.ensures.value)
+    (want_parts c.args.instance.now (rule_of form) c.args.want.now (found_of c.in-Some.found) c.requires.stands
     (want_takes c.args.instance.now form c.args.want.now c.in_ok-found.field-0 c.in-Some.found c.in_ok-found.ensures.found c.in-Some.is))
 
 pub returns-clause-fit : goal.returns-clause-fit

@@ -1,4 +1,4 @@
-use Rattle.std.proofs.Common.{◌≡◌, ◌<◌, ◌-◌, length, drop, arith, rules, refl, sym, ap, ◌∙◌, subst, inl, inr, Option, Some, None, Vec, vec_len, ℕ, get_or}
+use Rattle.std.proofs.Common.{◌≡◌, ◌<◌, ◌-◌, ◌*◌, ◌^◌, length, drop, arith, rules, refl, sym, ap, ◌∙◌, subst, inl, inr, Option, Some, None, Vec, vec_len, ℕ, get_or}
 use Rattle.std.specs.Prelude.{slice_get, remove}
 use Rattle.std.proofs.lemmas.Bool.{OnTrue_at, OnFalse_at}
 use Rattle.std.proofs.lemmas.Option.{slice_get_read}
@@ -9,8 +9,8 @@ use Rattle.form_model.specs.Covers.{Operand}
 use Rattle.form_model.specs.Plans.{operands_cost}
 use Rattle.tree_grammar.specs.Parts.{home_at}
 use Rattle.cover.specs.Inner.Asks.{operand_ask, operands_size, terms_size, after}
-use Rattle.cover.specs.Inner.Least.{IsLeast, IsLeastOrder, IsLeastAfter, IsLeastFrom, IsLeastCut, IsFloor, IsCostBelow, AtMost, summed}
-use Rattle.cover.specs.Inner.Jobs.{instance_stock, nodes_of, open_operand, open_operands, open_cuts, OperandsAt, CutsAt}
+use Rattle.cover.specs.Inner.Least.{IsLeast, IsLeastOrder, IsLeastAfter, IsLeastFrom, IsLeastCut, IsFloor, IsCostBelow, AtMost, NoMore, summed}
+use Rattle.cover.specs.Inner.Jobs.{instance_stock, nodes_of, open_operand, open_operands, open_cuts, OperandsAt, CutsAt, AreParts}
 use Rattle.cover.proofs.SizeLemmas.{size_pos}
 use Rattle.cover.proofs.NodeLemmas.{input_get, inputs_remove}
 use Rattle.cover.proofs.InputLemmas.{inputs_at, inputs_without, length_inputs, no_inputs, inputs_split, inputs_later, size-remove, no_stored, stored_split, stored_first, stored_later, tail_is, home_entry, cut_slot, home_least, rank_le, rank_free}
@@ -20,12 +20,14 @@ use Rattle.cover.specs.Inner.Rows.{row_ask, IsTried, IsClosed, IsLeastRow, IsOff
 use Rattle.cover.specs.Inner.Slots.{place, IsSlot}
 use Rattle.cover.specs.Inner.Matched.{AreMatches}
 use Rattle.cover.proofs.OfferLemmas.{blank_row, look_within, tried_none, tried_more, least_row_of}
-use Rattle.cover.proofs.MatchLemmas.{at_index, at_place, matches_all, match_sizes, offer_clobbers, offer_start, offer_below}
+use Rattle.cover.proofs.MatchLemmas.{at_index, at_place, matches_all, match_parts, match_sizes, offer_clobbers, offer_start, offer_below, offer_cheap}
 use Rattle.net_model.specs.Terms.{size_of}
 use Rattle.cover.proofs.LeastLemmas.{order_one, other_left, cut_none, cut_more, order_more, order_all, order_none, from_parts, from_none, from_last}
 use Rattle.cover.specs.declared.matches.FormMatch.{FormMatch}
 use Rattle.cover.proofs.SlotLemmas.{slot_within}
 use Rattle.cover.proofs.FloorLemmas.{floor_none, floor_more}
+use Rattle.cover.proofs.RowLemmas.{low_room}
+use Rattle.cover.proofs.FewLemmas.{opened_low, order_few, parts_held, size_held, size_room, floor_few, from_few, stored_few, blank_low, noted_low}
 use Rattle.cover.proofs.TableLemmas.{same_default}
 use Rattle.cover.proofs.least.+covering.Goals as goal
 
@@ -69,6 +71,7 @@ fill-loop-i-preserved t c =
     record {
       len = c.note.ensures.len;
       tried = tried_more (instance_stock c.args.instance.now) c.args.limits (tree_term c.args.matches.now.tree.now) c.args.matches.now.whole c.args.matches.now.list.items c.loop-i.i m got c.in_ok-offer.offer _ _ _ _ c.loop-i.invariant.tried (subst (λ l. IsOffer (instance_stock c.args.instance.now) c.args.limits (tree_term c.args.matches.now.tree.now) c.args.matches.now.whole l m.form c.in_ok-offer.offer) c.deref.ensures.value (c.in_ok-offer.ensures.offer m got)) c.in_ok-note.ensures.noted;
+      low = noted_low (tree_term c.args.matches.now.tree.now) c.in_ok-offer.offer _ _ _ _ c.loop-i.invariant.low c.in_ok-note.ensures.noted c.in_ok-offer.ensures.cheap;
       right = c.in_ok-offer.ensures.right;
     }
 
@@ -78,13 +81,19 @@ fill-returns-clause-least t c =
     let n : c.loop-i.i ≡ length c.args.matches.now.list.items = omega (arith, v, c.loop-i-test.false, c.loop-i.auto.i-end) in
     least_row_of _ _ _ _ c.args.matches.now.list.items (matches_all c.args.instance.now (tree_term c.args.matches.now.tree.now) c.args.matches.now.whole c.args.matches.now.list.items c.requires.matches) _ _ _
     (subst (λ j. IsTried (instance_stock c.args.instance.now) c.args.limits (tree_term c.args.matches.now.tree.now) c.args.matches.now.whole c.args.matches.now.list.items j c.loop-i.chains.items c.loop-i.row.items) n c.loop-i.invariant.tried)
-    (subst (λ ms. IsClosed ms c.loop-i.row.items c.close.new.row.items) c.deref-2.ensures c.in_ok-close.ensures.closed)
+    (subst (λ ms. IsClosed ms c.loop-i.row.items c.close.new.row.items) c.deref-2.ensures c.close.ensures.closed)
+
+pub fill-close-requires-clause-room : goal.fill-close-requires-clause-room
+fill-close-requires-clause-room t c =
+    low_room (36 * size_of (tree_term c.args.matches.now.tree.now) - 17) (2 ^ 64 - 2) c.loop-i.row.items (let n : length c.loop-i.row.items ≡ 18 = search rules in n) c.loop-i.invariant.low
+    (size_room (tree_term c.args.matches.now.tree.now) (length (nodes_of c.args.instance.now)) c.requires.matches.few c.requires.right.few)
 
 pub fill-loop-i-init : goal.fill-loop-i-init
 fill-loop-i-init t c = record {
   len = c.requires.len;
   tried = subst (λ l. IsTried (instance_stock c.args.instance.now) c.args.limits (tree_term c.args.matches.now.tree.now) c.args.matches.now.whole c.args.matches.now.list.items 0 l c.args.row.now.items) (search rules)
       (tried_none (instance_stock c.args.instance.now) c.args.limits (tree_term c.args.matches.now.tree.now) c.args.matches.now.whole c.args.matches.now.list.items c.args.row.now.items c.requires.blank);
+  low = blank_low (36 * size_of (tree_term c.args.matches.now.tree.now) - 17) c.args.row.now.items c.requires.blank;
   right = c.requires.right;
 }
 
@@ -120,9 +129,25 @@ offer_at-cost_below-requires t c =
       omega (arith, z.0, z.1, rank_le c.args.instance.now.file c.args.limits, ap (λ l. operands_size (open_operands l)) c.deref.ensures.value, ap (λ l. terms_size (open_cuts l)) c.deref-2.ensures.value, c.decreases),
       (
         subst (OperandsAt (nodes_of c.args.instance.now)) (sym c.deref.ensures.value) f.operands_at,
-        (subst (CutsAt (nodes_of c.args.instance.now)) (sym c.deref-2.ensures.value) f.cuts_at, c.requires.right),
+        (
+          subst (CutsAt (nodes_of c.args.instance.now)) (sym c.deref-2.ensures.value) f.cuts_at,
+          (
+            subst (λ l. AreParts (nodes_of c.args.instance.now) (open_operands l) (open_cuts c.deref-2.result.now)) (sym c.deref.ensures.value)
+                (subst (λ l. AreParts (nodes_of c.args.instance.now) (open_operands m.operands.items) (open_cuts l)) (sym c.deref-2.ensures.value)
+                (match_parts c.args.instance.now c.args.limits (tree_term c.args.matches.now.tree.now) c.args.matches.now.whole m f c.requires.matches.few)),
+            c.requires.right,
+          ),
+        ),
       ),
     )
+
+pub offer_at-returns-clause-cheap : goal.offer_at-returns-clause-cheap
+offer_at-returns-clause-cheap t c =
+    let m : FormMatch = c.index-found.result.now in
+    let got : slice_get c.args.matches.now.list.items c.args.i ≡ Some m = slice_get_read _ _ _ _ refl c.requires.place c.index-found.ensures in
+    offer_cheap c.args.instance.now c.args.limits (tree_term c.args.matches.now.tree.now) c.args.matches.now.whole m (c.requires.matches.each c.args.i m got) c.start_of.result c.known_cost-known.result c.in_ok-cost.cost c.offer_of.result c.start_of.ensures c.in_default.is
+    (subst (λ l. IsCostBelow (instance_stock c.args.instance.now) c.args.limits (open_operands l) (open_cuts m.cuts.items) c.known_cost-known.result c.in_ok-cost.cost) c.deref.ensures.value
+    (subst (λ l. IsCostBelow (instance_stock c.args.instance.now) c.args.limits (open_operands c.deref.result.now) (open_cuts l) c.known_cost-known.result c.in_ok-cost.cost) c.deref-2.ensures.value c.in_ok-cost.ensures.least)) c.offer_of.ensures
 
 pub cost_below-cuts_cost-requires : goal.cost_below-cuts_cost-requires
 cost_below-cuts_cost-requires t c = (omega (arith, c.decreases), (c.requires.cuts_at, c.requires.right))
@@ -141,14 +166,21 @@ cost_below-returns-then-is_as_dear-clause-least t c = inr (
     cuts = c.in_ok-b.b;
     floor = c.in_ok-floor.ensures.floor;
     cut = c.in_ok-b.ensures.least;
-    dear = λ n h. OnTrue_at c.if-is_as_dear.true c.is_as_dear.ensures n (subst (λ o. AtMost o n) (sym c.in_ok-form_cost.ensures) h);
+    dear = λ n h. OnTrue_at c.if-is_as_dear.true c.is_as_dear.ensures n (subst (λ o. AtMost o n) (sym c.form_cost.ensures) h);
   },
 )
 
 pub cost_below-returns-clause-least : goal.cost_below-returns-clause-least
-cost_below-returns-clause-least t c =
-    IfOk-weaker c.form_cost-2.result (λ o. o ≡ summed (summed (Some 1) c.in_ok-a.a) c.in_ok-b.b) (λ o. IsCostBelow (instance_stock c.args.instance.now) c.args.limits (open_operands c.args.operands.now) (open_cuts c.args.cuts.now) c.args.known o)
-    (λ o e. inl (record { operands = c.in_ok-a.a; cuts = c.in_ok-b.b; order = c.in_ok-a.ensures.least; cut = c.in_ok-b.ensures.least; sum = e })) c.form_cost-2.ensures
+cost_below-returns-clause-least t c = inl (record { operands = c.in_ok-a.a; cuts = c.in_ok-b.b; order = c.in_ok-a.ensures.least; cut = c.in_ok-b.ensures.least; sum = c.form_cost-2.ensures })
+
+pub cost_below-form_cost-requires : goal.cost_below-form_cost-requires
+cost_below-form_cost-requires t c =
+    parts_held c.args.instance.now (open_operands c.args.operands.now) (open_cuts c.args.cuts.now) c.in_ok-floor.floor c.in_ok-b.b c.requires.right.few c.requires.few c.in_ok-floor.ensures.few c.in_ok-b.ensures.least
+
+pub cost_below-form_cost-requires-2 : goal.cost_below-form_cost-requires-2
+cost_below-form_cost-requires-2 t c =
+    parts_held c.args.instance.now (open_operands c.args.operands.now) (open_cuts c.args.cuts.now) c.in_ok-a.a c.in_ok-b.b c.requires.right.few c.requires.few
+    (order_few (instance_stock c.args.instance.now) c.args.instance.now.low c.args.limits (open_operands c.args.operands.now) c.in_ok-a.a (opened_low c.args.operands.now) c.in_ok-a.ensures.least) c.in_ok-b.ensures.least
 
 pub floor_of-returns-then-is_empty-clause-floor : goal.floor_of-returns-then-is_empty-clause-floor
 floor_of-returns-then-is_empty-clause-floor t c = floor_none (instance_stock c.args.instance.now) c.args.limits (open_operands c.args.ops.now)
@@ -166,8 +198,21 @@ floor_of-returns-clause-floor t c =
     let got = slice_get_read _ _ _ _ refl some c.index-ops-0.is in
     let e = inputs_split c.args.ops.now c.index-ops-0.result got in
     let parts = floor_more (instance_stock c.args.instance.now) c.args.limits (open_operand c.index-ops-0.result) (open_operands (drop 1 c.args.ops.now)) c.in_ok-m.m c.in_ok-n.n c.in_ok-m.ensures.least (subst (λ l. IsFloor (instance_stock c.args.instance.now) c.args.limits (open_operands l) c.in_ok-n.n) (tail_is c.args.ops.now) c.in_ok-n.ensures.floor) in
-    IfOk-weaker c.sum_of.result (λ x. x ≡ summed c.in_ok-m.m c.in_ok-n.n) (λ x. IsFloor (instance_stock c.args.instance.now) c.args.limits (open_operands c.args.ops.now) x)
-    (λ o same. subst (λ x. IsFloor (instance_stock c.args.instance.now) c.args.limits (open_operands c.args.ops.now) x) (sym same) (subst (λ xs. IsFloor (instance_stock c.args.instance.now) c.args.limits xs (summed c.in_ok-m.m c.in_ok-n.n)) (sym e) parts)) c.sum_of.ensures
+    subst (λ x. IsFloor (instance_stock c.args.instance.now) c.args.limits (open_operands c.args.ops.now) x) (sym c.sum_of.ensures) (subst (λ xs. IsFloor (instance_stock c.args.instance.now) c.args.limits xs (summed c.in_ok-m.m c.in_ok-n.n)) (sym e) parts)
+
+pub floor_of-sum_of-requires : goal.floor_of-sum_of-requires
+floor_of-sum_of-requires t c =
+    let some : 0 < length c.args.ops.now = search rules in
+    let got = slice_get_read _ _ _ _ refl some c.index-ops-0.is in
+    let few = floor_few c.args.instance.now c.args.limits c.args.ops.now c.index-ops-0.result c.in_ok-m.m c.in_ok-n.n got c.in_ok-m.ensures.least (subst (λ l. NoMore c.in_ok-n.n (36 * operands_size (open_operands l))) (tail_is c.args.ops.now) c.in_ok-n.ensures.few) in
+    size_held (summed c.in_ok-m.m c.in_ok-n.n) _ _ few c.requires.at.1 c.requires.right.few
+
+pub floor_of-returns-clause-few : goal.floor_of-returns-clause-few
+floor_of-returns-clause-few t c =
+    let some : 0 < length c.args.ops.now = search rules in
+    let got = slice_get_read _ _ _ _ refl some c.index-ops-0.is in
+    let few = floor_few c.args.instance.now c.args.limits c.args.ops.now c.index-ops-0.result c.in_ok-m.m c.in_ok-n.n got c.in_ok-m.ensures.least (subst (λ l. NoMore c.in_ok-n.n (36 * operands_size (open_operands l))) (tail_is c.args.ops.now) c.in_ok-n.ensures.few) in
+    subst (λ o. NoMore o (36 * operands_size (open_operands c.args.ops.now))) (sym c.sum_of.ensures) few
 
 pub floor_of-operand_cost-requires : goal.floor_of-operand_cost-requires
 floor_of-operand_cost-requires t c =
@@ -219,7 +264,15 @@ orders_from-returns-clause-least t c =
     let get = inputs_at c.args.ops.now c.args.i c.index-ops-i.result got in
     let first = (subst (λ o. IsLeast (instance_stock c.args.instance.now) c.args.limits (operand_ask (open_operand c.index-ops-i.result)) o) c.in-Some.is c.in_ok-m.ensures.least) in
     let parts = from_parts (instance_stock c.args.instance.now) c.args.limits (open_operands c.args.ops.now) c.args.i (open_operand c.index-ops-i.result) (Some c.in-Some.m) c.in_ok-n.n get first (c.in_ok-n.ensures.least (open_operand c.index-ops-i.result) get) in
-    IfOk-weaker c.sum_of.result (λ x. x ≡ summed (Some c.in-Some.m) c.in_ok-n.n) (λ x. IsLeastFrom (instance_stock c.args.instance.now) c.args.limits (open_operands c.args.ops.now) c.args.i x) (λ o same. subst (λ x. IsLeastFrom (instance_stock c.args.instance.now) c.args.limits (open_operands c.args.ops.now) c.args.i x) (sym same) parts) c.sum_of.ensures
+    subst (λ x. IsLeastFrom (instance_stock c.args.instance.now) c.args.limits (open_operands c.args.ops.now) c.args.i x) (sym c.sum_of.ensures) parts
+
+pub orders_from-sum_of-requires : goal.orders_from-sum_of-requires
+orders_from-sum_of-requires t c =
+    let got = slice_get_read _ _ _ _ refl c.requires.place c.index-ops-i.is in
+    let get = inputs_at c.args.ops.now c.args.i c.index-ops-i.result got in
+    let first = (subst (λ o. IsLeast (instance_stock c.args.instance.now) c.args.limits (operand_ask (open_operand c.index-ops-i.result)) o) c.in-Some.is c.in_ok-m.ensures.least) in
+    let few = from_few c.args.instance.now c.args.limits c.args.ops.now c.args.i c.index-ops-i.result (Some c.in-Some.m) c.in_ok-n.n got first (c.in_ok-n.ensures.least (open_operand c.index-ops-i.result) get) in
+    size_held (summed (Some c.in-Some.m) c.in_ok-n.n) _ _ few c.requires.at.1 c.requires.right.few
 
 pub orders_from-operand_cost-requires : goal.orders_from-operand_cost-requires
 orders_from-operand_cost-requires t c =
@@ -302,8 +355,14 @@ cuts_cost-returns-clause-least t c =
     let got = slice_get_read _ _ _ _ refl some c.index-cuts-0.is in
     let e = stored_split c.args.cuts.now c.index-cuts-0.result got in
     let parts = cut_more (instance_stock c.args.instance.now) (tree_term c.index-cuts-0.result.tree.now) (open_cuts (drop 1 c.args.cuts.now)) c.in_ok-m.m c.in_ok-n.n c.in_ok-m.ensures.least (subst (λ l. IsLeastCut (instance_stock c.args.instance.now) (open_cuts l) c.in_ok-n.n) (tail_is c.args.cuts.now) c.in_ok-n.ensures.least) in
-    IfOk-weaker c.sum_of.result (λ x. x ≡ summed c.in_ok-m.m c.in_ok-n.n) (λ x. IsLeastCut (instance_stock c.args.instance.now) (open_cuts c.args.cuts.now) x)
-    (λ o same. subst (λ x. IsLeastCut (instance_stock c.args.instance.now) (open_cuts c.args.cuts.now) x) (sym same) (subst (λ xs. IsLeastCut (instance_stock c.args.instance.now) xs (summed c.in_ok-m.m c.in_ok-n.n)) (sym e) parts)) c.sum_of.ensures
+    subst (λ x. IsLeastCut (instance_stock c.args.instance.now) (open_cuts c.args.cuts.now) x) (sym c.sum_of.ensures) (subst (λ xs. IsLeastCut (instance_stock c.args.instance.now) xs (summed c.in_ok-m.m c.in_ok-n.n)) (sym e) parts)
+
+pub cuts_cost-sum_of-requires : goal.cuts_cost-sum_of-requires
+cuts_cost-sum_of-requires t c =
+    let some : 0 < length c.args.cuts.now = search rules in
+    let got = slice_get_read _ _ _ _ refl some c.index-cuts-0.is in
+    let few = stored_few c.args.instance.now c.args.cuts.now c.index-cuts-0.result c.in_ok-m.m c.in_ok-n.n got c.in_ok-m.ensures.least (subst (λ l. IsLeastCut (instance_stock c.args.instance.now) (open_cuts l) c.in_ok-n.n) (tail_is c.args.cuts.now) c.in_ok-n.ensures.least) in
+    size_held (summed c.in_ok-m.m c.in_ok-n.n) _ _ few c.requires.at.1 c.requires.right.few
 
 pub least-returns-clause-least : goal.least-returns-clause-least
 least-returns-clause-least t c =

@@ -1,9 +1,9 @@
-use Rattle.std.proofs.Common.{◌≡◌, ◌+◌, ◌*◌, max, vec_len}
+use Rattle.std.proofs.Common.{◌≡◌, ◌+◌, ◌-◌, ◌*◌, max, vec_len}
 use Rattle.net_model.specs.Terms.{size_of}
 use Rattle.form_model.specs.Trees.{tree_term}
 use Rattle.cover.specs.Inner.Asks.{operands_size, terms_size, rank}
 use Rattle.cover.specs.Inner.Least.{OrderReached, FirstsBelow}
-use Rattle.cover.specs.Inner.Rows.{IsTried}
+use Rattle.cover.specs.Inner.Rows.{IsTried, NoneAbove}
 use Rattle.cover.specs.Inner.Jobs.{instance_stock, open_operands, open_cuts}
 use Rattle.cover.specs.Inner.Tables.{AreRight}
 use Rattle.cover.proofs.least.+covering.Given as goal
@@ -55,5 +55,6 @@ abbrev pub invariant-fill-loop-i : goal.invariant-fill-loop-i
 invariant-fill-loop-i l = record {
   len : vec_len l.row ≡ 18;
   tried : IsTried (instance_stock l.instance) l.limits (tree_term l.matches.tree.now) l.matches.whole l.matches.list.items l.i l.chains.items l.row.items;
+  low : NoneAbove (36 * size_of (tree_term l.matches.tree.now) - 17) l.row.items;
   right : AreRight l.instance l.table;
 }

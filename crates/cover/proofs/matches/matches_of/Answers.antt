@@ -5,7 +5,7 @@ use Rattle.cover.proofs.MatchLemmas.{matches_none, matches_more}
 use Rattle.cover.proofs.matches.matches_of.Goals as goal
 
 pub loop-k-init : goal.loop-k-init
-loop-k-init c = subst (AreFirstMatches c.args.instance.now (tree_term c.args.tree.now) c.args.whole 0) (sym c.new-list.ensures.items) (matches_none c.args.instance.now (tree_term c.args.tree.now) c.args.whole)
+loop-k-init c = subst (AreFirstMatches c.args.instance.now (tree_term c.args.tree.now) c.args.whole 0) (sym c.new-list.ensures.items) (matches_none c.args.instance.now (tree_term c.args.tree.now) c.args.whole c.args.number c.requires.number)
 
 pub loop-k-preserved : goal.loop-k-preserved
 loop-k-preserved c =

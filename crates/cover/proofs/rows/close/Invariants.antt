@@ -1,5 +1,5 @@
-use Rattle.std.proofs.Common.{◌≡◌, vec_len}
-use Rattle.cover.specs.Inner.Rows.{Keeps, Lower, weight_of}
+use Rattle.std.proofs.Common.{◌≡◌, ◌-◌, ◌^◌, vec_len}
+use Rattle.cover.specs.Inner.Rows.{Keeps, Lower, IsRoomy, weight_of}
 use Rattle.cover.proofs.rows.close.Given as goal
 
 abbrev pub invariant-loop : goal.invariant-loop
@@ -7,6 +7,7 @@ invariant-loop l = record {
   len : vec_len l.row ≡ 18;
   sound : Keeps l.chains l.initial.row.items l.row.items;
   lower : Lower l.initial.row.items l.row.items;
+  room : IsRoomy (2 ^ 64 - 2) l.row.items;
 }
 
 abbrev pub decreases-loop : goal.decreases-loop

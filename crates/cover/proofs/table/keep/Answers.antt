@@ -6,6 +6,7 @@ use Rattle.cover.proofs.table.keep.Goals as goal
 
 pub returns-in_ok-push : goal.returns-in_ok-push
 returns-in_ok-push c = record {
+  few = c.requires.right.few;
   firsts = c.requires.right.firsts;
   matches = c.requires.right.matches;
   rows = kept_push (IsKept c.args.instance.now) c.args.table.now.rows.items c.args.number c.in-Some.rows.now c.push.new.self c.args.row c.requires.right.rows

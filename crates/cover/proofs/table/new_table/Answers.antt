@@ -1,9 +1,14 @@
+use Rattle.std.proofs.Common.{◌≡◌, ◌∙◌, length, subst, rules}
+use Rattle.std.proofs.lemmas.Bool.{OnTrue_at}
+use Rattle.cover.specs.Inner.Asks.{AreFew}
 use Rattle.cover.specs.Inner.Tables.{IsKept, HasMatches}
 use Rattle.cover.proofs.TableLemmas.{empty_kept}
 use Rattle.cover.proofs.table.new_table.Goals as goal
 
 pub returns : goal.returns
 returns c = record {
+  few = (let n : c.len-count.result ≡ length c.in_ok-firsts.firsts.items = search rules in
+      subst AreFew (n ∙ c.in_ok-firsts.ensures.len) (OnTrue_at c.if-not-may_be_kept.false c.may_be_kept.ensures.few));
   firsts = c.in_ok-firsts.ensures;
   matches = empty_kept (HasMatches c.args.instance.now) c.in_ok-empty_lists.field-0.items c.in_ok-empty_lists.ensures;
   rows = empty_kept (IsKept c.args.instance.now) c.in_ok-empty_lists-2.field-0.items c.in_ok-empty_lists-2.ensures;

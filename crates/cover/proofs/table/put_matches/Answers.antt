@@ -6,6 +6,7 @@ use Rattle.cover.proofs.table.put_matches.Goals as goal
 
 pub returns-in_ok-push : goal.returns-in_ok-push
 returns-in_ok-push c = record {
+  few = c.requires.right.few;
   firsts = c.requires.right.firsts;
   matches = kept_push (HasMatches c.args.instance.now) c.args.table.now.matches.items c.args.number c.in-Some.list.now c.push.new.self c.args.matches c.requires.right.matches
       (slice_get_read _ _ _ _ refl c.in-Some.ensures.item.3.0 c.in-Some.ensures.item.1) c.in_ok-push.ensures.items c.requires.matches;

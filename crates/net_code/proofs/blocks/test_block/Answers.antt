@@ -9,6 +9,7 @@ use Rattle.form_model.specs.Live.{Regs, regs_of, singles}
 use Rattle.form_model.specs.Rules.{tested}
 use Rattle.form_model.specs.Steps.{branch_setting, cover_steps}
 use Rattle.src_trees.specs.Jobs.{work_of}
+use Rattle.live_sets.proofs.Kept.{listed_of}
 use Rattle.word_fit.specs.Fits.{fits_over}
 use Rattle.word_fit.specs.Groups.{AllHaveWords}
 use Rattle.right_code.specs.Jobs.{job_steps, tree_or_none, tree_used}
@@ -19,6 +20,11 @@ use Rattle.net_code.proofs.Frames.{root_form, test_have, wanted_is}
 use Rattle.net_code.proofs.Packing.{told_words}
 use Rattle.net_code.proofs.Stepping.{chosen_at}
 use Rattle.net_code.proofs.blocks.test_block.Goals as goal
+
+pub branch_registers-after-requires-clause-listed : goal.branch_registers-after-requires-clause-listed
+branch_registers-after-requires-clause-listed c =
+    let machine = c.args.machine.now in
+    listed_of (machine_netlist machine) c.args.book.now machine.pool.now machine.patterns.now c.requires.ready
 
 pub pack_block-requires-clause-words : goal.pack_block-requires-clause-words
 pack_block-requires-clause-words c =
@@ -31,10 +37,10 @@ pack_block-requires-clause-words c =
     let task = c.requires.covering.0 in
     let covering = c.requires.covering.1 in
     let e = c.in_ok-emitted.ensures in
-    let n = c.condition_registers-after.result in
+    let n = c.branch_registers-after.result in
     let is : c.as_slice.result.now ≡ job_steps stock job choice =
     c.as_slice.ensures ∙ e.steps ∙ ap (λ x. cover_steps stock job.destination x choice.plan) (sym (ap tree_or_none e.used)) in
-    let live = wanted_is machine program task covering t.tree job choice t.work t.covers t.test n c.condition_registers-after.type_inv c.condition_registers-after.ensures in
+    let live = wanted_is machine program task covering t.tree job choice t.work t.covers t.test n c.branch_registers-after.type_inv c.branch_registers-after.ensures in
     told_words (machine_netlist machine) machine.pool.now machine.patterns.now _ _ c.requires.ready.patterns.file
     (subst (λ xs. AllHaveWords (operation_in (machine_netlist machine) (machine_patterns machine)) (fits_over (machine_netlist machine) (operation_in (machine_netlist machine) (machine_patterns machine))) (singles xs) (regs_of n)) (sym is)
     (test_have machine program task covering t.tree job choice t.work t.covers t.test n live))
@@ -50,11 +56,11 @@ returns-clause-code c =
     let task = c.requires.covering.0 in
     let covering = c.requires.covering.1 in
     let e = c.in_ok-emitted.ensures in
-    let n = c.condition_registers-after.result in
+    let n = c.branch_registers-after.result in
     let tree : e.tree ≡ tree_used job choice = sym (ap tree_or_none e.used) in
     let is : c.as_slice.result.now ≡ job_steps stock job choice = c.as_slice.ensures ∙ e.steps ∙ ap (λ x. cover_steps stock job.destination x choice.plan) tree in
     let live : wanted stock tested (tree_used job choice) choice.plan ≡ regs_of n =
-    wanted_is machine program task covering t.tree job choice t.work t.covers t.test n c.condition_registers-after.type_inv c.condition_registers-after.ensures in
+    wanted_is machine program task covering t.tree job choice t.work t.covers t.test n c.branch_registers-after.type_inv c.branch_registers-after.ensures in
     record {
       packed =
           subst (λ (after : Regs). IsPackedBlock (machine_netlist machine) (machine_patterns machine) (job_steps stock job choice) after c.in_ok-block.block) (sym live)

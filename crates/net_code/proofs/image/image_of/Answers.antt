@@ -1,7 +1,8 @@
-use Rattle.std.proofs.Common.{◌∙◌, List, ap, arith, length, map, refl, sym}
+use Rattle.std.proofs.Common.{◌∙◌, ℕ, Bool, List, ap, arith, length, map, refl, subst, sym}
 use Rattle.std.proofs.lemmas.List.{length-map}
 use Rattle.std.proofs.lemmas.Result.{IfErr-weaker, IfOk-weaker, err_from_is_err_and}
 use Rattle.code_model.specs.declared.image.Places.{Places}
+use Rattle.compaction.specs.Tables.{AreTables}
 use Rattle.cover.specs.Best.{choice_of}
 use Rattle.form_model.specs.Rules.{rules_of}
 use Rattle.form_model.specs.declared.trees.Job.{Job}
@@ -28,6 +29,12 @@ returns-in_err-covers-clause-refused c =
     (uncovered task (row_patterns c.args.pool.now c.args.patterns.now.rows) c.requires.patterns (rules_of c.in_ok-forms.forms.list.items) c.in_ok-forms.forms.reach c.in_ok-forms.ensures.forms
     c.in_ok-forms.ensures.steps c.in_ok-forms.ensures.jumps c.args.places.temps c.in_ok-forms.forms.file (ap (λ (p : Places). p.temps) c.requires.places) c.in_ok-forms.ensures.file (works_of c.deref.result.now)
     (ap works_of c.deref.ensures.value ∙ c.in_ok-blocks.ensures.jobs) _ c.in_err-covers.ensures.refused)
+
+pub covered_image-requires-clause-tables : goal.covered_image-requires-clause-tables
+covered_image-requires-clause-tables c =
+    let pool = c.args.pool.now in
+    subst (λ (sets : List ℕ). AreTables pool sets c.as_slice-3.result.now) (sym c.as_slice-2.ensures)
+    (subst (λ (flags : List Bool). AreTables pool c.in_ok-tables.tables.registers flags) (sym c.as_slice-3.ensures) c.in_ok-tables.ensures)
 
 pub covered_image-requires-clause-task : goal.covered_image-requires-clause-task
 covered_image-requires-clause-task c = record {

@@ -1,7 +1,7 @@
 use Rattle.std.proofs.Common.{◌≡◌, ◌∙◌, ℕ, zero, suc, List, [], ◌∷◌, None, ap, refl, slice_get, sym}
 use Rattle.std.specs.List.{slice_index_or}
 use Rattle.net_code.specs.Inner.Coded.{no_block}
-use Rattle.net_code.specs.declared.blocks.PackedBlock.{PackedBlock}
+use Rattle.compaction.specs.declared.packer.PackedBlock.{PackedBlock}
 use Rattle.net_code.proofs.words.steps_of_group.Goals as goal
 
 past : {X : Type 0} (xs : List X) (k : ℕ) (d : X) → slice_get xs k ≡ None → slice_index_or xs k d ≡ d

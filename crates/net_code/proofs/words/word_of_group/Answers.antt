@@ -2,7 +2,7 @@ use Rattle.std.proofs.Common.{◌∙◌, ap, slice_index}
 use Rattle.std.specs.Option.{unwrap_or}
 use Rattle.std.proofs.lemmas.Option.{unwrap_or-slice_get}
 use Rattle.net_code.specs.Inner.Coded.{no_block}
-use Rattle.net_code.specs.declared.blocks.PackedBlock.{PackedBlock}
+use Rattle.compaction.specs.declared.packer.PackedBlock.{PackedBlock}
 use Rattle.net_code.proofs.words.word_of_group.Goals as goal
 
 pub returns-in-Some : goal.returns-in-Some

@@ -1,6 +1,6 @@
 use Rattle.std.proofs.Common.{◌≡◌, length}
-use Rattle.compaction.specs.Inner.Machines.{AreReaders}
-use Rattle.compaction.proofs.machine.memory_table.Given as goal
+use Rattle.compaction.specs.Tables.{AreReaders}
+use Rattle.compaction.proofs.tables.memory_table.Given as goal
 
 abbrev pub invariant-loop-id : goal.invariant-loop-id
 invariant-loop-id l = record {

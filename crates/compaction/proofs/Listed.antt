@@ -1,14 +1,16 @@
 -- The words of the groups of a list, one after the other.
-use Rattle.std.proofs.Common.{◌≡◌, ℕ, zero, suc, ◌+◌, ◌<◌, inl, inr, List, [], ◌∷◌, ◌++◌, length, length-append, get_or, map, slice_get, slice_index, take, add-one, Some, refl, sym, ◌∙◌, ap, arith, subst}
+use Rattle.std.proofs.Common.{◌≡◌, ℕ, zero, suc, ◌+◌, ◌<◌, inl, inr, List, [], ◌∷◌, ◌++◌, drop, length, length-append, get_or, map, slice_get, slice_index, take, add-one, Option, None, Some, IfSome, refl, sym, ◌∙◌, ap, arith, subst}
 use Rattle.std.specs.List.{slice_index_or}
 use Rattle.std.proofs.lemmas.Bool.{cases_lt}
-use Rattle.std.proofs.lemmas.List.{get_or-map, length-map}
+use Rattle.std.proofs.lemmas.List.{get_or-map}
 use Rattle.std.proofs.lemmas.Option.{slice_get-get_or, get_or_from_slice_get}
 use Rattle.form_model.specs.Effects.{Operation}
-use Rattle.form_model.specs.Live.{Regs, live_at, regs_of, singles}
+use Rattle.form_model.specs.Live.{Regs, live_at, live_before, regs_of, singles}
+use Rattle.word_fit.specs.Fits.{IsLeastFit}
 use Rattle.word_fit.specs.Groups.{AllHaveWords, lives_of}
 use Rattle.word_fit.proofs.Least.{word_at_place}
 use Rattle.word_fit.proofs.Needed.{lives_at}
+use Rattle.compaction.specs.Inner.Found.{AreFound}
 
 push_old : (xs : List ℕ) (x k : ℕ) → k < length xs → slice_index (xs ++ x ∷ []) k ≡ slice_index xs k
 push_old [] x k lt = absurd (omega arith)
@@ -18,6 +20,9 @@ push_old (y ∷ xs) x (suc k) lt = push_old xs x k (omega arith)
 push_new : (xs : List ℕ) (x : ℕ) → slice_index (xs ++ x ∷ []) (length xs) ≡ x
 push_new [] x = refl
 push_new (y ∷ xs) x = push_new xs x
+
+none_some : {X : Type 0} (x : X) → None ≡ Some x → ⊥
+none_some x e = cc
 
 some_same : {X : Type 0} (x y : X) → Some x ≡ Some y → x ≡ y
 some_same x y e = cc
@@ -35,14 +40,6 @@ least_more P gs words new i w g el en eg p before k h lt e =
           subst (λ z. P k h z) (sym last) (subst (λ z. P k z w) one (subst (λ z. P z g w) same p)))
     ]
 
-module _ {A : Type 0} (m : A → Operation) (after : Regs) where
-  length-lives : (gs : List (List A)) → length (lives_of m gs after) ≡ length gs
-  length-lives [] = refl
-  length-lives (g ∷ gs) = ap suc (length-lives gs)
-
-  pub sets_long : (gs : List (List A)) (sets : List ℕ) → map regs_of sets ≡ lives_of m gs after → length sets ≡ length gs
-  sets_long gs sets e = sym (length-map sets regs_of) ∙ ap (λ z. length z) e ∙ length-lives gs
-
 module _ {A : Type 0} (m : A → Operation) (fits : ℕ → List A → Regs → Type 0) (after : Regs) where
   -- the live set at a place of the list of live sets
   pub live_there : (gs : List (List A)) (lives : List ℕ) (k : ℕ) → map regs_of lives ≡ lives_of m gs after → k < length lives → k < length gs → regs_of (get_or lives k 0) ≡ live_at m gs after k
@@ -56,6 +53,21 @@ module _ {A : Type 0} (m : A → Operation) (fits : ℕ → List A → Regs → 
 
   pub word_there : (gs : List (List A)) (k : ℕ) (g : List A) (live : Regs) → slice_get gs k ≡ Some g → live ≡ live_at m gs after k → AllHaveWords m fits gs after → (w : ℕ) × fits w g live
   word_there gs k g live e el h = subst (λ (l : Regs). (w : ℕ) × fits w g l) (sym el) (word_at_place m fits after gs k g e h)
+
+  -- the word that was found for the group at a place
+  pub found_there : (found : List (Option ℕ)) (gs : List (List A)) (k : ℕ) (g : List A) (live : Regs) → slice_get gs k ≡ Some g → live ≡ live_at m gs after k → AreFound m fits found gs after → IfSome (get_or found k None) (IsLeastFit (λ w. fits w g live))
+  found_there [] [] k g live e el f = absurd (none_some g e)
+  found_there [] (h ∷ gs) k g live e el f = absurd f
+  found_there (w ∷ found) [] k g live e el f = absurd f
+  found_there (w ∷ found) (h ∷ gs) zero g live e el f =
+      subst (λ (l : Regs). IfSome w (IsLeastFit (λ n. fits n g l))) (sym el)
+      (subst (λ z. IfSome w (IsLeastFit (λ n. fits n z (live_before m gs after)))) (some_same h g e) f.0)
+  found_there (w ∷ found) (h ∷ gs) (suc k) g live e el f = found_there found gs k g live e (el ∙ later h gs k) f.1
+    where
+      later : (h : List A) (gs : List (List A)) (k : ℕ) → live_at m (h ∷ gs) after (suc k) ≡ live_at m gs after k
+      later h gs k =
+          let e : suc k + 1 ≡ suc (k + 1) = omega arith in
+          ap (λ i. live_before m (drop i (h ∷ gs)) after) e
 
 pub longer : (xs : List ℕ) (x n : ℕ) → length xs ≡ n → length (xs ++ x ∷ []) ≡ n + 1
 longer xs x n e = omega (arith, length-append xs (x ∷ []), e)
